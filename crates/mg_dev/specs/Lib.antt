@@ -1,0 +1,11 @@
+pub mod Causes
+pub mod Names
+pub mod Files
+pub mod Laws
+pub mod Streams
+pub mod StreamLaws
+pub mod Copy
+pub mod Shelf
+pub mod ShelfLaws
+pub mod Mem
+pub mod Faults
