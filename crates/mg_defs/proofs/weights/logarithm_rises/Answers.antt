@@ -1,5 +1,5 @@
 use Rattle.mg_defs.proofs.FixedLaws as laws
-use Rattle.mg_defs.proofs.logarithm_rises.Goals as goal
+use Rattle.mg_defs.proofs.weights.logarithm_rises.Goals as goal
 
 pub returns-clause-rises : goal.returns-clause-rises
 returns-clause-rises c = laws.lg_rises

@@ -1,5 +1,5 @@
 use Rattle.mg_defs.proofs.FixedLaws as laws
-use Rattle.mg_defs.proofs.one_root.Goals as goal
+use Rattle.mg_defs.proofs.weights.one_root.Goals as goal
 
 pub returns-clause-is : goal.returns-clause-is
 returns-clause-is c = laws.isqrt_root
