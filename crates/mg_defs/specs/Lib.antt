@@ -20,3 +20,8 @@ pub mod Reply
 pub mod Session
 pub mod Read
 pub mod Replies
+pub mod Postings
+pub mod PostingOrder
+pub mod Runs
+pub mod Occurrences
+pub mod RunBits

@@ -6,10 +6,12 @@
 //! crates can use them.
 #![tactic(auto)]
 
+mod postings;
 mod queries;
 mod texts;
 mod weights;
 
+pub use postings::{merged_runs, one_list_of_postings, postings_of_joined};
 pub use queries::{one_query, walk_decides};
 pub use texts::{one_parse, one_split};
 pub use weights::{logarithm_rises, one_root};
@@ -56,4 +58,14 @@ pub enum Command {
     Wrong,
     /// The settings from now on.
     Set(Settings),
+}
+
+/// A term and a document, and how often the term stands there.
+#[derive(Clone, Copy, Debug, PartialEq, Eq)]
+pub struct TermPosting {
+    /// The term's number in the order of the terms' bytes, from 0.
+    pub term: u32,
+    /// The document's number, from 1.
+    pub doc: u32,
+    pub count: u32,
 }
