@@ -16,3 +16,5 @@ pub mod ReplyLaws
 pub mod SessionExamples
 pub mod ReadLaws
 pub mod TopLaws
+pub mod BitLaws
+pub mod FrontLaws
