@@ -3,7 +3,7 @@ use Rattle.std.proofs.Common.{◌≡◌, ℕ, List, [], ◌∷◌, refl, map, �
 use Rattle.std.specs.Prelude.{codes}
 use Rattle.std.specs.List.{repeat}
 use Rattle.mg_defs.specs.Bits.{Bits, digits}
-use Rattle.mg_defs.specs.Codes.{ones, gamma, golomb, unary, short, golomb_parameter}
+use Rattle.mg_defs.specs.Codes.{ones, gamma, golomb, unary, short, shorter, ceil_log2, golomb_parameter}
 use Rattle.mg_defs.specs.PagesOf.{pages}
 use Rattle.mg_defs.specs.Canon.{canon}
 use Rattle.mg_defs.specs.Cost.{huffman_cost}
@@ -23,16 +23,16 @@ one_to_ten : List ℕ
 one_to_ten = 1 ∷ 2 ∷ 3 ∷ 4 ∷ 5 ∷ 6 ∷ 7 ∷ 8 ∷ 9 ∷ 10 ∷ []
 
 golombs_of_three : map (golomb 3) one_to_ten ≡ bits (codes "00") ∷ bits (codes "010") ∷ bits (codes "011") ∷ bits (codes "100") ∷ bits (codes "1010") ∷ bits (codes "1011") ∷ bits (codes "1100") ∷ bits (codes "11010") ∷ bits (codes "11011") ∷ bits (codes "11100") ∷ []
-unfolding one_to_ten golomb unary ones short digits
+unfolding one_to_ten golomb unary ones short shorter ceil_log2 digits
 golombs_of_three = refl
 
 golombs_of_six : map (golomb 6) one_to_ten ≡ bits (codes "000") ∷ bits (codes "001") ∷ bits (codes "0100") ∷ bits (codes "0101") ∷ bits (codes "0110") ∷ bits (codes "0111") ∷ bits (codes "1000") ∷ bits (codes "1001") ∷ bits (codes "10100") ∷ bits (codes "10101") ∷ []
-unfolding one_to_ten golomb unary ones short digits
+unfolding one_to_ten golomb unary ones short shorter ceil_log2 digits
 golombs_of_six = refl
 
 -- with the parameter 1 they are the unary codes
 golombs_of_one : map (golomb 1) one_to_ten ≡ map unary one_to_ten
-unfolding one_to_ten golomb unary ones short digits
+unfolding one_to_ten golomb unary ones short shorter ceil_log2 digits
 golombs_of_one = refl
 
 -- 100,000 documents, 5,000 of them with the term; and all with it
@@ -52,5 +52,5 @@ cost = refl
 
 -- 200 documents of one x
 skips : skip_entries (repeat 200 (120 ∷ 2 ∷ [])) (120 ∷ []) ≡ record { last = 64; bits = 0 } ∷ record { last = 128; bits = 128 } ∷ record { last = 192; bits = 256 } ∷ record { last = 200; bits = 384 } ∷ []
-unfolding golomb unary ones short gamma parse digits
+unfolding golomb unary ones short shorter ceil_log2 gamma parse digits
 skips = refl

@@ -18,3 +18,5 @@ pub mod ReadLaws
 pub mod TopLaws
 pub mod BitLaws
 pub mod FrontLaws
+pub mod CodeLaws
+pub mod PageLaws

@@ -12,7 +12,7 @@ abbrev pub log2 : ℕ → ℕ
 log2 x = log2_below 64 x
 
 -- the least number k with 2 ^ k at least b
-abbrev pub ceil_log2 : ℕ → ℕ
+unfoldable pub ceil_log2 : ℕ → ℕ
 ceil_log2 b = if nat_le b 1 then 0 else 1 + log2 (b - 1)
 
 -- so many one-bits
@@ -29,7 +29,7 @@ unfoldable pub gamma : ℕ → Bits
 gamma x = unary (1 + log2 x) ++ digits (log2 x) (x - 2 ^ log2 x)
 
 -- how many remainders of b have a code of one bit less
-abbrev pub shorter : ℕ → ℕ
+unfoldable pub shorter : ℕ → ℕ
 shorter b = 2 ^ ceil_log2 b - b
 
 -- r from 0 to b - 1

@@ -6,10 +6,12 @@
 //! crates can use them.
 #![tactic(auto)]
 
+mod codes;
 mod queries;
 mod texts;
 mod weights;
 
+pub use codes::{no_code_is_a_front, one_answer, pages_of_a_range};
 pub use queries::{one_query, walk_decides};
 pub use texts::{one_parse, one_split};
 pub use weights::{logarithm_rises, one_root};
