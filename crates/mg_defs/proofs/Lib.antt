@@ -21,3 +21,7 @@ pub mod Gathering
 pub mod Joining
 pub mod Segments
 pub mod RunExamples
+pub mod BitLaws
+pub mod FrontLaws
+pub mod CodeLaws
+pub mod PageLaws

@@ -7,11 +7,13 @@
 #![tactic(auto)]
 
 mod postings;
+mod codes;
 mod queries;
 mod texts;
 mod weights;
 
 pub use postings::{merged_runs, one_list_of_postings, postings_of_joined};
+pub use codes::{no_code_is_a_front, one_answer, pages_of_a_range};
 pub use queries::{one_query, walk_decides};
 pub use texts::{one_parse, one_split};
 pub use weights::{logarithm_rises, one_root};
