@@ -5,8 +5,6 @@ use Rattle.std.specs.List.{repeat}
 use Rattle.mg_defs.specs.Bits.{Bits, digits}
 use Rattle.mg_defs.specs.Codes.{ones, gamma, golomb, unary, short, shorter, ceil_log2, golomb_parameter}
 use Rattle.mg_defs.specs.PagesOf.{pages}
-use Rattle.mg_defs.specs.Canon.{canon}
-use Rattle.mg_defs.specs.Cost.{huffman_cost}
 use Rattle.mg_defs.specs.Lists.{skip_entries}
 use Rattle.mg_defs.specs.Parse.{parse}
 
@@ -42,13 +40,6 @@ parameters = refl
 -- the bits from the last of the first page to the first of the third, one bit, and none
 pages_of_ranges : pages 32767 65537 ∷ pages 32767 32768 ∷ pages 32768 32768 ∷ [] ≡ 3 ∷ 1 ∷ 0 ∷ []
 pages_of_ranges = refl
-
-canons : map (canon (3 ∷ 2 ∷ 2 ∷ 3 ∷ 2 ∷ [])) (0 ∷ 1 ∷ 2 ∷ 3 ∷ 4 ∷ []) ≡ bits (codes "000") ∷ bits (codes "01") ∷ bits (codes "10") ∷ bits (codes "001") ∷ bits (codes "11") ∷ []
-unfolding digits
-canons = refl
-
-cost : huffman_cost (1 ∷ 2 ∷ 2 ∷ 1 ∷ 2 ∷ []) ≡ 18
-cost = refl
 
 -- 200 documents of one x
 skips : skip_entries (repeat 200 (120 ∷ 2 ∷ [])) (120 ∷ []) ≡ record { last = 64; bits = 0 } ∷ record { last = 128; bits = 128 } ∷ record { last = 192; bits = 256 } ∷ record { last = 200; bits = 384 } ∷ []

@@ -3,6 +3,10 @@ pub mod ParseLaws
 pub mod TextExamples
 pub mod PieceLaws
 pub mod CodeExamples
+pub mod CanonExamples
+pub mod CanonSteps
+pub mod CanonLaws
+pub mod CostLaws
 pub mod WalkLaws
 pub mod OneReading
 pub mod TokenLaws
