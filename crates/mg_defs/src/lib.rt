@@ -12,7 +12,7 @@ mod weights;
 
 pub use queries::{one_query, walk_decides};
 pub use texts::{one_parse, one_split};
-pub use weights::{logarithm_rises, one_root};
+pub use weights::{logarithm_rises, one_ranking, one_root};
 
 /// The two kinds of pieces of a document.
 #[derive(Clone, Copy, Debug, PartialEq, Eq)]
