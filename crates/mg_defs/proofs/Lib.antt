@@ -17,3 +17,5 @@ pub mod SessionExamples
 pub mod ReadLaws
 pub mod TopLaws
 pub mod GeneratorExamples
+pub mod BitLaws
+pub mod FrontLaws
