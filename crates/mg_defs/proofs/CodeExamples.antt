@@ -1,14 +1,11 @@
 -- The worked rows of the codes and lists, computed.
 use Rattle.std.proofs.Common.{◌≡◌, ℕ, List, [], ◌∷◌, refl, map, ◌==◌}
 use Rattle.std.specs.Prelude.{codes}
-use Rattle.std.specs.List.{repeat}
 use Rattle.mg_defs.specs.Bits.{Bits, digits}
 use Rattle.mg_defs.specs.Codes.{ones, gamma, golomb, unary, short, golomb_parameter}
 use Rattle.mg_defs.specs.PagesOf.{pages}
 use Rattle.mg_defs.specs.Canon.{canon}
 use Rattle.mg_defs.specs.Cost.{huffman_cost}
-use Rattle.mg_defs.specs.Lists.{skip_entries}
-use Rattle.mg_defs.specs.Parse.{parse}
 
 -- bits from their digits
 abbrev bits : List ℕ → Bits
@@ -49,8 +46,3 @@ canons = refl
 
 cost : huffman_cost (1 ∷ 2 ∷ 2 ∷ 1 ∷ 2 ∷ []) ≡ 18
 cost = refl
-
--- 200 documents of one x
-skips : skip_entries (repeat 200 (120 ∷ 2 ∷ [])) (120 ∷ []) ≡ record { last = 64; bits = 0 } ∷ record { last = 128; bits = 128 } ∷ record { last = 192; bits = 256 } ∷ record { last = 200; bits = 384 } ∷ []
-unfolding golomb unary ones short gamma parse digits
-skips = refl

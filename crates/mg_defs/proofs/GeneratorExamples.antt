@@ -1,5 +1,5 @@
 -- The worked rows of the generator, computed.
-use Rattle.std.proofs.Common.{◌≡◌, ℕ, List, [], ◌∷◌, ◌++◌, ◌/◌, ◌^◌, length, refl}
+use Rattle.std.proofs.Common.{◌≡◌, [], ◌∷◌, ◌++◌, ◌/◌, ◌^◌, length, refl}
 use Rattle.std.specs.Prelude.{codes}
 use Rattle.mg_defs.specs.Generator.{stepped, draw, syllable, word, text, both, all_of, repeated, pick, capital_pick, separator, sentence, sentences, heading, mail, made_collection, one_word, one_without, either_and, ranked, four_queries, made_session}
 

@@ -3,6 +3,7 @@ pub mod ParseLaws
 pub mod TextExamples
 pub mod PieceLaws
 pub mod CodeExamples
+pub mod ListExamples
 pub mod WalkLaws
 pub mod OneReading
 pub mod TokenLaws

@@ -146,8 +146,8 @@ placed_permutes h (x ∷ hs) =
     cond_both (nat_le x.score h.score) (h ∷ x ∷ hs) (x ∷ placed h hs) (IsPermutation (h ∷ x ∷ hs))
     (λ _. IsPermutation-refl (h ∷ x ∷ hs))
     (λ _. IsPermutation-trans (h ∷ x ∷ hs) (x ∷ h ∷ hs) (x ∷ placed h hs)
-        (IsPermutation-sym (x ∷ h ∷ hs) (h ∷ x ∷ hs) (IsPermutation-middle (x ∷ []) h hs))
-        (IsPermutation-cons x (h ∷ hs) (placed h hs) (placed_permutes h hs)))
+    (IsPermutation-sym (x ∷ h ∷ hs) (h ∷ x ∷ hs) (IsPermutation-middle (x ∷ []) h hs))
+    (IsPermutation-cons x (h ∷ hs) (placed h hs) (placed_permutes h hs)))
 
 pub by_score_permutes : (hs : List Hit) → IsPermutation hs (by_score hs)
 by_score_permutes [] = IsPermutation-refl []

@@ -43,6 +43,15 @@ pub struct Settings {
     pub most: Option<u32>,
 }
 
+/// A document that has a term, and how often it has it.
+#[derive(Clone, Copy, Debug, PartialEq, Eq)]
+pub struct Posting {
+    /// Its number, from 1.
+    pub doc: u32,
+    /// At least 1.
+    pub freq: u32,
+}
+
 /// What a line of a session is.
 #[derive(Clone, Copy, Debug, PartialEq, Eq)]
 pub enum Command {
