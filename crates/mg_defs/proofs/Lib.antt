@@ -4,6 +4,7 @@ pub mod TextExamples
 pub mod PieceLaws
 pub mod CodeExamples
 pub mod ListExamples
+pub mod ListLaws
 pub mod WalkLaws
 pub mod OneReading
 pub mod TokenLaws
