@@ -19,5 +19,6 @@ pub mod SessionExamples
 pub mod ReadLaws
 pub mod TopLaws
 pub mod GeneratorExamples
+pub mod WeightLaws
 pub mod BitLaws
 pub mod FrontLaws

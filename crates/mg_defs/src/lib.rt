@@ -6,13 +6,15 @@
 //! crates can use them.
 #![tactic(auto)]
 
+mod lists;
 mod queries;
 mod texts;
 mod weights;
 
+pub use lists::{block_stands, list_rises, one_range};
 pub use queries::{one_query, walk_decides};
 pub use texts::{one_parse, one_split};
-pub use weights::{logarithm_rises, one_ranking, one_root};
+pub use weights::{logarithm_rises, one_ranking, one_root, weight_is_root};
 
 /// The two kinds of pieces of a document.
 #[derive(Clone, Copy, Debug, PartialEq, Eq)]

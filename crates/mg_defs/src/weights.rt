@@ -1,7 +1,8 @@
 // Laws of the logarithm, the root and the order of a ranked answer.
-ghost use Rattle.std.specs.Prelude.{◌≡◌, ℕ, List, ◌+◌, ◌*◌, ◌^◌, ◌<◌, ◌≤◌};
+ghost use Rattle.std.specs.Prelude.{◌≡◌, ℕ, List, length, sum_by, ◌+◌, ◌*◌, ◌^◌, ◌<◌, ◌≤◌};
 ghost use Rattle.mg_defs.specs.Fixed.{lg, isqrt, IsRoot};
-ghost use Rattle.mg_defs.specs.Weights.{Hit, hits, by_score};
+ghost use Rattle.mg_defs.specs.Weights.{Hit, hits, by_score, wd, weight};
+ghost use Rattle.mg_defs.specs.Terms.{terms, sorted_distinct};
 ghost use Rattle.mg_defs.specs.Order.{AreSorted};
 ghost use Rattle.std.specs.List.Sorted.{IsPermutation};
 
@@ -15,6 +16,11 @@ pub fn logarithm_rises()
 pub fn one_root()
     ensures is { (s : ℕ) → s < 2 ^ 64 → IsRoot s (isqrt s) }
     ensures only { (s a b : ℕ) → IsRoot s a → IsRoot s b → a ≡ b }
+{}
+
+/// A document's weight is the root of the sum of the squared weights of its distinct terms.
+pub fn weight_is_root()
+    ensures { (doc : List ℕ) → length doc ≤ 2 ^ 32 → IsRoot (sum_by (λ t. wd doc t * wd doc t) (sorted_distinct (terms doc))) (weight doc) }
 {}
 
 /// The documents with a term of a query have one order by falling score and, at a tie, by rising
