@@ -1,12 +1,9 @@
 -- The worked rows of the codes and lists, computed.
 use Rattle.std.proofs.Common.{◌≡◌, ℕ, List, [], ◌∷◌, refl, map, ◌==◌}
 use Rattle.std.specs.Prelude.{codes}
-use Rattle.std.specs.List.{repeat}
 use Rattle.mg_defs.specs.Bits.{Bits, digits}
 use Rattle.mg_defs.specs.Codes.{ones, gamma, golomb, unary, short, shorter, ceil_log2, golomb_parameter}
 use Rattle.mg_defs.specs.PagesOf.{pages}
-use Rattle.mg_defs.specs.Lists.{skip_entries}
-use Rattle.mg_defs.specs.Parse.{parse}
 
 -- bits from their digits
 abbrev bits : List ℕ → Bits
@@ -41,7 +38,3 @@ parameters = refl
 pages_of_ranges : pages 32767 65537 ∷ pages 32767 32768 ∷ pages 32768 32768 ∷ [] ≡ 3 ∷ 1 ∷ 0 ∷ []
 pages_of_ranges = refl
 
--- 200 documents of one x
-skips : skip_entries (repeat 200 (120 ∷ 2 ∷ [])) (120 ∷ []) ≡ record { last = 64; bits = 0 } ∷ record { last = 128; bits = 128 } ∷ record { last = 192; bits = 256 } ∷ record { last = 200; bits = 384 } ∷ []
-unfolding golomb unary ones short shorter ceil_log2 gamma parse digits
-skips = refl

@@ -7,6 +7,8 @@ pub mod CanonExamples
 pub mod CanonSteps
 pub mod CanonLaws
 pub mod CostLaws
+pub mod ListExamples
+pub mod ListLaws
 pub mod WalkLaws
 pub mod OneReading
 pub mod TokenLaws
@@ -25,6 +27,8 @@ pub mod Gathering
 pub mod Joining
 pub mod Segments
 pub mod RunExamples
+pub mod GeneratorExamples
+pub mod WeightLaws
 pub mod BitLaws
 pub mod FrontLaws
 pub mod CodeLaws

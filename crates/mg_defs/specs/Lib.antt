@@ -15,6 +15,8 @@ pub mod Grammar
 pub mod Walk
 pub mod Fixed
 pub mod Weights
+pub mod Order
+pub mod Generator
 pub mod Cut
 pub mod Texts
 pub mod Commands

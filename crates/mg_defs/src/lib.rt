@@ -9,6 +9,7 @@
 mod postings;
 mod codes;
 mod huffman;
+mod lists;
 mod queries;
 mod texts;
 mod weights;
@@ -16,9 +17,10 @@ mod weights;
 pub use postings::{merged_runs, one_list_of_postings, postings_of_joined};
 pub use codes::{no_code_is_a_front, one_answer, pages_of_a_range};
 pub use huffman::{codewords_differ, cost_in_any_order, first_is_exact};
+pub use lists::{block_stands, list_rises, one_range};
 pub use queries::{one_query, walk_decides};
 pub use texts::{one_parse, one_split};
-pub use weights::{logarithm_rises, one_root};
+pub use weights::{logarithm_rises, one_ranking, one_root, weight_is_root};
 
 /// The two kinds of pieces of a document.
 #[derive(Clone, Copy, Debug, PartialEq, Eq)]
@@ -47,6 +49,15 @@ pub struct Settings {
     pub mode: Mode,
     /// The most rows or documents of a reply; all where there is none.
     pub most: Option<u32>,
+}
+
+/// A document that has a term, and how often it has it.
+#[derive(Clone, Copy, Debug, PartialEq, Eq)]
+pub struct Posting {
+    /// Its number, from 1.
+    pub doc: u32,
+    /// At least 1.
+    pub freq: u32,
 }
 
 /// What a line of a session is.
