@@ -16,3 +16,4 @@ pub mod ReplyLaws
 pub mod SessionExamples
 pub mod ReadLaws
 pub mod TopLaws
+pub mod BooleanLaws

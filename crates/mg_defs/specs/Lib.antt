@@ -19,4 +19,8 @@ pub mod Commands
 pub mod Reply
 pub mod Session
 pub mod Read
+pub mod FirstRefusal
+pub mod BooleanLines
+pub mod RankedLines
+pub mod QueryTerms
 pub mod Replies
