@@ -17,3 +17,4 @@ pub mod SessionExamples
 pub mod ReadLaws
 pub mod TopLaws
 pub mod BooleanLaws
+pub mod RankedLaws
