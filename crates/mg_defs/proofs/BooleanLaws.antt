@@ -1,7 +1,7 @@
 -- The query or the refusal of a Boolean line that is computed is the one that the grammar gives.
-use Rattle.std.proofs.Common.{◌≡◌, ℕ, zero, suc, ◌+◌, ◌-◌, ◌<◌, ◌≤◌, Bool, true, false, cond, not, List, [], ◌∷◌, ◌++◌, length, map, Option, Some, None, refl, sym, ◌∙◌, ap, subst, inl, inr, append_assoc, append-nil, arith, ◌⊎◌, nat_le, nat_lt, if◌then◌else◌}
+use Rattle.std.proofs.Common.{◌≡◌, ℕ, zero, suc, ◌+◌, ◌≤◌, Bool, true, false, cond, not, List, [], ◌∷◌, ◌++◌, length, Option, Some, None, refl, sym, ◌∙◌, ap, subst, inl, inr, append_assoc, append-nil, arith, ◌⊎◌, if◌then◌else◌}
 use Rattle.std.specs.List.{count_by}
-use Rattle.std.proofs.lemmas.Bool.{cases_Bool, ltb-true, lt-ltb, leb-true, le-leb}
+use Rattle.std.proofs.lemmas.Bool.{ltb-true, lt-ltb, leb-true, le-leb}
 use Rattle.std.proofs.lemmas.List.{map-append}
 use Rattle.std.proofs.lemmas.List.Sums.{sum_by-append}
 use Rattle.mg_defs.specs.Sat.{Query}
@@ -13,6 +13,7 @@ use Rattle.mg_defs.specs.FirstRefusal.{NoneRefused, IsFirstRefusal}
 use Rattle.mg_defs.specs.BooleanLines.{is_opening, is_closing, open_count, IsLongWord, IsRefusedAfter, IsAccepted, IsRefusal, at_a_token, at_the_end}
 use Rattle.mg_defs.proofs.WalkLaws.{walk-append, begins-walk, walk-begins, reads-walk, walk-reads}
 use Rattle.mg_defs.proofs.ReadLaws.{query_is}
+use Rattle.mg_defs.proofs.OneReading.{one-reading}
 
 none-some : {B : Type 0} (y : B) → None ≡ Some y → ⊥
 none-some y e = cc
@@ -374,3 +375,6 @@ one-refusal line why other h k =
     let first = refusal-computes line why h in
     let second = refusal-computes line other k in
     cc
+
+pub one-accepted : (line : List ℕ) (p q : Query) → IsAccepted line p → IsAccepted line q → p ≡ q
+one-accepted line p q h k = one-reading (bare (tokens line)) p q h.reads k.reads

@@ -18,3 +18,4 @@ pub mod ReadLaws
 pub mod TopLaws
 pub mod BooleanLaws
 pub mod RankedLaws
+pub mod QueryExamples

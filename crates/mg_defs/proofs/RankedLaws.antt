@@ -1,15 +1,15 @@
 -- The terms or the refusal of a ranked line that are computed are those of its tokens.
-use Rattle.std.proofs.Common.{◌≡◌, ℕ, zero, suc, ◌<◌, ◌≤◌, Bool, true, false, cond, not, List, [], ◌∷◌, ◌++◌, length, refl, sym, ◌∙◌, ap, subst, inl, inr, append_assoc, append-nil, arith, ◌⊎◌, nat_le, nat_lt, if◌then◌else◌, Contains, filter, ◌==◌, ◌&&◌}
-use Rattle.std.specs.List.{list_any, flat_map}
-use Rattle.std.proofs.lemmas.Bool.{cases_Bool, ltb-true, lt-ltb, leb-true, le-leb, and_parts, and_from, eqb-true, eq-eqb, false≢true, or_left, or_right}
+use Rattle.std.proofs.Common.{◌≡◌, ℕ, zero, suc, ◌<◌, ◌≤◌, Bool, true, false, not, List, [], ◌∷◌, ◌++◌, length, refl, sym, ◌∙◌, ap, subst, inl, inr, append_assoc, append-nil, arith, ◌⊎◌, nat_le, nat_lt, if◌then◌else◌, Contains, filter, ◌==◌}
+use Rattle.std.specs.List.{list_any}
+use Rattle.std.proofs.lemmas.Bool.{cases_Bool, ltb-true, leb-true, and_parts, and_from, eqb-true, eq-eqb, false≢true, or_left, or_right}
 use Rattle.std.proofs.lemmas.Grind.{flat_map-append}
 use Rattle.std.proofs.lemmas.Map.Views.{Contains-from_any, any-filter_same}
 use Rattle.std.proofs.lemmas.List.Elements.{filter-append}
 use Rattle.std.proofs.lemmas.Bool.Decides.{leb_tells}
 use Rattle.mg_defs.specs.Terms.{folded, same_term}
 use Rattle.mg_defs.specs.Tokens.{Token, word, bar, amp, bang, opening, closing, Placed, placed, tokens}
-use Rattle.mg_defs.specs.Read.{Refusal, syntax, too_deep, too_long, too_many, Reading, reads, refused, ranked_with, ranked_token, ranked_next, ranked_from, ranked}
-use Rattle.mg_defs.specs.FirstRefusal.{NoneRefused, IsFirstRefusal}
+use Rattle.mg_defs.specs.Read.{Refusal, syntax, too_deep, too_long, too_many, Reading, reads, refused, ranked_with, ranked_token, ranked_from, ranked}
+use Rattle.mg_defs.specs.FirstRefusal.{NoneRefused}
 use Rattle.mg_defs.specs.BooleanLines.{IsLongWord}
 use Rattle.mg_defs.specs.RankedLines.{term_of, folded_words, distinct, distinct_terms, IsNewTerm, IsTermRefusedAfter, IsTermList, IsTermRefusal}
 
@@ -277,4 +277,13 @@ terms-not-both line terms why a r =
     let first = list-computes line terms a in
     let second = term-refusal-computes line why r in
     let clash : reads terms ≡ refused why = sym first ∙ second in
+    cc
+
+pub one-term-list : (line : List ℕ) (terms other : List (List ℕ)) → IsTermList line terms → IsTermList line other → terms ≡ other
+one-term-list line terms other h k = h.is ∙ sym k.is
+
+pub one-term-refusal : (line : List ℕ) (why other : Refusal) → IsTermRefusal line why → IsTermRefusal line other → why ≡ other
+one-term-refusal line why other h k =
+    let first = term-refusal-computes line why h in
+    let second = term-refusal-computes line other k in
     cc

@@ -10,7 +10,10 @@ mod queries;
 mod texts;
 mod weights;
 
-pub use queries::{one_query, walk_decides};
+pub use queries::{
+    boolean_is, one_cause, one_query, one_reading, one_term_list, ranked_is, token_runs,
+    walk_decides,
+};
 pub use texts::{one_parse, one_split};
 pub use weights::{logarithm_rises, one_root};
 
