@@ -33,3 +33,6 @@ pub mod BitLaws
 pub mod FrontLaws
 pub mod CodeLaws
 pub mod PageLaws
+pub mod BooleanLaws
+pub mod RankedLaws
+pub mod QueryExamples

@@ -23,6 +23,10 @@ pub mod Commands
 pub mod Reply
 pub mod Session
 pub mod Read
+pub mod FirstRefusal
+pub mod BooleanLines
+pub mod RankedLines
+pub mod QueryTerms
 pub mod Replies
 pub mod Postings
 pub mod PostingOrder

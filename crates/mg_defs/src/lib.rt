@@ -18,7 +18,10 @@ pub use postings::{merged_runs, one_list_of_postings, postings_of_joined};
 pub use codes::{no_code_is_a_front, one_answer, pages_of_a_range};
 pub use huffman::{codewords_differ, cost_in_any_order, first_is_exact};
 pub use lists::{block_stands, list_rises, one_range};
-pub use queries::{one_query, walk_decides};
+pub use queries::{
+    boolean_is, one_cause, one_query, one_reading, one_term_list, ranked_is, token_runs,
+    walk_decides,
+};
 pub use texts::{one_parse, one_split};
 pub use weights::{logarithm_rises, one_ranking, one_root, weight_is_root};
 
