@@ -13,10 +13,11 @@ pub mod Grammar
 pub mod Walk
 pub mod Fixed
 pub mod Weights
-pub mod Cut
+pub mod Lines
 pub mod Texts
 pub mod Commands
 pub mod Reply
 pub mod Session
+pub mod Limit
 pub mod Read
 pub mod Replies

@@ -6,11 +6,15 @@
 //! crates can use them.
 #![tactic(auto)]
 
+mod lines;
 mod queries;
+mod session;
 mod texts;
 mod weights;
 
+pub use lines::{lines_of, quit_always};
 pub use queries::{one_query, walk_decides};
+pub use session::{Command, Mode, Settings};
 pub use texts::{one_parse, one_split};
 pub use weights::{logarithm_rises, one_root};
 
@@ -21,39 +25,4 @@ pub enum Stream {
     Words,
     /// Longest runs of other bytes.
     Others,
-}
-
-/// What a reply shows.
-#[derive(Clone, Copy, Debug, PartialEq, Eq)]
-pub enum Mode {
-    /// A row with the number of each document.
-    Docnums,
-    /// Each document's bytes.
-    Text,
-    /// The count alone.
-    Count,
-}
-
-/// How query lines are read and answered.
-#[derive(Clone, Copy, Debug, PartialEq, Eq)]
-pub struct Settings {
-    pub ranked: bool,
-    pub mode: Mode,
-    /// The most rows or documents of a reply; all where there is none.
-    pub most: Option<u32>,
-}
-
-/// What a line of a session is.
-#[derive(Clone, Copy, Debug, PartialEq, Eq)]
-pub enum Command {
-    /// No bytes but blanks and tabs: no reply.
-    Skip,
-    /// A query.
-    Ask,
-    /// The end of the session.
-    Quit,
-    /// A line that begins with a full stop and is no command.
-    Wrong,
-    /// The settings from now on.
-    Set(Settings),
 }
