@@ -15,8 +15,9 @@ pub mod TokenLaws
 pub mod SatLaws
 pub mod WeightExamples
 pub mod FixedLaws
-pub mod CutLaws
+pub mod LinesLaws
 pub mod SessionLaws
+pub mod LimitLaws
 pub mod WordLaws
 pub mod ReplyLaws
 pub mod SessionExamples

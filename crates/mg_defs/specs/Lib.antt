@@ -18,10 +18,12 @@ pub mod Weights
 pub mod Order
 pub mod Generator
 pub mod Cut
+pub mod Lines
 pub mod Texts
 pub mod Commands
 pub mod Reply
 pub mod Session
+pub mod Limit
 pub mod Read
 pub mod FirstRefusal
 pub mod BooleanLines

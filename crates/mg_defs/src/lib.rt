@@ -6,22 +6,26 @@
 //! crates can use them.
 #![tactic(auto)]
 
-mod postings;
 mod codes;
 mod huffman;
+mod lines;
 mod lists;
+mod postings;
 mod queries;
+mod session;
 mod texts;
 mod weights;
 
-pub use postings::{merged_runs, one_list_of_postings, postings_of_joined};
 pub use codes::{no_code_is_a_front, one_answer, pages_of_a_range};
 pub use huffman::{codewords_differ, cost_in_any_order, first_is_exact};
+pub use lines::{lines_of, quit_always};
 pub use lists::{block_stands, list_rises, one_range};
+pub use postings::{merged_runs, one_list_of_postings, postings_of_joined};
 pub use queries::{
     boolean_is, one_cause, one_query, one_reading, one_term_list, ranked_is, token_runs,
     walk_decides,
 };
+pub use session::{Command, Mode, Settings};
 pub use texts::{one_parse, one_split};
 pub use weights::{logarithm_rises, one_ranking, one_root, weight_is_root};
 
@@ -34,26 +38,6 @@ pub enum Stream {
     Others,
 }
 
-/// What a reply shows.
-#[derive(Clone, Copy, Debug, PartialEq, Eq)]
-pub enum Mode {
-    /// A row with the number of each document.
-    Docnums,
-    /// Each document's bytes.
-    Text,
-    /// The count alone.
-    Count,
-}
-
-/// How query lines are read and answered.
-#[derive(Clone, Copy, Debug, PartialEq, Eq)]
-pub struct Settings {
-    pub ranked: bool,
-    pub mode: Mode,
-    /// The most rows or documents of a reply; all where there is none.
-    pub most: Option<u32>,
-}
-
 /// A document that has a term, and how often it has it.
 #[derive(Clone, Copy, Debug, PartialEq, Eq)]
 pub struct Posting {
@@ -61,21 +45,6 @@ pub struct Posting {
     pub doc: u32,
     /// At least 1.
     pub freq: u32,
-}
-
-/// What a line of a session is.
-#[derive(Clone, Copy, Debug, PartialEq, Eq)]
-pub enum Command {
-    /// No bytes but blanks and tabs: no reply.
-    Skip,
-    /// A query.
-    Ask,
-    /// The end of the session.
-    Quit,
-    /// A line that begins with a full stop and is no command.
-    Wrong,
-    /// The settings from now on.
-    Set(Settings),
 }
 
 /// A term and a document, and how often the term stands there.
