@@ -1,12 +1,12 @@
 -- Laws of bits and numbers.
-use Rattle.std.proofs.Common.{rules, arith, suc, zero, ◌≡◌, ◌+◌, ◌*◌, ◌≤◌, ◌<◌, ◌-◌, ◌/◌, ◌%◌, ◌^◌, ℕ, Bool, true, false, List, [], ◌∷◌, ◌++◌, length, take, drop, Some, None, slice_get, refl, sym, ◌∙◌, ap, length-append, append_assoc, zero-add, if◌then◌else◌}
+use Rattle.std.proofs.Common.{arith, suc, zero, ◌≡◌, ◌+◌, ◌*◌, ◌≤◌, ◌<◌, ◌-◌, ◌/◌, ◌%◌, ◌^◌, ℕ, Bool, true, false, List, [], ◌∷◌, ◌++◌, length, take, drop, Some, None, slice_get, refl, sym, ◌∙◌, ap, length-append, append_assoc, zero-add, if◌then◌else◌}
 use Rattle.std.proofs.Math.Seq.{drop-append-add}
 use Rattle.std.proofs.Math.ListN.{drop_of_length-le}
 use Rattle.std.proofs.Math.Nat.{div-add-mod}
 use Rattle.std.proofs.lemmas.Grind.{common_steps}
 use Rattle.std.proofs.lemmas.Nat.{shr-shr, shr_high, field_of, mod_low, pow-add, mul-add-lt, mod-pow-add}
 use Rattle.std.proofs.Math.Pow.{mod-mod-pow}
-use Rattle.mg_defs.specs.Bits.{Bits, digits, number, bits_of, is_odd, Begins}
+use Rattle.mg_defs.specs.Bits.{Bits, digits, number, bits_of, is_odd}
 
 -- ---- the bits of a number
 

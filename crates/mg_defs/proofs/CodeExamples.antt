@@ -37,4 +37,3 @@ parameters = refl
 -- the bits from the last of the first page to the first of the third, one bit, and none
 pages_of_ranges : pages 32767 65537 ∷ pages 32767 32768 ∷ pages 32768 32768 ∷ [] ≡ 3 ∷ 1 ∷ 0 ∷ []
 pages_of_ranges = refl
-

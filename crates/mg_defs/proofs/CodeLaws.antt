@@ -1,6 +1,5 @@
 -- Laws of the codes: their lengths, and that none is a proper front of another.
-use Rattle.std.proofs.Common.{rules, arith, suc, zero, ◌≡◌, ◌+◌, ◌*◌, ◌/◌, ◌%◌, ◌^◌, ◌≤◌, ◌<◌, ◌-◌, ℕ, Bool, true, false, List, [], ◌∷◌, ◌++◌, length, take, drop, refl, sym, ◌∙◌, ap, subst, length-append, nat_le, nat_lt, ◌⊎◌, inl, inr, append_assoc, append-nil, add-zero, lit≤, lit<, cond}
-use Rattle.std.proofs.lemmas.Grind.{common_steps}
+use Rattle.std.proofs.Common.{arith, suc, zero, ◌≡◌, ◌+◌, ◌*◌, ◌/◌, ◌%◌, ◌^◌, ◌≤◌, ◌<◌, ◌-◌, ℕ, true, false, [], ◌∷◌, ◌++◌, length, take, refl, sym, ◌∙◌, ap, subst, length-append, nat_le, inl, inr, append-nil}
 use Rattle.std.proofs.lemmas.Bool.{cond_both, leb-true, leb-false, cases_lt, cond-true, cond-false, lt-ltb, le-ltb}
 use Rattle.std.proofs.lemmas.Nat.{pow_pos, mod_low, div-mul-add, mod-mul-add}
 use Rattle.std.proofs.Math.Nat.{two-pow-succ, div-add-mod, mod-eq_of_lt}
@@ -10,7 +9,7 @@ use Rattle.mg_defs.specs.Codes.{ones, unary, gamma, short, shorter, golomb, log2
 use Rattle.mg_defs.specs.Answers.{UpTo, Below, IsPrefixFree}
 use Rattle.mg_defs.proofs.FixedLaws.{IsLog, is_log, one_log}
 use Rattle.mg_defs.proofs.BitLaws.{length_digits, digits_mod, digits_same, take_digits}
-use Rattle.mg_defs.proofs.FrontLaws.{begins_length, begins_append, begins_whole}
+use Rattle.mg_defs.proofs.FrontLaws.{begins_length, begins_whole}
 
 -- ---- unary
 

@@ -2,7 +2,7 @@
 use Rattle.std.proofs.Common.{◌≡◌, ℕ, List, [], ◌∷◌, ◌++◌, refl}
 use Rattle.std.specs.Prelude.{codes}
 use Rattle.mg_defs.specs.Bits.{digits, bits_of}
-use Rattle.mg_defs.specs.Codes.{gamma, unary}
+use Rattle.mg_defs.specs.Codes.{gamma, ones, unary}
 use Rattle.mg_defs.specs.Parse.{parse}
 use Rattle.mg_defs.specs.Occurrences.{occurrences}
 use Rattle.mg_defs.specs.Postings.{postings}
@@ -25,12 +25,12 @@ unfolding parse
 k_postings = refl
 
 k_run : run_part_bits 1398101 (occurrences k) ≡ bits_of (0xd8 ∷ 0x49 ∷ 0x20 ∷ 0x42 ∷ 0x00 ∷ [])
-unfolding parse digits bits_of gamma unary posting_bits run_bits filled_run_bits
+unfolding parse digits bits_of gamma unary ones posting_bits run_bits filled_run_bits
 k_run = refl
 
 -- four times one word
 four_run : run_part_bits 1398101 (occurrences (codes "a a a a ")) ≡ bits_of (0x18 ∷ [])
-unfolding parse digits bits_of gamma unary posting_bits run_bits filled_run_bits
+unfolding parse digits bits_of gamma unary ones posting_bits run_bits filled_run_bits
 four_run = refl
 
 -- three occurrences to a run

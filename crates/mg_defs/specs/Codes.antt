@@ -1,6 +1,6 @@
 -- The codes, as lists of bits.
 use Rattle.mg_defs.specs.Bits.{Bits, digits}
-use Rattle.std.specs.Prelude.{◌≡◌, ℕ, zero, suc, ◌+◌, ◌-◌, ◌*◌, ◌/◌, ◌%◌, ◌^◌, ◌<◌, ◌≤◌, max, nat_lt, nat_le, true, false, if◌then◌else◌, [], ◌∷◌, ◌++◌}
+use Rattle.std.specs.Prelude.{ℕ, zero, suc, ◌+◌, ◌-◌, ◌*◌, ◌/◌, ◌%◌, ◌^◌, max, nat_lt, nat_le, true, false, if◌then◌else◌, [], ◌∷◌, ◌++◌}
 
 -- the greatest e below the first number with 2 ^ e at most x: for x from 1 to 2 ^ bound - 1 the whole part of its logarithm
 abbrev pub log2_below : ℕ → ℕ → ℕ

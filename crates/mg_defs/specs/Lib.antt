@@ -17,7 +17,6 @@ pub mod Fixed
 pub mod Weights
 pub mod Order
 pub mod Generator
-pub mod Cut
 pub mod Lines
 pub mod Texts
 pub mod Commands

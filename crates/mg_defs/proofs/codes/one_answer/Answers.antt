@@ -1,4 +1,3 @@
-use Rattle.std.proofs.Common.{rules}
 use Rattle.mg_defs.specs.Codes.{unary, gamma, short, golomb}
 use Rattle.mg_defs.specs.Answers.{UpTo, Below}
 use Rattle.mg_defs.proofs.FrontLaws.{one_answer}
