@@ -1,6 +1,8 @@
 pub mod SplitLaws
+pub mod SortedLaws
 pub mod ParseLaws
 pub mod TextExamples
+pub mod CollectionExamples
 pub mod PieceLaws
 pub mod CodeExamples
 pub mod WalkLaws
