@@ -4,8 +4,6 @@ use Rattle.std.specs.Prelude.{codes}
 use Rattle.std.specs.List.{repeat}
 use Rattle.mg_defs.specs.Bits.{Bits, digits}
 use Rattle.mg_defs.specs.Codes.{gamma, golomb, unary, short}
-use Rattle.mg_defs.specs.Canon.{canon}
-use Rattle.mg_defs.specs.Cost.{huffman_cost}
 use Rattle.mg_defs.specs.Lists.{skip_entries}
 use Rattle.mg_defs.specs.Parse.{parse}
 
@@ -20,13 +18,6 @@ gammas = refl
 golombs : map (golomb 3) (1 ∷ 2 ∷ 4 ∷ 10 ∷ []) ≡ bits (codes "00") ∷ bits (codes "010") ∷ bits (codes "100") ∷ bits (codes "11100") ∷ []
 unfolding golomb unary short digits
 golombs = refl
-
-canons : map (canon (3 ∷ 2 ∷ 2 ∷ 3 ∷ 2 ∷ [])) (0 ∷ 1 ∷ 2 ∷ 3 ∷ 4 ∷ []) ≡ bits (codes "000") ∷ bits (codes "01") ∷ bits (codes "10") ∷ bits (codes "001") ∷ bits (codes "11") ∷ []
-unfolding digits
-canons = refl
-
-cost : huffman_cost (1 ∷ 2 ∷ 2 ∷ 1 ∷ 2 ∷ []) ≡ 18
-cost = refl
 
 -- 200 documents of one x
 skips : skip_entries (repeat 200 (120 ∷ 2 ∷ [])) (120 ∷ []) ≡ record { last = 64; bits = 0 } ∷ record { last = 128; bits = 128 } ∷ record { last = 192; bits = 256 } ∷ record { last = 200; bits = 384 } ∷ []

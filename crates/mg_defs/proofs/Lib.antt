@@ -5,6 +5,10 @@ pub mod TextExamples
 pub mod CollectionExamples
 pub mod PieceLaws
 pub mod CodeExamples
+pub mod CanonExamples
+pub mod CanonSteps
+pub mod CanonLaws
+pub mod CostLaws
 pub mod WalkLaws
 pub mod OneReading
 pub mod TokenLaws

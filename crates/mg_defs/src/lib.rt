@@ -6,10 +6,12 @@
 //! crates can use them.
 #![tactic(auto)]
 
+mod huffman;
 mod queries;
 mod texts;
 mod weights;
 
+pub use huffman::{codewords_differ, cost_in_any_order, first_is_exact};
 pub use queries::{one_query, walk_decides};
 pub use texts::{one_parse, one_split};
 pub use weights::{logarithm_rises, one_root};
