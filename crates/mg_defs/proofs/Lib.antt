@@ -1,8 +1,10 @@
 pub mod SplitLaws
 pub mod SortedLaws
+pub mod TermLaws
 pub mod ParseLaws
 pub mod TextExamples
 pub mod CollectionExamples
+pub mod CodedTextExamples
 pub mod PieceLaws
 pub mod CodeExamples
 pub mod CanonExamples

@@ -9,7 +9,7 @@ use Rattle.mg_defs.specs.Parse.{Pair, parse}
 use Rattle.mg_defs.specs.Sorted.{number_of}
 use Rattle.mg_defs.specs.Bits.{Bits, number}
 use Rattle.mg_defs.specs.Codes.{gamma}
-use Rattle.mg_defs.specs.Canon.{AreGood, canon}
+use Rattle.mg_defs.specs.Canon.{AreGood, codeword}
 use Rattle.mg_defs.specs.Cost.{huffman_cost, cost_of}
 use Rattle.mg_defs.specs.Vocabulary.{sorted_pieces, piece_counts}
 
@@ -22,7 +22,7 @@ pub record StreamCode : Type 0 where
 
 -- the codeword of a piece: that of its number
 abbrev pub codeword_of : StreamCode → List ℕ → Bits
-codeword_of code piece = canon code.lengths (number_of code.pieces piece)
+codeword_of code piece = codeword code.lengths (number_of code.pieces piece)
 
 -- The lengths are those of a code of Huffman's cost for pieces of these counts.
 pub record IsHuffman (counts lengths : List ℕ) : Type 0 where

@@ -44,9 +44,9 @@ counted piece [] = (piece, 1) ∷ []
 counted piece (e ∷ entries) = if bytes_eq piece e.0 then (e.0, e.1 + 1) ∷ entries else e ∷ counted piece entries
 
 -- the count of a piece in a vocabulary, 0 where it is no entry
-abbrev pub count_of : List (List ℕ × ℕ) → List ℕ → ℕ
-count_of [] piece = 0
-count_of (e ∷ entries) piece = if bytes_eq piece e.0 then e.1 else count_of entries piece
+abbrev pub entry_count : List (List ℕ × ℕ) → List ℕ → ℕ
+entry_count [] piece = 0
+entry_count (e ∷ entries) piece = if bytes_eq piece e.0 then e.1 else entry_count entries piece
 
 abbrev pub total : List (List ℕ × ℕ) → ℕ
 total entries = sum_by (λ e. e.1) entries
@@ -56,7 +56,7 @@ abbrev pub sorted_of : List (List ℕ × ℕ) → List (List ℕ)
 sorted_of entries = sorted_distinct (map (λ e. e.0) entries)
 
 abbrev pub counts_of : List (List ℕ × ℕ) → List ℕ
-counts_of entries = map (count_of entries) (sorted_of entries)
+counts_of entries = map (entry_count entries) (sorted_of entries)
 
 -- the distinct pieces of a collection's stream in the order of their bytes, and how often each comes
 abbrev pub sorted_pieces : Stream → List ℕ → List (List ℕ)
