@@ -1,6 +1,8 @@
 pub mod SplitLaws
+pub mod ClosedLaws
 pub mod SortedLaws
 pub mod TermLaws
+pub mod VocabularyLaws
 pub mod ParseLaws
 pub mod TextExamples
 pub mod CollectionExamples

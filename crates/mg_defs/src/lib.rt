@@ -13,7 +13,10 @@ mod weights;
 
 pub use huffman::{codewords_differ, cost_in_any_order, first_is_exact};
 pub use queries::{one_query, walk_decides};
-pub use texts::{one_parse, one_split};
+pub use texts::{
+    closed_and_open, one_byte_more, one_dictionary, one_order, one_parse, one_split,
+    terms_have_numbers, test_decides, vocabulary_grows, vocabulary_tells,
+};
 pub use weights::{logarithm_rises, one_root};
 
 /// The two kinds of pieces of a document.
