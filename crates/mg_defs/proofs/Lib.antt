@@ -1,6 +1,12 @@
 pub mod SplitLaws
+pub mod ClosedLaws
+pub mod SortedLaws
+pub mod TermLaws
+pub mod VocabularyLaws
 pub mod ParseLaws
 pub mod TextExamples
+pub mod CollectionExamples
+pub mod CodedTextExamples
 pub mod PieceLaws
 pub mod CodeExamples
 pub mod CanonExamples

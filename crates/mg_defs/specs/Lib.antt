@@ -1,7 +1,12 @@
 pub mod Split
 pub mod Parse
+pub mod Sorted
 pub mod Terms
 pub mod Sat
+pub mod Vocabulary
+pub mod Limits
+pub mod TextBits
+pub mod CodedText
 pub mod Pieces
 pub mod Bits
 pub mod Codes

@@ -26,7 +26,10 @@ pub use queries::{
     walk_decides,
 };
 pub use session::{Command, Mode, Settings};
-pub use texts::{one_parse, one_split};
+pub use texts::{
+    closed_and_open, one_byte_more, one_dictionary, one_order, one_parse, one_split,
+    terms_have_numbers, test_decides, vocabulary_grows, vocabulary_tells,
+};
 pub use weights::{logarithm_rises, one_ranking, one_root, weight_is_root};
 
 /// The two kinds of pieces of a document.
