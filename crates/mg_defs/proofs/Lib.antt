@@ -16,3 +16,11 @@ pub mod ReplyLaws
 pub mod SessionExamples
 pub mod ReadLaws
 pub mod TopLaws
+pub mod FrontLaws
+pub mod FrontOrder
+pub mod FrontParts
+pub mod FrontExamples
+pub mod NumberLaws
+pub mod HeadLaws
+pub mod HeadExamples
+pub mod LexiconExamples

@@ -20,3 +20,7 @@ pub mod Reply
 pub mod Session
 pub mod Read
 pub mod Replies
+pub mod Numbers
+pub mod Front
+pub mod Heads
+pub mod Lexicon

@@ -6,10 +6,14 @@
 //! crates can use them.
 #![tactic(auto)]
 
+mod front;
+mod heads;
 mod queries;
 mod texts;
 mod weights;
 
+pub use front::{entries_are_read, one_front, strings_rise};
+pub use heads::{damage_decides, one_head};
 pub use queries::{one_query, walk_decides};
 pub use texts::{one_parse, one_split};
 pub use weights::{logarithm_rises, one_root};
