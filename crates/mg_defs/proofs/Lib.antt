@@ -43,3 +43,11 @@ pub mod PageLaws
 pub mod BooleanLaws
 pub mod RankedLaws
 pub mod QueryExamples
+pub mod FrontOrder
+pub mod FrontParts
+pub mod FrontExamples
+pub mod NumberLaws
+pub mod HeadLaws
+pub mod HeadExamples
+pub mod LexiconExamples
+pub mod CodeFrontLaws

@@ -39,3 +39,7 @@ pub mod PostingOrder
 pub mod Runs
 pub mod Occurrences
 pub mod RunBits
+pub mod Numbers
+pub mod Front
+pub mod Heads
+pub mod Lexicon

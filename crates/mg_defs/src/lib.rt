@@ -7,6 +7,8 @@
 #![tactic(auto)]
 
 mod codes;
+mod front;
+mod heads;
 mod huffman;
 mod lines;
 mod lists;
@@ -17,6 +19,8 @@ mod texts;
 mod weights;
 
 pub use codes::{no_code_is_a_front, one_answer, pages_of_a_range};
+pub use front::{entries_are_read, one_front, strings_rise};
+pub use heads::{damage_decides, one_head};
 pub use huffman::{codewords_differ, cost_in_any_order, first_is_exact};
 pub use lines::{lines_of, quit_always};
 pub use lists::{block_stands, list_rises, one_range};
