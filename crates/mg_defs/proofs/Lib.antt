@@ -20,3 +20,7 @@ pub mod ReplyLaws
 pub mod SessionExamples
 pub mod ReadLaws
 pub mod TopLaws
+pub mod BitLaws
+pub mod FrontLaws
+pub mod CodeLaws
+pub mod PageLaws

@@ -6,12 +6,14 @@
 //! crates can use them.
 #![tactic(auto)]
 
+mod codes;
 mod huffman;
 mod queries;
 mod texts;
 mod weights;
 
-pub use huffman::{codewords_differ, cost_in_any_order, first_is_exact};
+pub use codes::{no_code_is_a_front, one_answer, pages_of_a_range};
+pub use huffman::{cost_in_any_order, first_is_exact, no_codeword_is_a_front};
 pub use queries::{one_query, walk_decides};
 pub use texts::{one_parse, one_split};
 pub use weights::{logarithm_rises, one_root};
