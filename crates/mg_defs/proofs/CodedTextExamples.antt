@@ -3,10 +3,10 @@ use Rattle.std.proofs.Common.{◌≡◌, ℕ, List, [], ◌∷◌, ◌++◌, tru
 use Rattle.std.specs.Prelude.{codes}
 use Rattle.mg_defs.specs.declared.Stream.TheVariants.{Words, Others}
 use Rattle.mg_defs.specs.Parse.{parse}
-use Rattle.mg_defs.specs.Bits.{Bits, digits, number}
-use Rattle.mg_defs.specs.Codes.{gamma, unary}
+use Rattle.mg_defs.specs.Bits.{digits, number}
+use Rattle.mg_defs.specs.Codes.{gamma, unary, ones}
 use Rattle.mg_defs.specs.Vocabulary.{sorted_pieces}
-use Rattle.mg_defs.specs.CodedText.{StreamCode, TextCode, IsTextCode, codeword_of, piece_fields, coded_doc, filled, text_of, places, places_of, doc_range}
+use Rattle.mg_defs.specs.CodedText.{TextCode, IsTextCode, codeword_of, piece_fields, coded_doc, filled, text_of, places, places_of, doc_range}
 use Rattle.mg_defs.proofs.CollectionExamples.{k}
 
 -- ---- eight bytes and an open end: each stream has one piece
@@ -25,11 +25,11 @@ eight_fields : piece_fields eight_code.words ≡ (97 ∷ [], 1 ∷ []) ∷ []
 eight_fields = refl
 
 eight_text : (coded_doc eight_code eight ≡ true ∷ true ∷ false ∷ false ∷ true ∷ replicate 8 false) × (text_of eight_code eight ≡ 200 ∷ 0 ∷ [])
-unfolding parse gamma unary digits filled number
+unfolding parse gamma unary ones digits filled number
 eight_text = (refl, refl)
 
 eight_places : (places_of 1 eight_code eight ≡ 0 ∷ 0 ∷ 0 ∷ 0 ∷ 0 ∷ 0 ∷ 0 ∷ 2 ∷ []) × (places_of 2 eight_code eight ≡ replicate 8 0 ++ replicate 7 0 ++ 2 ∷ []) × (doc_range eight_code eight 1 ≡ record { from = 0; to = 16 })
-unfolding parse gamma unary digits filled number
+unfolding parse gamma unary ones digits filled number
 eight_places = (refl, refl, refl)
 
 -- ---- empty documents, and blanks alone
@@ -38,14 +38,14 @@ abbrev no_code : TextCode
 no_code = record { words = record { pieces = []; lengths = [] }; others = record { pieces = []; lengths = [] } }
 
 two_empty : IsTextCode (2 ∷ 2 ∷ []) no_code × (text_of no_code (2 ∷ 2 ∷ []) ≡ 0 ∷ 0 ∷ []) × (places no_code (2 ∷ 2 ∷ []) ≡ 0 ∷ 1 ∷ 2 ∷ [])
-unfolding parse gamma unary digits filled number
+unfolding parse gamma unary ones digits filled number
 two_empty = ((record { pieces = refl; lengths = record { each = refl; good = tt; cost = refl } }, record { pieces = refl; lengths = record { each = refl; good = tt; cost = refl } }), refl, refl)
 
 abbrev blanks_code : TextCode
 blanks_code = record { words = record { pieces = [] ∷ []; lengths = 1 ∷ [] }; others = record { pieces = replicate 45 32 ∷ replicate 255 32 ∷ []; lengths = 1 ∷ 1 ∷ [] } }
 
 blanks : text_of blanks_code (replicate 300 32) ≡ 168 ∷ []
-unfolding parse gamma unary digits filled number
+unfolding parse gamma unary ones digits filled number
 blanks = refl
 
 blanks_is : IsTextCode (replicate 300 32) blanks_code
@@ -67,5 +67,5 @@ k_fields = refl
 
 -- the documents have 18, 11 and 20 bits
 k_places : places k_code k ≡ 0 ∷ 3 ∷ 5 ∷ 8 ∷ []
-unfolding parse gamma unary digits filled number
+unfolding parse gamma unary ones digits filled number
 k_places = refl

@@ -4,13 +4,13 @@ use Rattle.std.specs.Prelude.{codes}
 use Rattle.mg_defs.specs.declared.Stream.TheVariants.{Words, Others}
 use Rattle.mg_defs.specs.Split.{documents, has_open_end, closed_count}
 use Rattle.mg_defs.specs.Parse.{Pair, parse}
-use Rattle.mg_defs.specs.Pieces.{pieces, pieces_from, left_at_end}
+use Rattle.mg_defs.specs.Pieces.{pieces}
 use Rattle.mg_defs.specs.Terms.{terms, dictionary, docs, freq, term_number}
-use Rattle.mg_defs.specs.Sat.{both, either, term, without, satisfies}
+use Rattle.mg_defs.specs.Sat.{both, term, without, satisfies}
 use Rattle.mg_defs.specs.Vocabulary.{all_pieces, vocabulary, sorted_pieces, piece_counts, sorted_of, counts_of, total}
 use Rattle.mg_defs.specs.Limits.{version_1, version_2, limits_of, greatest_budget}
 use Rattle.mg_defs.specs.TextBits.{head_bits, text_bits}
-use Rattle.mg_defs.specs.Codes.{gamma, unary}
+use Rattle.mg_defs.specs.Codes.{gamma, unary, ones}
 use Rattle.mg_defs.specs.Bits.{digits}
 
 abbrev pair_of : List ℕ → List ℕ → Pair
@@ -58,7 +58,7 @@ k_model = (refl, refl, refl)
 
 -- 18 for the words, 18 for the others, 13 for the heads
 k_bits : (text_bits k ≡ 49) × (head_bits k ≡ 13)
-unfolding parse gamma unary digits
+unfolding parse gamma unary ones digits
 k_bits = (refl, refl)
 
 k_sat : map (satisfies (both (term (codes "cat")) (without (term (codes "the"))))) (documents k) ≡ false ∷ false ∷ true ∷ []
@@ -74,7 +74,7 @@ two_empty : (documents (2 ∷ 2 ∷ []) ≡ [] ∷ [] ∷ []) × (has_open_end (
 two_empty = (refl, refl, refl)
 
 two_empty_texts : (parse [] ≡ []) × (map (satisfies (without (term (codes "x")))) (documents (2 ∷ 2 ∷ [])) ≡ true ∷ true ∷ []) × (text_bits (2 ∷ 2 ∷ []) ≡ 2)
-unfolding parse gamma unary digits
+unfolding parse gamma unary ones digits
 two_empty_texts = (refl, refl, refl)
 
 open_end : (documents (codes "a" ++ 2 ∷ codes "b") ≡ codes "a" ∷ codes "b" ∷ []) × (has_open_end (codes "a" ++ 2 ∷ codes "b") ≡ true) × (closed_count (codes "a" ++ 2 ∷ codes "b") ≡ 1)

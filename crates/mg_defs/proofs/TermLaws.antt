@@ -1,5 +1,5 @@
 -- Laws of terms.
-use Rattle.std.proofs.Common.{◌≡◌, ℕ, ◌<◌, ◌≤◌, Bool, true, false, not, ◌||◌, cond, List, [], ◌∷◌, ◌++◌, length, get_or, refl, sym, ◌∙◌, ap, arith, inl, inr, Contains, map, filter}
+use Rattle.std.proofs.Common.{◌≡◌, ℕ, ◌<◌, Bool, true, false, not, List, [], ◌∷◌, ◌++◌, length, get_or, refl, sym, ◌∙◌, ap, inl, inr, Contains, map, filter}
 use Rattle.std.specs.List.{list_any, flat_map}
 use Rattle.std.specs.Str.{bytes_eq}
 use Rattle.std.proofs.lemmas.Bool.{or_cases, or_left, or_right, false≢true, cases_Bool}
@@ -7,7 +7,7 @@ use Rattle.std.proofs.lemmas.List.{map-append}
 use Rattle.std.proofs.lemmas.List.Elements.{filter-append}
 use Rattle.mg_defs.specs.declared.Stream.TheVariants.{Words}
 use Rattle.mg_defs.specs.Split.{documents}
-use Rattle.mg_defs.specs.Sorted.{IsSortedDistinct, sorted_distinct, number_of}
+use Rattle.mg_defs.specs.Sorted.{IsSortedDistinct, sorted_distinct}
 use Rattle.mg_defs.specs.Terms.{folded, is_empty, terms_of_words, terms, all_terms, dictionary, term_number}
 use Rattle.mg_defs.specs.Vocabulary.{pieces_in, all_pieces, sorted_pieces}
 use Rattle.mg_defs.proofs.SortedLaws.{same-is, same-refl, sorted-is, sorted-rising, rising-unique, has-sorted, has-from, contains-from, number-found, number-missing, number-at}

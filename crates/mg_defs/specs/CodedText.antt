@@ -1,5 +1,5 @@
 -- Documents as bits: the number of pairs plus 1, and then the codewords of words and others in turn.
-use Rattle.std.specs.Prelude.{◌≡◌, ℕ, zero, suc, ◌+◌, ◌*◌, ◌-◌, ◌==◌, if◌then◌else◌, Bool, true, false, List, [], ◌∷◌, ◌++◌, length, map, take, drop, replicate, get_or, sum_by}
+use Rattle.std.specs.Prelude.{◌≡◌, ℕ, zero, suc, ◌+◌, ◌*◌, ◌-◌, ◌==◌, if◌then◌else◌, false, List, [], ◌∷◌, ◌++◌, length, map, take, drop, replicate, sum_by}
 use Rattle.std.specs.List.{flat_map, zip}
 use Rattle.std.specs.Int.{to_be_bytes, w32, w64}
 use Rattle.mg_defs.specs.declared.Stream.{Stream}

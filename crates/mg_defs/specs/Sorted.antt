@@ -1,5 +1,5 @@
 -- Strings of bytes in the order of their bytes, each once.
-use Rattle.std.specs.Prelude.{ℕ, Bool, List, [], ◌∷◌, Contains, All}
+use Rattle.std.specs.Prelude.{ℕ, List, [], ◌∷◌, Contains, All}
 use Rattle.std.specs.List.{position_or_len}
 use Rattle.std.specs.List.Sorted.{IsStrictlySortedBy}
 use Rattle.std.specs.Ordering.{nat_cmp}

@@ -1,7 +1,7 @@
 -- Laws of cutting an input into lines.
 use Rattle.std.proofs.Common.{◌≡◌, ◌≢◌, ℕ, List, [], ◌∷◌, ◌++◌, refl}
 use Rattle.std.proofs.lemmas.Bool.{ne_eqb}
-use Rattle.mg_defs.specs.Cut.{lines, HasNoEnd}
+use Rattle.mg_defs.specs.Lines.{lines, HasNoEnd}
 
 pub lines-closed : (line rest : List ℕ) → HasNoEnd line → lines (line ++ (10 ∷ rest)) ≡ line ∷ lines rest
 lines-closed [] rest h = refl
