@@ -6,6 +6,7 @@ pub mod Streams
 pub mod StreamLaws
 pub mod Shelf
 pub mod ShelfLaws
+pub mod Plans
 pub mod Mem
 pub mod Faults
 pub mod FaultLines
