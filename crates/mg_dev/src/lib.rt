@@ -1,4 +1,17 @@
-//! The devices of the program: where bytes come from, where they go, and the files between.
+//! The devices of the program: where bytes come from, where they go, and the files between; and
+//! why a run stops.
+//!
+//! The rest of the program is generic over three traits, `Source`, `Sink` and `Store`, and meets
+//! the system nowhere else. Each has meanings that contracts alone see: what it holds, and how
+//! often it failed, lacked memory or read a part. What it holds is optional. A device in memory
+//! tells it, so contracts above are exact over such a device; a device of the system tells
+//! nothing, since no proof knows what a file has, and the same contracts then say what holds
+//! whatever the system does. The counts are there so that each refusal has a cause: `Failed`
+//! comes only where the device counted a failure.
+//!
+//! There are three of each: those of the system (`HostStore`, ..), which are trusted and only
+//! tested; those in memory that never fail (`SureStore`, ..); and those in memory whose calls
+//! fail where a test planned it (`MemStore`, ..).
 #![tactic(auto)]
 
 mod bad;
