@@ -66,7 +66,7 @@ impl PieceReader {
     #[inline]
     pub fn offer(&mut self, byte: u8) -> Offer
         ensures offered { Offered self.old byte result self.new }
-        ensures reads { result ≡ Offer.Taken → (told : List (List ℕ)) (doc : List ℕ) → Reads self.old told doc [] → Reads self.new told (doc ++ byte ∷ []) [] }
+        ensures reads { result ≡ Offer.Taken → (told : List (List ℕ)) (doc : List ℕ) → Reads self.old told doc (byte ∷ []) → Reads self.new told (doc ++ byte ∷ []) [] }
     {
         if self.len < PIECE_BYTES && is_of_kind(self.kind, byte) {
             self.buffer[self.len] = byte;
