@@ -1,5 +1,5 @@
 -- The table has a full stop at the bytes that are no word bytes.
-use Rattle.std.proofs.Common.{◌≡◌, ℕ, ◌<◌, Bool, true, not, ◌==◌, List, get_or, refl, arith}
+use Rattle.std.proofs.Common.{◌≡◌, ℕ, ◌<◌, true, not, ◌==◌, List, get_or, refl, arith}
 use Rattle.std.proofs.lemmas.Bool.{agree_below, agree_below_at}
 use Rattle.mg_defs.specs.Parse.{is_word_byte as is_word}
 use Rattle.mg_parse.specs.declared.bytes.TheConstants.{WORD_BYTES}
