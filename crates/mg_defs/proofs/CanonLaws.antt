@@ -1,13 +1,16 @@
 -- No codeword of good lengths is a prefix of another, and no string of bits is left over.
-use Rattle.std.proofs.Common.{◌≡◌, ℕ, zero, suc, ◌+◌, ◌-◌, ◌*◌, ◌/◌, ◌%◌, ◌^◌, ◌<◌, ◌≤◌, Bool, false, cond, List, [], ◌∷◌, ◌++◌, length, refl, sym, ap, ◌∙◌, subst, arith, take, get_or, ⊎_elim, reverse, length-take}
+use Rattle.std.proofs.Common.{◌≡◌, ℕ, zero, suc, ◌+◌, ◌-◌, ◌*◌, ◌/◌, ◌%◌, ◌^◌, ◌<◌, ◌≤◌, false, cond, List, [], ◌∷◌, ◌++◌, length, refl, sym, ap, ◌∙◌, subst, arith, take, get_or, ⊎_elim, length-take}
 use Rattle.std.proofs.lemmas.Bool.Decides.{nat_tests}
 use Rattle.std.proofs.lemmas.Bool.{cases_lt, cases_eq}
 use Rattle.std.proofs.Math.Seq.{take-length}
-use Rattle.std.proofs.lemmas.List.{take-append-le, reverse-append, reverse-reverse}
-use Rattle.std.proofs.Math.Nat.{div-div-eq-div-mul, pow-succ'}
+use Rattle.std.proofs.lemmas.List.{take-append-le}
+use Rattle.std.proofs.Math.Nat.{div-div-eq-div-mul, pow-succ', mod-eq_of_lt}
 use Rattle.std.specs.Prelude.{◌==◌}
 use Rattle.mg_defs.specs.Bits.{Bits, digits, Begins}
 use Rattle.mg_defs.specs.Canon.{kraft, first, count_of, AreWithin, AreGood, codeword_value, codeword, longer}
+use Rattle.mg_defs.specs.Answers.{Below, IsPrefixFree}
+use Rattle.mg_defs.proofs.BitLaws.{length_digits, digits_same}
+use Rattle.mg_defs.proofs.CodeFrontLaws.{begins_append, begins_first}
 use Rattle.mg_defs.proofs.CanonSteps.{first-exact, first-step, first-last, longer-whole, goes_far, value-below, shorter, taken, count_of-cons, nth, nth-once}
 
 pub one_part : (c : ℕ) → c / 2 ^ 0 ≡ c
@@ -15,11 +18,6 @@ one_part c = omega arith
 
 pub half_parts : (j c : ℕ) → c / 2 / 2 ^ j ≡ c / 2 ^ suc j
 half_parts j c = div-div-eq-div-mul c 2 (2 ^ j) ∙ ap (λ k. c / k) (sym (pow-succ' 2 j))
-
-pub length-digits : (n c : ℕ) → length (digits n c) ≡ n
-unfolding digits
-length-digits zero c = refl
-length-digits (suc n) c = omega (arith, length-digits n c)
 
 -- the lowest digit apart
 pub digits-low : (n c : ℕ) → digits (suc n) c ≡ digits n (c / 2) ++ (c % 2 == 1) ∷ []
@@ -32,27 +30,14 @@ pub digits-front : (j l n c : ℕ) → n ≡ j + l → take l (digits n c) ≡ d
 digits-front zero l n c e =
     let m : n ≡ l = omega arith in
     let one = one_part c in
-    rw (m, one) (ap (λ k. take k (digits l c)) (sym (length-digits l c)) ∙ take-length (digits l c))
+    rw (m, one) (ap (λ k. take k (digits l c)) (sym (length_digits l c)) ∙ take-length (digits l c))
 digits-front (suc j) l n c e =
     let m : n ≡ suc (j + l) = omega arith in
-    let fits : l ≤ length (digits (j + l) (c / 2)) = omega (arith, length-digits (j + l) (c / 2)) in
+    let fits : l ≤ length (digits (j + l) (c / 2)) = omega (arith, length_digits (j + l) (c / 2)) in
     ap (λ k. take l (digits k c)) m ∙ ap (take l) (digits-low (j + l) c) ∙ take-append-le l (digits (j + l) (c / 2)) ((c % 2 == 1) ∷ []) fits ∙ digits-front j l (j + l) (c / 2) refl ∙ ap (λ k. digits l k) (half_parts j c)
 
-snoc-same : (a b : Bits) (x y : Bool) → a ++ x ∷ [] ≡ b ++ y ∷ [] → (a ≡ b) × (x ≡ y)
-snoc-same a b x y e =
-    let r : x ∷ reverse a ≡ y ∷ reverse b = sym (reverse-append a (x ∷ [])) ∙ ap reverse e ∙ reverse-append b (y ∷ []) in
-    let t : reverse a ≡ reverse b = cc in
-    let h : x ≡ y = cc in
-    (sym (reverse-reverse a) ∙ ap reverse t ∙ reverse-reverse b, h)
-
-last_same : (a b : ℕ) → (a % 2 == 1) ≡ (b % 2 == 1) → a / 2 ≡ b / 2 → a ≡ b
-last_same a b e f = grind (arith, nat_tests)
-
 pub digits-same : (n a b : ℕ) → a < 2 ^ n → b < 2 ^ n → digits n a ≡ digits n b → a ≡ b
-digits-same zero a b h k e = omega arith
-digits-same (suc n) a b h k e =
-    let s = snoc-same (digits n (a / 2)) (digits n (b / 2)) (a % 2 == 1) (b % 2 == 1) (sym (digits-low n a) ∙ e ∙ digits-low n b) in
-    last_same a b s.1 (digits-same n (a / 2) (b / 2) (omega arith) (omega arith) s.0)
+digits-same n a b h k e = sym (mod-eq_of_lt h) ∙ digits_same n a b e ∙ mod-eq_of_lt k
 
 taken-count : (l k : ℕ) → cond (k == l) 1 0 ≤ taken l k
 taken-count l k = ⊎_elim (λ same. let z : l - k ≡ 0 = omega arith in let one : 2 ^ (l - k) ≡ 1 = ap (λ n. 2 ^ n) z in grind (arith, nat_tests)) (λ other. grind (arith, nat_tests)) (cases_eq k l)
@@ -69,7 +54,7 @@ begins_shorter : (l n v w : ℕ) → Begins (digits l v) (digits n w) → l ≤ 
 begins_shorter l n v w begins =
     let e = ap length begins in
     let t = length-take (length (digits l v)) (digits n w) in
-    omega (arith, length-digits l v, length-digits n w)
+    omega (arith, length_digits l v, length_digits n w)
 
 pub shifted : (j l n c : ℕ) → n ≡ j + l → c < 2 ^ n → c / 2 ^ j < 2 ^ l
 shifted zero l n c e h = let m : n ≡ l = omega arith in let one = one_part c in rw one (subst (λ k. c < 2 ^ k) m h)
@@ -103,18 +88,10 @@ pub length-codeword : (lengths : List ℕ) (s : ℕ) → AreGood lengths → s <
 length-codeword [] s good h = absurd (omega arith)
 length-codeword (l ∷ []) zero good h = sym good
 length-codeword (l ∷ []) (suc s) good h = absurd (omega arith)
-length-codeword (l ∷ m ∷ lengths) s good h = length-digits (get_or (l ∷ m ∷ lengths) s 0) (codeword_value (l ∷ m ∷ lengths) s)
+length-codeword (l ∷ m ∷ lengths) s good h = length_digits (get_or (l ∷ m ∷ lengths) s 0) (codeword_value (l ∷ m ∷ lengths) s)
 
-pub begins_front : (a b s : Bits) → Begins (a ++ b) s → Begins a s
-begins_front [] b s h = refl
-begins_front (x ∷ a) b [] h = absurd cc
-begins_front (x ∷ a) b (y ∷ s) h =
-    let e : y ≡ x = cc in
-    let t : take (length a) s ≡ a = begins_front a b s (let f : take (length (a ++ b)) s ≡ a ++ b = cc in f) in
-    cc
-
-pub begins_whole : (a s : Bits) → s ≡ a → Begins a s
-begins_whole a s e = ap (λ k. take (length a) k) e ∙ take-length a
+front_of : (w more code : Bits) → code ≡ w ++ more → Begins w code
+front_of w more code e = subst (λ c. Begins w c) (sym e) (begins_append w more)
 
 zero_bit : (l v : ℕ) → digits (suc l) (2 * v) ≡ digits l v ++ false ∷ []
 zero_bit l v =
@@ -136,7 +113,7 @@ module _ (lengths : List ℕ) (within : AreWithin lengths) (full : kraft lengths
   front_value s t h k begins j e =
       let n : ℕ = get_or lengths t 0 in
       let l : ℕ = get_or lengths s 0 in
-      let front : take l (code t) ≡ code s = ap (λ i. take i (code t)) (sym (length-digits l (codeword_value lengths s))) ∙ begins in
+      let front : take l (code t) ≡ code s = ap (λ i. take i (code t)) (sym (length_digits l (codeword_value lengths s))) ∙ begins in
       let same : digits l (codeword_value lengths t / 2 ^ j) ≡ digits l (codeword_value lengths s) = sym (digits-front j l n (codeword_value lengths t) e) ∙ front in
       digits-same l (codeword_value lengths t / 2 ^ j) (codeword_value lengths s) (shifted j l n (codeword_value lengths t) e (value_fits t k)) (value_fits s h) same
 
@@ -171,20 +148,23 @@ module _ (lengths : List ℕ) (within : AreWithin lengths) (full : kraft lengths
       (λ less.
       let r = goes_on_to k (suc l) (2 * v) (omega arith) less in
       let longer : l < get_or lengths r.0 0 = omega (arith, r.2) in
-      (r.0, r.1, longer, begins_front (digits l v) (false ∷ []) (code r.0) (subst (λ w. Begins w (code r.0)) bit r.3)))
+      (r.0, r.1, longer, begins_first (digits l v) (false ∷ []) (code r.0) (subst (λ w. Begins w (code r.0)) bit r.3)))
       (λ stop.
       let r = nth lengths (suc l) (2 * v - first (suc l) lengths) (omega arith) in
       let n : get_or lengths r.0 0 ≡ suc l = r.2 in
       let c : codeword_value lengths r.0 ≡ 2 * v = ap (λ i. first i lengths + count_of i (take r.0 lengths)) n ∙ (let p = r.3 in omega arith) in
       let w : code r.0 ≡ digits l v ++ false ∷ [] = ap (λ i. digits i (codeword_value lengths r.0)) n ∙ ap (digits (suc l)) c ∙ bit in
       let longer : l < get_or lengths r.0 0 = omega arith in
-      (r.0, r.1, longer, begins_front (digits l v) (false ∷ []) (code r.0) (begins_whole (digits l v ++ false ∷ []) (code r.0) w)))
+      (r.0, r.1, longer, front_of (digits l v) (false ∷ []) (code r.0) w))
       (cases_lt (2 * v) (first (suc l) lengths))
 
-pub prefix_free : (lengths : List ℕ) (s t : ℕ) → AreGood lengths → s < length lengths → t < length lengths → Begins (codeword lengths s) (codeword lengths t) → s ≡ t
-prefix_free [] s t good h k begins = absurd (omega arith)
-prefix_free (l ∷ []) s t good h k begins = omega arith
-prefix_free (l ∷ m ∷ lengths) s t good h k begins = prefix_free_many (l ∷ m ∷ lengths) good.0 good.1 s t h k begins
+one_symbol : (lengths : List ℕ) → AreGood lengths → (s t : ℕ) → s < length lengths → t < length lengths → Begins (codeword lengths s) (codeword lengths t) → s ≡ t
+one_symbol [] good s t h k begins = absurd (omega arith)
+one_symbol (l ∷ []) good s t h k begins = omega arith
+one_symbol (l ∷ m ∷ lengths) good s t h k begins = prefix_free_many (l ∷ m ∷ lengths) good.0 good.1 s t h k begins
+
+pub codewords_free : (lengths : List ℕ) → AreGood lengths → IsPrefixFree (Below (length lengths)) (codeword lengths)
+codewords_free lengths good = record { one = one_symbol lengths good }
 
 -- the division that gives the first codeword of a length leaves nothing over
 pub first-whole : (lengths : List ℕ) (l : ℕ) → AreGood lengths → 2 ≤ length lengths → l ≤ 48 → first l lengths * 2 ^ (48 - l) ≡ longer l lengths

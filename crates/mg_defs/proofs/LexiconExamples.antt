@@ -4,8 +4,8 @@ use Rattle.std.specs.Prelude.{codes}
 use Rattle.mg_defs.specs.Numbers.{four, eight}
 use Rattle.mg_defs.specs.Front.{front_from, entry_bytes, shared, places_from}
 use Rattle.mg_defs.specs.Codes.{golomb, unary, ones, short, shorter, ceil_log2, gamma}
-use Rattle.mg_defs.specs.Lists.{posting_bits, bits_after, filled, last_doc, doc_before, bits_before, entries_to, lists_bits, lists_entries}
-use Rattle.mg_defs.specs.Bits.{digits}
+use Rattle.mg_defs.specs.Lists.{posting_bits, bits_after, last_doc, doc_before, bits_before, entries_to, lists_bits, lists_entries}
+use Rattle.mg_defs.specs.Bits.{digits, filled}
 use Rattle.mg_defs.specs.Parse.{parse}
 use Rattle.mg_defs.specs.Lexicon.{lexicon, lex_bytes, lex_at_bytes}
 

@@ -3,11 +3,11 @@ use Rattle.std.proofs.Common.{◌≡◌, ℕ, List, [], ◌∷◌, ◌++◌, ref
 use Rattle.std.specs.Prelude.{codes}
 use Rattle.std.specs.List.{repeat}
 use Rattle.mg_defs.specs.declared.Posting.{Posting}
-use Rattle.mg_defs.specs.Bits.{Bits, digits, bits_of}
+use Rattle.mg_defs.specs.Bits.{Bits, digits, bits_of, filled}
 use Rattle.mg_defs.specs.Codes.{gamma, golomb, unary, ones, short, shorter, ceil_log2}
 use Rattle.mg_defs.specs.Parse.{parse}
 use Rattle.mg_defs.specs.Terms.{dictionary}
-use Rattle.mg_defs.specs.Lists.{SkipEntry, posting_bits, bits_after, filled, last_doc, doc_before, bits_before, entries_to, entry_bits, lists_bits, lists_entries, list_bits, skip_entries, inverted, post_bits, skip_bits, list_byte, first_entry}
+use Rattle.mg_defs.specs.Lists.{SkipEntry, posting_bits, bits_after, last_doc, doc_before, bits_before, entries_to, entry_bits, lists_bits, lists_entries, list_bits, skip_entries, inverted, post_bits, skip_bits, list_byte, first_entry}
 
 -- bits from their digits
 abbrev bits : List ℕ → Bits

@@ -1,13 +1,13 @@
 -- Occurrences, postings and runs, computed.
 use Rattle.std.proofs.Common.{◌≡◌, ℕ, List, [], ◌∷◌, ◌++◌, refl}
 use Rattle.std.specs.Prelude.{codes}
-use Rattle.mg_defs.specs.Bits.{digits, bits_of}
+use Rattle.mg_defs.specs.Bits.{digits, bits_of, filled}
 use Rattle.mg_defs.specs.Codes.{gamma, ones, unary}
 use Rattle.mg_defs.specs.Parse.{parse}
 use Rattle.mg_defs.specs.Occurrences.{occurrences}
 use Rattle.mg_defs.specs.Postings.{postings}
 use Rattle.mg_defs.specs.Runs.{runs_of}
-use Rattle.mg_defs.specs.RunBits.{run_part_bits, posting_bits, run_bits, filled_run_bits}
+use Rattle.mg_defs.specs.RunBits.{run_part_bits, posting_bits, run_bits}
 use Rattle.mg_defs.specs.declared.TermPosting.{TermPosting}
 
 abbrev k : List ℕ
@@ -25,12 +25,12 @@ unfolding parse
 k_postings = refl
 
 k_run : run_part_bits 1398101 (occurrences k) ≡ bits_of (0xd8 ∷ 0x49 ∷ 0x20 ∷ 0x42 ∷ 0x00 ∷ [])
-unfolding parse digits bits_of gamma unary ones posting_bits run_bits filled_run_bits
+unfolding parse digits bits_of gamma unary ones posting_bits run_bits filled
 k_run = refl
 
 -- four times one word
 four_run : run_part_bits 1398101 (occurrences (codes "a a a a ")) ≡ bits_of (0x18 ∷ [])
-unfolding parse digits bits_of gamma unary ones posting_bits run_bits filled_run_bits
+unfolding parse digits bits_of gamma unary ones posting_bits run_bits filled
 four_run = refl
 
 -- three occurrences to a run

@@ -62,23 +62,23 @@ abbrev pub coded_doc : TextCode → List ℕ → Bits
 coded_doc code doc = gamma (length (parse doc) + 1) ++ flat_map (coded_pair code) (parse doc)
 
 -- bits in bytes, the highest first; zero-bits fill the last byte
-abbrev pub filled_upto : ℕ → Bits → List ℕ
-filled_upto zero bits = []
-filled_upto (suc n) [] = []
-filled_upto (suc n) (b ∷ bits) = number (take 8 (b ∷ bits ++ replicate 7 false)) ∷ filled_upto n (drop 7 bits)
+abbrev pub bytes_upto : ℕ → Bits → List ℕ
+bytes_upto zero bits = []
+bytes_upto (suc n) [] = []
+bytes_upto (suc n) (b ∷ bits) = number (take 8 (b ∷ bits ++ replicate 7 false)) ∷ bytes_upto n (drop 7 bits)
 
-unfoldable pub filled : Bits → List ℕ
-filled bits = filled_upto (length bits) bits
+unfoldable pub as_bytes : Bits → List ℕ
+as_bytes bits = bytes_upto (length bits) bits
 
 -- the documents in order, each from a byte on
 abbrev pub text_of : TextCode → List ℕ → List ℕ
-text_of code collection = flat_map (λ doc. filled (coded_doc code doc)) (documents collection)
+text_of code collection = flat_map (λ doc. as_bytes (coded_doc code doc)) (documents collection)
 
 -- ---- places
 
 -- how many bytes a document has
 abbrev pub coded_size : TextCode → List ℕ → ℕ
-coded_size code doc = length (filled (coded_doc code doc))
+coded_size code doc = length (as_bytes (coded_doc code doc))
 
 -- the byte after the first d documents
 abbrev pub place_after : TextCode → List ℕ → ℕ → ℕ

@@ -1,7 +1,7 @@
 -- The bits of runs: postings by rising term and document, as gaps in gamma codes.
-use Rattle.std.specs.Prelude.{ℕ, ◌+◌, ◌-◌, ◌%◌, ◌++◌, ◌==◌, if◌then◌else◌, List, [], ◌∷◌, length}
+use Rattle.std.specs.Prelude.{ℕ, ◌+◌, ◌-◌, ◌++◌, ◌==◌, if◌then◌else◌, List, [], ◌∷◌, length}
 use Rattle.std.specs.List.{flat_map}
-use Rattle.mg_defs.specs.Bits.{Bits, digits}
+use Rattle.mg_defs.specs.Bits.{Bits, filled}
 use Rattle.mg_defs.specs.Codes.{gamma}
 use Rattle.mg_defs.specs.Runs.{runs_of}
 use Rattle.mg_defs.specs.declared.TermPosting.{TermPosting}
@@ -26,17 +26,9 @@ before_first = record { term = 0; doc = 0; count = 0 }
 unfoldable pub run_bits : List TermPosting → Bits
 run_bits xs = gamma (length xs) ++ postings_bits before_first xs
 
--- the zero-bits from a place to the next byte
-abbrev pub fill : ℕ → Bits
-fill place = digits ((8 - place % 8) % 8) 0
-
--- a run that ends at a byte
-unfoldable pub filled_run_bits : List TermPosting → Bits
-filled_run_bits xs = run_bits xs ++ fill (length (run_bits xs))
-
--- runs, one after another
+-- runs, one after another, each filled to a byte
 abbrev pub runs_bits : List (List TermPosting) → Bits
-runs_bits runs = flat_map filled_run_bits runs
+runs_bits runs = flat_map (λ run. filled (run_bits run)) runs
 
 -- the bits of the Run part for these occurrences, so many to a run
 abbrev pub run_part_bits : ℕ → List (ℕ × ℕ) → Bits

@@ -1,16 +1,16 @@
 // Laws of code lengths and canonical codewords.
 ghost use Rattle.std.specs.Prelude.{◌≡◌, ℕ, ◌-◌, ◌*◌, ◌^◌, ◌<◌, ◌≤◌, List, length, slice_index};
 ghost use Rattle.std.specs.List.Sorted.{IsPermutation};
-ghost use Rattle.mg_defs.specs.Bits.{Begins};
+ghost use Rattle.mg_defs.specs.Answers.{Below, IsPrefixFree};
 ghost use Rattle.mg_defs.specs.Canon.{AreGood, longer, first, codeword};
 ghost use Rattle.mg_defs.specs.Cost.{huffman_cost};
 
-/// No codeword of good lengths begins another, and each has as many bits as its length says.
-pub fn codewords_differ()
-    ensures prefix_free { (lengths : List ℕ) (s t : ℕ) → AreGood lengths → s < length lengths → t < length lengths →
-        Begins (codeword lengths s) (codeword lengths t) → s ≡ t }
-    ensures bits { (lengths : List ℕ) (s : ℕ) → AreGood lengths → s < length lengths →
-        length (codeword lengths s) ≡ slice_index lengths s }
+/// No codeword of good lengths is the front of another, and each has as many bits as its length
+/// says.
+pub fn no_codeword_is_a_front()
+    ensures prefix_free { (lengths : List ℕ) → AreGood lengths → IsPrefixFree (Below (length lengths)) (codeword lengths) }
+    ensures bits { (lengths : List ℕ) (symbol : ℕ) → AreGood lengths → symbol < length lengths →
+        length (codeword lengths symbol) ≡ slice_index lengths symbol }
 {}
 
 /// The division that gives the first codeword of a length leaves nothing over.

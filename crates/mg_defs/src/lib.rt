@@ -21,7 +21,7 @@ mod weights;
 pub use codes::{no_code_is_a_front, one_answer, pages_of_a_range};
 pub use front::{entries_are_read, one_front, strings_rise};
 pub use heads::{damage_decides, one_head};
-pub use huffman::{codewords_differ, cost_in_any_order, first_is_exact};
+pub use huffman::{cost_in_any_order, first_is_exact, no_codeword_is_a_front};
 pub use lines::{lines_of, quit_always};
 pub use lists::{block_stands, list_rises, one_range};
 pub use postings::{merged_runs, one_list_of_postings, postings_of_joined};

@@ -8,9 +8,8 @@ ghost use Rattle.std.specs.Prelude.{◌≡◌, ◌-◌, ◌^◌, ◌<◌, length
 ghost use Rattle.mg_huff.specs.Rising.{Above};
 ghost use Rattle.mg_huff.specs.Forest.{push_leaf, push_inner, IsWhole, AreDepths};
 
-use std::alloc::{AllocError, Global};
-
 use crate::join::Join;
+use std::alloc::{AllocError, Global};
 
 /// Puts the depth of a node last among the leaves or the inner nodes.
 fn place(

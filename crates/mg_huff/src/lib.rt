@@ -18,11 +18,10 @@ ghost use Rattle.std.specs.List.{All};
 ghost use Rattle.mg_defs.specs.Canon.{AreGood};
 ghost use Rattle.mg_defs.specs.Cost.{huffman_cost, cost_of};
 
-use std::alloc::{AllocError, Global};
-
 use crate::counted::{in_places, ranked, weights};
 use crate::depth::leaf_depths;
 use crate::join::grow;
+use std::alloc::{AllocError, Global};
 
 /// The lengths of two or more counts.
 fn many_lengths(alloc: Global, counts: &[u64]) -> Result<Vec<u8>, AllocError>

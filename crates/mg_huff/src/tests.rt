@@ -1,10 +1,9 @@
 ghost use Rattle.std.specs.Prelude.{ℕ, ◌+◌, ◌*◌, ◌^◌, ◌<◌, ◌≤◌, IfOk, sum};
 ghost use Rattle.std.specs.List.{All};
 
+use super::*;
 use std::alloc::{AllocError, Global};
 use std::test::Fail;
-
-use super::*;
 
 #[test]
 fn worked_counts_have_their_lengths(rt: HostRuntime) -> Result<(), Fail> {
