@@ -5,32 +5,35 @@ use Rattle.mg_defs.specs.declared.Stream.TheVariants.{Words, Others}
 use Rattle.mg_defs.specs.Parse.{parse}
 use Rattle.mg_defs.specs.Bits.{digits, number}
 use Rattle.mg_defs.specs.Codes.{gamma, unary, ones}
+use Rattle.mg_defs.specs.Front.{front_from, entry_bytes, shared}
+use Rattle.mg_defs.specs.Numbers.{four, eight}
 use Rattle.mg_defs.specs.Vocabulary.{sorted_pieces}
-use Rattle.mg_defs.specs.CodedText.{TextCode, IsTextCode, codeword_of, piece_fields, coded_doc, as_bytes, text_of, places, places_of, doc_range}
+use Rattle.mg_defs.specs.CodedText.{TextCode, IsTextCode, codeword_of, pieces_part, coded_doc, as_bytes, text_of, places, places_of, doc_range}
 use Rattle.mg_defs.proofs.CollectionExamples.{k}
 
 -- ---- eight bytes and an open end: each stream has one piece
 
-abbrev eight : List ℕ
-eight = codes "a a a a "
+abbrev repeats : List ℕ
+repeats = codes "a a a a "
 
-abbrev eight_code : TextCode
-eight_code = record { words = record { pieces = codes "a" ∷ []; lengths = 1 ∷ [] }; others = record { pieces = codes " " ∷ []; lengths = 1 ∷ [] } }
+abbrev repeats_code : TextCode
+repeats_code = record { words = record { pieces = codes "a" ∷ []; lengths = 1 ∷ [] }; others = record { pieces = codes " " ∷ []; lengths = 1 ∷ [] } }
 
-eight_is : IsTextCode eight eight_code
+repeats_is : IsTextCode repeats repeats_code
 unfolding parse
-eight_is = (record { pieces = refl; lengths = record { each = refl; good = refl; cost = refl } }, record { pieces = refl; lengths = record { each = refl; good = refl; cost = refl } })
+repeats_is = (record { pieces = refl; lengths = record { each = refl; good = refl; cost = refl } }, record { pieces = refl; lengths = record { each = refl; good = refl; cost = refl } })
 
-eight_fields : piece_fields eight_code.words ≡ (97 ∷ [], 1 ∷ []) ∷ []
-eight_fields = refl
+repeats_words : (pieces_part repeats_code.words ≡ 1 ∷ 97 ∷ 1 ∷ []) × (pieces_part repeats_code.others ≡ 1 ∷ 32 ∷ 1 ∷ [])
+unfolding front_from entry_bytes
+repeats_words = (refl, refl)
 
-eight_text : (coded_doc eight_code eight ≡ true ∷ true ∷ false ∷ false ∷ true ∷ replicate 8 false) × (text_of eight_code eight ≡ 200 ∷ 0 ∷ [])
+repeats_text : (coded_doc repeats_code repeats ≡ true ∷ true ∷ false ∷ false ∷ true ∷ replicate 8 false) × (text_of repeats_code repeats ≡ 200 ∷ 0 ∷ [])
 unfolding parse gamma unary ones digits as_bytes number
-eight_text = (refl, refl)
+repeats_text = (refl, refl)
 
-eight_places : (places_of 1 eight_code eight ≡ 0 ∷ 0 ∷ 0 ∷ 0 ∷ 0 ∷ 0 ∷ 0 ∷ 2 ∷ []) × (places_of 2 eight_code eight ≡ replicate 8 0 ++ replicate 7 0 ++ 2 ∷ []) × (doc_range eight_code eight 1 ≡ record { from = 0; to = 16 })
-unfolding parse gamma unary ones digits as_bytes number
-eight_places = (refl, refl, refl)
+repeats_places : (places_of 1 repeats_code repeats ≡ 0 ∷ 0 ∷ 0 ∷ 0 ∷ 0 ∷ 0 ∷ 0 ∷ 2 ∷ []) × (places_of 2 repeats_code repeats ≡ replicate 8 0 ++ replicate 7 0 ++ 2 ∷ []) × (doc_range repeats_code repeats 1 ≡ record { from = 0; to = 16 })
+unfolding parse gamma unary ones digits as_bytes number four eight
+repeats_places = (refl, refl, refl)
 
 -- ---- empty documents, and blanks alone
 
@@ -61,9 +64,9 @@ k_codewords : map (codeword_of k_code.words) k_code.words.pieces ≡ (false ∷ 
 unfolding parse digits
 k_codewords = refl
 
-k_fields : piece_fields k_code.words ≡ (codes "Cat", 3 ∷ []) ∷ (codes "cat", 2 ∷ []) ∷ (codes "dog", 2 ∷ []) ∷ (codes "sat", 3 ∷ []) ∷ (codes "the", 2 ∷ []) ∷ []
-unfolding parse
-k_fields = refl
+k_words : pieces_part k_code.words ≡ 3 ∷ codes "Cat" ++ 3 ∷ 0 ∷ 3 ∷ codes "cat" ++ 2 ∷ 0 ∷ 3 ∷ codes "dog" ++ 2 ∷ 0 ∷ 3 ∷ codes "sat" ++ 3 ∷ 3 ∷ codes "the" ++ 2 ∷ []
+unfolding parse front_from entry_bytes shared
+k_words = refl
 
 -- the documents have 18, 11 and 20 bits
 k_places : places k_code k ≡ 0 ∷ 3 ∷ 5 ∷ 8 ∷ []

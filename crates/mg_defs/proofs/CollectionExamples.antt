@@ -8,7 +8,7 @@ use Rattle.mg_defs.specs.Pieces.{pieces}
 use Rattle.mg_defs.specs.Terms.{terms, dictionary, docs, freq, term_number}
 use Rattle.mg_defs.specs.Sat.{both, term, without, satisfies}
 use Rattle.mg_defs.specs.Vocabulary.{all_pieces, vocabulary, sorted_pieces, piece_counts, sorted_of, counts_of, total}
-use Rattle.mg_defs.specs.Limits.{version_1, version_2, limits_of, greatest_budget}
+use Rattle.mg_defs.specs.Limits.{version_1, version_2, piece_bytes, held_bytes, greatest_budget}
 use Rattle.mg_defs.specs.TextBits.{head_bits, text_bits}
 use Rattle.mg_defs.specs.Codes.{gamma, unary, ones}
 use Rattle.mg_defs.specs.Bits.{digits}
@@ -101,5 +101,5 @@ high_bytes = (refl, refl)
 
 -- ---- limits
 
-limits : (limits_of 1 ≡ version_1) × (limits_of 2 ≡ version_2) × (version_2.bytes ≡ 4294967295) × (version_2.documents ≡ 16777216) × (version_2.pieces ≡ 4194304) × (version_1.bytes ≡ 268435456) × (greatest_budget ≡ 1073741824)
-limits = (refl, refl, refl, refl, refl, refl, refl)
+limits_are : (version_1.collection ≡ 268435456) × (version_1.documents ≡ 1048576) × (version_1.pieces ≡ 1048576) × (version_2.collection ≡ 4294967295) × (version_2.documents ≡ 16777216) × (version_2.pieces ≡ 4194304) × (piece_bytes ≡ 255) × (held_bytes ≡ 268435456) × (greatest_budget ≡ 1073741824)
+limits_are = (refl, refl, refl, refl, refl, refl, refl, refl, refl)

@@ -1,7 +1,6 @@
 -- Documents as bits: the number of pairs plus 1, and then the codewords of words and others in turn.
 use Rattle.std.specs.Prelude.{◌≡◌, ℕ, zero, suc, ◌+◌, ◌*◌, ◌-◌, ◌==◌, if◌then◌else◌, false, List, [], ◌∷◌, ◌++◌, length, map, take, drop, replicate, sum_by}
 use Rattle.std.specs.List.{flat_map, zip}
-use Rattle.std.specs.Int.{to_be_bytes, w32, w64}
 use Rattle.mg_defs.specs.declared.Stream.{Stream}
 use Rattle.mg_defs.specs.declared.Stream.TheVariants.{Words, Others}
 use Rattle.mg_defs.specs.Split.{documents}
@@ -11,6 +10,8 @@ use Rattle.mg_defs.specs.Bits.{Bits, number}
 use Rattle.mg_defs.specs.Codes.{gamma}
 use Rattle.mg_defs.specs.Canon.{AreGood, codeword}
 use Rattle.mg_defs.specs.Cost.{huffman_cost, cost_of}
+use Rattle.mg_defs.specs.Front.{Entry, front}
+use Rattle.mg_defs.specs.Numbers.{four, eight}
 use Rattle.mg_defs.specs.Vocabulary.{sorted_pieces, piece_counts}
 
 -- ---- the code of a stream
@@ -35,9 +36,13 @@ pub record IsCodeOf (kind : Stream) (collection : List ℕ) (code : StreamCode) 
   pub pieces : code.pieces ≡ sorted_pieces kind collection
   pub lengths : IsHuffman (piece_counts kind collection) code.lengths
 
--- what the part of a stream's pieces holds, front-coded: each piece with its code length as a field of one byte
-abbrev pub piece_fields : StreamCode → List (List ℕ × List ℕ)
-piece_fields code = map (λ e. (e.0, e.1 ∷ [])) (zip code.pieces code.lengths)
+-- each piece with the length of its codeword, a field of one byte
+abbrev pub piece_entries : StreamCode → List Entry
+piece_entries code = map (λ e. record { string = e.0; field = e.1 ∷ [] }) (zip code.pieces code.lengths)
+
+-- the bytes of the part of a stream's pieces
+abbrev pub pieces_part : StreamCode → List ℕ
+pieces_part code = front (piece_entries code)
 
 -- the codes of both streams
 pub record TextCode : Type 0 where
@@ -90,7 +95,7 @@ places code collection = running 0 (map (coded_size code) (documents collection)
 
 -- a place in the bytes of a version: 4 in version 1, 8 in version 2
 abbrev pub place_bytes : ℕ → ℕ → List ℕ
-place_bytes version place = if version == 1 then to_be_bytes w32 place else to_be_bytes w64 place
+place_bytes version place = if version == 1 then four place else eight place
 
 abbrev pub places_of : ℕ → TextCode → List ℕ → List ℕ
 places_of version code collection = flat_map (place_bytes version) (places code collection)

@@ -1,7 +1,6 @@
 -- What a splitter stands for after a byte more.
-use Rattle.std.proofs.Common.{◌≡◌, ◌≢◌, ℕ, ◌+◌, ◌≤◌, true, false, List, [], ◌∷◌, ◌++◌, length, sym, ◌∙◌, ap, add-zero}
+use Rattle.std.proofs.Common.{◌≡◌, ◌≢◌, ℕ, ◌+◌, true, false, List, [], ◌∷◌, ◌++◌, sym, ◌∙◌, ap, add-zero}
 use Rattle.std.proofs.lemmas.Bool.{ne_eqb}
-use Rattle.std.proofs.lemmas.List.Sums.{count_by-le-length}
 use Rattle.mg_defs.proofs.SplitLaws.{closed_count-push, has_open_end-push}
 use Rattle.mg_parse.specs.Seen.{Seen, StandsFor}
 

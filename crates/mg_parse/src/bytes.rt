@@ -5,6 +5,17 @@ ghost use Rattle.mg_defs.specs.Terms.{folded};
 
 use mg_defs::Stream;
 
+// Each word byte stands for itself or, from 128 on, as an x; a full stop stands at every other place.
+static WORD_BYTES: [u8; 256] = *b"\
+    ................................\
+    ................0123456789......\
+    .ABCDEFGHIJKLMNOPQRSTUVWXYZ.....\
+    .abcdefghijklmnopqrstuvwxyz.....\
+    xxxxxxxxxxxxxxxxxxxxxxxxxxxxxxxx\
+    xxxxxxxxxxxxxxxxxxxxxxxxxxxxxxxx\
+    xxxxxxxxxxxxxxxxxxxxxxxxxxxxxxxx\
+    xxxxxxxxxxxxxxxxxxxxxxxxxxxxxxxx";
+
 /// The most bytes of a piece.
 pub const PIECE_BYTES: usize = 255;
 
@@ -13,7 +24,7 @@ pub const PIECE_BYTES: usize = 255;
 pub fn is_word_byte(byte: u8) -> bool
     ensures { result ≡ is_word_byte_spec byte }
 {
-    byte.is_ascii_alphanumeric() || byte >= 128
+    WORD_BYTES[byte as usize] != b'.'
 }
 
 /// Whether a byte belongs in a piece of the stream.

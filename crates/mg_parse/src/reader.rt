@@ -66,7 +66,8 @@ impl PieceReader {
     #[inline]
     pub fn offer(&mut self, byte: u8) -> Offer
         ensures offered { Offered self.old byte result self.new }
-        ensures reads { result ≡ Offer.Taken → (told : List (List ℕ)) (doc : List ℕ) → Reads self.old told doc [] → Reads self.new told (doc ++ byte ∷ []) [] }
+        ensures reads { result ≡ Offer.Taken → (told : List (List ℕ)) (doc : List ℕ) →
+            Reads self.old told doc (byte ∷ []) → Reads self.new told (doc ++ byte ∷ []) [] }
     {
         if self.len < PIECE_BYTES && is_of_kind(self.kind, byte) {
             self.buffer[self.len] = byte;
@@ -97,7 +98,8 @@ impl PieceReader {
     #[inline]
     pub fn turn(&mut self)
         ensures turned { self.new ≡ record { kind = other_kind_spec self.old.kind; piece = [] } }
-        ensures reads { (told : List (List ℕ)) (doc : List ℕ) (byte : ℕ) → Ends self.old byte → Reads self.old told doc (byte ∷ []) → Reads self.new (told ++ self.old.piece ∷ []) doc (byte ∷ []) }
+        ensures reads { (told : List (List ℕ)) (doc : List ℕ) (byte : ℕ) → Ends self.old byte →
+            Reads self.old told doc (byte ∷ []) → Reads self.new (told ++ self.old.piece ∷ []) doc (byte ∷ []) }
     {
         self.kind = other_kind(self.kind);
         self.len = 0;
@@ -107,7 +109,8 @@ impl PieceReader {
     /// word that is not empty (the other is empty), and one at an other.
     pub fn ends(&self) -> u8
         ensures left { result ≡ length (left_at_end self.now.kind self.now.piece) }
-        ensures pieces { (told : List (List ℕ)) (doc : List ℕ) → Reads self.now told doc [] → pieces doc ≡ told ++ left_at_end self.now.kind self.now.piece }
+        ensures pieces { (told : List (List ℕ)) (doc : List ℕ) → Reads self.now told doc [] →
+            pieces doc ≡ told ++ left_at_end self.now.kind self.now.piece }
     {
         match self.kind {
             Stream::Words => { if self.len == 0 { 0 } else { 2 } }

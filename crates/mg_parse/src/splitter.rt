@@ -50,7 +50,8 @@ impl Splitter {
     #[inline]
     pub fn feed(&mut self, byte: u8) -> SplitEvent
         requires { (fed : List ℕ) × (length fed < 2 ^ 63) × StandsFor self.old fed }
-        ensures stands { (fed : List ℕ) → StandsFor self.old fed → StandsFor self.new (fed ++ byte ∷ []) }
+        ensures stands { (fed : List ℕ) → StandsFor self.old fed →
+            StandsFor self.new (fed ++ byte ∷ []) }
         ensures event { (result ≡ SplitEvent.Close) ↔ (byte ≡ 2) }
     {
         if byte == CLOSE {
