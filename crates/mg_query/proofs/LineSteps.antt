@@ -5,7 +5,7 @@ use Rattle.mg_defs.specs.Tokens.{Placed, tokens}
 use Rattle.mg_defs.specs.Read.{syntax, too_deep, too_long, too_many, reads, refused, boolean, ranked, ranked_from, ranked_next}
 use Rattle.mg_defs.specs.BooleanLines.{IsRefusal, at_a_token, at_the_end}
 use Rattle.mg_defs.proofs.BooleanLaws.{refused-refusal}
-use Rattle.mg_defs.proofs.RankedLaws.{refused-term-refusal, refused-stays}
+use Rattle.mg_defs.proofs.RankedLaws.{refused-stays}
 use Rattle.mg_query.specs.RefusalOf.{refusal_of}
 use Rattle.mg_query.specs.declared.query_err.QueryErr.{QueryErr}
 use Rattle.mg_query.specs.declared.query_err.QueryErr.TheVariants.{Syntax, TooDeep, TermTooLong, TooManyTerms, Memory}
@@ -16,12 +16,6 @@ many-not-refused line at (at_the_end none nothing is) = cc
 
 pub never-many : {A : Type 0} (r : Result A QueryErr) (line : List ℕ) → IfErr r (λ e. IfSome (refusal_of e) (λ why. boolean line ≡ refused why)) → (at : ℕ) → r ≡ Err (TooManyTerms at) → ⊥
 never-many r line h at e = many-not-refused line at (refused-refusal line (too_many at) (IfErr-at_err (λ e. IfSome (refusal_of e) (λ why. boolean line ≡ refused why)) e h))
-
-pub never-syntax : {A : Type 0} (r : Result A QueryErr) (line : List ℕ) → IfErr r (λ e. IfSome (refusal_of e) (λ why. ranked line ≡ refused why)) → (at : ℕ) → r ≡ Err (Syntax at) → ⊥
-never-syntax r line h at e = (refused-term-refusal line (syntax at) (IfErr-at_err (λ e. IfSome (refusal_of e) (λ why. ranked line ≡ refused why)) e h)).refused
-
-pub never-deep : {A : Type 0} (r : Result A QueryErr) (line : List ℕ) → IfErr r (λ e. IfSome (refusal_of e) (λ why. ranked line ≡ refused why)) → (at : ℕ) → r ≡ Err (TooDeep at) → ⊥
-never-deep r line h at e = (refused-term-refusal line (too_deep at) (IfErr-at_err (λ e. IfSome (refusal_of e) (λ why. ranked line ≡ refused why)) e h)).refused
 
 -- ---- a token more of a ranked line
 

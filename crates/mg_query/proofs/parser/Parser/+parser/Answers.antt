@@ -14,7 +14,7 @@ and-operands-smaller t c = and-shorter _ _ _ _ _ _ c.operands-test.ensures.yes c
 pub and-operands-preserved : goal.and-operands-preserved
 and-operands-preserved t c = record {
   reads = reads-and _ _ _ _ _ _ _ _ _ _ c.operands.invariant.reads c.operands-test.ensures.yes (c.joins.ensures.end ∙ c.operands.invariant.end) c.in_ok-right.ensures.reads c.in_ok-query-2.ensures;
-  end = c.not-in-operands.ensures.end ∙ (c.joins.ensures.end ∙ c.operands.invariant.end);
+  end = c.in_ok-right.ensures.end ∙ (c.joins.ensures.end ∙ c.operands.invariant.end);
 }
 
 pub not-overflow_add-signs : goal.not-overflow_add-signs
@@ -46,5 +46,5 @@ pub or-operands-preserved : goal.or-operands-preserved
 or-operands-preserved t c = record {
   reads = reads-or _ _ _ _ _ _ _ _ _ _ _ c.operands.invariant.reads c.operands-test.ensures.yes.1 (c.takes_bar.ensures.end ∙ c.operands.invariant.end) c.in_ok-right.ensures.reads c.in_ok-query-2.ensures;
   stops = c.in_ok-right.ensures.stops;
-  end = c.and-in-operands.ensures.end ∙ (c.takes_bar.ensures.end ∙ c.operands.invariant.end);
+  end = c.in_ok-right.ensures.end ∙ (c.takes_bar.ensures.end ∙ c.operands.invariant.end);
 }
