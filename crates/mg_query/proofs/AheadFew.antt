@@ -1,5 +1,5 @@
 -- How many tokens a parser has ahead.
-use Rattle.std.proofs.Common.{ℕ, ◌≤◌, Option, Some, None, length, arith}
+use Rattle.std.proofs.Common.{◌≤◌, Option, Some, None, length, arith}
 use Rattle.mg_query.specs.declared.lexer.Placed.{Placed}
 use Rattle.mg_query.specs.declared.lexer.Lexer.{Lexer}
 use Rattle.mg_query.specs.declared.parser.Parser.{Parser}

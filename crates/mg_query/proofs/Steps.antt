@@ -1,5 +1,5 @@
 -- The steps of the parser.
-use Rattle.std.proofs.Common.{◌≡◌, ℕ, zero, suc, ◌+◌, ◌-◌, ◌<◌, ◌≤◌, Bool, true, false, cond, List, [], ◌∷◌, ◌++◌, length, Option, Some, None, refl, sym, ◌∙◌, ap, subst, append_assoc, append-nil, add-one, arith, ◌==◌, inl, inr, length-append, nat_le, nat_lt, IfSome, map}
+use Rattle.std.proofs.Common.{◌≡◌, ℕ, suc, ◌+◌, ◌-◌, ◌<◌, ◌≤◌, Bool, true, false, List, [], ◌∷◌, ◌++◌, length, Option, Some, None, refl, sym, ◌∙◌, ap, subst, append_assoc, append-nil, add-one, arith, ◌==◌, inl, inr, length-append, nat_le, nat_lt, IfSome}
 use Rattle.std.proofs.lemmas.Bool.{cases_Bool}
 use Rattle.std.proofs.lemmas.Bool.Decides.{leb_tells}
 use Rattle.std.proofs.lemmas.List.{length-map}
@@ -12,7 +12,7 @@ use Rattle.mg_defs.specs.Read.{Refusal, syntax, too_deep, too_long, too_many, re
 use Rattle.mg_defs.specs.Parse.{is_word_byte}
 use Rattle.mg_defs.proofs.ReadLaws.{query_is}
 use Rattle.mg_query.specs.RefusalOf.{refusal_of}
-use Rattle.mg_query.specs.Ahead.{StopsAnd, StopsOr, NoBang, JoinsTo, JoinsBy}
+use Rattle.mg_query.specs.Ahead.{StopsOr, JoinsTo, JoinsBy}
 use Rattle.mg_query.specs.Parsed.{at_depth, Reads, IsStopped}
 use Rattle.mg_query.specs.declared.query_err.QueryErr.{QueryErr}
 use Rattle.mg_query.specs.declared.query_err.QueryErr.TheVariants.{Syntax, TooDeep, TermTooLong, TooManyTerms, Memory}

@@ -44,10 +44,7 @@ impl Terms {
     pub(crate) fn has(&self, term: &Term) -> bool
         ensures { result ≡ list_any (same_term term.now) self.now }
     {
-        self.list
-            .as_slice()
-            .iter()
-            .any(|other| term.is_same(other))
+        self.list.as_slice().iter().any(|other| term.is_same(other))
     }
 
     pub fn len(&self) -> usize

@@ -102,7 +102,11 @@ fn boolean_lines(rt: HostRuntime) -> Result<(), Fail> {
         ("((cat))", "cat"),
         ("cat &", "syntax at 5"),
     ] {
-        assert_eq!(rt; boolean_of(alloc, line.as_bytes())?.as_str(), want, "at {line}");
+        assert_eq!(rt;
+            boolean_of(alloc, line.as_bytes())?.as_str(),
+            want,
+            "at {line}"
+        );
     }
     Ok(())
 }
@@ -133,7 +137,11 @@ fn ranked_lines(rt: HostRuntime) -> Result<(), Fail> {
         ("cat CAT cat", "cat "),
         ("the) Cat & (dog the", "the cat dog "),
     ] {
-        assert_eq!(rt; ranked_of(alloc, line.as_bytes())?.as_str(), want, "at {line}");
+        assert_eq!(rt;
+            ranked_of(alloc, line.as_bytes())?.as_str(),
+            want,
+            "at {line}"
+        );
     }
     let long = repeated(alloc, b'a', 256, b"")?;
     assert_eq!(rt; ranked_of(alloc, &long)?.as_str(), "word too long at 0");
@@ -154,7 +162,10 @@ fn terms_from_left_to_right(rt: HostRuntime) -> Result<(), Fail> {
         }
         text.push(' ')?;
     }
-    assert_eq!(rt; text.as_str(), "cat dog a much longer term cat sat the end ");
+    assert_eq!(rt;
+        text.as_str(),
+        "cat dog a much longer term cat sat the end "
+    );
     assert_eq!(rt; terms.len(), 10);
     assert!(rt; !terms.is_empty());
     Ok(())

@@ -1,4 +1,4 @@
-use Rattle.std.proofs.Common.{◌∙◌, ap, sym}
+use Rattle.std.proofs.Common.{ap}
 use Rattle.std.proofs.lemmas.Result.{err_from_is_err_and}
 use Rattle.mg_query.specs.AheadOf.{ahead, ahead_of}
 use Rattle.mg_query.specs.TokensLeft.{placed_of}

@@ -1,6 +1,5 @@
-use Rattle.std.proofs.Common.{◌≡◌, ◌+◌, ◌≤◌, length, arith, sym, ◌∙◌, ap}
+use Rattle.std.proofs.Common.{arith, ◌∙◌, ap}
 use Rattle.mg_query.specs.TokenOf.{token_of}
-use Rattle.mg_query.specs.AheadOf.{ahead}
 use Rattle.mg_query.proofs.Steps.{reads-word, reads-inside, reads-and, reads-or, reads-only-not, reads-only-and, banged-more, and-shorter, or-shorter}
 use Rattle.mg_query.proofs.AheadFew.{ahead-few}
 use Rattle.mg_query.proofs.parser.Parser.+parser.Goals as goal

@@ -1,4 +1,4 @@
-use Rattle.std.proofs.Common.{◌≡◌, ◌+◌, ◌-◌, ◌*◌, ◌≤◌, length, Some}
+use Rattle.std.proofs.Common.{◌≡◌, ◌+◌, ◌-◌, ◌*◌, length}
 use Rattle.mg_defs.specs.Grammar.{or_level, and_level}
 use Rattle.mg_query.specs.QueryOf.{query_of}
 use Rattle.mg_query.specs.Ahead.{StopsAnd}
