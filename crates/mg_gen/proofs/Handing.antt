@@ -2,6 +2,7 @@
 use Rattle.std.proofs.Common.{Ok, Err, ◌≡◌, ℕ, zero, suc, ◌+◌, ◌-◌, ◌≤◌, List, [], ◌++◌, refl, sym, ◌∙◌, ap, subst, arith, append_assoc, append-nil}
 use Rattle.std.specs.declared.option.Option.{Option}
 use Rattle.std.specs.declared.result.Result.{Result}
+use Rattle.std.specs.Result.{IsErr}
 use Rattle.mg_dev.specs.Streams.{appended, GrewByPrefix, AfterPut}
 use Rattle.mg_dev.specs.StreamLaws.{appended-nil, appended-appended, grew_first, grew_second}
 use Rattle.mg_defs.specs.Generator.{Made, text, repeated}
@@ -63,3 +64,7 @@ handed_last {T} {E} {old} {mid} {w} new each n docs seed (Err x) handed e grew =
 -- the bytes of a put, by what they are
 pub put_is : {T E : Type 0} (old new : Option (List ℕ)) (bytes all : List ℕ) (result : Result T E) → bytes ≡ all → AfterPut old new bytes result → AfterPut old new all result
 put_is old new bytes all result e put = subst (λ b. AfterPut old new b result) e put
+
+pub refused : {T E : Type 0} (old new : Option (List ℕ)) (all : List ℕ) (result : Result T E) → IsErr result → GrewByPrefix old new all → AfterPut old new all result
+refused old new all (Ok x) h grew = absurd cc
+refused old new all (Err x) h grew = grew

@@ -1,6 +1,6 @@
 use Rattle.std.proofs.Common.{◌≡◌, ◌+◌, ◌≤◌, ◌∙◌, ap, [], length, arith}
 use Rattle.mg_defs.specs.Generator.{repeated, mail, made_collection}
-use Rattle.mg_gen.proofs.Handing.{handed_none, handed_so_far, handed_part, handed_last, put_is}
+use Rattle.mg_gen.proofs.Handing.{handed_none, handed_so_far, handed_part, handed_last, put_is, refused}
 use Rattle.mg_gen.proofs.make.make_collection.Goals as goal
 
 pub loop-init : goal.loop-init
@@ -23,7 +23,7 @@ pub returns-in_err-make_room-clause-text : goal.returns-in_err-make_room-clause-
 unfolding made_collection
 returns-in_err-make_room-clause-text g c =
     let more = handed_so_far mail c.loop.counter c.args.seed c.loop.invariant.handed c.mail.ensures.made in
-    handed_part mail (c.loop.counter + 1) c.args.docs c.args.seed (omega arith) more (c.in_err-make_room.ensures.handed _ _ more)
+    refused _ _ _ _ c.from_residual.ensures.0 (handed_part mail (c.loop.counter + 1) c.args.docs c.args.seed (omega arith) more (c.in_err-make_room.ensures.handed _ _ more))
 
 pub returns-clause-text : goal.returns-clause-text
 unfolding made_collection
