@@ -17,3 +17,5 @@ mod writer;
 
 pub use make::{make_collection, make_session};
 
+#[cfg(test)]
+mod tests;
