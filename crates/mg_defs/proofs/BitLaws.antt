@@ -1,12 +1,12 @@
 -- Laws of bits and numbers.
-use Rattle.std.proofs.Common.{rules, arith, suc, zero, ◌≡◌, ◌+◌, ◌*◌, ◌≤◌, ◌<◌, ◌-◌, ◌/◌, ◌%◌, ◌^◌, ℕ, Bool, true, false, List, [], ◌∷◌, ◌++◌, length, take, drop, Some, None, slice_get, refl, sym, ◌∙◌, ap, length-append, append_assoc, zero-add}
+use Rattle.std.proofs.Common.{arith, suc, zero, ◌≡◌, ◌+◌, ◌*◌, ◌≤◌, ◌<◌, ◌-◌, ◌/◌, ◌%◌, ◌^◌, ℕ, Bool, true, false, List, [], ◌∷◌, ◌++◌, length, take, drop, Some, None, slice_get, refl, sym, ◌∙◌, ap, length-append, append_assoc, zero-add, if◌then◌else◌}
 use Rattle.std.proofs.Math.Seq.{drop-append-add}
 use Rattle.std.proofs.Math.ListN.{drop_of_length-le}
 use Rattle.std.proofs.Math.Nat.{div-add-mod}
 use Rattle.std.proofs.lemmas.Grind.{common_steps}
 use Rattle.std.proofs.lemmas.Nat.{shr-shr, shr_high, field_of, mod_low, pow-add, mul-add-lt, mod-pow-add}
 use Rattle.std.proofs.Math.Pow.{mod-mod-pow}
-use Rattle.mg_defs.specs.Bits.{Bits, digits, number, bits_of, is_odd, Begins}
+use Rattle.mg_defs.specs.Bits.{Bits, digits, number, bits_of, is_odd}
 
 -- ---- the bits of a number
 
@@ -72,6 +72,24 @@ digits_same (suc k) a b same =
     let bit : a / 2 ^ k % 2 ≡ b / 2 ^ k % 2 = odd_same _ _ head in
     let e : 1 + k ≡ suc k = omega arith in
     ap (λ n. a % 2 ^ n) (sym e) ∙ mod-pow-add a 1 k ∙ ap (λ x. x * 2 ^ k + a % 2 ^ k) bit ∙ ap (λ x. b / 2 ^ k % 2 * 2 ^ k + x) rest ∙ sym (mod-pow-add b 1 k) ∙ ap (λ n. b % 2 ^ n) e
+
+-- the number that a number's bits write
+pub number_digits : (count n : ℕ) → number (digits count n) ≡ n % 2 ^ count
+unfolding digits number
+number_digits zero n = omega arith
+number_digits (suc count) n =
+    let e : 1 + count ≡ suc count = omega arith in
+    first (is_odd (n / 2 ^ count)) (n / 2 ^ count % 2) (digits count n) (one_or_none (n / 2 ^ count))
+    ∙ ap (λ l. n / 2 ^ count % 2 * 2 ^ l + number (digits count n)) (length_digits count n)
+    ∙ ap (λ r. n / 2 ^ count % 2 * 2 ^ count + r) (number_digits count n)
+    ∙ sym (mod-pow-add n 1 count) ∙ ap (λ l. n % 2 ^ l) e
+  where
+    one_or_none : (m : ℕ) → m % 2 ≡ (if is_odd m then 1 else 0)
+    one_or_none m = grind (arith, common_steps)
+
+    first : (b : Bool) (v : ℕ) (more : Bits) → v ≡ (if b then 1 else 0) → number (b ∷ more) ≡ v * 2 ^ length more + number more
+    first true v more is = rw is (omega arith)
+    first false v more is = rw is (omega arith)
 
 -- ---- the bits of bytes
 

@@ -8,8 +8,8 @@ use Rattle.mg_defs.specs.Fixed.{lg, isqrt, digits_of, digit, next, root_from}
 use Rattle.mg_defs.specs.Weights.{weight_of_term, weight_in_doc, weight, score_of, wt, wd, top, hit_count}
 use Rattle.mg_defs.specs.Texts.{row, header, close, count, bad_command}
 use Rattle.mg_defs.specs.Commands.{start, command, words, dot_of, set_query, set_mode, set_most, set_of, value, is_most}
-use Rattle.mg_defs.specs.declared.Mode.TheVariants.{Text}
-use Rattle.mg_defs.specs.declared.Settings.{Settings}
+use Rattle.mg_defs.specs.declared.session.Mode.TheVariants.{Text}
+use Rattle.mg_defs.specs.declared.session.Settings.{Settings}
 use Rattle.mg_defs.specs.Reply.{answer_text, satisfying, ranking, found}
 use Rattle.mg_defs.specs.Session.{session_of, replies, line_text, after_line, ends}
 use Rattle.std.specs.Fmt.{digits}

@@ -1,6 +1,6 @@
 -- The codes, as lists of bits.
 use Rattle.mg_defs.specs.Bits.{Bits, digits}
-use Rattle.std.specs.Prelude.{◌≡◌, ℕ, zero, suc, ◌+◌, ◌-◌, ◌*◌, ◌/◌, ◌%◌, ◌^◌, ◌<◌, ◌≤◌, max, nat_lt, nat_le, true, false, if◌then◌else◌, [], ◌∷◌, ◌++◌}
+use Rattle.std.specs.Prelude.{ℕ, zero, suc, ◌+◌, ◌-◌, ◌*◌, ◌/◌, ◌%◌, ◌^◌, max, nat_lt, nat_le, true, false, if◌then◌else◌, [], ◌∷◌, ◌++◌}
 
 -- the greatest e below the first number with 2 ^ e at most x: for x from 1 to 2 ^ bound - 1 the whole part of its logarithm
 abbrev pub log2_below : ℕ → ℕ → ℕ
@@ -12,7 +12,7 @@ abbrev pub log2 : ℕ → ℕ
 log2 x = log2_below 64 x
 
 -- the least number k with 2 ^ k at least b
-abbrev pub ceil_log2 : ℕ → ℕ
+unfoldable pub ceil_log2 : ℕ → ℕ
 ceil_log2 b = if nat_le b 1 then 0 else 1 + log2 (b - 1)
 
 -- so many one-bits
@@ -29,7 +29,7 @@ unfoldable pub gamma : ℕ → Bits
 gamma x = unary (1 + log2 x) ++ digits (log2 x) (x - 2 ^ log2 x)
 
 -- how many remainders of b have a code of one bit less
-abbrev pub shorter : ℕ → ℕ
+unfoldable pub shorter : ℕ → ℕ
 shorter b = 2 ^ ceil_log2 b - b
 
 -- r from 0 to b - 1

@@ -1,10 +1,10 @@
 -- Inverted lists: their bits, their blocks of 64 postings, and the skip entries that lead to a block.
-use Rattle.std.specs.Prelude.{ℕ, zero, suc, ◌+◌, ◌-◌, ◌*◌, ◌/◌, ◌%◌, ◌^◌, ◌<◌, ◌≤◌, nat_lt, List, [], ◌∷◌, ◌++◌, length, filter, map, flat_map, take, drop, if◌then◌else◌}
+use Rattle.std.specs.Prelude.{ℕ, zero, suc, ◌+◌, ◌-◌, ◌*◌, ◌/◌, ◌^◌, ◌<◌, ◌≤◌, nat_lt, List, [], ◌∷◌, ◌++◌, length, filter, map, flat_map, take, drop, if◌then◌else◌}
 use Rattle.std.specs.List.{enumerate_from}
 use Rattle.mg_defs.specs.declared.Posting.{Posting}
 use Rattle.mg_defs.specs.Split.{documents}
 use Rattle.mg_defs.specs.Terms.{freq_in, dictionary}
-use Rattle.mg_defs.specs.Bits.{Bits, digits}
+use Rattle.mg_defs.specs.Bits.{Bits, digits, filled}
 use Rattle.mg_defs.specs.Codes.{golomb, gamma, golomb_parameter}
 use Rattle.mg_defs.specs.PagesOf.{pages}
 
@@ -37,10 +37,6 @@ bits_after b before (p ∷ ps) = posting_bits b before p ++ bits_after b p.doc p
 -- of a whole list among so many documents, the first gap counted from 0
 abbrev pub bits_of_list : ℕ → List Posting → Bits
 bits_of_list all ps = bits_after (golomb_parameter all (length ps)) 0 ps
-
--- with zero-bits up to a byte
-unfoldable pub filled : Bits → Bits
-filled bits = bits ++ digits ((8 - length bits % 8) % 8) 0
 
 -- ---- blocks
 
