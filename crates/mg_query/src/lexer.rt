@@ -11,6 +11,7 @@ ghost use Rattle.mg_query.specs.TokenOf.{token_of};
 pub(crate) enum Token<'a> {
     Word(&'a [u8]),
     Bar,
+use mg_parse::is_word_byte;
     Amp,
     Bang,
     Opening,
@@ -74,12 +75,6 @@ fn lex<'a>(text: &'a [u8]) -> (Option<Token<'a>>, usize)
     let len = run_len(text);
     let (word, _) = text.split_at(len);
     (Some(Token::Word(word)), len)
-}
-
-fn is_word_byte(byte: u8) -> bool
-    ensures { result ≡ is_word_byte_spec byte }
-{
-    byte.is_ascii_alphanumeric() || byte >= 128
 }
 
 /// How many word bytes stand at the front.
