@@ -2,3 +2,5 @@ pub mod Places
 pub mod Ranges
 pub mod BitPieces
 pub mod Told
+pub mod WriterLaws
+pub mod BitsWritten

@@ -8,17 +8,21 @@
 
 mod bit_err;
 mod bit_reader;
+mod bit_writer;
 mod code_err;
 mod feed;
 mod page_feed;
+mod page_writer;
 mod slice_feed;
 mod small_feed;
 mod window;
 
 pub use bit_err::BitErr;
 pub use bit_reader::BitReader;
+pub use bit_writer::BitWriter;
 pub use code_err::CodeErr;
 pub use feed::Feed;
 pub use page_feed::PageFeed;
+pub use page_writer::PageWriter;
 pub use slice_feed::{NoDev, SliceFeed};
 pub use small_feed::SmallFeed;
