@@ -4,3 +4,4 @@ pub mod BitPieces
 pub mod Told
 pub mod WriterLaws
 pub mod BitsWritten
+pub mod Fills

@@ -1,10 +1,10 @@
 // A feed over a file, through one page of 4,096 bytes.
-ghost use Rattle.std.specs.Prelude.{◌≡◌, ◌≤◌, ◌<◌, ◌+◌, ◌*◌, ◌^◌, Option, Some, None, IfOk, IfSome, OnSome, slice_get, length, IsSome};
+ghost use Rattle.std.specs.Prelude.{◌≡◌, ◌≤◌, ◌<◌, ◌+◌, ◌*◌, ◌^◌, Option, Some, None, IfOk, IfSome, OnSome, slice_get, length, IsSome, true};
 ghost use Rattle.std.proofs.Common.{rules};
 ghost use Rattle.mg_dev.specs.Files.{Files, bytes_at};
 ghost use Rattle.mg_dev.specs.Names.{full_name};
 ghost use Rattle.mg_dev.specs.Causes.{HasCause};
-ghost use Rattle.mg_bits.specs.Feed.{Calm, ReadsWithin, of_store, page_of};
+ghost use Rattle.mg_bits.specs.Feed.{Calm, ReadPart, ReadsWithin, of_store, held_after, page_of};
 ghost use Rattle.mg_bits.specs.FeedLaws.{same_page};
 ghost use Rattle.mg_bits.specs.Pages.{Fits, SameFile, Looked, IsFilled, feeding_of};
 
@@ -117,6 +117,30 @@ impl<'a, S: Store> PageFeed<'a, S> {
         ensures { result ≡ self.now.count }
     {
         self.window.reads
+    }
+
+    /// Fills the buffer with the bytes from a place on; false where they end before it is full.
+    pub fn fill(&mut self, store: &mut S, at: u64, buf: &mut [u8]) -> Result<bool, Failed>
+        requires fits { Fits self.old (S.files store.old) }
+        requires place { at + length buf.old < 2 ^ 64 }
+        ensures fits { Fits self.new (S.files store.new) }
+        ensures file { SameFile self.old self.new }
+        ensures looked { Looked self.old.part (S.files store.old) (S.files store.new) (S.reads store.old) (S.reads store.new) (S.faults store.old) (S.faults store.new) }
+        ensures told { IsSome (S.files store.old) → IfOk result (λ whole. IsFilled whole buf.new at (bytes_at (S.files store.old) self.old.name)) }
+        ensures part { ReadPart (feeding_of 4096 self.old) (feeding_of 4096 self.new) (of_store (S.files store.old) (S.faults store.old) (S.reads store.old)) (of_store (S.files store.new) (S.faults store.new) (S.reads store.new)) (8 * at) (8 * (at + length buf.old)) }
+        ensures held { IfOk result (λ whole. whole ≡ true → self.new.held ≡ held_after 4096 self.old.held (8 * at) (8 * (at + length buf.old))) }
+        ensures cause { HasCause (S.faults store.old) (S.faults store.new) result }
+    {
+        for i in 0..buf.len() {
+            match self.byte(store, at + i as u64) {
+                Ok(Some(byte)) => {
+                    buf[i] = byte;
+                }
+                Ok(None) => return Ok(false),
+                Err(failed) => return Err(failed),
+            }
+        }
+        Ok(true)
     }
 }
 
