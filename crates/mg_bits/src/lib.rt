@@ -26,3 +26,6 @@ pub use page_feed::PageFeed;
 pub use page_writer::PageWriter;
 pub use slice_feed::{NoDev, SliceFeed};
 pub use small_feed::SmallFeed;
+
+#[cfg(test)]
+mod tests;
