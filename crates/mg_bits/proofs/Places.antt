@@ -155,3 +155,10 @@ to_read_place page held place =
 pub told_file : (files : Option Files) (name : List ℕ) (got : Option ℕ) (at : ℕ) → (IsSome files → got ≡ slice_get (bytes_at files name) at) → IfSome (told_at files name) (λ bytes. got ≡ slice_get bytes at)
 told_file None name got at told = tt
 told_file (Some f) name got at told = told refl
+
+-- the page of a byte is held
+pub within_held : (f : Feeding) (d : Device) (at : ℕ) → f.held ≡ Some (at / f.page) → ReadsWithin f f d d (8 * at) (8 * at + 1)
+within_held f d at held = record { device = λ part own. omega arith; feed = omega arith }
+
+pub held_byte : (page at : ℕ) (held : Option ℕ) → held ≡ Some (at / page) → held ≡ Some (page_of page (8 * at))
+held_byte page at held is = is ∙ ap Some (sym (page_of_byte page at))

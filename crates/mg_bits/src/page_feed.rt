@@ -9,7 +9,7 @@ ghost use Rattle.mg_bits.specs.FeedLaws.{same_page};
 ghost use Rattle.mg_bits.specs.Pages.{Fits, SameFile, Looked, IsFilled, feeding_of};
 
 use crate::Feed;
-use crate::window::{Window, window_byte};
+use crate::window::{Window, byte_in, is_held, window_byte};
 use mg_dev::{Failed, FileRef, Part, Store};
 use std::alloc::{AllocError, Global};
 use std::marker::{Model, PhantomData};
@@ -64,6 +64,28 @@ impl<'a, S: Store> PageFeed<'a, S> {
     /// The byte at a place, or None at and past the end.
     #[inline]
     pub fn byte(&mut self, store: &mut S, at: u64) -> Result<Option<u8>, Failed>
+        requires fits { Fits self.old (S.files store.old) }
+        ensures fits { Fits self.new (S.files store.new) }
+        ensures file { SameFile self.old self.new }
+        ensures looked { Looked self.old.part (S.files store.old) (S.files store.new) (S.reads store.old) (S.reads store.new) (S.faults store.old) (S.faults store.new) }
+        ensures told { IsSome (S.files store.old) → IfOk result (λ byte. byte ≡ slice_get (bytes_at (S.files store.old) self.old.name) at) }
+        ensures calm { Calm (feeding_of 4096 self.old) (feeding_of 4096 self.new) (of_store (S.files store.old) (S.faults store.old) (S.reads store.old)) (of_store (S.files store.new) (S.faults store.new) (S.reads store.new)) }
+        ensures pages { ReadsWithin (feeding_of 4096 self.old) (feeding_of 4096 self.new) (of_store (S.files store.old) (S.faults store.old) (S.reads store.old)) (of_store (S.files store.new) (S.faults store.new) (S.reads store.new)) (8 * at) (8 * at + 1) }
+        ensures held { IfOk result (λ byte. OnSome byte (self.new.held ≡ Some (page_of 4096 (8 * at)))) }
+        ensures keeps { self.old.held ≡ Some (page_of 4096 (8 * at)) → self.new.held ≡ self.old.held }
+        ensures cause { HasCause (S.faults store.old) (S.faults store.new) result }
+    {
+        if is_held(self.window.held, at / 4096) {
+            let byte = byte_in(&self.page[..self.window.count], (at % 4096) as usize);
+            return Ok(byte);
+        }
+        self.turn(store, at)
+    }
+
+    /// The byte at a place of any page. It stands apart so that `byte` is short where the page is
+    /// held.
+    #[inline(never)]
+    fn turn(&mut self, store: &mut S, at: u64) -> Result<Option<u8>, Failed>
         requires fits { Fits self.old (S.files store.old) }
         ensures fits { Fits self.new (S.files store.new) }
         ensures file { SameFile self.old self.new }

@@ -22,7 +22,7 @@ pub struct Window {
 
 /// Whether the page of this number is held.
 #[inline]
-fn is_held(held: Option<u64>, number: u64) -> bool
+pub fn is_held(held: Option<u64>, number: u64) -> bool
     ensures yes { OnTrue result (held ≡ Some number) }
     ensures no { OnFalse result (lacks held number ≡ 1) }
 {
@@ -33,8 +33,7 @@ fn is_held(held: Option<u64>, number: u64) -> bool
 }
 
 /// Holds the page of this number.
-#[inline]
-pub fn load<S: Store>(
+fn load<S: Store>(
     store: &mut S,
     file: &FileRef<'_>,
     page: &mut [u8],
@@ -76,7 +75,7 @@ pub fn load<S: Store>(
 
 /// The byte at an index.
 #[inline]
-fn byte_in(bytes: &[u8], index: usize) -> Option<u8>
+pub fn byte_in(bytes: &[u8], index: usize) -> Option<u8>
     ensures { result ≡ slice_get bytes.now index }
 {
     bytes.get(index).copied()
@@ -84,7 +83,6 @@ fn byte_in(bytes: &[u8], index: usize) -> Option<u8>
 
 /// The byte at a place of a file, which is that at `offset` of the page `number`. The caller
 /// divides, since it knows the length of its pages when it is compiled.
-#[inline]
 pub fn window_byte<S: Store>(
     store: &mut S,
     file: &FileRef<'_>,
