@@ -181,7 +181,7 @@ wide b two small =
     positive zero h = absurd (omega arith)
     positive (suc k) h = omega arith
 
-small_digits : (k a b : ℕ) → a < 2 ^ k → b < 2 ^ k → digits k a ≡ digits k b → a ≡ b
+pub small_digits : (k a b : ℕ) → a < 2 ^ k → b < 2 ^ k → digits k a ≡ digits k b → a ≡ b
 small_digits k a b la lb same = sym (mod-eq_of_lt la) ∙ digits_same k a b same ∙ mod-eq_of_lt lb
 
 -- the first bits of a longer code are no shorter code

@@ -6,12 +6,13 @@ ghost use Rattle.mg_defs.specs.Parse.{is_word_byte as is_word_byte_spec};
 ghost use Rattle.mg_defs.specs.Tokens.{tokens_from, tokens, onto_sign, sign_of as sign_of_spec};
 ghost use Rattle.mg_query.specs.TokenOf.{token_of};
 
+use mg_parse::is_word_byte;
+
 /// A token of a line.
 #[derive(Clone, Copy)]
 pub(crate) enum Token<'a> {
     Word(&'a [u8]),
     Bar,
-use mg_parse::is_word_byte;
     Amp,
     Bang,
     Opening,
