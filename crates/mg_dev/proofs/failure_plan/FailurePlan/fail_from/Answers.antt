@@ -1,5 +1,5 @@
-use Rattle.std.proofs.Common.{refl, ◌∙◌, fold}
-use Rattle.mg_dev.specs.Plans.{calls_of, keep_at, keep_of}
+use Rattle.std.proofs.Common.{refl, ◌∙◌}
+use Rattle.mg_dev.specs.Plans.{calls_of, keep_at}
 use Rattle.mg_dev.proofs.PlanLaws.{keep-before, keep-after, keep_from-at, keep_from-below}
 use Rattle.mg_dev.proofs.failure_plan.FailurePlan.fail_from.Goals as goal
 
