@@ -7,6 +7,7 @@ pub mod ParseLaws
 pub mod TextExamples
 pub mod CollectionExamples
 pub mod CodedTextExamples
+pub mod CodedTextLaws
 pub mod PieceLaws
 pub mod CodeExamples
 pub mod CanonExamples
