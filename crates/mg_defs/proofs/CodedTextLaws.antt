@@ -1,5 +1,5 @@
 -- Laws of coded documents in bytes.
-use Rattle.std.proofs.Common.{◌≡◌, ℕ, zero, suc, ◌+◌, ◌-◌, ◌*◌, ◌/◌, ◌%◌, ◌^◌, ◌<◌, ◌≤◌, Bool, true, false, List, [], ◌∷◌, ◌++◌, length, take, drop, get_or, map, sum_by, zero-add, replicate, refl, sym, ◌∙◌, ap, arith, inl, inr, append_assoc, append-nil, length-append, length-take-le, length-drop, take-append-drop, add-one, one-add, pow-suc}
+use Rattle.std.proofs.Common.{◌≡◌, ℕ, zero, suc, ◌+◌, ◌-◌, ◌*◌, ◌^◌, ◌<◌, ◌≤◌, true, false, List, [], ◌∷◌, ◌++◌, length, take, drop, get_or, map, sum_by, zero-add, replicate, refl, sym, ◌∙◌, ap, arith, inl, inr, append_assoc, append-nil, length-append, length-take-le, length-drop, take-append-drop, one-add, pow-suc}
 use Rattle.std.proofs.Math.Nat.{zero-div}
 use Rattle.std.proofs.Math.ListN.{drop_of_length-le}
 use Rattle.std.specs.List.{flat_map}
