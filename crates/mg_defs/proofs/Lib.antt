@@ -7,6 +7,8 @@ pub mod ParseLaws
 pub mod TextExamples
 pub mod CollectionExamples
 pub mod CodedTextExamples
+pub mod CodedTextLaws
+pub mod TextBitsLaws
 pub mod PieceLaws
 pub mod CodeExamples
 pub mod CanonExamples

@@ -230,7 +230,7 @@ entries-long : (c : List ℕ → ℕ) (strings : List (List ℕ)) → length (en
 entries-long c [] = refl
 entries-long c (q ∷ strings) = ap suc (entries-long c strings)
 
-distinct-sorted : (pieces : List (List ℕ)) → IsDistinct bytes_eq (sorted_distinct pieces)
+pub distinct-sorted : (pieces : List (List ℕ)) → IsDistinct bytes_eq (sorted_distinct pieces)
 distinct-sorted pieces = subst (λ (e : List ℕ → List ℕ → Bool). IsDistinct e (sorted_distinct pieces)) (λ i. λ a b. is_eq-slice_cmp a b i) (IsDistinct-from_sorted (slice_cmp nat_cmp) (sorted_distinct pieces) (sorted-rising pieces))
 
 -- as many entries as distinct pieces

@@ -31,8 +31,9 @@ pub use queries::{
 };
 pub use session::{Command, Mode, Settings};
 pub use texts::{
-    closed_and_open, one_byte_more, one_dictionary, one_order, one_parse, one_split,
-    terms_have_numbers, test_decides, vocabulary_grows, vocabulary_tells,
+    bits_fill_bytes, closed_and_open, documents_have_places, one_byte_more, one_dictionary,
+    one_order, one_parse, one_split, terms_have_numbers, test_decides, text_has_its_bits,
+    vocabulary_grows, vocabulary_tells,
 };
 pub use weights::{logarithm_rises, one_ranking, one_root, weight_is_root};
 

@@ -1,9 +1,12 @@
 // Laws of collections, documents, pieces and terms.
-ghost use Rattle.std.specs.Prelude.{◌≡◌, ◌≢◌, ℕ, ◌+◌, ◌<◌, ◌≤◌, ◌↔◌, Bool, IsTrue, if◌then◌else◌, List, [], ◌∷◌, ◌++◌, length, get_or, Contains, All};
+ghost use Rattle.std.specs.Prelude.{◌≡◌, ◌≢◌, ℕ, ◌+◌, ◌*◌, ◌/◌, ◌<◌, ◌≤◌, ◌↔◌, Bool, IsTrue, if◌then◌else◌, List, [], ◌∷◌, ◌++◌, length, get_or, sum_by, take, drop, Contains, All};
+ghost use Rattle.mg_defs.specs.Bits.{Bits, bits_of, filled, to_byte};
+ghost use Rattle.mg_defs.specs.CodedText.{IsTextCode, TextCode, as_bytes, coded_doc, coded_size, place_after, places, text_of};
 ghost use Rattle.mg_defs.specs.Parse.{Pair, IsParse, parse};
 ghost use Rattle.mg_defs.specs.Sat.{Query, Sat, satisfies};
 ghost use Rattle.mg_defs.specs.Sorted.{IsSortedDistinct, sorted_distinct};
 ghost use Rattle.mg_defs.specs.Split.{IsSplit, documents, has_open_end, closed_count, closed_documents, open_part};
+ghost use Rattle.mg_defs.specs.TextBits.{text_bits};
 ghost use Rattle.mg_defs.specs.Terms.{all_terms, dictionary, term_number, terms_of_words};
 ghost use Rattle.mg_defs.specs.Vocabulary.{vocabulary, counted, total, sorted_of, counts_of, all_pieces, sorted_pieces, piece_counts};
 ghost use Rattle.mg_defs.specs.declared.Stream.{Stream};
@@ -90,4 +93,34 @@ pub fn vocabulary_tells()
         sorted_of (vocabulary (all_pieces kind collection)) ≡ sorted_pieces kind collection }
     ensures counts { (kind : Stream) (collection : List ℕ) →
         counts_of (vocabulary (all_pieces kind collection)) ≡ piece_counts kind collection }
+{}
+
+/// A document's bytes are its bits, and zero-bits up to a byte.
+pub fn bits_fill_bytes()
+    ensures bits { (bits : Bits) → bits_of (as_bytes bits) ≡ filled bits }
+    ensures length { (bits : Bits) →
+        8 * length (as_bytes bits) ≡ length bits + to_byte (length bits) }
+{}
+
+/// There is a place for each document and one for the end of the text, and the bytes of a document
+/// stand in the text from its place on.
+pub fn documents_have_places()
+    ensures count { (code : TextCode) (collection : List ℕ) →
+        length (places code collection) ≡ length (documents collection) + 1 }
+    ensures place { (code : TextCode) (collection : List ℕ) (d : ℕ) → d ≤ length (documents collection) →
+        get_or (places code collection) d 0 ≡ place_after code collection d }
+    ensures size { (code : TextCode) (collection : List ℕ) →
+        length (text_of code collection) ≡ place_after code collection (length (documents collection)) }
+    ensures bytes { (code : TextCode) (collection : List ℕ) (d : ℕ) → d < length (documents collection) →
+        let doc = get_or (documents collection) d [] in
+        take (coded_size code doc) (drop (place_after code collection d) (text_of code collection)) ≡ as_bytes (coded_doc code doc) }
+{}
+
+/// All documents have the bits of Huffman's cost of the words and of the others, and of their heads;
+/// the text takes at most one byte a document more.
+pub fn text_has_its_bits()
+    ensures bits { (code : TextCode) (collection : List ℕ) → IsTextCode collection code →
+        sum_by (λ doc. length (coded_doc code doc)) (documents collection) ≡ text_bits collection }
+    ensures bytes { (code : TextCode) (collection : List ℕ) → IsTextCode collection code →
+        length (text_of code collection) ≤ text_bits collection / 8 + length (documents collection) }
 {}
