@@ -122,9 +122,6 @@ pub record Banged (d size : ℕ) (before after : List Placed) (signs : ℕ) : Ty
   pub same : refusal_from (at_depth true d) size before ≡ refusal_from (at_depth true d) size after
   pub count : signs + length after ≤ length before
 
-pub banged-none : (d size : ℕ) (before : List Placed) → Banged d size before before 0
-banged-none d size before = record { reads = λ last q r. r; same = refl; count = omega arith }
-
 under-bang : (d size at : ℕ) (mid after last : List Placed) (q : Query) → mid ≡ placed at bang ∷ after → Reads not_level d size after last q → Reads not_level d size mid last (without q)
 under-bang d size at mid after last q e r = record {
   read = bang ∷ r.read;
@@ -209,19 +206,7 @@ tokens-few at (b ∷ bytes) =
       | inr isnt ↦ rw isnt (omega (arith, more, sign-few at (sign_of b) (tokens_from (at + 1) bytes)))
     ]
 
--- ---- refusals
-
-pub stopped-at : (e : QueryErr) (d size : ℕ) (before after : List Placed) → refusal_from (at_depth true d) size before ≡ refusal_from (at_depth true d) size after → IsStopped e d size after → IsStopped e d size before
-stopped-at (Syntax at) d size before after same h = same ∙ h
-stopped-at (TooDeep at) d size before after same h = same ∙ h
-stopped-at (TermTooLong at) d size before after same h = same ∙ h
-stopped-at (TooManyTerms at) d size before after same h = same ∙ h
-stopped-at Memory d size before after same h = tt
-
 -- ---- whole lines
-
-none-refused : (size : ℕ) → refusal_from (at_depth false 0) size [] ≡ None
-none-refused size = refl
 
 -- nothing is left
 pub whole-line : (line : List ℕ) (size : ℕ) (before after : List Placed) (q : Query) → before ≡ tokens line → size ≡ length line → Reads or_level 0 size before after q → after ≡ [] → boolean line ≡ reads q

@@ -3,7 +3,8 @@
 //! A line is read in one pass, with one token in hand: no list of its tokens is kept, and a
 //! query's terms are the only copies of its bytes. The parser descends once for each open
 //! parenthesis, of which a line has at most 32, and counts the signs `!` in a loop, so that the
-//! stack it takes does not grow with the line.
+//! stack it takes does not grow with the line. The query itself is at most as deep as its line is
+//! long.
 //!
 //! Each line has exactly one answer, which the definitions of `mg_defs` give: the query that the
 //! grammar reads from its tokens, or the first token at which the line is refused. The contracts

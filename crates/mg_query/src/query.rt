@@ -10,6 +10,8 @@ use crate::terms::Terms;
 use std::alloc::{AllocError, Global};
 
 /// What a Boolean line asks for.
+///
+/// Contracts see the query of `mg_defs` that it stands for, `query_of`.
 #[derive(Debug, Drop)]
 pub enum Query {
     /// The documents that have the term.
