@@ -1,5 +1,5 @@
-use Rattle.std.proofs.Common.{◌≡◌, ◌+◌, ◌≤◌, ◌∙◌, ap, [], length, arith}
-use Rattle.mg_defs.specs.Generator.{repeated, mail, made_collection}
+use Rattle.std.proofs.Common.{◌+◌, ap, length, arith}
+use Rattle.mg_defs.specs.Generator.{mail, made_collection}
 use Rattle.mg_gen.proofs.Handing.{handed_none, handed_so_far, handed_part, handed_last, put_is, refused}
 use Rattle.mg_gen.proofs.make.make_collection.Goals as goal
 

@@ -1,4 +1,4 @@
-use Rattle.std.proofs.Common.{◌≡◌, ◌+◌, ◌%◌, ◌^◌, ◌≤◌, ◌∙◌, ap, [], length, arith}
+use Rattle.std.proofs.Common.{◌≡◌, ◌+◌, ◌%◌, ◌^◌, ◌∙◌, ap, length, arith}
 use Rattle.mg_defs.specs.Generator.{repeated, four_queries, made_session}
 use Rattle.mg_gen.proofs.Making.{grew_start, grew_so_far, from_nothing}
 use Rattle.mg_gen.proofs.Handing.{put_is}

@@ -1,4 +1,4 @@
-use Rattle.std.proofs.Common.{◌≡◌, ◌∙◌, ap, sym, ◌++◌, arith}
+use Rattle.std.proofs.Common.{◌∙◌, ap, sym, ◌++◌}
 use Rattle.mg_gen.proofs.Words.{word_short, word_long, two_added, three_added}
 use Rattle.mg_gen.proofs.syllable.word.Goals as goal
 use Rattle.mg_gen.proofs.syllable.word.Goals.{then-number-ge256, else-number-ge256}

@@ -1,4 +1,4 @@
-use Rattle.std.proofs.Common.{◌≡◌, ◌*◌, ◌/◌, ◌%◌, ◌^◌, ◌∙◌, ap}
+use Rattle.std.proofs.Common.{◌*◌, ◌/◌, ◌%◌, ◌^◌, ◌∙◌, ap}
 use Rattle.std.proofs.Math.Nat.{mod-add-mod}
 use Rattle.mg_defs.specs.Generator.{stepped, draw}
 use Rattle.mg_gen.proofs.generator.Generator.draw.Goals as goal
