@@ -1,12 +1,14 @@
 -- How a short code is read bit by bit. It has at most `size` bits, and `few` remainders have a code of one bit less; after `done` bits these write the number `high`.
-use Rattle.std.specs.Prelude.{ℕ, ◌+◌, ◌-◌, ◌*◌, ◌^◌, nat_lt, nat_eq, if◌then◌else◌, Some, None}
-use Rattle.std.specs.declared.option.Option.{Option}
+use Rattle.std.specs.Prelude.{◌≡◌, ℕ, ◌+◌, ◌-◌, ◌*◌, ◌^◌, ◌<◌, ◌≤◌, ◌⊎◌, nat_lt, nat_eq, if◌then◌else◌}
 
--- the remainder whose code was read, if it was read whole
-abbrev pub whole_of : ℕ → ℕ → ℕ → ℕ → Option ℕ
-whole_of size few done high =
-    if nat_eq done size then Some (high - few)
-    else (if nat_eq (done + 1) size then (if nat_lt high few then Some high else None) else None)
+-- the code of the remainder v was read whole
+abbrev pub IsWholeAt : ℕ → ℕ → ℕ → ℕ → ℕ → Type 0
+IsWholeAt size few done high v = ((done ≡ size) × (v ≡ high - few)) ⊎ ((done + 1 ≡ size) × (high < few) × (v ≡ high))
+
+-- no code was read whole
+pub record IsOpenAt (size few done high : ℕ) : Type 0 where
+  pub more : done < size
+  pub longer : done + 1 ≡ size → few ≤ high
 
 -- the least remainder whose code begins with all bits but the last of the longer codes
 abbrev pub least_from : ℕ → ℕ → ℕ

@@ -1,13 +1,14 @@
-// A library with one function.
+//! The unary, gamma, short and Golomb codes of numbers, both ways.
+//!
+//! A reader of a code has a limit, and answers the value whose code stands at its place, that the
+//! file ends within a code, or that no code up to the limit can stand there. It decides this as
+//! early as it can: it reads a bit only while the bits before it are the front of a code that it
+//! would take, and so touches no page on which an accepted code doesn't lie. (Managing Gigabytes,
+//! chapter 3.)
 #![tactic(auto)]
 
-ghost use Rattle.std.specs.Prelude.{◌≡◌};
-ghost use Rattle.mg_codes.specs.Echo.{echo_of};
+mod refusals;
+mod remainder;
+mod unary;
 
-// The `ensures` clause is the contract: what `echo` returns is `echo_of` of its argument, a definition
-// in `specs/Echo.antt`, which a caller's clause can cite too.
-pub fn echo(x: usize) -> usize
-    ensures { result ≡ echo_of x }
-{
-    x
-}
+pub use unary::get_unary;
