@@ -1,1 +1,2 @@
 pub mod ShortWalk
+pub mod UnaryWalk

@@ -1,17 +1,18 @@
 -- Short codes that are read bit by bit.
-use Rattle.std.proofs.Common.{rules, arith, suc, zero, ◌≡◌, ◌+◌, ◌*◌, ◌/◌, ◌%◌, ◌^◌, ◌≤◌, ◌<◌, ◌-◌, ℕ, Bool, true, false, List, [], ◌∷◌, ◌++◌, length, take, Some, None, refl, sym, ◌∙◌, ap, subst, nat_eq, nat_lt, ◌⊎◌, inl, inr, append-nil, add-zero, if◌then◌else◌}
+use Rattle.std.proofs.Common.{rules, arith, suc, zero, ◌≡◌, ◌+◌, ◌*◌, ◌/◌, ◌%◌, ◌^◌, ◌≤◌, ◌<◌, ◌-◌, ℕ, Bool, true, false, List, [], ◌∷◌, ◌++◌, length, take, Some, None, refl, sym, ◌∙◌, ap, subst, nat_eq, nat_lt, ◌⊎◌, inl, inr, append-nil, add-zero, one-mul, if◌then◌else◌}
 use Rattle.std.specs.declared.option.Option.{Option}
 use Rattle.std.proofs.lemmas.Grind.{common_steps}
 use Rattle.std.proofs.lemmas.Bool.{cases_lt, cond-true, cond-false, lt-ltb, le-ltb, eq-eqb, eqb-true}
 use Rattle.std.proofs.Math.Pow.{pow_mono}
-use Rattle.std.proofs.lemmas.Nat.{pow_pos, shr_below}
-use Rattle.std.proofs.Math.Nat.{two-pow-succ, div-mul-le_self}
-use Rattle.mg_defs.specs.Bits.{Bits, Begins, digits}
+use Rattle.std.proofs.lemmas.Nat.{pow_pos, pow-add, shr_below}
+use Rattle.std.proofs.Math.Nat.{two-pow-succ, div-mul-le_self, mod-eq_of_lt, mul-le-mul_right}
+use Rattle.mg_defs.specs.Bits.{Bits, Begins, FromPlace, digits}
 use Rattle.mg_defs.specs.Codes.{short, shorter, ceil_log2}
 use Rattle.mg_defs.specs.Answers.{Below, CutShort, IsNone, IsPrefixFree}
 use Rattle.mg_defs.proofs.BitLaws.{length_digits, digits_append, take_digits}
 use Rattle.mg_defs.proofs.FrontLaws.{begins_append, begins_length, begins_self, begins_whole}
-use Rattle.mg_defs.proofs.CodeLaws.{IsCeil, is_ceil, short_low, short_high, length_short, short_free, small_digits}
+use Rattle.mg_defs.proofs.CodeLaws.{IsCeil, is_ceil, one_ceil, short_low, short_high, length_short, short_free, small_digits}
+use Rattle.mg_bits.proofs.Walks.{walk_bit}
 use Rattle.mg_codes.specs.Remainders.{IsWholeAt, IsOpenAt, least_from, least_of}
 
 -- the greatest length of a short code, and how many have one bit less
@@ -231,3 +232,57 @@ small_size b size few small is =
       | inl lt ↦ omega (arith, lt)
       | inr ge ↦ absurd (let le : 48 ≤ size - 1 = omega (arith, ge) in let m : 2 ^ 48 ≤ 2 ^ (size - 1) = pow_mono le in omega (arith, m, is.low (omega (arith, ge)), small))
     ]
+
+-- the length that the code computes
+pub ceil_of_one : (b : ℕ) → 1 ≤ b → b ≤ 1 → 0 ≡ ceil_log2 b
+ceil_of_one b some one = one_ceil b 0 (ceil_log2 b) (record { high = omega (arith, one); low = λ h. absurd (omega arith) }) (is_ceil b some (omega arith))
+
+pub ceil_of_more : (b e : ℕ) → 1 < b → b < 2 ^ 48 → 2 ^ e ≤ b - 1 → b - 1 < 2 * 2 ^ e → 1 + e ≡ ceil_log2 b
+ceil_of_more b e more small low high =
+    one_ceil b (1 + e) (ceil_log2 b)
+    (record {
+      high = (let up : 1 + e ≡ suc e = omega arith in rw up (omega (arith, two-pow-succ e, high)));
+      low = λ h. (let down : 1 + e - 1 ≡ e = omega arith in rw down (omega (arith, low, more)));
+    })
+    (is_ceil b (omega (arith, more)) (omega (arith, small)))
+
+pub small_ceil : (b : ℕ) → 1 ≤ b → b < 2 ^ 48 → ceil_log2 b ≤ 48
+small_ceil b some small = small_size b (ceil_log2 b) (shorter b) small (is_short b some (omega (arith, small)))
+
+pub power_of_size : (b size : ℕ) → 1 ≤ b → b < 2 ^ 48 → size ≡ ceil_log2 b → (b ≤ 2 ^ size) × (2 ^ size < 2 ^ 48 + b)
+power_of_size b size some small is =
+    let s : IsShort b (ceil_log2 b) (shorter b) = is_short b some (omega (arith, small)) in
+    rw is (omega (arith, s.sum), few_below b (ceil_log2 b) (shorter b) some small s)
+  where
+    few_below : (b size few : ℕ) → 1 ≤ b → b < 2 ^ 48 → IsShort b size few → 2 ^ size < 2 ^ 48 + b
+    few_below b zero few some small s = omega arith
+    few_below b (suc k) few some small s = let down : suc k - 1 ≡ k = omega arith in let low : 2 ^ k < b = rw down at (s.low (omega arith)) in omega (arith, two-pow-succ k, low, small)
+
+pub shorter_is : (b size : ℕ) → size ≡ ceil_log2 b → 2 ^ size - b ≡ shorter b
+unfolding shorter
+shorter_is b size is = ap (λ n. 2 ^ n - b) is
+
+pub one_shifted : (size : ℕ) → size ≤ 48 → 1 * 2 ^ size % 18446744073709551616 ≡ 2 ^ size
+one_shifted size le = rw one-mul (mod-eq_of_lt (let m : 2 ^ size ≤ 2 ^ 48 = pow_mono le in omega (arith, m)))
+
+pub shifted_small : (high done more : ℕ) → high < 2 ^ done → done + more < 48 → high * 2 ^ more < 2 ^ 48
+shifted_small high done more below sum =
+    let p : 2 ^ (done + more) ≡ 2 ^ done * 2 ^ more = pow-add 2 done more in
+    let q : 0 < 2 ^ more = pow_pos more in
+    let up : high * 2 ^ more + 2 ^ more ≤ 2 ^ done * 2 ^ more = (let le : high + 1 ≤ 2 ^ done = omega (arith, below) in let m : (high + 1) * 2 ^ more ≤ 2 ^ done * 2 ^ more = mul-le-mul_right (2 ^ more) le in omega (arith, m)) in
+    let le : done + more ≤ 48 = omega (arith, sum) in
+    let m : 2 ^ (done + more) ≤ 2 ^ 48 = pow_mono le in
+    omega (arith, up, m, p, q)
+
+pub shape : (b size few : ℕ) → 1 ≤ b → b < 2 ^ 48 → size ≡ ceil_log2 b → few ≡ shorter b → IsShort b size few
+shape b size few some small size_is few_is = rw (size_is, few_is) (is_short b some (omega (arith, small)))
+
+pub below_free : (b bound : ℕ) → 1 ≤ bound → bound ≤ b → b < 2 ^ 48 → IsPrefixFree (Below bound) (short b)
+below_free b bound some within small = record {
+  one = λ x y tx ty h. (short_free b (omega (arith, some, within)) (omega (arith, small))).one x y (omega (arith, tx, within)) (omega (arith, ty, within)) h;
+}
+
+pub next_told : (told : Option (List ℕ)) (start place done high v : ℕ) (b : Bool) → place ≡ start + done → v ≡ 2 * high + (if b then 1 else 0) →
+    FromPlace told start (Begins (digits done high)) → FromPlace told place (Begins (b ∷ [])) → FromPlace told start (Begins (digits (done + 1) v))
+next_told told start place done high v b here is one two =
+    rw (digits_bit done high v b is) (walk_bit told start place (digits done high) (b ∷ []) (omega (arith, here, length_digits done high)) one two)

@@ -5,8 +5,8 @@ use Rattle.mg_codes.specs.Remainders.{least_of}
 use Rattle.mg_codes.proofs.ShortWalk.{IsShort, Walked}
 use Rattle.mg_codes.proofs.remainder.get_below.Given as goal
 
-abbrev pub invariant-loop : goal.invariant-loop
-invariant-loop g l = record {
+abbrev pub invariant-loop-value : goal.invariant-loop-value
+invariant-loop-value g l = record {
   fits : g.F.Feed.fits l.r.feed (g.F.Feed.device l.dev).files;
   walked : Walked l.size l.few l.done l.high;
   least : least_of l.size l.few l.done l.high < l.bound;
@@ -15,5 +15,5 @@ invariant-loop g l = record {
   read : Read (g.F.Feed.feeding l.initial.r.feed) (g.F.Feed.feeding l.r.feed) (g.F.Feed.device l.initial.dev) (g.F.Feed.device l.dev) l.start (l.start + l.done);
 }
 
-abbrev pub decreases-loop : goal.decreases-loop
-decreases-loop g l = l.size - l.done
+abbrev pub decreases-loop-value : goal.decreases-loop-value
+decreases-loop-value g l = l.size - l.done
