@@ -5,3 +5,4 @@ pub mod Told
 pub mod WriterLaws
 pub mod BitsWritten
 pub mod Fills
+pub mod Walks

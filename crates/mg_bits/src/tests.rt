@@ -1,7 +1,9 @@
 // Files read and written, over a slice, a page and a slot.
 ghost use Rattle.std.specs.Prelude.{◌≡◌, ◌≤◌, ◌<◌, length};
 
-use crate::{BitErr, BitReader, BitWriter, Feed, NoDev, PageFeed, PageWriter, SliceFeed, SmallFeed};
+use crate::{
+    BitErr, BitReader, BitWriter, Feed, NoDev, PageFeed, PageWriter, SliceFeed, SmallFeed,
+};
 use mg_dev::{FileRef, MemStore, Part, PutErr, SureStore};
 use std::alloc::{AllocError, Global};
 use std::test::Fail;
@@ -53,7 +55,10 @@ fn whole_files_are_read_through_each_feed(rt: HostRuntime) -> Result<(), Fail> {
         let mut store = SureStore::new(alloc);
         store.put_file("x.text", &bytes)?;
         let mut slice = BitReader::new(SliceFeed::new(&bytes), 0);
-        assert!(rt; reads_as(&mut slice, &mut NoDev, &bytes), "a slice of {size}");
+        assert!(rt;
+            reads_as(&mut slice, &mut NoDev, &bytes),
+            "a slice of {size}"
+        );
         let mut paged = BitReader::new(PageFeed::new(alloc, TEXT)?, 0);
         assert!(rt; reads_as(&mut paged, &mut store, &bytes), "pages of {size}");
         let pages = (size as u64).div_ceil(4096);
@@ -108,7 +113,10 @@ fn bits_over_a_page_edge_read_each_page_once(rt: HostRuntime) -> Result<(), Fail
 fn the_end_within_the_bits_leaves_the_place(rt: HostRuntime) -> Result<(), Fail> {
     let alloc = rt.alloc();
     let mut store = SureStore::new(alloc);
-    store.put_file("x.text", &[0x12, 0x34, 0x56, 0x78, 0x9a, 0xbc, 0xde, 0xf0, 0x0f])?;
+    store.put_file(
+        "x.text",
+        &[0x12, 0x34, 0x56, 0x78, 0x9a, 0xbc, 0xde, 0xf0, 0x0f],
+    )?;
     let mut slot = [0; 64];
     let mut r = BitReader::new(SmallFeed::new(TEXT, &mut slot), 9);
     assert_eq!(rt; r.bits(&mut store, 64), Err(BitErr::End { at: 9 }));
@@ -117,7 +125,11 @@ fn the_end_within_the_bits_leaves_the_place(rt: HostRuntime) -> Result<(), Fail>
     r.seek(8);
     assert_eq!(rt; r.bits(&mut store, 64), Ok(0x3456_789a_bcde_f00f));
     assert_eq!(rt; r.place(), 72);
-    assert_eq!(rt; store.reads_of(Part::Text), 1, "the page is held after the end");
+    assert_eq!(rt;
+        store.reads_of(Part::Text),
+        1,
+        "the page is held after the end"
+    );
     Ok(())
 }
 
@@ -135,7 +147,9 @@ fn written_bits_fill_the_file(rt: HostRuntime) -> Result<(), Fail> {
     assert_eq!(rt; w.place(), 81);
     w.finish(&mut store)?;
     assert_eq!(rt; w.place(), 88);
-    let text: &[u8] = &[0xa0, 0x34, 0x56, 0x78, 0x9a, 0xbc, 0xde, 0xf0, 0x0f, 0, 0x80];
+    let text: &[u8] = &[
+        0xa0, 0x34, 0x56, 0x78, 0x9a, 0xbc, 0xde, 0xf0, 0x0f, 0, 0x80,
+    ];
     assert_eq!(rt; store.file("x.text"), Some(text));
     let post: &[u8] = &[1, 2, 3];
     assert_eq!(rt; store.file("x.post"), Some(post), "another part stays");
