@@ -1,12 +1,24 @@
 //! A canonical code: the codewords of given lengths, both ways.
-ghost use Rattle.std.specs.Prelude.{◌≡◌, ℕ, ◌^◌, ◌≤◌, ◌↔◌, length, Err, IfOk};
-ghost use Rattle.mg_defs.specs.Canon.{AreGood};
+ghost use Rattle.std.specs.Prelude.{◌≡◌, ℕ, ◌+◌, ◌^◌, ◌<◌, ◌≤◌, ◌↔◌, ◌⊎◌, length, slice_index, Err, IfOk, OnOk, OnErr, MatchResult};
+ghost use Rattle.std.specs.Bool.{OnTrue, OnFalse};
+ghost use Rattle.mg_defs.specs.Answers.{Below};
+ghost use Rattle.mg_defs.specs.Bits.{FromPlace};
+ghost use Rattle.mg_defs.specs.Canon.{AreGood, codeword};
+ghost use Rattle.mg_dev.specs.Causes.{HasPutCause};
+ghost use Rattle.mg_bits.specs.BitWriting.{Holds, WroteBits};
+ghost use Rattle.mg_bits.specs.CodeAnswers.{AnswersCode, CodeCause, OnlyPagesOf};
+ghost use Rattle.mg_bits.specs.Feed.{Calm, Read};
+ghost use Rattle.mg_bits.specs.Writer.{WroteTo};
 ghost use Rattle.mg_canon.specs.Refusals.{IsFirstBad, IsUnfilled, HaveLengths};
 
 use std::alloc::{AllocError, Global};
 use std::marker::Model;
 
+use mg_bits::{BitReader, BitWriter, CodeErr, Feed};
+use mg_dev::{PutErr, Store};
+
 use crate::CanonErr;
+use crate::bits::{number_of, refused};
 use crate::check::check;
 use crate::tables::{ByLength, count_lengths, first_codewords, first_places, number};
 
@@ -64,6 +76,94 @@ impl Canon {
     {
         self.lengths.len() as u32
     }
+
+    /// Writes the codeword of a symbol.
+    pub fn put<S: Store>(
+        &self,
+        writer: &mut BitWriter,
+        store: &mut S,
+        symbol: u32,
+    ) -> Result<(), PutErr>
+        requires symbol { symbol < length self.now }
+        requires holds { Holds writer.old (S.files store.old) }
+        requires place { writer.old.place ≤ 2 ^ 63 }
+        ensures holds { OnOk result (Holds writer.new (S.files store.new)) }
+        ensures bits { OnOk result (WroteBits writer.old writer.new (S.files store.old) (S.files store.new) (codeword self.now symbol)) }
+        ensures name { writer.new.name ≡ writer.old.name }
+        ensures wrote { WroteTo writer.old.name (S.files store.old) (S.files store.new) (S.reads store.old) (S.reads store.new) }
+        ensures cause { HasPutCause (S.faults store.old) (S.faults store.new) result }
+    {
+        let symbol = symbol as usize;
+        let value = u64::from(self.values[symbol]);
+        let length = u32::from(self.lengths[symbol]);
+        writer.put(store, value, length)
+    }
+
+    /// Reads a symbol: the one whose codeword stands at the place. The code has a symbol. Where the
+    /// bits end within a codeword it answers `End`; where no codeword stands there and the bits are
+    /// not the front of one, which is so only at a one-bit where there is a single symbol, `Over`.
+    /// After a refusal the place is the one before, and the reader may be used again.
+    pub fn get<F: Feed>(
+        &self,
+        reader: &mut BitReader<F>,
+        dev: &mut F::Dev,
+    ) -> Result<u32, CodeErr>
+        requires some { 0 < length self.now }
+        requires fits { F.fits reader.old.feed (F.device dev.old).files }
+        requires place { reader.old.place ≤ 2 ^ 63 }
+        ensures fits { F.fits reader.new.feed (F.device dev.new).files }
+        ensures calm { Calm (F.feeding reader.old.feed) (F.feeding reader.new.feed) (F.device dev.old) (F.device dev.new) }
+        ensures read { IfOk result (λ s. Read (F.feeding reader.old.feed) (F.feeding reader.new.feed) (F.device dev.old) (F.device dev.new)
+            reader.old.place (reader.old.place + length (codeword self.now s))) }
+        ensures pages { OnErr result (FromPlace ((F.feeding reader.old.feed).source (F.device dev.old).files) reader.old.place
+            (OnlyPagesOf (Below (length self.now)) (codeword self.now) (F.feeding reader.old.feed) (F.feeding reader.new.feed) (F.device dev.old) (F.device dev.new) reader.old.place)) }
+        ensures place { MatchResult result (λ s. reader.new.place ≡ reader.old.place + length (codeword self.now s)) (λ _. reader.new.place ≡ reader.old.place) }
+        ensures told { FromPlace ((F.feeding reader.old.feed).source (F.device dev.old).files) reader.old.place
+            (AnswersCode result (Below (length self.now)) (codeword self.now) 1 reader.old.place) }
+        ensures symbol { IfOk result (λ s. s < length self.now) }
+        ensures over { (at limit : ℕ) → result ≡ Err (CodeErr.Over at limit) → length self.now ≡ 1 }
+        ensures cause { CodeCause result (F.device dev.old).faults (F.device dev.new).faults }
+    {
+        let start = reader.place();
+        let mut value = 0u32;
+        let mut read = 0usize;
+        let firsts = &self.firsts;
+        while needs_bit(firsts, read, value) {
+            match reader.bit(dev) {
+                Ok(bit) => {
+                    value = 2 * value + number_of(bit);
+                    read += 1;
+                }
+                Err(refusal) => {
+                    reader.seek(start);
+                    return Err(refused(refusal, start));
+                }
+            }
+        }
+        let place = (self.offsets[read] + (value - firsts[read])) as usize;
+        if place >= self.symbols.len() {
+            reader.seek(start);
+            return Err(CodeErr::Over {
+                at: start,
+                limit: 1,
+            });
+        }
+        Ok(self.symbols[place])
+    }
+}
+
+/// Whether another bit of a codeword is to be read: none was yet, or the bits are a number below
+/// the first codeword of their length.
+fn needs_bit(firsts: &ByLength, read: usize, value: u32) -> bool
+    requires { read ≤ 48 }
+    ensures more { OnTrue result ((read ≡ 0) ⊎ (value < slice_index firsts.now read)) }
+    ensures some { OnFalse result (1 ≤ read) }
+    ensures stop { OnFalse result (slice_index firsts.now read ≤ value) }
+{
+    if read == 0 {
+        return true;
+    }
+    value < firsts[read]
 }
 
 /// The code of good lengths.
@@ -76,15 +176,13 @@ fn made(alloc: Global, lengths: &[u8]) -> Result<Canon, AllocError>
     let counts = count_lengths(lengths);
     let firsts = first_codewords(&counts);
     let offsets = first_places(&counts);
-    let mut values = vec![in alloc; 0; lengths.len()]?;
-    let mut symbols = vec![in alloc; 0; lengths.len()]?;
-    number(lengths, &firsts, &offsets, &mut values, &mut symbols);
+    let numbered = number(alloc, lengths, &firsts, &offsets)?;
     let lengths = lengths.to_vec(alloc)?;
     Ok(Canon {
         lengths,
-        values,
+        values: numbered.values,
         firsts,
         offsets,
-        symbols,
+        symbols: numbered.symbols,
     })
 }

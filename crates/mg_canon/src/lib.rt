@@ -1,6 +1,7 @@
 //! Canonical prefix codes.
 #![tactic(auto)]
 
+mod bits;
 mod canon;
 mod canon_err;
 mod check;
