@@ -1,5 +1,5 @@
 -- The steps of the decoder by lengths.
-use Rattle.std.proofs.Common.{◌≡◌, ℕ, zero, suc, ◌+◌, ◌-◌, ◌*◌, ◌/◌, ◌%◌, ◌^◌, ◌<◌, ◌≤◌, Bool, true, false, cond, List, [], ◌∷◌, ◌++◌, length, refl, sym, ap, ◌∙◌, subst, arith, take, get_or, ◌⊎◌, inl, inr, ⊎_elim, add-one}
+use Rattle.std.proofs.Common.{◌≡◌, ℕ, zero, suc, ◌+◌, ◌-◌, ◌*◌, ◌/◌, ◌%◌, ◌<◌, ◌≤◌, Bool, true, false, cond, List, [], ◌∷◌, ◌++◌, length, refl, sym, ap, ◌∙◌, subst, arith, take, get_or, ◌⊎◌, inl, inr, ⊎_elim, add-one}
 use Rattle.std.proofs.lemmas.Bool.{cases_lt, cases_eq}
 use Rattle.std.specs.Prelude.{◌==◌}
 use Rattle.mg_defs.specs.Bits.{Bits, Begins, digits}
@@ -8,8 +8,8 @@ use Rattle.mg_defs.specs.Answers.{Below, CutShort, IsNone}
 use Rattle.mg_defs.proofs.BitLaws.{length_digits}
 use Rattle.mg_defs.proofs.CanonSteps.{first-step, first-zero, first-last, nth}
 use Rattle.mg_defs.proofs.CanonLaws.{digits-low, good_within, good_full, codeword-many, goes_on_to}
-use Rattle.mg_canon.specs.Tables.{count_below, place_of, AreNumbered, AreTables}
-use Rattle.mg_canon.proofs.Refused.{good_from, are_within}
+use Rattle.mg_canon.specs.Tables.{count_below, place_of, AreFirsts, AreNumbered, AreTables}
+use Rattle.mg_canon.proofs.Refused.{good_from}
 use Rattle.mg_canon.proofs.Placing.{room_for}
 
 pub tables_good : (lengths values firsts offsets symbols : List ℕ) → AreTables lengths values firsts offsets symbols → AreGood lengths
@@ -201,10 +201,12 @@ module _ (lengths : List ℕ) (good : AreGood lengths) (some : 0 < length length
         let rank : count_of read (take n.0 lengths) ≡ value - first read lengths = n.3 in
         let place : place_of lengths n.0 ≡ count_below read lengths + (value - first read lengths) =
         ap (λ l. count_below l lengths + count_of l (take n.0 lengths)) is_length ∙ ap (λ k. count_below read lengths + k) rank in
-        let number : codeword_value lengths n.0 ≡ value = ap (λ l. first l lengths + count_of l (take n.0 lengths)) is_length ∙ (let r = rank in omega arith) in
-        (n.0, n.1,
-        ap (λ p. get_or symbols p 0) (sym place) ∙ t.symbol_at n.0 n.1,
-        codeword-digits lengths n.0 good n.1 ∙ ap (λ l. digits l (codeword_value lengths n.0)) is_length ∙ ap (λ v. digits read v) number)
+        let number : codeword_value lengths n.0 ≡ value = ap (λ l. first l lengths + count_of l (take n.0 lengths)) is_length ∙ (let r = rank in omega arith) in (
+          n.0,
+          n.1,
+          ap (λ p. get_or symbols p 0) (sym place) ∙ t.symbol_at n.0 n.1,
+          codeword-digits lengths n.0 good n.1 ∙ ap (λ l. digits l (codeword_value lengths n.0)) is_length ∙ ap (λ v. digits read v) number,
+        )
 
     pub none_found : length lengths ≤ count_below read lengths + (value - first read lengths) → IsNone (Below (length lengths)) (codeword lengths) (digits read value)
     none_found h =
@@ -214,3 +216,7 @@ module _ (lengths : List ℕ) (good : AreGood lengths) (some : 0 < length length
           begins = λ x taken begins. no_zero (subst (λ c. Begins c (true ∷ [])) (one_codeword lengths good out.0 x) begins);
           cut = λ x taken begins. no_one (subst (λ c. Begins (true ∷ []) c) (one_codeword lengths good out.0 x) begins);
         })
+
+-- the same by the table of first codewords
+pub by_table : (lengths firsts : List ℕ) (read value : ℕ) → AreFirsts lengths firsts → read ≤ 48 → (read ≡ 0) ⊎ (value < get_or firsts read 0) → (read ≡ 0) ⊎ (value < first read lengths)
+by_table lengths firsts read value f short more = ⊎_elim (λ e. inl e) (λ lt. inr (omega (arith, f.at read short))) more

@@ -1,9 +1,9 @@
 -- For which lengths a code is refused, and why.
-use Rattle.std.proofs.Common.{◌≡◌, ℕ, zero, suc, ◌+◌, ◌^◌, ◌<◌, ◌≤◌, List, [], ◌∷◌, length, refl, sym, ap, ◌∙◌, subst, arith, get_or, ⊎_elim, Result, Ok, Err, ◌↔◌}
+use Rattle.std.proofs.Common.{◌≡◌, ℕ, zero, suc, ◌^◌, ◌<◌, ◌≤◌, List, [], ◌∷◌, length, sym, ap, ◌∙◌, subst, arith, get_or, ⊎_elim, Result, Err, ◌↔◌}
 use Rattle.std.proofs.lemmas.Bool.Decides.{nat_tests}
 use Rattle.std.proofs.lemmas.Bool.{cases_lt}
 use Rattle.mg_defs.specs.Canon.{kraft, AreWithin, AreGood}
-use Rattle.mg_defs.proofs.CanonLaws.{good_within, good_full, within_short}
+use Rattle.mg_defs.proofs.CanonLaws.{good_full, within_short}
 use Rattle.mg_canon.specs.Refusals.{most_bits, IsLength, HaveLengths, IsFirstBad, IsUnfilled, Refuses}
 use Rattle.mg_canon.specs.declared.canon_err.CanonErr.{CanonErr}
 use Rattle.mg_canon.specs.declared.canon_err.CanonErr.TheVariants.{BadLength, Kraft, Memory}
@@ -59,17 +59,19 @@ one_bad lengths s l t m a b =
 
 -- a refusal with its cause comes exactly where the cause holds
 pub refused_bad : {T : Type 0} (lengths : List ℕ) (r : Result T CanonErr) (e : CanonErr) (s l : ℕ) → r ≡ Err e → Refuses lengths e → (r ≡ Err (BadLength s l)) ↔ IsFirstBad lengths s l
-refused_bad lengths r (BadLength t m) s l is b =
-    (λ eq. let p : t ≡ s = cc in let q : m ≡ l = cc in subst (λ k. IsFirstBad lengths s k) q (subst (λ k. IsFirstBad lengths k m) p b),
-    λ a. let p = one_bad lengths t m s l b a in let q : m ≡ l = sym b.length_is ∙ ap (λ k. get_or lengths k 0) p ∙ a.length_is in cc)
+refused_bad lengths r (BadLength t m) s l is b = (
+  λ eq. let p : t ≡ s = cc in let q : m ≡ l = cc in subst (λ k. IsFirstBad lengths s k) q (subst (λ k. IsFirstBad lengths k m) p b),
+  λ a. let p = one_bad lengths t m s l b a in let q : m ≡ l = sym b.length_is ∙ ap (λ k. get_or lengths k 0) p ∙ a.length_is in cc,
+)
 refused_bad lengths r (Kraft sum) s l is u = (λ eq. absurd cc, λ a. absurd (unfilled_not_bad lengths sum s l u a))
 refused_bad lengths r Memory s l is none = absurd none
 
 pub refused_kraft : {T : Type 0} (lengths : List ℕ) (r : Result T CanonErr) (e : CanonErr) (sum : ℕ) → r ≡ Err e → Refuses lengths e → (r ≡ Err (Kraft sum)) ↔ IsUnfilled lengths sum
 refused_kraft lengths r (BadLength t m) sum is b = (λ eq. absurd cc, λ u. absurd (unfilled_not_bad lengths sum t m u b))
-refused_kraft lengths r (Kraft other) sum is v =
-    (λ eq. let p : other ≡ sum = cc in subst (λ k. IsUnfilled lengths k) p v,
-    λ u. let p : other ≡ sum = v.sum_is ∙ sym u.sum_is in cc)
+refused_kraft lengths r (Kraft other) sum is v = (
+  λ eq. let p : other ≡ sum = cc in subst (λ k. IsUnfilled lengths k) p v,
+  λ u. let p : other ≡ sum = v.sum_is ∙ sym u.sum_is in cc,
+)
 refused_kraft lengths r Memory sum is none = absurd none
 
 -- the lengths of a code are refused for want of memory alone

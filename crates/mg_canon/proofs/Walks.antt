@@ -1,5 +1,5 @@
 -- What is told after some bits of a code were read.
-use Rattle.std.proofs.Common.{rules, arith, ◌≡◌, ◌+◌, ◌≤◌, ◌<◌, ℕ, Bool, List, [], ◌∷◌, ◌++◌, length, drop, Option, Some, None, Ok, Err, refl, sym, ap, subst, IfSome}
+use Rattle.std.proofs.Common.{arith, ◌≡◌, ◌+◌, ◌<◌, ℕ, Bool, List, [], ◌∷◌, ◌++◌, length, drop, Option, Some, None, Ok, Err, refl, sym, subst}
 use Rattle.std.proofs.lemmas.List.{drop-drop}
 use Rattle.mg_defs.specs.Bits.{Bits, Begins, FromPlace, bits_of}
 use Rattle.mg_defs.specs.Answers.{CutShort, IsNone, IsPrefixFree}

@@ -11,16 +11,14 @@ ghost use Rattle.mg_bits.specs.Feed.{Calm, Read};
 ghost use Rattle.mg_bits.specs.Writer.{WroteTo};
 ghost use Rattle.mg_canon.specs.Refusals.{IsFirstBad, IsUnfilled, HaveLengths};
 
-use std::alloc::{AllocError, Global};
-use std::marker::Model;
-
-use mg_bits::{BitReader, BitWriter, CodeErr, Feed};
-use mg_dev::{PutErr, Store};
-
 use crate::CanonErr;
 use crate::bits::{number_of, refused};
 use crate::check::check;
 use crate::tables::{ByLength, count_lengths, first_codewords, first_places, number};
+use mg_bits::{BitReader, BitWriter, CodeErr, Feed};
+use mg_dev::{PutErr, Store};
+use std::alloc::{AllocError, Global};
+use std::marker::Model;
 
 /// A canonical code, seen as the list of its codewords' lengths.
 ///
@@ -103,11 +101,7 @@ impl Canon {
     /// bits end within a codeword it answers `End`; where no codeword stands there and the bits are
     /// not the front of one, which is so only at a one-bit where there is a single symbol, `Over`.
     /// After a refusal the place is the one before, and the reader may be used again.
-    pub fn get<F: Feed>(
-        &self,
-        reader: &mut BitReader<F>,
-        dev: &mut F::Dev,
-    ) -> Result<u32, CodeErr>
+    pub fn get<F: Feed>(&self, reader: &mut BitReader<F>, dev: &mut F::Dev) -> Result<u32, CodeErr>
         requires some { 0 < length self.now }
         requires fits { F.fits reader.old.feed (F.device dev.old).files }
         requires place { reader.old.place ≤ 2 ^ 63 }

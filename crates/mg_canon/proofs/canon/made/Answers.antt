@@ -1,4 +1,4 @@
-use Rattle.std.proofs.Common.{◌≡◌, length, sym, subst, rules}
+use Rattle.std.proofs.Common.{◌≡◌, sym, subst, rules}
 use Rattle.mg_defs.proofs.CanonLaws.{good_full}
 use Rattle.mg_canon.specs.Tables.{AreTables}
 use Rattle.mg_canon.proofs.Refused.{are_within}

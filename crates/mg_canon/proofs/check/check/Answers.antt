@@ -1,4 +1,4 @@
-use Rattle.std.proofs.Common.{◌≡◌, ◌^◌, ◌<◌, ◌≤◌, length, arith, sym}
+use Rattle.std.proofs.Common.{length, arith}
 use Rattle.mg_canon.specs.Refusals.{HaveLengths}
 use Rattle.mg_canon.proofs.Refused.{good_from}
 use Rattle.mg_canon.proofs.check.check.Goals as goal

@@ -4,8 +4,8 @@ use Rattle.mg_bits.specs.Feed.{Read}
 use Rattle.mg_canon.proofs.Decoding.{Walk}
 use Rattle.mg_canon.proofs.canon.Canon.get.Given as goal
 
-abbrev pub invariant-loop-read : goal.invariant-loop-read
-invariant-loop-read g l = record {
+abbrev pub invariant-loop-reader : goal.invariant-loop-reader
+invariant-loop-reader g l = record {
   fits : g.F.Feed.fits l.reader.feed (g.F.Feed.device l.dev).files;
   place : l.reader.place ≡ l.start + l.read;
   told : FromPlace ((g.F.Feed.feeding l.initial.reader.feed).source (g.F.Feed.device l.initial.dev).files) l.start (Begins (digits l.read l.value));
@@ -13,5 +13,5 @@ invariant-loop-read g l = record {
   walk : Walk l.self-inside.lengths.items l.read l.value;
 }
 
-abbrev pub decreases-loop-read : goal.decreases-loop-read
-decreases-loop-read g l = 48 - l.read
+abbrev pub decreases-loop-reader : goal.decreases-loop-reader
+decreases-loop-reader g l = 48 - l.read
