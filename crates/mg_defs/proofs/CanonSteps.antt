@@ -19,7 +19,7 @@ shorter l (k ∷ lengths) = taken l k + shorter l lengths
 pub count_of-cons : (l k : ℕ) (lengths : List ℕ) → count_of l (k ∷ lengths) ≡ cond (k == l) 1 0 + count_of l lengths
 count_of-cons l k lengths = sum_by-cons (λ k. cond (k == l) 1 0) k lengths
 
-longer-cons : (l k : ℕ) (lengths : List ℕ) → longer l (k ∷ lengths) ≡ cond (nat_lt l k) (2 ^ (48 - k)) 0 + longer l lengths
+pub longer-cons : (l k : ℕ) (lengths : List ℕ) → longer l (k ∷ lengths) ≡ cond (nat_lt l k) (2 ^ (48 - k)) 0 + longer l lengths
 longer-cons l k lengths =
     let rest : List ℕ = filter (λ k. nat_lt l k) lengths in
     elim (nat_lt l k) as (λ b. kraft (cond b (k ∷ rest) rest) ≡ cond b (2 ^ (48 - k)) 0 + kraft rest) [
@@ -132,7 +132,7 @@ nth-once (k ∷ lengths) l (suc s) zero a b p q e = absurd (omega (arith, e, cou
 nth-once (k ∷ lengths) l (suc s) (suc t) a b p q e = ap suc (nth-once lengths l s t (omega arith) (omega arith) p q (omega (arith, e, count_of-cons l k (take s lengths), count_of-cons l k (take t lengths))))
 
 -- the value of a codeword lies in the range of its length
-count_of-below : (lengths : List ℕ) (l s : ℕ) → s < length lengths → get_or lengths s 0 ≡ l → count_of l (take s lengths) < count_of l lengths
+pub count_of-below : (lengths : List ℕ) (l s : ℕ) → s < length lengths → get_or lengths s 0 ≡ l → count_of l (take s lengths) < count_of l lengths
 count_of-below [] l s h e = absurd (omega arith)
 count_of-below (k ∷ lengths) l zero h e = omega (arith, count_of-same k lengths l e)
 count_of-below (k ∷ lengths) l (suc s) h e = omega (arith, count_of-cons l k lengths, count_of-cons l k (take s lengths), count_of-below lengths l s (omega arith) e)

@@ -1,0 +1,222 @@
+-- The steps of the decoder by lengths.
+use Rattle.std.proofs.Common.{◌≡◌, ℕ, zero, suc, ◌+◌, ◌-◌, ◌*◌, ◌/◌, ◌%◌, ◌<◌, ◌≤◌, Bool, true, false, cond, List, [], ◌∷◌, ◌++◌, length, refl, sym, ap, ◌∙◌, subst, arith, take, get_or, ◌⊎◌, inl, inr, ⊎_elim, add-one}
+use Rattle.std.proofs.lemmas.Bool.{cases_lt, cases_eq}
+use Rattle.std.specs.Prelude.{◌==◌}
+use Rattle.mg_defs.specs.Bits.{Bits, Begins, digits}
+use Rattle.mg_defs.specs.Canon.{first, count_of, AreGood, codeword_value, codeword}
+use Rattle.mg_defs.specs.Answers.{Below, CutShort, IsNone}
+use Rattle.mg_defs.proofs.BitLaws.{length_digits}
+use Rattle.mg_defs.proofs.CanonSteps.{first-step, first-zero, first-last, nth}
+use Rattle.mg_defs.proofs.CanonLaws.{digits-low, good_within, good_full, codeword-many, goes_on_to}
+use Rattle.mg_canon.specs.Tables.{count_below, place_of, AreFirsts, AreNumbered, AreTables}
+use Rattle.mg_canon.proofs.Refused.{good_from}
+use Rattle.mg_canon.proofs.Placing.{room_for}
+
+pub tables_good : (lengths values firsts offsets symbols : List ℕ) → AreTables lengths values firsts offsets symbols → AreGood lengths
+tables_good lengths values firsts offsets symbols t = good_from lengths t.all t.full
+
+first_alone : (l : ℕ) → l ≡ 1 → first l (l ∷ []) ≡ 0
+first_alone l e = let P : ℕ → Type 0 = λ k. first k (k ∷ []) ≡ 0 in subst P (sym e) refl
+
+alone : (l : ℕ) → l ≡ 1 → digits l 0 ≡ false ∷ []
+unfolding digits
+alone l e = let P : ℕ → Type 0 = λ k. digits k 0 ≡ false ∷ [] in subst P (sym e) refl
+
+-- a codeword is the digits of its number, also where it is the only one
+pub codeword-digits : (lengths : List ℕ) (s : ℕ) → AreGood lengths → s < length lengths → codeword lengths s ≡ digits (get_or lengths s 0) (codeword_value lengths s)
+codeword-digits [] s good h = absurd (omega arith)
+codeword-digits (l ∷ []) zero good h =
+    let v : codeword_value (l ∷ []) 0 ≡ 0 = omega (arith, first_alone l good) in
+    sym (ap (λ n. digits l n) v ∙ alone l good)
+codeword-digits (l ∷ []) (suc s) good h = absurd (omega arith)
+codeword-digits (l ∷ m ∷ lengths) s good h = refl
+
+-- so many bits were read, which are this number, and no codeword stands among them but all of them
+pub record Walk (lengths : List ℕ) (read value : ℕ) : Type 0 where
+  pub short : read ≤ 48
+  pub start : read ≡ 0 → value ≡ 0
+  pub many : 2 ≤ length lengths → value < first read lengths + count_of read lengths
+  pub one : length lengths ≡ 1 → (read ≤ 1) × (value ≤ read)
+
+pub walk_start : (lengths : List ℕ) → AreGood lengths → Walk lengths 0 0
+walk_start lengths good = record {
+  short = omega arith;
+  start = λ e. refl;
+  many = λ h. omega (arith, first-zero lengths (good_within lengths good h) (good_full lengths good h));
+  one = λ e. (omega arith, omega arith);
+}
+
+first_one : (lengths : List ℕ) → AreGood lengths → length lengths ≡ 1 → first 1 lengths ≡ 0
+first_one [] good e = absurd (omega arith)
+first_one (l ∷ []) good e = let P : ℕ → Type 0 = λ k. first 1 (k ∷ []) ≡ 0 in subst P (sym good) refl
+first_one (l ∷ m ∷ lengths) good e = absurd (omega arith)
+
+first_none : (lengths : List ℕ) → AreGood lengths → length lengths ≡ 1 → first 0 lengths ≡ 0
+first_none [] good e = absurd (omega arith)
+first_none (l ∷ []) good e = let P : ℕ → Type 0 = λ k. first 0 (k ∷ []) ≡ 0 in subst P (sym good) refl
+first_none (l ∷ m ∷ lengths) good e = absurd (omega arith)
+
+count_one : (lengths : List ℕ) → AreGood lengths → length lengths ≡ 1 → count_of 1 lengths ≡ 1
+count_one [] good e = absurd (omega arith)
+count_one (l ∷ []) good e = let P : ℕ → Type 0 = λ k. count_of 1 (k ∷ []) ≡ 1 in subst P (sym good) refl
+count_one (l ∷ m ∷ lengths) good e = absurd (omega arith)
+
+below_one : (lengths : List ℕ) → AreGood lengths → length lengths ≡ 1 → count_below 1 lengths ≡ 0
+below_one [] good e = absurd (omega arith)
+below_one (l ∷ []) good e = let P : ℕ → Type 0 = λ k. count_below 1 (k ∷ []) ≡ 0 in subst P (sym good) refl
+below_one (l ∷ m ∷ lengths) good e = absurd (omega arith)
+
+one_codeword : (lengths : List ℕ) → AreGood lengths → length lengths ≡ 1 → (s : ℕ) → codeword lengths s ≡ false ∷ []
+one_codeword [] good e s = absurd (omega arith)
+one_codeword (l ∷ []) good e s = refl
+one_codeword (l ∷ m ∷ lengths) good e s = absurd (omega arith)
+
+no_digits : (v : ℕ) (c : Bits) → Begins (digits 0 v) c
+unfolding digits
+no_digits v c = refl
+
+one_bit : digits 1 1 ≡ true ∷ []
+unfolding digits
+one_bit = refl
+
+no_zero : Begins (false ∷ []) (true ∷ []) → ⊥
+no_zero h = absurd cc
+
+no_one : Begins (true ∷ []) (false ∷ []) → ⊥
+no_one h = absurd cc
+
+bit_small : (b : Bool) → cond b 1 0 ≤ 1
+bit_small true = omega arith
+bit_small false = omega arith
+
+pub digits-more : (l v : ℕ) (b : Bool) → digits (suc l) (2 * v + cond b 1 0) ≡ digits l v ++ b ∷ []
+digits-more l v true =
+    let q : (2 * v + 1) / 2 ≡ v = omega arith in
+    let r : (2 * v + 1) % 2 ≡ 1 = omega arith in
+    digits-low l (2 * v + 1) ∙ ap (λ n. digits l n ++ ((2 * v + 1) % 2 == 1) ∷ []) q ∙ ap (λ n. digits l v ++ (n == 1) ∷ []) r
+digits-more l v false =
+    let q : (2 * v + 0) / 2 ≡ v = omega arith in
+    let r : (2 * v + 0) % 2 ≡ 0 = omega arith in
+    digits-low l (2 * v + 0) ∙ ap (λ n. digits l n ++ ((2 * v + 0) % 2 == 1) ∷ []) q ∙ ap (λ n. digits l v ++ (n == 1) ∷ []) r
+
+module _ (lengths : List ℕ) (good : AreGood lengths) (some : 0 < length lengths) (read value : ℕ) (w : Walk lengths read value) where
+  -- another bit is read: none was yet, or the number lies below the codewords of its length
+  module _ (unread : (read ≡ 0) ⊎ (value < first read lengths)) where
+    below_first : 2 ≤ length lengths → value < first read lengths
+    below_first h = ⊎_elim
+        (λ e.
+        let z = first-zero lengths (good_within lengths good h) (good_full lengths good h) in
+        let f = ap (λ n. first n lengths) e in
+        omega (arith, w.start e))
+        (λ lt. lt)
+        unread
+
+    none_read : length lengths ≡ 1 → read ≡ 0
+    none_read e = ⊎_elim (λ z. z)
+        (λ lt. ⊎_elim
+        (λ z. z)
+        (λ other. absurd
+        (let one : read ≡ 1 = omega (arith, w.one e) in omega (arith, ap (λ n. first n lengths) one, first_one lengths good e)))
+        (cases_eq read 0))
+        unread
+
+    pub goes_on : read < 48
+    goes_on = ⊎_elim
+        (λ h. ⊎_elim (λ lt. lt) (λ le. absurd
+        (let e : read ≡ 48 = omega (arith, w.short) in
+        omega (arith, below_first h, ap (λ n. first n lengths) e, first-last lengths (good_within lengths good h))))
+        (cases_lt read 48))
+        (λ few. let e = none_read (omega arith) in omega arith)
+        (cases_lt 1 (length lengths))
+
+    pub stays_small : (most : ℕ) → first read lengths ≤ most → value ≤ most
+    stays_small most h = ⊎_elim (λ e. omega (arith, w.start e)) (λ lt. omega arith) unread
+
+    pub cut_short : CutShort (Below (length lengths)) (codeword lengths) (digits read value)
+    cut_short = ⊎_elim
+        (λ h.
+        let r = goes_on_to lengths (good_within lengths good h) (good_full lengths good h) (48 - read) read value (omega (arith, w.short)) (below_first h) in
+        let same = codeword-many lengths r.0 h in
+        record {
+          value = r.0;
+          taken = r.1;
+          short = omega (arith, length_digits read value, ap length same, length_digits (get_or lengths r.0 0) (codeword_value lengths r.0), r.2);
+          agrees = subst (λ c. Begins (digits read value) c) (sym same) r.3;
+        })
+        (λ few.
+        let e : length lengths ≡ 1 = omega arith in
+        let none = none_read e in
+        record {
+          value = 0;
+          taken = some;
+          short = omega (arith, length_digits read value, ap length (one_codeword lengths good e 0));
+          agrees = let P : ℕ → Type 0 = λ n. Begins (digits n value) (codeword lengths 0) in subst P (sym none) (no_digits value (codeword lengths 0));
+        })
+        (cases_lt 1 (length lengths))
+
+    pub walk_more : (b : Bool) → Walk lengths (read + 1) (2 * value + cond b 1 0)
+    walk_more b = record {
+      short = omega (arith, goes_on);
+      start = λ e. absurd (omega arith);
+      many = λ h.
+          let step = first-step read lengths goes_on (good_full lengths good h) in
+          let one = add-one read in
+          subst (λ n. 2 * value + cond b 1 0 < first n lengths + count_of n lengths) (sym one) (omega (arith, below_first h, bit_small b));
+      one = λ e. let z = none_read e in let v = w.start z in (omega arith, omega (arith, bit_small b));
+    }
+
+  -- a codeword was read: its number is among those of its length
+  module _ (some_read : 1 ≤ read) (stop : first read lengths ≤ value) where
+    -- the place of its symbol, or one past the only symbol
+    pub in_range : count_below read lengths + (value - first read lengths) < length lengths → value < first read lengths + count_of read lengths
+    in_range h = ⊎_elim
+        (λ many. w.many many)
+        (λ few.
+        let e : length lengths ≡ 1 = omega arith in
+        let one : read ≡ 1 = omega (arith, w.one e) in
+        let f = ap (λ n. first n lengths) one ∙ first_one lengths good e in
+        let c = ap (λ n. count_of n lengths) one ∙ count_one lengths good e in
+        let b = ap (λ n. count_below n lengths) one ∙ below_one lengths good e in
+        omega arith)
+        (cases_lt 1 (length lengths))
+
+    pub out_of_range : length lengths ≤ count_below read lengths + (value - first read lengths) → (length lengths ≡ 1) × (read ≡ 1) × (value ≡ 1)
+    out_of_range h = ⊎_elim
+        (λ many. absurd (omega (arith, w.many many, room_for read lengths)))
+        (λ few.
+        let e : length lengths ≡ 1 = omega arith in
+        let one : read ≡ 1 = omega (arith, w.one e) in
+        let f = ap (λ n. first n lengths) one ∙ first_one lengths good e in
+        let b = ap (λ n. count_below n lengths) one ∙ below_one lengths good e in
+        let v : value ≤ read = (w.one e).1 in
+        (e, one, omega arith))
+        (cases_lt 1 (length lengths))
+
+    pub found : (values symbols : List ℕ) → AreNumbered lengths values symbols (length lengths) → count_below read lengths + (value - first read lengths) < length lengths →
+        (s : ℕ) × (s < length lengths) × (get_or symbols (count_below read lengths + (value - first read lengths)) 0 ≡ s) × (codeword lengths s ≡ digits read value)
+    found values symbols t h =
+        let below = in_range h in
+        let n = nth lengths read (value - first read lengths) (omega arith) in
+        let is_length : get_or lengths n.0 0 ≡ read = n.2 in
+        let rank : count_of read (take n.0 lengths) ≡ value - first read lengths = n.3 in
+        let place : place_of lengths n.0 ≡ count_below read lengths + (value - first read lengths) =
+        ap (λ l. count_below l lengths + count_of l (take n.0 lengths)) is_length ∙ ap (λ k. count_below read lengths + k) rank in
+        let number : codeword_value lengths n.0 ≡ value = ap (λ l. first l lengths + count_of l (take n.0 lengths)) is_length ∙ (let r = rank in omega arith) in (
+          n.0,
+          n.1,
+          ap (λ p. get_or symbols p 0) (sym place) ∙ t.symbol_at n.0 n.1,
+          codeword-digits lengths n.0 good n.1 ∙ ap (λ l. digits l (codeword_value lengths n.0)) is_length ∙ ap (λ v. digits read v) number,
+        )
+
+    pub none_found : length lengths ≤ count_below read lengths + (value - first read lengths) → IsNone (Below (length lengths)) (codeword lengths) (digits read value)
+    none_found h =
+        let out = out_of_range h in
+        let bits : digits read value ≡ true ∷ [] = ap (λ l. digits l value) out.1 ∙ ap (λ v. digits 1 v) out.2 ∙ one_bit in
+        subst (λ b. IsNone (Below (length lengths)) (codeword lengths) b) (sym bits) (record {
+          begins = λ x taken begins. no_zero (subst (λ c. Begins c (true ∷ [])) (one_codeword lengths good out.0 x) begins);
+          cut = λ x taken begins. no_one (subst (λ c. Begins (true ∷ []) c) (one_codeword lengths good out.0 x) begins);
+        })
+
+-- the same by the table of first codewords
+pub by_table : (lengths firsts : List ℕ) (read value : ℕ) → AreFirsts lengths firsts → read ≤ 48 → (read ≡ 0) ⊎ (value < get_or firsts read 0) → (read ≡ 0) ⊎ (value < first read lengths)
+by_table lengths firsts read value f short more = ⊎_elim (λ e. inl e) (λ lt. inr (omega (arith, f.at read short))) more

@@ -1,0 +1,4 @@
+pub mod Refused
+pub mod Placing
+pub mod Walks
+pub mod Decoding

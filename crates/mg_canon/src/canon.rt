@@ -1,0 +1,182 @@
+//! A canonical code: the codewords of given lengths, both ways.
+ghost use Rattle.std.specs.Prelude.{◌≡◌, ℕ, ◌+◌, ◌^◌, ◌<◌, ◌≤◌, ◌↔◌, ◌⊎◌, length, slice_index, Err, IfOk, OnOk, OnErr, MatchResult};
+ghost use Rattle.std.specs.Bool.{OnTrue, OnFalse};
+ghost use Rattle.mg_defs.specs.Answers.{Below};
+ghost use Rattle.mg_defs.specs.Bits.{FromPlace};
+ghost use Rattle.mg_defs.specs.Canon.{AreGood, codeword};
+ghost use Rattle.mg_dev.specs.Causes.{HasPutCause};
+ghost use Rattle.mg_bits.specs.BitWriting.{Holds, WroteBits};
+ghost use Rattle.mg_bits.specs.CodeAnswers.{AnswersCode, CodeCause, OnlyPagesOf};
+ghost use Rattle.mg_bits.specs.Feed.{Calm, Read};
+ghost use Rattle.mg_bits.specs.Writer.{WroteTo};
+ghost use Rattle.mg_canon.specs.Refusals.{IsFirstBad, IsUnfilled, HaveLengths};
+
+use crate::CanonErr;
+use crate::bits::{number_of, refused};
+use crate::check::check;
+use crate::tables::{ByLength, count_lengths, first_codewords, first_places, number};
+use mg_bits::{BitReader, BitWriter, CodeErr, Feed};
+use mg_dev::{PutErr, Store};
+use std::alloc::{AllocError, Global};
+use std::marker::Model;
+
+/// A canonical code, seen as the list of its codewords' lengths.
+///
+/// It holds no tree. The codewords of one length are consecutive numbers, so two small tables by
+/// length, of the first number and of the place of its symbol, and one of the symbols sorted by
+/// length turn bits into a symbol; a table of the codewords' numbers turns a symbol into bits. That
+/// is 9 bytes a symbol.
+#[derive(Drop)]
+pub struct Canon {
+    lengths: Vec<u8>,
+    values: Vec<u32>,
+    firsts: ByLength,
+    offsets: ByLength,
+    symbols: Vec<u32>,
+}
+
+impl Model for Canon {
+    ghost use Rattle.std.specs.Prelude.{ℕ, List};
+    ghost use Rattle.mg_canon.specs.Tables.{AreTables};
+
+    ghost Value = { List ℕ };
+
+    ghost view = { λ c. c.lengths.items };
+
+    ghost invariant = { λ c. AreTables c.lengths.items c.values.items c.firsts c.offsets c.symbols.items };
+}
+
+impl Canon {
+    /// The code of these lengths, in bits; the symbols are the places in the list. Only good
+    /// lengths have one: those of two or more symbols are each from 1 to 48 and leave no string of
+    /// bits over, and that of a single symbol is 1.
+    pub fn new(alloc: Global, lengths: &[u8]) -> Result<Canon, CanonErr>
+        requires { length lengths.now ≤ 2 ^ 22 }
+        ensures lengths { IfOk result (λ code. code ≡ lengths.now) }
+        ensures good { IfOk result (λ _. AreGood lengths.now) }
+        ensures bad_length { (symbol l : ℕ) → (result ≡ Err (CanonErr.BadLength symbol l)) ↔ IsFirstBad lengths.now symbol l }
+        ensures kraft { (sum : ℕ) → (result ≡ Err (CanonErr.Kraft sum)) ↔ IsUnfilled lengths.now sum }
+    {
+        if let Err(refusal) = check(lengths) {
+            return Err(refusal);
+        }
+        match made(alloc, lengths) {
+            Ok(code) => Ok(code),
+            Err(_) => Err(CanonErr::Memory),
+        }
+    }
+
+    /// The number of symbols.
+    pub fn count(&self) -> u32
+        ensures count { result ≡ length self.now }
+        ensures most { length self.now ≤ 2 ^ 22 }
+        ensures good { AreGood self.now }
+    {
+        self.lengths.len() as u32
+    }
+
+    /// Writes the codeword of a symbol.
+    pub fn put<S: Store>(
+        &self,
+        writer: &mut BitWriter,
+        store: &mut S,
+        symbol: u32,
+    ) -> Result<(), PutErr>
+        requires symbol { symbol < length self.now }
+        requires holds { Holds writer.old (S.files store.old) }
+        requires place { writer.old.place ≤ 2 ^ 63 }
+        ensures holds { OnOk result (Holds writer.new (S.files store.new)) }
+        ensures bits { OnOk result (WroteBits writer.old writer.new (S.files store.old) (S.files store.new) (codeword self.now symbol)) }
+        ensures name { writer.new.name ≡ writer.old.name }
+        ensures wrote { WroteTo writer.old.name (S.files store.old) (S.files store.new) (S.reads store.old) (S.reads store.new) }
+        ensures cause { HasPutCause (S.faults store.old) (S.faults store.new) result }
+    {
+        let symbol = symbol as usize;
+        let value = u64::from(self.values[symbol]);
+        let length = u32::from(self.lengths[symbol]);
+        writer.put(store, value, length)
+    }
+
+    /// Reads a symbol: the one whose codeword stands at the place. The code has a symbol. Where the
+    /// bits end within a codeword it answers `End`; where no codeword stands there and the bits are
+    /// not the front of one, which is so only at a one-bit where there is a single symbol, `Over`.
+    /// After a refusal the place is the one before, and the reader may be used again.
+    pub fn get<F: Feed>(&self, reader: &mut BitReader<F>, dev: &mut F::Dev) -> Result<u32, CodeErr>
+        requires some { 0 < length self.now }
+        requires fits { F.fits reader.old.feed (F.device dev.old).files }
+        requires place { reader.old.place ≤ 2 ^ 63 }
+        ensures fits { F.fits reader.new.feed (F.device dev.new).files }
+        ensures calm { Calm (F.feeding reader.old.feed) (F.feeding reader.new.feed) (F.device dev.old) (F.device dev.new) }
+        ensures read { IfOk result (λ s. Read (F.feeding reader.old.feed) (F.feeding reader.new.feed) (F.device dev.old) (F.device dev.new)
+            reader.old.place (reader.old.place + length (codeword self.now s))) }
+        ensures pages { OnErr result (FromPlace ((F.feeding reader.old.feed).source (F.device dev.old).files) reader.old.place
+            (OnlyPagesOf (Below (length self.now)) (codeword self.now) (F.feeding reader.old.feed) (F.feeding reader.new.feed) (F.device dev.old) (F.device dev.new) reader.old.place)) }
+        ensures place { MatchResult result (λ s. reader.new.place ≡ reader.old.place + length (codeword self.now s)) (λ _. reader.new.place ≡ reader.old.place) }
+        ensures told { FromPlace ((F.feeding reader.old.feed).source (F.device dev.old).files) reader.old.place
+            (AnswersCode result (Below (length self.now)) (codeword self.now) 1 reader.old.place) }
+        ensures symbol { IfOk result (λ s. s < length self.now) }
+        ensures over { (at limit : ℕ) → result ≡ Err (CodeErr.Over at limit) → length self.now ≡ 1 }
+        ensures cause { CodeCause result (F.device dev.old).faults (F.device dev.new).faults }
+    {
+        let start = reader.place();
+        let mut value = 0u32;
+        let mut read = 0usize;
+        let firsts = &self.firsts;
+        while needs_bit(firsts, read, value) {
+            match reader.bit(dev) {
+                Ok(bit) => {
+                    value = 2 * value + number_of(bit);
+                    read += 1;
+                }
+                Err(refusal) => {
+                    reader.seek(start);
+                    return Err(refused(refusal, start));
+                }
+            }
+        }
+        let place = (self.offsets[read] + (value - firsts[read])) as usize;
+        if place >= self.symbols.len() {
+            reader.seek(start);
+            return Err(CodeErr::Over {
+                at: start,
+                limit: 1,
+            });
+        }
+        Ok(self.symbols[place])
+    }
+}
+
+/// Whether another bit of a codeword is to be read: none was yet, or the bits are a number below
+/// the first codeword of their length.
+fn needs_bit(firsts: &ByLength, read: usize, value: u32) -> bool
+    requires { read ≤ 48 }
+    ensures more { OnTrue result ((read ≡ 0) ⊎ (value < slice_index firsts.now read)) }
+    ensures some { OnFalse result (1 ≤ read) }
+    ensures stop { OnFalse result (slice_index firsts.now read ≤ value) }
+{
+    if read == 0 {
+        return true;
+    }
+    value < firsts[read]
+}
+
+/// The code of good lengths.
+fn made(alloc: Global, lengths: &[u8]) -> Result<Canon, AllocError>
+    requires few { length lengths.now ≤ 2 ^ 22 }
+    requires all { HaveLengths (length lengths.now) lengths.now }
+    requires good { AreGood lengths.now }
+    ensures { IfOk result (λ code. code ≡ lengths.now) }
+{
+    let counts = count_lengths(lengths);
+    let firsts = first_codewords(&counts);
+    let offsets = first_places(&counts);
+    let numbered = number(alloc, lengths, &firsts, &offsets)?;
+    let lengths = lengths.to_vec(alloc)?;
+    Ok(Canon {
+        lengths,
+        values: numbered.values,
+        firsts,
+        offsets,
+        symbols: numbered.symbols,
+    })
+}
