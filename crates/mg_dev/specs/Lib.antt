@@ -9,3 +9,4 @@ pub mod Shelf
 pub mod ShelfLaws
 pub mod Mem
 pub mod Faults
+pub mod PartCauses
