@@ -1,0 +1,2 @@
+pub mod HeadAnswers
+pub mod Sizes
