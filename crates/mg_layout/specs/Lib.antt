@@ -1,2 +1,3 @@
 pub mod HeadAnswers
 pub mod Sizes
+pub mod Infos

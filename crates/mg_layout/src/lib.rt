@@ -12,8 +12,13 @@ mod head;
 pub mod numbers;
 mod read;
 mod size;
+mod term_info;
 mod version;
 
 pub use head::Head;
 pub use size::expect_size;
+pub use term_info::TermInfo;
 pub use version::BUILT;
+
+#[cfg(test)]
+mod tests;
