@@ -16,7 +16,7 @@ pub mod ReplyLaws
 pub mod SessionExamples
 pub mod ReadLaws
 pub mod TopLaws
-pub mod FrontLaws
+pub mod EntryLaws
 pub mod FrontOrder
 pub mod FrontParts
 pub mod FrontExamples
@@ -24,3 +24,7 @@ pub mod NumberLaws
 pub mod HeadLaws
 pub mod HeadExamples
 pub mod LexiconExamples
+pub mod BitLaws
+pub mod FrontLaws
+pub mod CodeLaws
+pub mod PageLaws

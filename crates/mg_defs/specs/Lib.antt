@@ -5,6 +5,8 @@ pub mod Sat
 pub mod Pieces
 pub mod Bits
 pub mod Codes
+pub mod Answers
+pub mod PagesOf
 pub mod Canon
 pub mod Cost
 pub mod Lists

@@ -6,12 +6,14 @@
 //! crates can use them.
 #![tactic(auto)]
 
+mod codes;
 mod front;
 mod heads;
 mod queries;
 mod texts;
 mod weights;
 
+pub use codes::{no_code_is_a_front, one_answer, pages_of_a_range};
 pub use front::{entries_are_read, one_front, strings_rise};
 pub use heads::{damage_decides, one_head};
 pub use queries::{one_query, walk_decides};
