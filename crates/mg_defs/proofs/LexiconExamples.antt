@@ -1,20 +1,25 @@
--- Lex and LexAt of two collections, and of the eight bytes "a a a a ".
+-- Lex and LexAt of small collections.
 use Rattle.std.proofs.Common.{◌≡◌, ◌++◌, List, ℕ, [], ◌∷◌, refl}
 use Rattle.std.specs.Prelude.{codes}
 use Rattle.mg_defs.specs.Numbers.{four, eight}
 use Rattle.mg_defs.specs.Front.{front_from, entry_bytes, shared, places_from}
-use Rattle.mg_defs.specs.Codes.{golomb, unary, short, gamma}
+use Rattle.mg_defs.specs.Codes.{golomb, unary, ones, short, shorter, ceil_log2, gamma}
 use Rattle.mg_defs.specs.Bits.{digits}
 use Rattle.mg_defs.specs.Parse.{parse}
 use Rattle.mg_defs.specs.Lexicon.{lexicon, entries_behind, lex_bytes, lex_at_bytes}
 
 one_term : lex_bytes (codes "a a a a ") ≡ 1 ∷ 0x61 ∷ 0 ∷ 0 ∷ 0 ∷ 1 ∷ 0 ∷ 0 ∷ 0 ∷ 0 ∷ 0 ∷ 0 ∷ 0 ∷ 0 ∷ 0 ∷ 0 ∷ 0 ∷ 0 ∷ []
-unfolding lexicon entries_behind front_from entry_bytes shared four eight golomb unary short gamma digits parse
+unfolding lexicon entries_behind front_from entry_bytes shared four eight golomb unary ones short shorter ceil_log2 gamma digits parse
 one_term = refl
 
 one_place : lex_at_bytes (codes "a a a a ") ≡ 0 ∷ 0 ∷ 0 ∷ 0 ∷ []
-unfolding lexicon entries_behind places_from entry_bytes shared four eight golomb unary short gamma digits parse
+unfolding lexicon entries_behind places_from entry_bytes shared four eight golomb unary ones short shorter ceil_log2 gamma digits parse
 one_place = refl
+
+-- two terms: the list of the second begins behind that of the first
+two_terms : lex_bytes (codes "b a") ≡ 1 ∷ 0x61 ∷ 0 ∷ 0 ∷ 0 ∷ 1 ∷ 0 ∷ 0 ∷ 0 ∷ 0 ∷ 0 ∷ 0 ∷ 0 ∷ 0 ∷ 0 ∷ 0 ∷ 0 ∷ 0 ∷ 0 ∷ 1 ∷ 0x62 ∷ 0 ∷ 0 ∷ 0 ∷ 1 ∷ 0 ∷ 0 ∷ 0 ∷ 0 ∷ 0 ∷ 0 ∷ 0 ∷ 1 ∷ 0 ∷ 0 ∷ 0 ∷ 1 ∷ []
+unfolding lexicon entries_behind front_from entry_bytes shared four eight golomb unary ones short shorter ceil_log2 gamma digits parse
+two_terms = refl
 
 -- the cat sat / the dog / Cat, cat & dog!
 three : List ℕ
@@ -24,5 +29,5 @@ info : ℕ → ℕ → List ℕ
 info docs n = 0 ∷ 0 ∷ 0 ∷ docs ∷ 0 ∷ 0 ∷ 0 ∷ 0 ∷ 0 ∷ 0 ∷ 0 ∷ n ∷ 0 ∷ 0 ∷ 0 ∷ n ∷ []
 
 four_terms : lex_bytes three ≡ (3 ∷ codes "cat") ++ info 2 0 ++ (0 ∷ 3 ∷ codes "dog") ++ info 2 1 ++ (0 ∷ 3 ∷ codes "sat") ++ info 1 2 ++ (0 ∷ 3 ∷ codes "the") ++ info 2 3
-unfolding three info lexicon entries_behind front_from entry_bytes shared four eight golomb unary short gamma digits parse
+unfolding three info lexicon entries_behind front_from entry_bytes shared four eight golomb unary ones short shorter ceil_log2 gamma digits parse
 four_terms = refl
