@@ -14,7 +14,7 @@ use Rattle.mg_defs.proofs.BitLaws.{length_digits}
 use Rattle.mg_bits.specs.Feed.{page_of, held_after}
 use Rattle.mg_bits.proofs.Ranges.{page_mono, held_after_some}
 use Rattle.mg_defs.proofs.BitLaws.{digits_append}
-use Rattle.mg_defs.proofs.CodeFrontLaws.{begins_both}
+use Rattle.mg_defs.proofs.FrontLaws.{begins_both}
 
 pub same_told : (old new : Feeding) (before now : Seen) → Calm old new before now → new.source now.files ≡ old.source before.files
 same_told old new before now calm = ap (λ f. f now.files) calm.source ∙ ap old.source calm.files

@@ -10,7 +10,7 @@ use Rattle.mg_defs.specs.Bits.{Bits, digits, Begins}
 use Rattle.mg_defs.specs.Canon.{kraft, first, count_of, AreWithin, AreGood, codeword_value, codeword, longer}
 use Rattle.mg_defs.specs.Answers.{Below, IsPrefixFree}
 use Rattle.mg_defs.proofs.BitLaws.{length_digits, digits_same}
-use Rattle.mg_defs.proofs.CodeFrontLaws.{begins_append, begins_first}
+use Rattle.mg_defs.proofs.FrontLaws.{begins_append, begins_first}
 use Rattle.mg_defs.proofs.CanonSteps.{first-exact, first-step, first-last, longer-whole, goes_far, value-below, shorter, taken, count_of-cons, nth, nth-once}
 
 pub one_part : (c : ℕ) → c / 2 ^ 0 ≡ c

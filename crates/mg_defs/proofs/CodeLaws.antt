@@ -9,7 +9,7 @@ use Rattle.mg_defs.specs.Codes.{ones, unary, gamma, short, shorter, golomb, log2
 use Rattle.mg_defs.specs.Answers.{UpTo, Below, IsPrefixFree}
 use Rattle.mg_defs.proofs.FixedLaws.{IsLog, is_log, one_log}
 use Rattle.mg_defs.proofs.BitLaws.{length_digits, digits_mod, digits_same, take_digits}
-use Rattle.mg_defs.proofs.CodeFrontLaws.{begins_length, begins_whole}
+use Rattle.mg_defs.proofs.FrontLaws.{begins_length, begins_whole}
 
 -- ---- unary
 

@@ -8,7 +8,7 @@ use Rattle.std.proofs.lemmas.Nat.{be_bytes_4, from_be_bytes-to_be_bytes_4}
 use Rattle.std.specs.Int.{from_be_bytes, w32}
 use Rattle.mg_defs.specs.Numbers.{four}
 use Rattle.mg_defs.specs.Front.{Entry, Found, IsFront, AreEntries, entry_bytes, front, front_from, whole_at, places_from, last_string, read_entry, read_whole, read_cut, is_below, shared}
-use Rattle.mg_defs.proofs.FrontLaws.{places_append, read_written}
+use Rattle.mg_defs.proofs.EntryLaws.{places_append, read_written}
 
 entry_not_empty : (i : ℕ) (before : List ℕ) (e : Entry) (rest : List ℕ) → [] ≢ entry_bytes i before e ++ rest
 unfolding entry_bytes

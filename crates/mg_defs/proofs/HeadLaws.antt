@@ -119,16 +119,16 @@ one_head a b is other e = sym (read_back a is) ∙ ap read_head e ∙ read_back 
 
 -- ---- a head has no damage
 
-AllPass : List Check → Type 0
+pub AllPass : List Check → Type 0
 AllPass [] = Unit {0}
 AllPass (c ∷ cs) = (is_wrong c ≡ false) × AllPass cs
 
-none_found : (cs : List Check) → AllPass cs → find is_wrong cs ≡ None
+pub none_found : (cs : List Check) → AllPass cs → find is_wrong cs ≡ None
 unfolding AllPass
 none_found [] pass = refl
 none_found (c ∷ cs) pass = ap (λ b. cond b (Some c) (find is_wrong cs)) pass.0 ∙ none_found cs pass.1
 
-all_pass : (cs : List Check) → find is_wrong cs ≡ None → AllPass cs
+pub all_pass : (cs : List Check) → find is_wrong cs ≡ None → AllPass cs
 unfolding AllPass
 all_pass [] none = tt
 all_pass (c ∷ cs) none = let p = by_test (is_wrong c) none in (p.0, all_pass cs p.1)
@@ -140,10 +140,10 @@ all_pass (c ∷ cs) none = let p = by_test (is_wrong c) none in (p.0, all_pass c
 right : (at low high found : ℕ) → low ≤ found → found ≤ high → is_wrong (within at low high found) ≡ false
 right at low high found above below = grind (arith, nat_tests)
 
-low_of : (at low high found : ℕ) → is_wrong (within at low high found) ≡ false → low ≤ found
+pub low_of : (at low high found : ℕ) → is_wrong (within at low high found) ≡ false → low ≤ found
 low_of at low high found pass = grind (arith, nat_tests)
 
-high_of : (at low high found : ℕ) → is_wrong (within at low high found) ≡ false → found ≤ high
+pub high_of : (at low high found : ℕ) → is_wrong (within at low high found) ≡ false → found ≤ high
 high_of at low high found pass = grind (arith, nat_tests)
 
 open_within : (b : Bool) → as_number b ≤ 1
@@ -293,7 +293,7 @@ eight_of (a ∷ b ∷ c ∷ d ∷ f ∷ g ∷ h ∷ i ∷ j ∷ xs) e = absurd (
 same_eight : (a b c d f g h a2 b2 c2 d2 f2 g2 h2 v v2 : ℕ) → a ≡ a2 → b ≡ b2 → c ≡ c2 → d ≡ d2 → f ≡ f2 → g ≡ g2 → v ≡ v2 → h ≡ h2 → ◌≡◌ {A = List ℕ} (a ∷ b ∷ c ∷ d ∷ f ∷ g ∷ v ∷ h ∷ []) (a2 ∷ b2 ∷ c2 ∷ d2 ∷ f2 ∷ g2 ∷ v2 ∷ h2 ∷ [])
 same_eight a b c d f g h a2 b2 c2 d2 f2 g2 h2 v v2 p q r s t u w x = λ i. p i ∷ q i ∷ r i ∷ s i ∷ t i ∷ u i ∷ w i ∷ x i ∷ []
 
-is_exactly : (at wanted found : ℕ) → is_wrong (exactly at wanted found) ≡ false → found ≡ wanted
+pub is_exactly : (at wanted found : ℕ) → is_wrong (exactly at wanted found) ≡ false → found ≡ wanted
 is_exactly at wanted found pass = grind (arith, nat_tests)
 
 open_number : (n : ℕ) → n ≤ 1 → as_number (n == 1) ≡ n

@@ -1,4 +1,4 @@
--- Lex and LexAt of two collections, and of the eight bytes "a a a a ".
+-- Lex and LexAt of small collections.
 use Rattle.std.proofs.Common.{◌≡◌, ◌++◌, List, ℕ, [], ◌∷◌, refl}
 use Rattle.std.specs.Prelude.{codes}
 use Rattle.mg_defs.specs.Numbers.{four, eight}
@@ -16,6 +16,11 @@ one_term = refl
 one_place : lex_at_bytes (codes "a a a a ") ≡ 0 ∷ 0 ∷ 0 ∷ 0 ∷ []
 unfolding lexicon places_from entry_bytes shared four eight golomb unary ones short shorter ceil_log2 gamma digits parse posting_bits bits_after filled last_doc doc_before bits_before entries_to lists_bits lists_entries
 one_place = refl
+
+-- two terms: the list of the second begins behind that of the first
+two_terms : lex_bytes (codes "b a") ≡ 1 ∷ 0x61 ∷ 0 ∷ 0 ∷ 0 ∷ 1 ∷ 0 ∷ 0 ∷ 0 ∷ 0 ∷ 0 ∷ 0 ∷ 0 ∷ 0 ∷ 0 ∷ 0 ∷ 0 ∷ 0 ∷ 0 ∷ 1 ∷ 0x62 ∷ 0 ∷ 0 ∷ 0 ∷ 1 ∷ 0 ∷ 0 ∷ 0 ∷ 0 ∷ 0 ∷ 0 ∷ 0 ∷ 1 ∷ 0 ∷ 0 ∷ 0 ∷ 1 ∷ []
+unfolding lexicon front_from entry_bytes shared four eight golomb unary ones short shorter ceil_log2 gamma digits parse posting_bits bits_after filled last_doc doc_before bits_before entries_to lists_bits lists_entries
+two_terms = refl
 
 -- the cat sat / the dog / Cat, cat & dog!
 three : List ℕ

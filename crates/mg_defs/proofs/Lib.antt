@@ -45,6 +45,7 @@ pub mod PageLaws
 pub mod BooleanLaws
 pub mod RankedLaws
 pub mod QueryExamples
+pub mod EntryLaws
 pub mod FrontOrder
 pub mod FrontParts
 pub mod FrontExamples
@@ -52,4 +53,3 @@ pub mod NumberLaws
 pub mod HeadLaws
 pub mod HeadExamples
 pub mod LexiconExamples
-pub mod CodeFrontLaws

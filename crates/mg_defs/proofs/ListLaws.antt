@@ -14,7 +14,7 @@ use Rattle.mg_defs.specs.Terms.{freq_in, same_term, terms, folded, is_empty}
 use Rattle.mg_defs.specs.declared.Posting.{Posting}
 use Rattle.mg_defs.specs.Bits.{Bits, Begins}
 use Rattle.mg_defs.specs.Lists.{posting_bits, bits_after, last_doc, doc_before, bits_before, block_of, block_count, InRange, Rises, from_doc, postings}
-use Rattle.mg_defs.proofs.CodeFrontLaws.{begins_first, begins_second}
+use Rattle.mg_defs.proofs.FrontLaws.{begins_first, begins_second}
 
 pub bits_append : (b d : ℕ) (us vs : List Posting) → bits_after b d (us ++ vs) ≡ bits_after b d us ++ bits_after b (last_doc d us) vs
 unfolding bits_after last_doc

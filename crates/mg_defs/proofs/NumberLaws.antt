@@ -17,7 +17,7 @@ slice_index-take (suc n) (suc i) (x ∷ xs) h = slice_index-take n i xs (omega a
 piece_index : (n at i : ℕ) (bytes : List ℕ) → i < n → slice_index (take n (drop at bytes)) i ≡ slice_index bytes (at + i)
 piece_index n at i bytes within = slice_index-take n i (drop at bytes) within ∙ slice_index-drop at i bytes
 
-piece_small : (n at : ℕ) (bytes : List ℕ) → ((i : ℕ) → slice_index bytes i < 256) → (i : ℕ) → slice_index (take n (drop at bytes)) i < 256
+pub piece_small : (n at : ℕ) (bytes : List ℕ) → ((i : ℕ) → slice_index bytes i < 256) → (i : ℕ) → slice_index (take n (drop at bytes)) i < 256
 piece_small n at bytes small i = by_order (cases_lt i n)
   where
     by_order : (i < n) ⊎ (n ≤ i) → slice_index (take n (drop at bytes)) i < 256

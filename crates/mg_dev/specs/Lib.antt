@@ -10,3 +10,4 @@ pub mod Plans
 pub mod Mem
 pub mod Faults
 pub mod FaultLines
+pub mod PartCauses

@@ -1,6 +1,6 @@
 use Rattle.mg_defs.specs.Codes.{unary, gamma, short, golomb}
 use Rattle.mg_defs.specs.Answers.{UpTo, Below}
-use Rattle.mg_defs.proofs.CodeFrontLaws.{one_answer}
+use Rattle.mg_defs.proofs.FrontLaws.{one_answer}
 use Rattle.mg_defs.proofs.CodeLaws.{unary_free, gamma_free, short_free, golomb_free}
 use Rattle.mg_defs.proofs.codes.one_answer.Goals as goal
 

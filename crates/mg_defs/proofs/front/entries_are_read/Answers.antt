@@ -1,5 +1,5 @@
 use Rattle.mg_defs.proofs.front.entries_are_read.Goals as goal
-use Rattle.mg_defs.proofs.FrontLaws.{read_written, read_stands, none_exactly}
+use Rattle.mg_defs.proofs.EntryLaws.{read_written, read_stands, none_exactly}
 
 pub returns-clause-written : goal.returns-clause-written
 returns-clause-written c = read_written

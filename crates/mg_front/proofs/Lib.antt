@@ -1,0 +1,5 @@
+pub mod ReadFacts
+pub mod WalkLaws
+pub mod WriterLaws
+pub mod ReaderLaws
+pub mod OrderLaws

@@ -1,0 +1,112 @@
+-- What a walk over entries gives.
+use Rattle.std.proofs.Common.{rules, arith, suc, zero, ◌≡◌, ◌≢◌, ◌+◌, ◌-◌, ◌≤◌, ◌<◌, ◌++◌, ◌⊎◌, inl, inr, ℕ, Bool, false, true, List, [], ◌∷◌, length, take, drop, Some, None, refl, sym, ◌∙◌, ap, subst, length-drop, length-append, append_assoc, IsSome, append-nil, cond, ◌%◌, ◌==◌, ◌*◌, Ok, Err, Result, slice_get}
+use Rattle.std.proofs.lemmas.List.{append_cancel_left}
+use Rattle.mg_dev.specs.declared.part_err.PartErr.{PartErr}
+use Rattle.mg_dev.specs.declared.part_err.PartErr.TheVariants.{Device, Memory, Bad}
+use Rattle.std.specs.declared.option.Option.{Option}
+use Rattle.std.proofs.lemmas.List.{drop-drop, drop_at}
+use Rattle.mg_dev.specs.Files.{Files, bytes_at}
+use Rattle.mg_bits.specs.Pages.{Fits}
+use Rattle.mg_defs.specs.Front.{Entry, Found, IsEntry, AreEntries, entry_bytes, front, front_from, last_string, read_entry, shared, IsFront}
+use Rattle.mg_front.specs.Entries.{string_of, entry_of, found_of}
+use Rattle.mg_defs.proofs.FrontParts.{prefix_of, same_entry, slice_get-behind}
+use Rattle.mg_defs.specs.Front.{NoEntry}
+use Rattle.mg_front.specs.Walk.{Walking, Given, Gave, BeginsWith, IsBad, AnswersNext, AnswersAmong}
+use Rattle.mg_front.specs.declared.entry.FrontEntry.{FrontEntry}
+use Rattle.mg_defs.specs.Front.{StandsFirst}
+use Rattle.mg_defs.proofs.EntryLaws.{read_stands, read_written, entries_rest, none_stands, front_more, entries_more, last_append}
+use Rattle.mg_front.proofs.ReadFacts.{told_as}
+
+-- nothing was given yet
+pub given_none : (w : Walking) (bytes : List ℕ) → w.done ≡ 0 → w.last ≡ [] → w.place ≡ 0 → Given w bytes []
+unfolding front_from
+given_none w bytes d l p = record { done = d; last = l; entries = tt; place = p; rest = ap (λ n. drop n bytes) (sym p) }
+
+stands_found : (width i : ℕ) (before bytes : List ℕ) (out : FrontEntry) (o : Option ℕ) (size : ℕ) → o ≡ Some size → read_entry width i before bytes ≡ found_of width out o → StandsFirst width i before bytes (record { entry = record { string = take out.length out.string; field = take width out.field }; size = size })
+stands_found width i before bytes out o size e read = read_stands width i before bytes _ (read ∙ ap (found_of width out) e)
+
+pub begins : (width i : ℕ) (before bytes : List ℕ) (out : FrontEntry) (o : Option ℕ) (size : ℕ) → o ≡ Some size → read_entry width i before bytes ≡ found_of width out o → BeginsWith width i before bytes (record { string = take out.length out.string; field = take width out.field })
+begins width i before bytes out o size e read =
+    let s = stands_found width i before bytes out o size e read in
+    record { entry = s.entry; rest = s.front ∙ ap (λ n. entry_bytes i before (entry_of width out) ++ drop n bytes) s.size }
+
+pub no_entry : (width i : ℕ) (before bytes : List ℕ) (out : FrontEntry) (o : Option ℕ) → o ≡ None → read_entry width i before bytes ≡ found_of width out o → NoEntry width i before bytes
+no_entry width i before bytes out o e read = none_stands width i before bytes (read ∙ ap (found_of width out) e)
+
+pub given_more : (w next : Walking) (bytes : List ℕ) (es : List Entry) (e : Entry) (size : ℕ) → Given w bytes es → StandsFirst w.width w.done w.last (drop w.place bytes) (record { entry = e; size = size }) →
+    next.width ≡ w.width → next.done ≡ w.done + 1 → next.place ≡ w.place + size → next.last ≡ e.string → Given next bytes (es ++ e ∷ [])
+given_more w next bytes es e size before stands width done place last =
+    let is : IsEntry w.width (length es) (last_string [] es) e = subst (λ l. IsEntry w.width (length es) l e) before.last (subst (λ n. IsEntry w.width n w.last e) before.done stands.entry) in
+    let code : entry_bytes w.done w.last e ≡ entry_bytes (length es) (last_string [] es) e = ap (λ n. entry_bytes n w.last e) before.done ∙ ap (λ l. entry_bytes (length es) l e) before.last in
+    let all : front (es ++ e ∷ []) ≡ front es ++ entry_bytes (length es) (last_string [] es) e = front_more es e in
+    record {
+      done = done ∙ omega (arith, before.done, length-append es (e ∷ []));
+      last = last ∙ sym (last_append [] es (e ∷ []));
+      entries = subst (λ n. AreEntries n 0 [] (es ++ e ∷ [])) (sym width) (entries_more w.width es e before.entries is);
+      place = place ∙ omega (arith, before.place, stands.size, ap length code, ap length all, length-append (front es) (entry_bytes (length es) (last_string [] es) e));
+      rest =
+          before.rest ∙ ap (λ t. front es ++ t) (stands.front ∙ ap (λ t. entry_bytes w.done w.last e ++ t) (drop-drop size w.place bytes) ∙ ap (λ t. t ++ drop (w.place + size) bytes) code)
+          ∙ sym (append_assoc (front es) (entry_bytes (length es) (last_string [] es) e) (drop (w.place + size) bytes)) ∙ ap (λ t. t ++ drop (w.place + size) bytes) (sym all) ∙ ap (λ n. front (es ++ e ∷ []) ++ drop n bytes) (sym place);
+    }
+
+pub gave_more : (w next : Walking) (f now : Option Files) (es : List Entry) (out : FrontEntry) (o : Option ℕ) (size : ℕ) → Gave w f es → Fits next.feed now → now ≡ f → next.feed.name ≡ w.feed.name → o ≡ Some size →
+    (IsSome f → read_entry w.width w.done w.last (drop w.place (bytes_at f w.feed.name)) ≡ found_of w.width out o) → next.width ≡ w.width → next.done ≡ w.done + 1 → next.place ≡ w.place + size → next.last ≡ string_of out →
+    Gave next now (es ++ record { string = take out.length out.string; field = take w.width out.field } ∷ [])
+gave_more w next f now es out o size gave fits same name e read width done place last = record {
+  fits = fits;
+  given = told_as (λ bytes. Given next bytes (es ++ entry_of w.width out ∷ [])) now f next.feed.name w.feed.name (sym same) (sym name)
+      (λ told. given_more w next (bytes_at f w.feed.name) es (entry_of w.width out) size (gave.given told) (stands_found _ _ _ _ out o size e (read told)) width done place last);
+}
+
+-- the next of the entries of a part
+record NextIs (w : Walking) (bytes : List ℕ) (all : List Entry) (e : Entry) (fs : List Entry) : Type 0 where
+  entry : IsEntry w.width w.done w.last e
+  rest : drop w.place bytes ≡ entry_bytes w.done w.last e ++ front_from (w.done + 1) e.string fs
+  there : slice_get all w.done ≡ Some e
+  within : w.done < length all
+
+record NoneIs (w : Walking) (bytes : List ℕ) (all : List Entry) : Type 0 where
+  rest : drop w.place bytes ≡ []
+  end : w.done ≡ length all
+
+next_of : (w : Walking) (bytes : List ℕ) (es all : List Entry) → Given w bytes es → IsFront w.width bytes all → NoneIs w bytes all ⊎ ((e : Entry) × (fs : List Entry) × NextIs w bytes all e fs)
+unfolding front_from
+next_of w bytes es all given is = let p = prefix_of w.width 0 [] es all (drop w.place bytes) given.entries is.entries (sym is.bytes_are ∙ given.rest) in by_rest p.0 p.1 p.2
+  where
+    by_rest : (rest : List Entry) → all ≡ es ++ rest → drop w.place bytes ≡ front_from (0 + length es) (last_string [] es) rest → NoneIs w bytes all ⊎ ((e : Entry) × (fs : List Entry) × NextIs w bytes all e fs)
+    by_rest [] same tail = inl (record { rest = tail; end = given.done ∙ sym (ap length (same ∙ append-nil es)) })
+    by_rest (e ∷ fs) same tail =
+        let n : 0 + length es ≡ w.done = omega (arith, given.done) in
+        let are : AreEntries w.width (0 + length es) (last_string [] es) (e ∷ fs) = entries_rest w.width 0 [] es (e ∷ fs) (subst (AreEntries w.width 0 []) same is.entries) in
+        let one : IsEntry w.width w.done (last_string [] es) e = subst (λ m. IsEntry w.width m (last_string [] es) e) n are.0 in
+        inr (
+          e,
+          fs,
+          record {
+            entry = subst (λ l. IsEntry w.width w.done l e) (sym given.last) one;
+            rest = tail ∙ ap (λ m. entry_bytes m (last_string [] es) e ++ front_from (m + 1) e.string fs) n ∙ ap (λ l. entry_bytes w.done l e ++ front_from (w.done + 1) e.string fs) (sym given.last);
+            there = ap (λ l. slice_get l w.done) same ∙ ap (slice_get (es ++ e ∷ fs)) given.done ∙ slice_get-behind es (e ∷ fs);
+            within = omega (arith, given.done, ap length same, length-append es (e ∷ fs));
+          },
+        )
+
+-- where the part is front coding, the walk answers its entries, and never that it is bad
+pub among : (result : Result Bool PartErr) (w : Walking) (out : FrontEntry) (bytes : List ℕ) (es all : List Entry) → Given w bytes es → IsFront w.width bytes all → length all ≡ w.count → AnswersNext result w out bytes → AnswersAmong result w out all
+among (Ok true) w out bytes es all given is count answer = by_case (next_of w bytes es all given is)
+  where
+    by_case : NoneIs w bytes all ⊎ ((e : Entry) × (fs : List Entry) × NextIs w bytes all e fs) → slice_get all w.done ≡ Some (entry_of w.width out)
+    by_case (inl none) = absurd (omega (arith, none.end, answer.0, count))
+    by_case (inr next) =
+        next.2.there ∙ ap Some (same_entry next.0 (entry_of w.width out) _ _
+        (sym (read_written w.width w.done w.last next.0 (front_from (w.done + 1) next.0.string next.1) next.2.entry) ∙ ap (read_entry w.width w.done w.last) (sym next.2.rest ∙ answer.1.rest)
+        ∙ read_written w.width w.done w.last (entry_of w.width out) (drop (length (entry_bytes w.done w.last (entry_of w.width out))) (drop w.place bytes)) answer.1.entry))
+among (Ok false) w out bytes es all given is count answer = answer.0 ∙ sym count
+among (Err Device) w out bytes es all given is count answer = tt
+among (Err Memory) w out bytes es all given is count answer = answer
+among (Err (Bad bad)) w out bytes es all given is count answer = by_case (next_of w bytes es all given is) answer
+  where
+    by_case : NoneIs w bytes all ⊎ ((e : Entry) × (fs : List Entry) × NextIs w bytes all e fs) → AnswersNext (Err (Bad bad)) w out bytes → ⊥
+    by_case (inl none) (inl early) = absurd (omega (arith, none.end, early.0, count))
+    by_case (inl none) (inr late) = absurd (omega (arith, ap length none.rest, late.1.low_is, late.1.high_is, late.1.found_is, bad.outside))
+    by_case (inr next) (inl early) = early.2 next.0 (front_from (w.done + 1) next.0.string next.1) next.2.entry next.2.rest
+    by_case (inr next) (inr late) = absurd (omega (arith, next.2.within, late.0, count))

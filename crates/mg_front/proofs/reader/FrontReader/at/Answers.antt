@@ -1,0 +1,36 @@
+use Rattle.std.proofs.Common.{rules, arith, refl, sym, ◌∙◌, ap, subst, Bool, true, false, IsSome, take, length, slice_get, Some, ◌≡◌, ◌<◌, ◌+◌, ◌*◌, ◌/◌, ◌%◌}
+use Rattle.mg_dev.specs.Files.{bytes_at}
+use Rattle.mg_defs.specs.Front.{IsFront, front}
+use Rattle.mg_front.specs.Reading.{AnswersAt}
+use Rattle.mg_front.proofs.ReaderLaws.{block_place, block_there}
+use Rattle.mg_front.proofs.reader.FrontReader.at.Goals.{in-Ok-true, in-Ok-false, in-Err-read_block}
+use Rattle.mg_front.proofs.reader.FrontReader.at.Goals as goal
+
+clash : (b : Bool) → b ≡ false → b ≡ true → ⊥
+clash b one other = absurd (false_is_not_true (sym one ∙ other))
+  where
+    false_is_not_true : false ≡ true → ⊥
+    false_is_not_true e = cc
+
+pub returns-in-Ok-None-clause-entry : goal.returns-in-Ok-None-clause-entry
+returns-in-Ok-None-clause-entry g c =
+    let below = rw (← c.self.view_is) at c.requires.below in
+    rw (← c.self.view_is)
+    (λ es stands. block_there _ _ es (c.args.i / 4) stands (omega (arith, below, stands.count)) (rw c.in-Ok-None.field-0-is at (c.in-Ok-None.ensures.told stands.told)))
+
+pub returns-clause-entry : goal.returns-clause-entry
+returns-clause-entry g c =
+    let below = rw (← c.self.view_is) at c.requires.below in
+    rw (← c.self.view_is)
+    (λ es stands.
+    let within : 4 * (c.args.i / 4) + c.args.i % 4 < length es = omega (arith, below, stands.count) in
+    let whole : 4 * (c.args.i / 4) + c.args.i % 4 ≡ c.args.i = omega arith in
+    let same = sym c.in-Ok-Some.ensures.looked.files in
+    let told = subst IsSome same stands.told in
+    let place = block_place _ _ es (c.args.i / 4) c.in-Ok-Some.place c.self.invariant.0 stands (omega (arith, within)) (rw c.in-Ok-Some.field-0-is at c.in-Ok-Some.ensures.small) (rw c.in-Ok-Some.field-0-is at (c.in-Ok-Some.ensures.told stands.told)) in
+    let strings = subst (λ f. IsFront c.self.inside.width (bytes_at f c.self.inside.strings.name) es) same stands.strings in
+    elim c.match-read_block.branch [
+      | in-Ok-true w ↦ subst (λ r. AnswersAt r c.self.inside.width c.args.i c.read_block.new.out es) (sym w.result-is) (ap (slice_get es) (sym whole) ∙ (w.in-Ok-true.ensures.told told es (c.args.i / 4) strings place within).1)
+      | in-Ok-false w ↦ absurd (clash w.in-Ok-false.field-0 w.in-Ok-false.field-0-test (w.in-Ok-false.ensures.told told es (c.args.i / 4) strings place within).0)
+      | in-Err-read_block w ↦ subst (λ r. AnswersAt r c.self.inside.width c.args.i c.read_block.new.out es) (sym w.result-is) tt
+    ])

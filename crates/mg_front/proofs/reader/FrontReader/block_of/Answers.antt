@@ -1,0 +1,43 @@
+use Rattle.std.proofs.Common.{rules, arith, refl, sym, ◌∙◌, ap, cond, Bool, true, false, ◌≤◌, ◌<◌, ℕ, ◌≡◌, ◌≢◌, ◌+◌, ◌-◌, ◌*◌, ◌/◌}
+use Rattle.std.specs.Int.{div_ceil}
+use Rattle.mg_defs.specs.Front.{is_below}
+use Rattle.mg_front.specs.Entries.{entry_of, string_of}
+use Rattle.mg_front.proofs.OrderLaws.{between_start, between_step, around_of, stands_same}
+use Rattle.mg_front.proofs.ReaderLaws.{looked_again, looked_not}
+use Rattle.mg_front.proofs.reader.FrontReader.block_of.Goals as goal
+
+pub loop-low-init : goal.loop-low-init
+loop-low-init g c = record {
+  fits = c.requires.fits;
+  same = record { strings = refl; places = refl; strings_part = refl; places_part = refl; width = refl; count = refl };
+  looked = looked_not _ _ _ _ _;
+  high = omega (arith, c.div_ceil-high.ensures, c.count.ensures);
+  low = omega arith;
+  between = λ es stands. between_start es _ _ (omega (arith, c.div_ceil-high.ensures, c.count.ensures, stands.count));
+}
+
+under : (above : Bool) (low high middle most l h : ℕ) → l ≡ cond above low (middle + 1) → h ≡ cond above middle high → high ≤ most → low ≤ middle → middle < high → (h ≤ most) × (l ≤ h)
+under true low high middle most l h e f p q r = (omega arith, omega arith)
+under false low high middle most l h e f p q r = (omega arith, omega arith)
+
+pub loop-low-preserved : goal.loop-low-preserved
+loop-low-preserved g c =
+    let inv = c.loop-low.invariant in
+    let at = c.in-Ok.ensures in
+    let room = under c.is_below-above.result c.loop-low.low c.loop-low.high (c.loop-low.low + (c.loop-low.high - c.loop-low.low) / 2) (div_ceil c.args.self.now.count 4) c.lower-low.result c.higher-high.result c.lower-low.ensures c.higher-high.ensures inv.high (omega arith) (omega arith) in
+    record {
+      fits = at.fits;
+      same = record { strings = at.same.strings ∙ inv.same.strings; places = at.same.places ∙ inv.same.places; strings_part = at.same.strings_part ∙ inv.same.strings_part; places_part = at.same.places_part ∙ inv.same.places_part; width = at.same.width ∙ inv.same.width; count = at.same.count ∙ inv.same.count };
+      looked = looked_again _ _ _ _ _ _ _ _ _ _ _ _ _ inv.looked at.looked inv.same.strings_part inv.same.places_part;
+      high = room.0;
+      low = room.1;
+      between = λ es stands.
+          let here = stands_same c.args.self.now c.loop-low.self (g.S.Store.files c.args.store.now) (g.S.Store.files c.loop-low.store) es inv.same inv.looked.files stands in
+          between_step c.loop-low.self.width es c.args.string.now c.loop-low.low c.loop-low.high (c.loop-low.low + (c.loop-low.high - c.loop-low.low) / 2) c.is_below-above.result (entry_of c.loop-low.self.width c.at.new.out) c.lower-low.result c.higher-high.result here.strings.entries (at.entry es here) (c.is_below-above.ensures ∙ ap (is_below c.args.string.now) c.bytes.ensures) (inv.between es stands) c.lower-low.ensures c.higher-high.ensures;
+    }
+
+pub returns-then-low-eq0-clause-found : goal.returns-then-low-eq0-clause-found
+returns-then-low-eq0-clause-found g c = λ es stands. around_of es _ c.loop-low.low c.loop-low.high 0 (c.loop-low.invariant.between es stands) (omega arith) (omega arith)
+
+pub returns-clause-found : goal.returns-clause-found
+returns-clause-found g c = λ es stands. (omega (arith, c.loop-low.invariant.high, c.loop-low.invariant.low, stands.count), around_of es _ c.loop-low.low c.loop-low.high (c.loop-low.low - 1 + 1) (c.loop-low.invariant.between es stands) (omega arith) (omega arith))

@@ -1,0 +1,19 @@
+use Rattle.std.proofs.Common.{◌≡◌, ◌≤◌, ◌-◌, List}
+use Rattle.std.specs.Int.{div_ceil}
+use Rattle.mg_defs.specs.Front.{Entry}
+use Rattle.mg_front.specs.Reading.{FrontFits, FrontStands, LookedAt, SameParts}
+use Rattle.mg_front.proofs.OrderLaws.{Between}
+use Rattle.mg_front.proofs.reader.FrontReader.block_of.Given as goal
+
+abbrev pub invariant-loop-low : goal.invariant-loop-low
+invariant-loop-low g l = record {
+  fits : FrontFits l.self (g.S.Store.files l.store);
+  same : SameParts l.fn.self l.self;
+  looked : LookedAt l.fn.self.strings.part l.fn.self.places.part (g.S.Store.files l.fn.store) (g.S.Store.files l.store) (g.S.Store.reads l.fn.store) (g.S.Store.reads l.store) (g.S.Store.faults l.fn.store) (g.S.Store.faults l.store);
+  high : l.high ≤ div_ceil l.fn.self.count 4;
+  low : l.low ≤ l.high;
+  between : (es : List Entry) → FrontStands l.fn.self (g.S.Store.files l.fn.store) es → Between es l.string l.low l.high;
+}
+
+abbrev pub decreases-loop-low : goal.decreases-loop-low
+decreases-loop-low g l = l.high - l.low

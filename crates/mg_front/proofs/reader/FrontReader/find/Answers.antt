@@ -1,0 +1,13 @@
+use Rattle.std.proofs.Common.{rules, arith, refl, sym, ◌∙◌, ap, subst, Ok}
+use Rattle.mg_front.specs.Reading.{AnswersFind, AnswersBlock}
+use Rattle.mg_front.proofs.OrderLaws.{stands_same, none_at_all, found_in}
+use Rattle.mg_front.proofs.reader.FrontReader.find.Goals as goal
+
+pub returns-in-Ok-None-clause-found : goal.returns-in-Ok-None-clause-found
+returns-in-Ok-None-clause-found g c = λ es stands. none_at_all c.args.self.now.width es c.args.string.now stands.strings.entries (subst (λ o. AnswersBlock (Ok o) c.args.string.now es) c.in-Ok-None.field-0-is (c.in-Ok-None.ensures.found es stands))
+
+pub returns-clause-found : goal.returns-clause-found
+returns-clause-found g c = λ es stands.
+    let block = subst (λ o. AnswersBlock (Ok o) c.args.string.now es) c.in-Ok-Some.field-0-is (c.in-Ok-Some.ensures.found es stands) in
+    let here = stands_same c.args.self.now c.block_of.new.self (g.S.Store.files c.args.store.now) (g.S.Store.files c.block_of.new.store) es c.in-Ok-Some.ensures.same c.in-Ok-Some.ensures.looked.files stands in
+    found_in c.args.self.now.width es c.args.string.now c.in-Ok-Some.block c.find_in.result c.find_in.new.out stands.strings.entries block.1 block.0 (rw c.in-Ok-Some.ensures.same.width at (c.find_in.ensures.found es here))

@@ -1,0 +1,65 @@
+use Rattle.std.proofs.Common.{rules, arith, refl, sym, ◌∙◌, ap, subst, IsSome, length, ◌≡◌, ◌≤◌, ◌<◌, ◌+◌, ◌*◌, ◌-◌, ◌⊎◌, inl, inr, min}
+use Rattle.std.proofs.lemmas.Bool.{cases_lt}
+use Rattle.mg_dev.specs.Files.{bytes_at}
+use Rattle.mg_defs.specs.Front.{IsFront, front}
+use Rattle.mg_front.specs.Reading.{AnswersScan, IsInBlock}
+use Rattle.mg_front.proofs.OrderLaws.{none_behind, last_or_full}
+use Rattle.mg_front.proofs.ReaderLaws.{block_place, block_there}
+use Rattle.mg_front.proofs.reader.FrontReader.find_in.Goals as goal
+
+pub returns-in-Ok-None-clause-found : goal.returns-in-Ok-None-clause-found
+returns-in-Ok-None-clause-found g c =
+    let below = rw (← c.self.view_is) at c.requires.below in
+    rw (← c.self.view_is)
+    (λ es stands. block_there _ _ es c.args.block stands (omega (arith, below, stands.count)) (rw c.in-Ok-None.field-0-is at (c.in-Ok-None.ensures.told stands.told)))
+
+pub overflow_add-result : goal.overflow_add-result
+overflow_add-result g c =
+    let below = rw (← c.self.view_is) at c.requires.below in
+    let number : c.in-Found.number < c.min-most.result = subst (λ scan. IsInBlock scan c.min-most.result) c.in-Found.is c.in-Ok.ensures.number in
+    let most : c.min-most.result ≡ min (c.self.inside.count - 4 * c.args.block) 4 = c.min-most.ensures in
+    omega (arith, below, number, most, c.self.invariant.1)
+
+pub returns-clause-found : goal.returns-clause-found
+returns-clause-found g c =
+    let below = rw (← c.self.view_is) at c.requires.below in
+    rw (← c.self.view_is)
+    (λ es stands.
+    let same = sym c.in-Ok-Some.ensures.looked.files in
+    let told = subst IsSome same stands.told in
+    let place = block_place _ _ es c.args.block c.in-Ok-Some.place c.self.invariant.0 stands (omega (arith, below, stands.count)) (rw c.in-Ok-Some.field-0-is at c.in-Ok-Some.ensures.small) (rw c.in-Ok-Some.field-0-is at (c.in-Ok-Some.ensures.told stands.told)) in
+    let strings = subst (λ f. IsFront c.self.inside.width (bytes_at f c.self.inside.strings.name) es) same stands.strings in
+    let most : c.min-most.result ≡ min (c.self.inside.count - 4 * c.args.block) 4 = c.min-most.ensures in
+    let within : 4 * c.args.block + c.min-most.result ≤ length es = omega (arith, below, stands.count, most) in
+    let scan = c.in-Ok.ensures.told told es c.args.block strings place within in
+    let found = subst (λ scan. AnswersScan scan (4 * c.args.block) c.min-most.result c.args.string.now c.self.inside.width c.scan_block.new.out es) c.in-Found.is scan in
+    (found.1, found.2))
+
+pub returns-in-Absent-clause-found : goal.returns-in-Absent-clause-found
+returns-in-Absent-clause-found g c =
+    let below = rw (← c.self.view_is) at c.requires.below in
+    rw (← c.self.view_is)
+    (λ es stands.
+    let same = sym c.in-Ok-Some.ensures.looked.files in
+    let told = subst IsSome same stands.told in
+    let place = block_place _ _ es c.args.block c.in-Ok-Some.place c.self.invariant.0 stands (omega (arith, below, stands.count)) (rw c.in-Ok-Some.field-0-is at c.in-Ok-Some.ensures.small) (rw c.in-Ok-Some.field-0-is at (c.in-Ok-Some.ensures.told stands.told)) in
+    let strings = subst (λ f. IsFront c.self.inside.width (bytes_at f c.self.inside.strings.name) es) same stands.strings in
+    let most : c.min-most.result ≡ min (c.self.inside.count - 4 * c.args.block) 4 = c.min-most.ensures in
+    let within : 4 * c.args.block + c.min-most.result ≤ length es = omega (arith, below, stands.count, most) in
+    let scan = c.in-Ok.ensures.told told es c.args.block strings place within in
+    let none = subst (λ scan. AnswersScan scan (4 * c.args.block) c.min-most.result c.args.string.now c.self.inside.width c.scan_block.new.out es) c.in-Absent.is scan in
+    none_behind es (4 * c.args.block) c.min-most.result c.args.string.now (last_or_full c.self.inside.count (4 * c.args.block) c.min-most.result (length es) most stands.count below) none)
+
+pub returns-in-Damaged-clause-found : goal.returns-in-Damaged-clause-found
+returns-in-Damaged-clause-found g c =
+    let below = rw (← c.self.view_is) at c.requires.below in
+    rw (← c.self.view_is)
+    (λ es stands.
+    let same = sym c.in-Ok-Some.ensures.looked.files in
+    let told = subst IsSome same stands.told in
+    let place = block_place _ _ es c.args.block c.in-Ok-Some.place c.self.invariant.0 stands (omega (arith, below, stands.count)) (rw c.in-Ok-Some.field-0-is at c.in-Ok-Some.ensures.small) (rw c.in-Ok-Some.field-0-is at (c.in-Ok-Some.ensures.told stands.told)) in
+    let strings = subst (λ f. IsFront c.self.inside.width (bytes_at f c.self.inside.strings.name) es) same stands.strings in
+    let most : c.min-most.result ≡ min (c.self.inside.count - 4 * c.args.block) 4 = c.min-most.ensures in
+    let within : 4 * c.args.block + c.min-most.result ≤ length es = omega (arith, below, stands.count, most) in
+    let scan = c.in-Ok.ensures.told told es c.args.block strings place within in
+    subst (λ scan. AnswersScan scan (4 * c.args.block) c.min-most.result c.args.string.now c.self.inside.width c.scan_block.new.out es) c.in-Damaged.is scan)

@@ -1,0 +1,48 @@
+use Rattle.std.proofs.Common.{rules, arith, sym, ◌∙◌, drop, ◌≡◌, ◌≢◌, ◌+◌, ◌-◌, ◌*◌, ◌≤◌, ◌<◌, ℕ, List, Bool, true, false, Some, None, slice_get, ap, ◌⊎◌, inl, inr, subst}
+use Rattle.std.specs.Bool.{OnFalse, OnTrue}
+use Rattle.mg_dev.specs.Files.{bytes_at}
+use Rattle.mg_defs.specs.Front.{Entry, read_entry}
+use Rattle.mg_front.specs.Entries.{string_of, found_of, entry_of}
+use Rattle.mg_front.specs.Reading.{NoneAmong}
+use Rattle.mg_front.proofs.ReadFacts.{told_as}
+use Rattle.mg_front.proofs.ReaderLaws.{stepped, never_none, if_some, scanned_more, last_read}
+use Rattle.mg_bits.proofs.Fills.{looked_twice}
+use Rattle.mg_front.proofs.reader.scan_block.Goals as goal
+
+on_false : (b : Bool) (P : Type 0) → OnFalse b P → b ≡ false → P
+on_false true P h e = absurd cc
+on_false false P h e = h
+
+on_true : (b : Bool) (P : Type 0) → OnTrue b P → b ≡ true → P
+on_true true P h e = h
+on_true false P h e = absurd cc
+
+pub loop-number-preserved : goal.loop-number-preserved
+loop-number-preserved g c =
+    let inv = c.loop-number.invariant in
+    record {
+      fits = c.in-Ok-Some.ensures.fits;
+      file = record { name = c.in-Ok-Some.ensures.file.name ∙ inv.file.name; part = c.in-Ok-Some.ensures.file.part ∙ inv.file.part };
+      looked = looked_twice _ _ _ _ _ _ _ _ _ _ inv.looked (rw inv.file.part at c.in-Ok-Some.ensures.looked);
+      place = omega (arith, inv.place, if_some c.in-Ok-Some.field-0 c.in-Ok-Some.size 281 c.in-Ok-Some.field-0-is c.in-Ok-Some.ensures.size);
+      told = λ told es block is from within.
+          let before = inv.told told es block is from within in
+          let read = told_as (λ bytes. read_entry c.args.width c.loop-number.number (string_of c.loop-number.out) (drop c.loop-number.place bytes) ≡ found_of c.args.width c.read_entry.new.out c.in-Ok-Some.field-0) (g.S.Store.files c.args.store.now) _ c.args.strings.now.name _ inv.looked.files inv.file.name c.in-Ok-Some.ensures.told told in
+          let so_far = stepped c.args.width c.loop-number.number c.loop-number.place (c.args.most - 1) c.in-Ok-Some.size c.loop-number.out c.read_entry.new.out _ es _ block is before.0 (omega arith) (omega (arith, c.requires.most)) (omega (arith, within)) c.in-Ok-Some.field-0-is read in
+          (so_far, scanned_more es (4 * block) c.loop-number.number c.args.string.now (entry_of c.args.width c.read_entry.new.out) before.1 (last_read _ _ _ _ es block so_far) (on_false c.is_same.result (string_of c.read_entry.new.out ≢ c.args.string.now) c.is_same.ensures.no c.if-is_same.false));
+    }
+
+pub returns-in-Ok-None-clause-told : goal.returns-in-Ok-None-clause-told
+returns-in-Ok-None-clause-told g c = λ told es block is from within.
+    let inv = c.loop-number.invariant in
+    let before = inv.told told es block is from within in
+    let read = told_as (λ bytes. read_entry c.args.width c.loop-number.number (string_of c.loop-number.out) (drop c.loop-number.place bytes) ≡ found_of c.args.width c.read_entry.new.out c.in-Ok-None.field-0) (g.S.Store.files c.args.store.now) _ c.args.strings.now.name _ inv.looked.files inv.file.name c.in-Ok-None.ensures.told told in
+    never_none c.args.width c.loop-number.number c.loop-number.place (c.args.most - 1) c.loop-number.out c.read_entry.new.out _ es _ block is before.0 (omega arith) (omega (arith, c.requires.most)) (omega (arith, within)) c.in-Ok-None.field-0-is read
+
+pub returns-then-is_same-clause-told : goal.returns-then-is_same-clause-told
+returns-then-is_same-clause-told g c = λ told es block is from within.
+    let inv = c.loop-number.invariant in
+    let before = inv.told told es block is from within in
+    let read = told_as (λ bytes. read_entry c.args.width c.loop-number.number (string_of c.loop-number.out) (drop c.loop-number.place bytes) ≡ found_of c.args.width c.read_entry.new.out c.in-Ok-Some.field-0) (g.S.Store.files c.args.store.now) _ c.args.strings.now.name _ inv.looked.files inv.file.name c.in-Ok-Some.ensures.told told in
+    let so_far = stepped c.args.width c.loop-number.number c.loop-number.place (c.args.most - 1) c.in-Ok-Some.size c.loop-number.out c.read_entry.new.out _ es _ block is before.0 (omega arith) (omega (arith, c.requires.most)) (omega (arith, within)) c.in-Ok-Some.field-0-is read in
+    (omega arith, last_read _ _ _ _ es block so_far, on_true c.is_same.result (string_of c.read_entry.new.out ≡ c.args.string.now) c.is_same.ensures.yes c.if-is_same.true)

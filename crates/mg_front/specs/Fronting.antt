@@ -1,0 +1,79 @@
+-- A writer of front-coded entries: what contracts see of it, and which entries it took.
+use Rattle.std.specs.Prelude.{◌≡◌, ◌≢◌, ◌≤◌, ◌<◌, ◌+◌, ◌++◌, ℕ, List, [], ◌∷◌, length, None, Some}
+use Rattle.std.specs.Option.{IsSome, is_some}
+use Rattle.std.specs.declared.option.Option.{Option}
+use Rattle.mg_dev.specs.declared.part.Part.{Part}
+use Rattle.mg_dev.specs.Files.{Files, Reads, SameReads, file_at, bytes_at}
+use Rattle.mg_bits.specs.Writer.{Writing, put_to, WroteTo, Wrote}
+use Rattle.mg_defs.specs.Front.{Entry, IsEntry, AreEntries, front, front_from, whole_at, places_from, last_string}
+
+pub record Fronting : Type 0 where
+  pub strings : Writing
+  pub places : Option Writing
+  pub width : ℕ
+  pub count : ℕ
+  pub place : ℕ
+  pub last : List ℕ
+
+-- these bytes were written, where places are written
+abbrev pub PlaceWrote : Option Writing → Option Writing → Option Files → Option Files → List ℕ → Type 0
+PlaceWrote None None before now bytes = now ≡ before
+PlaceWrote (Some old) (Some new) before now bytes = Wrote old new before now bytes
+PlaceWrote None (Some new) before now bytes = ⊥
+PlaceWrote (Some old) None before now bytes = ⊥
+
+-- only the file of the places was written, where there is one
+abbrev pub WroteToPlaces : Option Writing → Option Files → Option Files → Reads → Reads → Type 0
+WroteToPlaces None before now reads reads_now = (now ≡ before) × SameReads reads reads_now
+WroteToPlaces (Some places) before now reads reads_now = WroteTo places.name before now reads reads_now
+
+-- the places of whole entries, in a file of another name
+abbrev pub PlacesTook : Option Writing → List ℕ → Option Files → List Entry → Type 0
+PlacesTook None name files es = Unit {0}
+PlacesTook (Some places) name files es = (places.name ≢ name) × (IsSome files → put_to places files ≡ whole_at es)
+
+-- the writer stands for these entries
+pub record Took (w : Fronting) (files : Option Files) (es : List Entry) : Type 0 where
+  pub count : w.count ≡ length es
+  pub last : w.last ≡ last_string [] es
+  pub entries : AreEntries w.width 0 [] es
+  pub place : w.place ≡ length (front es)
+  pub strings : IsSome files → put_to w.strings files ≡ front es
+  pub places : PlacesTook w.places w.strings.name files es
+
+-- a name of neither file
+abbrev pub IsOther : List ℕ → List ℕ → Option Writing → Type 0
+IsOther n strings None = n ≢ strings
+IsOther n strings (Some places) = (n ≢ strings) × (n ≢ places.name)
+
+-- a writer of places is there where a file was asked for, and has written nothing
+abbrev pub StartedPlaces : Option (List ℕ) → Option Writing → Option Files → Option Files → Type 0
+StartedPlaces None None before now = Unit {0}
+StartedPlaces (Some name) (Some places) before now = (places.name ≡ name) × (IsSome before → put_to places now ≡ [])
+StartedPlaces None (Some places) before now = ⊥
+StartedPlaces (Some name) None before now = ⊥
+
+-- only the file that was asked for was written, where one was
+abbrev pub WroteToAsked : Option (List ℕ) → Option Files → Option Files → Reads → Reads → Type 0
+WroteToAsked None before now reads reads_now = (now ≡ before) × SameReads reads reads_now
+WroteToAsked (Some name) before now reads reads_now = WroteTo name before now reads reads_now
+
+-- a name of neither file that was asked for
+abbrev pub IsNotAsked : List ℕ → List ℕ → Option (List ℕ) → Type 0
+IsNotAsked n strings None = n ≢ strings
+IsNotAsked n strings (Some places) = (n ≢ strings) × (n ≢ places)
+
+-- the file of the places, where there is one, holds those of these entries
+abbrev pub PlacesHold : Option Writing → Option Files → List Entry → Type 0
+PlacesHold None files es = Unit {0}
+PlacesHold (Some places) files es = bytes_at files places.name ≡ whole_at es
+
+-- the files hold these entries and their places
+pub record Finished (w : Fronting) (files : Option Files) (es : List Entry) : Type 0 where
+  pub strings : bytes_at files w.strings.name ≡ front es
+  pub places : PlacesHold w.places files es
+
+-- nothing is held back
+abbrev pub HoldsNothing : Option Writing → Type 0
+HoldsNothing None = Unit {0}
+HoldsNothing (Some places) = places.buffered ≡ []

@@ -1,0 +1,4 @@
+pub mod Entries
+pub mod Walk
+pub mod Fronting
+pub mod Reading

@@ -1,0 +1,137 @@
+-- A reader of a part and of its places: what contracts see of it, and what it answers where both stand.
+use Rattle.std.specs.Prelude.{false, true, ◌≡◌, ◌≢◌, ◌≤◌, ◌<◌, ◌+◌, ◌*◌, ◌^◌, ℕ, List, length, take, drop, slice_get, None, Some, Result, Ok, Err}
+use Rattle.std.specs.Option.{IsSome}
+use Rattle.std.specs.declared.option.Option.{Option}
+use Rattle.std.specs.Int.{div_ceil}
+use Rattle.mg_dev.specs.Files.{Files, Reads, bytes_at}
+use Rattle.mg_dev.specs.Names.{same_part}
+use Rattle.mg_dev.specs.declared.part.Part.{Part}
+use Rattle.mg_bits.specs.Pages.{Paging, Fits}
+use Rattle.mg_defs.specs.Numbers.{four}
+use Rattle.mg_front.specs.Walk.{IsBad}
+use Rattle.mg_front.specs.declared.reader.Scan.{Scan}
+use Rattle.mg_front.specs.declared.reader.Scan.TheVariants.{Found, Absent, Damaged}
+use Rattle.mg_defs.specs.Front.{is_below, Entry, IsFront, front, front_from, whole_at, places_from}
+use Rattle.mg_front.specs.Entries.{entry_of}
+use Rattle.mg_front.specs.declared.entry.FrontEntry.{FrontEntry}
+use Rattle.mg_dev.specs.declared.part_err.PartErr.{PartErr}
+use Rattle.mg_dev.specs.declared.part_err.PartErr.TheVariants.{Device, Memory, Bad}
+
+pub record Fronted : Type 0 where
+  pub strings : Paging
+  pub places : Paging
+  pub width : ℕ
+  pub count : ℕ
+
+-- what it keeps agrees with its parts
+pub record FrontFits (r : Fronted) (files : Option Files) : Type 0 where
+  pub strings : Fits r.strings files
+  pub places : Fits r.places files
+
+-- its parts are these entries, front-coded, and the places of the whole ones
+pub record FrontStands (r : Fronted) (files : Option Files) (es : List Entry) : Type 0 where
+  pub told : IsSome files
+  pub strings : IsFront r.width (bytes_at files r.strings.name) es
+  pub places : bytes_at files r.places.name ≡ whole_at es
+  pub count : length es ≡ r.count
+  pub few : length es ≤ 2 ^ 22
+
+-- where the parts stand: the entry of a number, and never that a part is bad
+abbrev pub AnswersAt : {T : Type 0} → Result T PartErr → ℕ → ℕ → FrontEntry → List Entry → Type 0
+AnswersAt (Ok value) width i out es = slice_get es i ≡ Some (entry_of width out)
+AnswersAt (Err Device) width i out es = Unit {0}
+AnswersAt (Err Memory) width i out es = ⊥
+AnswersAt (Err (Bad bad)) width i out es = ⊥
+
+pub record SameParts (old new : Fronted) : Type 0 where
+  pub strings : new.strings.name ≡ old.strings.name
+  pub places : new.places.name ≡ old.places.name
+  pub strings_part : new.strings.part ≡ old.strings.part
+  pub places_part : new.places.part ≡ old.places.part
+  pub width : new.width ≡ old.width
+  pub count : new.count ≡ old.count
+
+-- the place of a whole entry, where the places stand
+abbrev pub AnswersPlace : Option ℕ → ℕ → List ℕ → Type 0
+AnswersPlace None block bytes = length bytes < 4 * block + 4
+AnswersPlace (Some place) block bytes = take 4 (drop (4 * block) bytes) ≡ four place
+
+-- no entry has this string
+abbrev pub IsAbsent : List ℕ → List Entry → Type 0
+IsAbsent string es = (i : ℕ) (e : Entry) → slice_get es i ≡ Some e → e.string ≢ string
+
+-- where the parts stand: the number of the string, with its entry, or none exactly where it is no entry's
+abbrev pub AnswersFind : Result (Option ℕ) PartErr → ℕ → List ℕ → FrontEntry → List Entry → Type 0
+AnswersFind (Ok (Some i)) width string out es = (slice_get es i ≡ Some (entry_of width out)) × (take out.length out.string ≡ string)
+AnswersFind (Ok None) width string out es = IsAbsent string es
+AnswersFind (Err Device) width string out es = Unit {0}
+AnswersFind (Err Memory) width string out es = ⊥
+AnswersFind (Err (Bad bad)) width string out es = ⊥
+
+-- a call that only reads, and that reads these two parts alone
+pub record LookedAt (strings places : Part) (files_before files_now : Option Files) (reads_before reads_now : Reads) (faults_before faults_now : ℕ) : Type 0 where
+  pub files : files_now ≡ files_before
+  pub faults : faults_before ≤ faults_now
+  pub later : (p : Part) → reads_before p ≤ reads_now p
+  pub others : (p : Part) → same_part p strings ≡ false → same_part p places ≡ false → reads_now p ≡ reads_before p
+
+-- ---- loading
+
+-- a reader of these files
+pub record IsReader (r : Fronted) (strings : List ℕ) (strings_part : Part) (places : List ℕ) (places_part : Part) (width count : ℕ) : Type 0 where
+  pub strings_is : r.strings.name ≡ strings
+  pub strings_part_is : r.strings.part ≡ strings_part
+  pub places_is : r.places.name ≡ places
+  pub places_part_is : r.places.part ≡ places_part
+  pub width_is : r.width ≡ width
+  pub count_is : r.count ≡ count
+
+-- four bytes for each whole entry
+abbrev pub places_size : ℕ → ℕ
+places_size count = 4 * div_ceil count 4
+
+-- what comparing the size of the places answers: a place for each whole entry, or else the two sizes
+abbrev pub AnswersPlaces : {T : Type 0} → Part → ℕ → List ℕ → Result T PartErr → Type 0
+AnswersPlaces part wanted bytes (Ok value) = length bytes ≡ wanted
+AnswersPlaces part wanted bytes (Err Device) = Unit {0}
+AnswersPlaces part wanted bytes (Err Memory) = Unit {0}
+AnswersPlaces part wanted bytes (Err (Bad bad)) = (length bytes ≢ wanted) × IsBad bad part 0 wanted wanted (length bytes)
+
+-- ---- looking a string up
+
+-- the first strings of the blocks before low are not above the string, and those of the others are
+pub record Around (es : List Entry) (string : List ℕ) (low : ℕ) : Type 0 where
+  pub below : (block : ℕ) (e : Entry) → block < low → slice_get es (4 * block) ≡ Some e → is_below string e.string ≡ false
+  pub above : (block : ℕ) (e : Entry) → low ≤ block → slice_get es (4 * block) ≡ Some e → is_below string e.string ≡ true
+
+-- the last block whose first string is not above the string
+abbrev pub AnswersBlock : Result (Option ℕ) PartErr → List ℕ → List Entry → Type 0
+AnswersBlock (Ok (Some block)) string es = (4 * block < length es) × Around es string (block + 1)
+AnswersBlock (Ok None) string es = Around es string 0
+AnswersBlock (Err Device) string es = Unit {0}
+AnswersBlock (Err Memory) string es = ⊥
+AnswersBlock (Err (Bad bad)) string es = ⊥
+
+-- none of so many entries from a number on has the string
+abbrev pub NoneAmong : List Entry → ℕ → ℕ → List ℕ → Type 0
+NoneAmong es from count string = (k : ℕ) (e : Entry) → k < count → slice_get es (from + k) ≡ Some e → e.string ≢ string
+
+-- what reading so many entries from a whole one on answers
+abbrev pub AnswersScan : Scan → ℕ → ℕ → List ℕ → ℕ → FrontEntry → List Entry → Type 0
+AnswersScan (Found number) from count string width out es = (number < count) × (slice_get es (from + number) ≡ Some (entry_of width out)) × (take out.length out.string ≡ string)
+AnswersScan Absent from count string width out es = NoneAmong es from count string
+AnswersScan Damaged from count string width out es = ⊥
+
+-- the number of the string among those of a block
+abbrev pub AnswersIn : Result (Option ℕ) PartErr → ℕ → ℕ → List ℕ → FrontEntry → List Entry → Type 0
+AnswersIn (Ok (Some i)) block width string out es = (slice_get es i ≡ Some (entry_of width out)) × (take out.length out.string ≡ string)
+AnswersIn (Ok None) block width string out es = NoneAmong es (4 * block) 4 string
+AnswersIn (Err Device) block width string out es = Unit {0}
+AnswersIn (Err Memory) block width string out es = ⊥
+AnswersIn (Err (Bad bad)) block width string out es = ⊥
+
+-- a string that was found is one of so many
+abbrev pub IsInBlock : Scan → ℕ → Type 0
+IsInBlock (Found number) most = number < most
+IsInBlock Absent most = Unit {0}
+IsInBlock Damaged most = Unit {0}

@@ -1,0 +1,81 @@
+-- A walk over front-coded entries: what contracts see of it, which entries it gave, and what its next call answers.
+use Rattle.std.specs.Prelude.{◌≡◌, ◌≢◌, ◌≤◌, ◌<◌, ◌+◌, ◌++◌, ◌⊎◌, ℕ, Bool, true, false, List, [], ◌∷◌, length, take, drop, None, Some, Result, Ok, Err, slice_get}
+use Rattle.std.specs.Option.{IsSome}
+use Rattle.std.specs.declared.option.Option.{Option}
+use Rattle.mg_dev.specs.declared.part.Part.{Part}
+use Rattle.mg_dev.specs.Files.{Files, bytes_at}
+use Rattle.mg_dev.specs.Causes.{Rose}
+use Rattle.mg_bits.specs.Pages.{Paging, Fits}
+use Rattle.mg_defs.specs.Front.{NoEntry, Entry, IsEntry, AreEntries, entry_bytes, front, front_from, last_string}
+use Rattle.mg_front.specs.Entries.{entry_of}
+use Rattle.mg_front.specs.declared.entry.FrontEntry.{FrontEntry}
+use Rattle.mg_dev.specs.declared.bad.Bad as declared
+use Rattle.mg_dev.specs.declared.part_err.PartErr.{PartErr}
+use Rattle.mg_dev.specs.declared.part_err.PartErr.TheVariants.{Device, Memory, Bad}
+
+pub record Walking : Type 0 where
+  pub feed : Paging
+  pub width : ℕ
+  pub count : ℕ
+  pub done : ℕ
+  pub place : ℕ
+  pub last : List ℕ
+
+-- these entries stand at the front of the bytes, and the walk is behind them
+pub record Given (w : Walking) (bytes : List ℕ) (es : List Entry) : Type 0 where
+  pub done : w.done ≡ length es
+  pub last : w.last ≡ last_string [] es
+  pub entries : AreEntries w.width 0 [] es
+  pub place : w.place ≡ length (front es)
+  pub rest : bytes ≡ front es ++ drop w.place bytes
+
+-- the walk gave these entries, and what it keeps agrees with its part, where the files are told
+pub record Gave (w : Walking) (files : Option Files) (es : List Entry) : Type 0 where
+  pub fits : Fits w.feed files
+  pub given : IsSome files → Given w (bytes_at files w.feed.name) es
+
+-- the entries that were given, with the next one where there was one
+abbrev pub with_next : List Entry → Bool → Entry → List Entry
+with_next es true e = es ++ e ∷ []
+with_next es false e = es
+
+pub record SameWalk (old new : Walking) : Type 0 where
+  pub name : new.feed.name ≡ old.feed.name
+  pub part : new.feed.part ≡ old.feed.part
+  pub width : new.width ≡ old.width
+  pub count : new.count ≡ old.count
+
+-- the bytes begin with this entry
+pub record BeginsWith (width i : ℕ) (before bytes : List ℕ) (e : Entry) : Type 0 where
+  pub entry : IsEntry width i before e
+  pub rest : bytes ≡ entry_bytes i before e ++ drop (length (entry_bytes i before e)) bytes
+
+pub record IsBad (bad : declared.Bad) (part : Part) (at low high found : ℕ) : Type 0 where
+  pub part_is : bad.part ≡ part
+  pub at_is : bad.at ≡ at
+  pub low_is : bad.low ≡ low
+  pub high_is : bad.high ≡ high
+  pub found_is : bad.found ≡ found
+
+-- what the next call answers: an entry, the end, or where the part is no front coding
+abbrev pub AnswersNext : Result Bool PartErr → Walking → FrontEntry → List ℕ → Type 0
+AnswersNext (Ok true) w out bytes = (w.done < w.count) × BeginsWith w.width w.done w.last (drop w.place bytes) (entry_of w.width out)
+AnswersNext (Ok false) w out bytes = (w.done ≡ w.count) × (drop w.place bytes ≡ [])
+AnswersNext (Err Device) w out bytes = Unit {0}
+AnswersNext (Err Memory) w out bytes = ⊥
+AnswersNext (Err (Bad bad)) w out bytes =
+    ((w.done < w.count) × IsBad bad w.feed.part w.place 1 1 0 × NoEntry w.width w.done w.last (drop w.place bytes))
+    ⊎ ((w.done ≡ w.count) × IsBad bad w.feed.part w.place 0 0 (length (drop w.place bytes)))
+
+-- how far a call went, over any store
+abbrev pub AfterNext : Bool → Walking → Walking → Type 0
+AfterNext true old new = (old.done < old.count) × (new.done ≡ old.done + 1)
+AfterNext false old new = (old.done ≡ old.count) × (new ≡ old)
+
+-- what the next call answers where the part is the front coding of these entries, as many as were told
+abbrev pub AnswersAmong : Result Bool PartErr → Walking → FrontEntry → List Entry → Type 0
+AnswersAmong (Ok true) w out all = slice_get all w.done ≡ Some (entry_of w.width out)
+AnswersAmong (Ok false) w out all = w.done ≡ length all
+AnswersAmong (Err Device) w out all = Unit {0}
+AnswersAmong (Err Memory) w out all = ⊥
+AnswersAmong (Err (Bad bad)) w out all = ⊥

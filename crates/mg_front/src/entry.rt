@@ -1,0 +1,212 @@
+// One entry, and how it is read.
+ghost use Rattle.std.specs.Prelude.{◌≡◌, ◌≤◌, ◌<◌, ◌+◌, ◌^◌, ◌%◌, ◌==◌, ◌||◌, [], IfOk, IfSome, IsSome, length, take, drop, slice_get};
+ghost use Rattle.mg_dev.specs.Files.{bytes_at};
+ghost use Rattle.mg_dev.specs.Causes.{HasCause};
+ghost use Rattle.mg_bits.specs.Pages.{Fits, SameFile, Looked};
+ghost use Rattle.mg_defs.specs.Front.{is_below, rises, read_entry, read_whole, read_cut};
+ghost use Rattle.mg_front.specs.Entries.{string_of, found_of, IsPut};
+
+use mg_dev::{Failed, Store};
+use mg_bits::PageFeed;
+
+/// A string and its field.
+#[derive(Clone, Copy, Debug)]
+pub struct FrontEntry {
+    pub string: [u8; 255],
+    pub length: u8,
+    pub field: [u8; 24],
+}
+
+impl FrontEntry {
+    pub fn new() -> Self
+        ensures { string_of result ≡ [] }
+    {
+        FrontEntry {
+            string: [0; 255],
+            length: 0,
+            field: [0; 24],
+        }
+    }
+}
+
+/// Whether a string comes before another.
+pub fn is_below(before: &[u8], string: &[u8]) -> bool
+    ensures { result ≡ is_below before.now string.now }
+{
+    before.cmp(string).is_lt()
+}
+
+/// Whether a suffix rises above what followed the shared prefix before.
+pub fn rises(before: &[u8], suffix: &[u8]) -> bool
+    ensures { result ≡ rises before.now suffix.now }
+{
+    match (before, suffix) {
+        (_, []) => false,
+        ([], _) => true,
+        ([x, ..], [y, ..]) => x < y,
+    }
+}
+
+/// Reads so many bytes into a buffer, from an index on; false where the bytes end before.
+pub fn read_bytes<S: Store>(
+    feed: &mut PageFeed<'_, S>,
+    store: &mut S,
+    at: u64,
+    out: &mut [u8],
+    from: usize,
+    count: usize,
+) -> Result<bool, Failed>
+    requires fits { Fits feed.old (S.files store.old) }
+    requires place { at < 2 ^ 63 }
+    requires room { from + count ≤ length out.old }
+    requires small { length out.old < 2 ^ 16 }
+    ensures fits { Fits feed.new (S.files store.new) }
+    ensures file { SameFile feed.old feed.new }
+    ensures looked { Looked feed.old.part (S.files store.old) (S.files store.new) (S.reads store.old) (S.reads store.new) (S.faults store.old) (S.faults store.new) }
+    ensures told { IsSome (S.files store.old) → IfOk result (λ whole. IsPut whole out.old out.new from count at (bytes_at (S.files store.old) feed.old.name)) }
+    ensures cause { HasCause (S.faults store.old) (S.faults store.new) result }
+{
+    let whole = feed.fill(store, at, &mut out[from..from + count])?;
+    Ok(whole)
+}
+
+impl FrontEntry {
+    /// The string's bytes.
+    pub fn bytes(&self) -> &[u8]
+        ensures { result.now ≡ string_of self.now }
+    {
+        &self.string[..usize::from(self.length)]
+    }
+}
+
+/// Whether a string may have this number after the string before.
+pub fn may_follow(number: u32, before: &FrontEntry, entry: &FrontEntry) -> bool
+    ensures { result ≡ (number == 0 || is_below (string_of before.now) (string_of entry.now)) }
+{
+    number == 0 || is_below(before.bytes(), entry.bytes())
+}
+
+/// Reads a whole entry; None where none stands there.
+pub fn read_whole<S: Store>(
+    feed: &mut PageFeed<'_, S>,
+    store: &mut S,
+    at: u64,
+    width: usize,
+    number: u32,
+    before: &FrontEntry,
+    out: &mut FrontEntry,
+) -> Result<Option<u64>, Failed>
+    requires fits { Fits feed.old (S.files store.old) }
+    requires width { width ≤ 24 }
+    requires place { at < 2 ^ 62 }
+    ensures fits { Fits feed.new (S.files store.new) }
+    ensures file { SameFile feed.old feed.new }
+    ensures looked { Looked feed.old.part (S.files store.old) (S.files store.new) (S.reads store.old) (S.reads store.new) (S.faults store.old) (S.faults store.new) }
+    ensures told { IsSome (S.files store.old) → IfOk result (λ size. read_whole width number (string_of before.now) (drop at (bytes_at (S.files store.old) feed.old.name)) ≡ found_of width out.new size) }
+    ensures size { IfOk result (λ size. IfSome size (λ n. n ≤ 281)) }
+    ensures cause { HasCause (S.faults store.old) (S.faults store.new) result }
+{
+    let Some(length) = feed.byte(store, at)? else {
+        return Ok(None);
+    };
+    let count = usize::from(length);
+    if !read_bytes(feed, store, at + 1, &mut out.string, 0, count)? {
+        return Ok(None);
+    }
+    out.length = length;
+    if !read_bytes(feed, store, at + 1 + count as u64, &mut out.field, 0, width)? {
+        return Ok(None);
+    }
+    if !may_follow(number, before, out) {
+        return Ok(None);
+    }
+    Ok(Some((count + width + 1) as u64))
+}
+
+/// Whether the entry's string rises above the one before, from a shared prefix on.
+pub fn suffix_rises(before: &FrontEntry, entry: &FrontEntry, from: u8) -> bool
+    requires before { from ≤ length (string_of before.now) }
+    requires entry { from ≤ length (string_of entry.now) }
+    ensures { result ≡ rises (drop from (string_of before.now)) (drop from (string_of entry.now)) }
+{
+    rises(
+        &before.bytes()[usize::from(from)..],
+        &entry.bytes()[usize::from(from)..],
+    )
+}
+
+/// Reads an entry that is not whole; None where none stands there.
+pub fn read_cut<S: Store>(
+    feed: &mut PageFeed<'_, S>,
+    store: &mut S,
+    at: u64,
+    width: usize,
+    before: &FrontEntry,
+    out: &mut FrontEntry,
+) -> Result<Option<u64>, Failed>
+    requires fits { Fits feed.old (S.files store.old) }
+    requires width { width ≤ 24 }
+    requires place { at < 2 ^ 62 }
+    ensures fits { Fits feed.new (S.files store.new) }
+    ensures file { SameFile feed.old feed.new }
+    ensures looked { Looked feed.old.part (S.files store.old) (S.files store.new) (S.reads store.old) (S.reads store.new) (S.faults store.old) (S.faults store.new) }
+    ensures told { IsSome (S.files store.old) → IfOk result (λ size. read_cut width (string_of before.now) (drop at (bytes_at (S.files store.old) feed.old.name)) ≡ found_of width out.new size) }
+    ensures size { IfOk result (λ size. IfSome size (λ n. n ≤ 281)) }
+    ensures cause { HasCause (S.faults store.old) (S.faults store.new) result }
+{
+    let Some(shared) = feed.byte(store, at)? else {
+        return Ok(None);
+    };
+    let Some(more) = feed.byte(store, at + 1)? else {
+        return Ok(None);
+    };
+    let length = before.bytes().len();
+    if usize::from(shared) > length {
+        return Ok(None);
+    }
+    if shared > 255 - more {
+        return Ok(None);
+    }
+    out.string = before.string;
+    let from = usize::from(shared);
+    let count = usize::from(more);
+    if !read_bytes(feed, store, at + 2, &mut out.string, from, count)? {
+        return Ok(None);
+    }
+    out.length = shared + more;
+    if !read_bytes(feed, store, at + 2 + count as u64, &mut out.field, 0, width)? {
+        return Ok(None);
+    }
+    if !suffix_rises(before, out, shared) {
+        return Ok(None);
+    }
+    Ok(Some((count + width + 2) as u64))
+}
+
+/// Reads the entry of a number, after the one before; None where none stands there.
+#[tactic(auto, unfolding(mg_defs::specs::Front::read_entry))]
+pub fn read_entry<S: Store>(
+    feed: &mut PageFeed<'_, S>,
+    store: &mut S,
+    at: u64,
+    width: usize,
+    number: u32,
+    before: &FrontEntry,
+    out: &mut FrontEntry,
+) -> Result<Option<u64>, Failed>
+    requires fits { Fits feed.old (S.files store.old) }
+    requires width { width ≤ 24 }
+    requires place { at < 2 ^ 62 }
+    ensures fits { Fits feed.new (S.files store.new) }
+    ensures file { SameFile feed.old feed.new }
+    ensures looked { Looked feed.old.part (S.files store.old) (S.files store.new) (S.reads store.old) (S.reads store.new) (S.faults store.old) (S.faults store.new) }
+    ensures told { IsSome (S.files store.old) → IfOk result (λ size. read_entry width number (string_of before.now) (drop at (bytes_at (S.files store.old) feed.old.name)) ≡ found_of width out.new size) }
+    ensures size { IfOk result (λ size. IfSome size (λ n. n ≤ 281)) }
+    ensures cause { HasCause (S.faults store.old) (S.faults store.new) result }
+{
+    if number % 4 == 0 {
+        read_whole(feed, store, at, width, number, before, out)
+    } else {
+        read_cut(feed, store, at, width, before, out)
+    }
+}

@@ -1,0 +1,408 @@
+// Entries of a part by their number.
+ghost use Rattle.std.specs.Prelude.{◌⊎◌, Err, ◌≡◌, ◌≢◌, ◌-◌, if◌then◌else◌, ◌≤◌, ◌<◌, ◌+◌, ◌*◌, ◌%◌, ◌/◌, ◌^◌, List, IfOk, IfSome, IsSome, length, take, drop, slice_get, None, Some, ℕ, true};
+ghost use Rattle.mg_dev.specs.Files.{bytes_at};
+ghost use Rattle.mg_dev.specs.Causes.{HasCause};
+ghost use Rattle.mg_bits.specs.Pages.{Fits, SameFile, Looked};
+ghost use Rattle.mg_defs.specs.Numbers.{four};
+ghost use Rattle.mg_defs.specs.Front.{Entry, IsFront, front};
+ghost use Rattle.mg_front.specs.Entries.{entry_of, string_of};
+ghost use Rattle.mg_front.specs.Reading.{Around, AnswersPlace, Fronted, FrontFits, FrontStands, AnswersAt, AnswersBlock, AnswersFind, AnswersIn, AnswersPlaces, AnswersScan, IsInBlock, IsReader, LookedAt, SameParts, places_size};
+ghost use Rattle.mg_dev.specs.Files.{SameReads};
+ghost use Rattle.mg_dev.specs.Names.{full_name};
+ghost use Rattle.std.specs.Bool.{OnTrue, OnFalse};
+ghost use Rattle.mg_dev.specs.PartCauses.{HasPartCause};
+
+use crate::entry::{is_below, read_entry};
+use crate::FrontEntry;
+use mg_dev::{Bad, Failed, FileRef, PartErr, Store};
+use mg_bits::PageFeed;
+use std::alloc::Global;
+use std::marker::Model;
+
+/// The number of four bytes, the highest first.
+fn number_of(bytes: &[u8; 4]) -> u32
+    ensures { four result ≡ bytes.now }
+{
+    u32::from_be_bytes(*bytes)
+}
+
+/// The place of the whole entry of a block; None where the part has no such place.
+pub fn place_of<S: Store>(
+    places: &mut PageFeed<'_, S>,
+    store: &mut S,
+    block: u32,
+) -> Result<Option<u64>, Failed>
+    requires fits { Fits places.old (S.files store.old) }
+    ensures fits { Fits places.new (S.files store.new) }
+    ensures file { SameFile places.old places.new }
+    ensures looked { Looked places.old.part (S.files store.old) (S.files store.new) (S.reads store.old) (S.reads store.new) (S.faults store.old) (S.faults store.new) }
+    ensures told { IsSome (S.files store.old) → IfOk result (λ place. AnswersPlace place block (bytes_at (S.files store.old) places.old.name)) }
+    ensures small { IfOk result (λ place. IfSome place (λ at. at < 2 ^ 32)) }
+    ensures cause { HasCause (S.faults store.old) (S.faults store.new) result }
+{
+    let mut four = [0u8; 4];
+    if !places.fill(store, 4 * u64::from(block), &mut four)? {
+        return Ok(None);
+    }
+    Ok(Some(u64::from(number_of(&four))))
+}
+
+/// Reads the entry behind others of its block, from the block's place on; None where none stands there.
+pub fn read_block<S: Store>(
+    strings: &mut PageFeed<'_, S>,
+    store: &mut S,
+    from: u64,
+    width: usize,
+    last: u32,
+    out: &mut FrontEntry,
+) -> Result<bool, Failed>
+    requires fits { Fits strings.old (S.files store.old) }
+    requires width { width ≤ 24 }
+    requires place { from < 2 ^ 32 }
+    requires last { last < 4 }
+    ensures fits { Fits strings.new (S.files store.new) }
+    ensures file { SameFile strings.old strings.new }
+    ensures looked { Looked strings.old.part (S.files store.old) (S.files store.new) (S.reads store.old) (S.reads store.new) (S.faults store.old) (S.faults store.new) }
+    ensures told { IsSome (S.files store.old) → (es : List Entry) (block : ℕ) → IsFront width (bytes_at (S.files store.old) strings.old.name) es → from ≡ length (front (take (4 * block) es)) → 4 * block + last < length es →
+        IfOk result (λ there. (there ≡ true) × (slice_get es (4 * block + last) ≡ Some (entry_of width out.new))) }
+    ensures cause { HasCause (S.faults store.old) (S.faults store.new) result }
+{
+    let mut place = from;
+    for number in 0..last + 1 {
+        let before = *out;
+        match read_entry(strings, store, place, width, number, &before, out) {
+            Ok(Some(size)) => {
+                place += size;
+            }
+            Ok(None) => return Ok(false),
+            Err(failed) => return Err(failed),
+        }
+    }
+    Ok(true)
+}
+
+/// What reading the entries of a block for a string found.
+#[derive(Clone, Copy, Debug, PartialEq, Eq)]
+pub(crate) enum Scan {
+    /// The string, at this number in the block.
+    Found(u32),
+    /// No such string.
+    Absent,
+    /// No entry where one is to stand.
+    Damaged,
+}
+
+// Reads the entries of a block, from its place on, until one has the string.
+fn scan_block<S: Store>(
+    strings: &mut PageFeed<'_, S>,
+    store: &mut S,
+    from: u64,
+    width: usize,
+    most: u32,
+    string: &[u8],
+    out: &mut FrontEntry,
+) -> Result<Scan, Failed>
+    requires fits { Fits strings.old (S.files store.old) }
+    requires width { width ≤ 24 }
+    requires place { from < 2 ^ 32 }
+    requires most { most ≤ 4 }
+    ensures fits { Fits strings.new (S.files store.new) }
+    ensures file { SameFile strings.old strings.new }
+    ensures looked { Looked strings.old.part (S.files store.old) (S.files store.new) (S.reads store.old) (S.reads store.new) (S.faults store.old) (S.faults store.new) }
+    ensures told { IsSome (S.files store.old) → (es : List Entry) (block : ℕ) → IsFront width (bytes_at (S.files store.old) strings.old.name) es → from ≡ length (front (take (4 * block) es)) → 4 * block + most ≤ length es →
+        IfOk result (λ scan. AnswersScan scan (4 * block) most string.now width out.new es) }
+    ensures number { IfOk result (λ scan. IsInBlock scan most) }
+    ensures cause { HasCause (S.faults store.old) (S.faults store.new) result }
+{
+    let mut place = from;
+    for number in 0..most {
+        let before = *out;
+        match read_entry(strings, store, place, width, number, &before, out) {
+            Ok(Some(size)) => {
+                place += size;
+            }
+            Ok(None) => return Ok(Scan::Damaged),
+            Err(failed) => return Err(failed),
+        }
+        if is_same(out, string) {
+            return Ok(Scan::Found(number));
+        }
+    }
+    Ok(Scan::Absent)
+}
+
+// Compares the size of the places with that of a place for each whole entry.
+fn expect_places<S: Store>(
+    store: &mut S,
+    places: &FileRef<'_>,
+    count: u32,
+) -> Result<(), PartErr>
+    ensures answer { IsSome (S.files store.old) → AnswersPlaces places.now.part (places_size count) (bytes_at (S.files store.old) (full_name places.now.base.now places.now.part)) result }
+    ensures memory { result ≢ Err PartErr.Memory }
+    ensures files { S.files store.new ≡ S.files store.old }
+    ensures reads { SameReads (S.reads store.old) (S.reads store.new) }
+    ensures cause { HasPartCause (S.faults store.old) (S.faults store.new) result }
+{
+    let wanted = 4 * u64::from(count.div_ceil(4));
+    let found = match store.size(places) {
+        Ok(size) => size.unwrap_or(0),
+        Err(_) => return Err(PartErr::Device),
+    };
+    if found == wanted {
+        return Ok(());
+    }
+    Err(PartErr::Bad(Bad {
+        part: places.part,
+        at: 0,
+        low: wanted,
+        high: wanted,
+        found,
+    }))
+}
+
+/// A reader of entries by their number, and of the numbers of strings.
+///
+/// It keeps a page of the strings and one of the places, and needs no memory once it is loaded. It
+/// need not trust the parts: where they are no front coding, it answers that they are bad, or
+/// something else, and stays as it was.
+#[derive(Drop)]
+pub struct FrontReader<'a, S> {
+    strings: PageFeed<'a, S>,
+    places: PageFeed<'a, S>,
+    width: usize,
+    count: u32,
+}
+
+impl<'a, S> Model for FrontReader<'a, S> {
+    ghost use Rattle.std.specs.Prelude.{◌≤◌, ◌<◌, ◌^◌};
+    ghost use Rattle.mg_front.specs.Reading.{Fronted};
+
+    ghost Value = { Fronted };
+
+    ghost view = { λ r. record { strings = r.strings; places = r.places; width = r.width; count = r.count } };
+
+    ghost invariant = { λ r. (r.width ≤ 24) × (r.count < 2 ^ 32) };
+}
+
+impl<'a, S: Store> FrontReader<'a, S> {
+    /// A reader of `count` entries with fields of this width. The size of the places is compared
+    /// before anything is reserved.
+    pub fn load(
+        alloc: Global,
+        store: &mut S,
+        strings: FileRef<'a>,
+        places: FileRef<'a>,
+        width: usize,
+        count: u32,
+    ) -> Result<Self, PartErr>
+        requires width { width ≤ 24 }
+        ensures fits { IfOk result (λ reader. FrontFits reader (S.files store.new)) }
+        ensures reader { IfOk result (λ reader. IsReader reader (full_name strings.entry.base.now strings.entry.part) strings.entry.part (full_name places.entry.base.now places.entry.part) places.entry.part width count) }
+        ensures answer { IsSome (S.files store.old) → AnswersPlaces places.entry.part (places_size count) (bytes_at (S.files store.old) (full_name places.entry.base.now places.entry.part)) result }
+        ensures files { S.files store.new ≡ S.files store.old }
+        ensures reads { SameReads (S.reads store.old) (S.reads store.new) }
+        ensures cause { HasPartCause (S.faults store.old) (S.faults store.new) result }
+    {
+        match expect_places(store, &places, count) {
+            Ok(()) => {}
+            Err(refusal) => return Err(refusal),
+        }
+        let string_feed = match PageFeed::new(alloc, strings) {
+            Ok(feed) => feed,
+            Err(_) => return Err(PartErr::Memory),
+        };
+        let place_feed = match PageFeed::new(alloc, places) {
+            Ok(feed) => feed,
+            Err(_) => return Err(PartErr::Memory),
+        };
+        Ok(FrontReader {
+            strings: string_feed,
+            places: place_feed,
+            width,
+            count,
+        })
+    }
+
+    /// The number of entries.
+    pub fn count(&self) -> u32
+        ensures { result ≡ self.now.count }
+    {
+        self.count
+    }
+
+    /// Reads the entry of a number, which is below the count.
+    pub fn at(&mut self, store: &mut S, i: u32, out: &mut FrontEntry) -> Result<(), PartErr>
+        requires fits { FrontFits self.old (S.files store.old) }
+        requires below { i < self.old.count }
+        ensures fits { FrontFits self.new (S.files store.new) }
+        ensures same { SameParts self.old self.new }
+        ensures looked { LookedAt self.old.strings.part self.old.places.part (S.files store.old) (S.files store.new) (S.reads store.old) (S.reads store.new) (S.faults store.old) (S.faults store.new) }
+        ensures entry { (es : List Entry) → FrontStands self.old (S.files store.old) es → AnswersAt result self.old.width i out.new es }
+        ensures memory { result ≢ Err PartErr.Memory }
+        ensures cause { HasPartCause (S.faults store.old) (S.faults store.new) result }
+    {
+        let place = match place_of(&mut self.places, store, i / 4) {
+            Ok(Some(place)) => place,
+            Ok(None) => {
+                return Err(PartErr::Bad(Bad {
+                    part: self.places.part(),
+                    at: 4 * u64::from(i / 4),
+                    low: 1,
+                    high: 1,
+                    found: 0,
+                }));
+            }
+            Err(_) => return Err(PartErr::Device),
+        };
+        match read_block(&mut self.strings, store, place, self.width, i % 4, out) {
+            Ok(true) => Ok(()),
+            Ok(false) => Err(PartErr::Bad(Bad {
+                part: self.strings.part(),
+                at: place,
+                low: 1,
+                high: 1,
+                found: 0,
+            })),
+            Err(_) => Err(PartErr::Device),
+        }
+    }
+
+    /// The number of a string, and its entry; None where it is no entry's string.
+    ///
+    /// It goes over the whole entries first, and then reads the entries behind one.
+    pub fn find(
+        &mut self,
+        store: &mut S,
+        string: &[u8],
+        out: &mut FrontEntry,
+    ) -> Result<Option<u32>, PartErr>
+        requires fits { FrontFits self.old (S.files store.old) }
+        ensures fits { FrontFits self.new (S.files store.new) }
+        ensures same { SameParts self.old self.new }
+        ensures looked { LookedAt self.old.strings.part self.old.places.part (S.files store.old) (S.files store.new) (S.reads store.old) (S.reads store.new) (S.faults store.old) (S.faults store.new) }
+        ensures found { (es : List Entry) → FrontStands self.old (S.files store.old) es → AnswersFind result self.old.width string.now out.new es }
+        ensures memory { result ≢ Err PartErr.Memory }
+        ensures cause { HasPartCause (S.faults store.old) (S.faults store.new) result }
+    {
+        let block = match self.block_of(store, string, out) {
+            Ok(Some(block)) => block,
+            Ok(None) => return Ok(None),
+            Err(refusal) => return Err(refusal),
+        };
+        self.find_in(store, block, string, out)
+    }
+
+    // The last block whose first string is not above the string.
+    fn block_of(
+        &mut self,
+        store: &mut S,
+        string: &[u8],
+        out: &mut FrontEntry,
+    ) -> Result<Option<u32>, PartErr>
+        requires fits { FrontFits self.old (S.files store.old) }
+        ensures fits { FrontFits self.new (S.files store.new) }
+        ensures same { SameParts self.old self.new }
+        ensures looked { LookedAt self.old.strings.part self.old.places.part (S.files store.old) (S.files store.new) (S.reads store.old) (S.reads store.new) (S.faults store.old) (S.faults store.new) }
+        ensures found { (es : List Entry) → FrontStands self.old (S.files store.old) es → AnswersBlock result string.now es }
+        ensures below { IfOk result (λ block. IfSome block (λ b. 4 * b < self.old.count)) }
+        ensures memory { result ≢ Err PartErr.Memory }
+        ensures cause { HasPartCause (S.faults store.old) (S.faults store.new) result }
+    {
+        let mut low = 0u32;
+        let mut high = self.count().div_ceil(4);
+        while low < high {
+            let middle = low + (high - low) / 2;
+            match self.at(store, 4 * middle, out) {
+                Ok(()) => {}
+                Err(refusal) => return Err(refusal),
+            }
+            let above = is_below(string, out.bytes());
+            low = lower(above, middle, low);
+            high = higher(above, middle, high);
+        }
+        if low == 0 {
+            return Ok(None);
+        }
+        Ok(Some(low - 1))
+    }
+
+    // The number of the string among those of a block.
+    fn find_in(
+        &mut self,
+        store: &mut S,
+        block: u32,
+        string: &[u8],
+        out: &mut FrontEntry,
+    ) -> Result<Option<u32>, PartErr>
+        requires fits { FrontFits self.old (S.files store.old) }
+        requires below { 4 * block < self.old.count }
+        ensures fits { FrontFits self.new (S.files store.new) }
+        ensures same { SameParts self.old self.new }
+        ensures looked { LookedAt self.old.strings.part self.old.places.part (S.files store.old) (S.files store.new) (S.reads store.old) (S.reads store.new) (S.faults store.old) (S.faults store.new) }
+        ensures found { (es : List Entry) → FrontStands self.old (S.files store.old) es → AnswersIn result block self.old.width string.now out.new es }
+        ensures memory { result ≢ Err PartErr.Memory }
+        ensures cause { HasPartCause (S.faults store.old) (S.faults store.new) result }
+    {
+        let place = match place_of(&mut self.places, store, block) {
+            Ok(Some(place)) => place,
+            Ok(None) => {
+                return Err(PartErr::Bad(Bad {
+                    part: self.places.part(),
+                    at: 4 * u64::from(block),
+                    low: 1,
+                    high: 1,
+                    found: 0,
+                }));
+            }
+            Err(_) => return Err(PartErr::Device),
+        };
+        let most = (self.count - 4 * block).min(4);
+        let scan = match scan_block(
+            &mut self.strings,
+            store,
+            place,
+            self.width,
+            most,
+            string,
+            out,
+        ) {
+            Ok(scan) => scan,
+            Err(_) => return Err(PartErr::Device),
+        };
+        let number = match scan {
+            Scan::Found(number) => number,
+            Scan::Absent => return Ok(None),
+            Scan::Damaged => {
+                return Err(PartErr::Bad(Bad {
+                    part: self.strings.part(),
+                    at: place,
+                    low: 1,
+                    high: 1,
+                    found: 0,
+                }));
+            }
+        };
+        Ok(Some(4 * block + number))
+    }
+}
+
+/// Whether an entry has this string.
+fn is_same(entry: &FrontEntry, string: &[u8]) -> bool
+    ensures yes { OnTrue result (string_of entry.now ≡ string.now) }
+    ensures no { OnFalse result (string_of entry.now ≢ string.now) }
+{
+    entry.bytes() == string
+}
+
+fn lower(above: bool, middle: u32, low: u32) -> u32
+    requires { middle < 2 ^ 32 - 1 }
+    ensures { result ≡ (if above then low else middle + 1) }
+{
+    if above { low } else { middle + 1 }
+}
+
+fn higher(above: bool, middle: u32, high: u32) -> u32
+    ensures { result ≡ (if above then middle else high) }
+{
+    if above { middle } else { high }
+}

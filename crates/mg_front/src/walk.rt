@@ -1,0 +1,123 @@
+// All entries of a part, in order.
+ghost use Rattle.std.specs.Prelude.{◌≡◌, ◌≤◌, ◌<◌, ◌+◌, ◌^◌, List, [], IfOk, IfErr, IsSome, length, take, drop};
+ghost use Rattle.mg_dev.specs.Files.{bytes_at};
+ghost use Rattle.mg_dev.specs.Names.{full_name};
+ghost use Rattle.mg_dev.specs.PartCauses.{HasPartCause};
+ghost use Rattle.mg_bits.specs.Pages.{Fits, SameFile, Looked};
+ghost use Rattle.mg_defs.specs.Front.{Entry};
+ghost use Rattle.mg_front.specs.Entries.{entry_of};
+ghost use Rattle.mg_front.specs.Walk.{Gave, with_next, SameWalk, AnswersNext, AfterNext};
+ghost use Rattle.mg_dev.specs.declared.part_err.PartErr.TheVariants.{Memory};
+
+use crate::entry::read_entry;
+use crate::FrontEntry;
+use mg_dev::{Bad, FileRef, PartErr, Store};
+use mg_bits::PageFeed;
+use std::alloc::Global;
+use std::marker::Model;
+
+/// A walk over the entries of a part.
+#[derive(Drop)]
+pub struct FrontWalk<'a, S> {
+    feed: PageFeed<'a, S>,
+    width: usize,
+    count: u32,
+    done: u32,
+    place: u64,
+    last: FrontEntry,
+}
+
+impl<'a, S> Model for FrontWalk<'a, S> {
+    ghost use Rattle.std.specs.Prelude.{◌≡◌, ◌≤◌, ◌*◌};
+    ghost use Rattle.mg_front.specs.Entries.{string_of};
+    ghost use Rattle.mg_front.specs.Walk.{Walking};
+
+    ghost Value = { Walking };
+
+    ghost view = { λ w. record { feed = w.feed; width = w.width; count = w.count; done = w.done; place = w.place; last = string_of w.last } };
+
+    ghost invariant = { λ w. (w.width ≤ 24) × (w.done ≤ w.count) × (w.place ≤ 281 * w.done) };
+}
+
+impl<'a, S: Store> FrontWalk<'a, S> {
+    /// A walk that has given no entry.
+    pub fn load(
+        alloc: Global,
+        _store: &mut S,
+        strings: FileRef<'a>,
+        width: usize,
+        count: u32,
+    ) -> Result<Self, PartErr>
+        requires width { width ≤ 24 }
+        ensures gave { IfOk result (λ walk. Gave walk (S.files _store.new) []) }
+        ensures name { IfOk result (λ walk. walk.feed.name ≡ full_name strings.entry.base.now strings.entry.part) }
+        ensures part { IfOk result (λ walk. walk.feed.part ≡ strings.entry.part) }
+        ensures width { IfOk result (λ walk. walk.width ≡ width) }
+        ensures count { IfOk result (λ walk. walk.count ≡ count) }
+        ensures memory { IfErr result (λ refusal. refusal ≡ Memory) }
+        ensures store { _store.new ≡ _store.old }
+    {
+        Ok(FrontWalk {
+            feed: PageFeed::new(alloc, strings)?,
+            width,
+            count,
+            done: 0,
+            place: 0,
+            last: FrontEntry::new(),
+        })
+    }
+
+    /// The next entry; false after the last.
+    pub fn next(&mut self, store: &mut S, out: &mut FrontEntry) -> Result<bool, PartErr>
+        requires gave { (es : List Entry) × Gave self.old (S.files store.old) es }
+        ensures gave { (es : List Entry) → Gave self.old (S.files store.old) es → IfOk result (λ more. Gave self.new (S.files store.new) (with_next es more (entry_of self.old.width out.new))) }
+        ensures answer { IsSome (S.files store.old) → AnswersNext result self.old out.new (bytes_at (S.files store.old) self.old.feed.name) }
+        ensures step { IfOk result (λ more. AfterNext more self.old self.new) }
+        ensures same { SameWalk self.old self.new }
+        ensures looked { Looked self.old.feed.part (S.files store.old) (S.files store.new) (S.reads store.old) (S.reads store.new) (S.faults store.old) (S.faults store.new) }
+        ensures cause { HasPartCause (S.faults store.old) (S.faults store.new) result }
+    {
+        if self.done == self.count {
+            return match self.feed.size(store) {
+                Ok(size) => {
+                    if size > self.place {
+                        Err(PartErr::Bad(Bad {
+                            part: self.feed.part(),
+                            at: self.place,
+                            low: 0,
+                            high: 0,
+                            found: size - self.place,
+                        }))
+                    } else {
+                        Ok(false)
+                    }
+                }
+                Err(_) => Err(PartErr::Device),
+            };
+        }
+        match read_entry(
+            &mut self.feed,
+            store,
+            self.place,
+            self.width,
+            self.done,
+            &self.last,
+            out,
+        ) {
+            Ok(Some(size)) => {
+                self.last = *out;
+                self.place += size;
+                self.done += 1;
+                Ok(true)
+            }
+            Ok(None) => Err(PartErr::Bad(Bad {
+                part: self.feed.part(),
+                at: self.place,
+                low: 1,
+                high: 1,
+                found: 0,
+            })),
+            Err(_) => Err(PartErr::Device),
+        }
+    }
+}

@@ -1,0 +1,176 @@
+// Entries into a part, in order.
+ghost use Rattle.std.specs.Prelude.{◌≡◌, ◌≢◌, ◌≤◌, ◌<◌, ◌+◌, ◌++◌, ◌∷◌, ◌^◌, List, ℕ, [], IfOk, OnOk, IsSome, length, take, None, Some};
+ghost use Rattle.std.specs.Option.{is_some, option_map, ForSome};
+ghost use Rattle.mg_dev.specs.Files.{bytes_at, file_at, SameReads};
+ghost use Rattle.mg_dev.specs.Names.{full_name};
+ghost use Rattle.mg_dev.specs.Causes.{HasPutCause};
+ghost use Rattle.mg_defs.specs.Front.{Entry, IsEntry, front, whole_at};
+ghost use Rattle.mg_bits.specs.Writer.{put_to};
+ghost use Rattle.mg_front.specs.Fronting.{Took, IsOther, StartedPlaces, WroteToAsked, IsNotAsked, Finished, HoldsNothing, PlaceWrote, WroteToPlaces};
+
+use crate::put::{put_entry, put_place};
+use mg_dev::{FileRef, PutErr, Store};
+use mg_bits::PageWriter;
+use std::alloc::Global;
+use std::marker::Model;
+
+/// Writes front-coded entries, and the places of whole ones.
+#[derive(Drop)]
+pub struct FrontWriter<'a> {
+    strings: PageWriter<'a>,
+    places: Option<PageWriter<'a>>,
+    width: usize,
+    count: u32,
+    place: u64,
+    last: [u8; 255],
+    length: usize,
+}
+
+impl<'a> Model for FrontWriter<'a> {
+    ghost use Rattle.std.specs.Prelude.{◌≡◌, ◌≤◌, ◌*◌, ◌^◌, take};
+    ghost use Rattle.mg_front.specs.Fronting.{Fronting};
+
+    ghost Value = { Fronting };
+
+    ghost view = { λ w. record { strings = w.strings; places = w.places; width = w.width; count = w.count; place = w.place; last = take w.length w.last } };
+
+    ghost invariant = { λ w. (w.width ≤ 24) × (w.length ≤ 255) × (w.place ≤ 281 * w.count) × (w.count ≤ 2 ^ 22) };
+}
+
+/// Keeps a string.
+fn keep(last: &mut [u8; 255], string: &[u8])
+    requires { length string.now ≤ 255 }
+    ensures { take (length string.now) last.new ≡ string.now }
+{
+    last[..string.len()].copy_from_slice(string);
+}
+
+// The writer of the places, where a file was asked for.
+fn start_places<'a, S: Store>(
+    alloc: Global,
+    store: &mut S,
+    places: Option<FileRef<'a>>,
+) -> Result<Option<PageWriter<'a>>, PutErr>
+    ensures started { IfOk result (λ writer. StartedPlaces (option_map (λ file. full_name file.base.now file.part) places.entry) writer (S.files store.old) (S.files store.new)) }
+    ensures wrote { WroteToAsked (option_map (λ file. full_name file.base.now file.part) places.entry) (S.files store.old) (S.files store.new) (S.reads store.old) (S.reads store.new) }
+    ensures cause { HasPutCause (S.faults store.old) (S.faults store.new) result }
+{
+    match places {
+        None => Ok(None),
+        Some(file) => match PageWriter::start(alloc, store, file) {
+            Ok(writer) => Ok(Some(writer)),
+            Err(refusal) => Err(refusal),
+        },
+    }
+}
+
+// Writes the places that are held, where there are any.
+fn finish_places<S: Store>(
+    places: &mut Option<PageWriter<'_>>,
+    store: &mut S,
+) -> Result<(), PutErr>
+    ensures bytes { OnOk result (PlaceWrote places.old places.new (S.files store.old) (S.files store.new) []) }
+    ensures nothing { OnOk result (HoldsNothing places.new) }
+    ensures wrote { WroteToPlaces places.old (S.files store.old) (S.files store.new) (S.reads store.old) (S.reads store.new) }
+    ensures cause { HasPutCause (S.faults store.old) (S.faults store.new) result }
+{
+    match places {
+        None => Ok(()),
+        Some(writer) => writer.finish(store),
+    }
+}
+
+impl<'a> FrontWriter<'a> {
+    /// A writer of entries whose fields have this width, from 0 to 24 bytes. It empties the file of
+    /// the strings, and that of the places where there is one; their full names differ.
+    pub fn start<S: Store>(
+        alloc: Global,
+        store: &mut S,
+        strings: FileRef<'a>,
+        places: Option<FileRef<'a>>,
+        width: usize,
+    ) -> Result<Self, PutErr>
+        requires width { width ≤ 24 }
+        requires apart { ForSome (option_map (λ file. full_name file.base.now file.part) places) (λ name. name ≢ full_name strings.base.now strings.part) }
+        ensures took { IfOk result (λ writer. Took writer (S.files store.new) []) }
+        ensures name { IfOk result (λ writer. writer.strings.name ≡ full_name strings.entry.base.now strings.entry.part) }
+        ensures places { IfOk result (λ writer. option_map (λ places. places.name) writer.places ≡ option_map (λ file. full_name file.base.now file.part) places.entry) }
+        ensures width { IfOk result (λ writer. writer.width ≡ width) }
+        ensures others { (n : List ℕ) → IsNotAsked n (full_name strings.entry.base.now strings.entry.part) (option_map (λ file. full_name file.base.now file.part) places.entry) → file_at (S.files store.new) n ≡ file_at (S.files store.old) n }
+        ensures told { is_some (S.files store.new) ≡ is_some (S.files store.old) }
+        ensures reads { SameReads (S.reads store.old) (S.reads store.new) }
+        ensures cause { HasPutCause (S.faults store.old) (S.faults store.new) result }
+    {
+        let string_writer = match PageWriter::start(alloc, store, strings) {
+            Ok(writer) => writer,
+            Err(refusal) => return Err(refusal),
+        };
+        let place_writer = match start_places(alloc, store, places) {
+            Ok(writer) => writer,
+            Err(refusal) => return Err(refusal),
+        };
+        Ok(FrontWriter {
+            strings: string_writer,
+            places: place_writer,
+            width,
+            count: 0,
+            place: 0,
+            last: [0; 255],
+            length: 0,
+        })
+    }
+
+    /// Writes one entry more, whose string is above the last one.
+    pub fn push<S: Store>(
+        &mut self,
+        store: &mut S,
+        string: &[u8],
+        field: &[u8],
+    ) -> Result<(), PutErr>
+        requires took { (es : List Entry) × Took self.old (S.files store.old) es }
+        requires few { self.old.count < 2 ^ 22 }
+        requires width { self.old.width ≤ 24 }
+        requires entry { IsEntry self.old.width self.old.count self.old.last (record { string = string.now; field = field.now }) }
+        ensures took { OnOk result ((es : List Entry) → Took self.old (S.files store.old) es → Took self.new (S.files store.new) (es ++ record { string = string.now; field = field.now } ∷ [])) }
+        ensures name { OnOk result (self.new.strings.name ≡ self.old.strings.name) }
+        ensures width { self.new.width ≡ self.old.width }
+        ensures others { (n : List ℕ) → IsOther n self.old.strings.name self.old.places → file_at (S.files store.new) n ≡ file_at (S.files store.old) n }
+        ensures told { is_some (S.files store.new) ≡ is_some (S.files store.old) }
+        ensures reads { SameReads (S.reads store.old) (S.reads store.new) }
+        ensures cause { HasPutCause (S.faults store.old) (S.faults store.new) result }
+    {
+        put_place(&mut self.places, store, self.count, self.place)?;
+        let size = put_entry(
+            &mut self.strings,
+            store,
+            self.count,
+            &self.last[..self.length],
+            string,
+            field,
+        )?;
+        keep(&mut self.last, string);
+        self.length = string.len();
+        self.place += size;
+        self.count += 1;
+        Ok(())
+    }
+    /// Writes what is held. Then the files hold the entries that were pushed, and the places of the
+    /// whole ones.
+    pub fn finish<S: Store>(&mut self, store: &mut S) -> Result<(), PutErr>
+        requires took { (es : List Entry) × Took self.old (S.files store.old) es }
+        ensures finished { OnOk result ((es : List Entry) → Took self.old (S.files store.old) es → IsSome (S.files store.old) → Finished self.old (S.files store.new) es) }
+        ensures others { (n : List ℕ) → IsOther n self.old.strings.name self.old.places → file_at (S.files store.new) n ≡ file_at (S.files store.old) n }
+        ensures told { is_some (S.files store.new) ≡ is_some (S.files store.old) }
+        ensures reads { SameReads (S.reads store.old) (S.reads store.new) }
+        ensures cause { HasPutCause (S.faults store.old) (S.faults store.new) result }
+    {
+        match self.strings.finish(store) {
+            Ok(()) => {}
+            Err(refusal) => return Err(refusal),
+        }
+        match finish_places(&mut self.places, store) {
+            Ok(()) => Ok(()),
+            Err(refusal) => Err(refusal),
+        }
+    }
+}

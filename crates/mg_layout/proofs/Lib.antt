@@ -1,0 +1,3 @@
+pub mod CheckLaws
+pub mod HeadFacts
+pub mod LoadFacts

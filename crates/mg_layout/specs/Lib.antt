@@ -1,0 +1,3 @@
+pub mod HeadAnswers
+pub mod Sizes
+pub mod Infos

@@ -1,0 +1,82 @@
+// Numbers behind each other, the highest byte first.
+ghost use Rattle.std.specs.Prelude.{◌≡◌, ◌+◌, ◌≤◌, ◌++◌, [], length, take, drop};
+ghost use Rattle.mg_defs.specs.Numbers.{four, eight};
+
+use byteorder::{BigEndian, ByteOrder};
+use std::marker::Model;
+
+const MOST: usize = 80;
+
+/// The fields of one head, as far as they are written.
+#[derive(Drop)]
+pub(crate) struct FieldWriter {
+    bytes: [u8; 80],
+    length: usize,
+}
+
+impl Model for FieldWriter {
+    ghost use Rattle.std.specs.Prelude.{◌≤◌, ℕ, List, take};
+
+    ghost Value = { List ℕ };
+
+    ghost view = { λ w. take w.length w.bytes };
+
+    ghost invariant = { λ w. w.length ≤ 80 };
+}
+
+impl FieldWriter {
+    pub(crate) fn new() -> Self
+        ensures { result ≡ [] }
+    {
+        FieldWriter {
+            bytes: [0; MOST],
+            length: 0,
+        }
+    }
+
+    /// What was written.
+    pub(crate) fn bytes(&self) -> &[u8]
+        ensures { result.now ≡ self.now }
+    {
+        &self.bytes[..self.length]
+    }
+
+    pub(crate) fn put(&mut self, piece: &[u8])
+        requires room { length self.old + length piece.now ≤ 80 }
+        ensures bytes { self.new ≡ self.old ++ piece.now }
+    {
+        let at = self.length;
+        put_at(&mut self.bytes, at, piece);
+        self.length = at + piece.len();
+    }
+
+    #[tactic(auto, unfolding(mg_defs::specs::Numbers::four))]
+    pub(crate) fn put_u32(&mut self, number: u32)
+        requires room { length self.old ≤ 72 }
+        ensures bytes { self.new ≡ self.old ++ four number }
+        ensures length { length self.new ≡ length self.old + 4 }
+    {
+        let mut piece = [0u8; 4];
+        BigEndian::write_u32(&mut piece, number);
+        self.put(&piece);
+    }
+
+    #[tactic(auto, unfolding(mg_defs::specs::Numbers::eight))]
+    pub(crate) fn put_u64(&mut self, number: u64)
+        requires room { length self.old ≤ 72 }
+        ensures bytes { self.new ≡ self.old ++ eight number }
+        ensures length { length self.new ≡ length self.old + 8 }
+    {
+        let mut piece = [0u8; 8];
+        BigEndian::write_u64(&mut piece, number);
+        self.put(&piece);
+    }
+}
+
+// The piece from an index on.
+fn put_at(bytes: &mut [u8; 80], at: usize, piece: &[u8])
+    requires { at + length piece.now ≤ 80 }
+    ensures { take (at + length piece.now) bytes.new ≡ take at bytes.old ++ piece.now }
+{
+    bytes[at..at + piece.len()].copy_from_slice(piece);
+}
