@@ -1,0 +1,4 @@
+pub mod ReadingLaws
+pub mod PendingLaws
+pub mod CommandLaws
+
