@@ -3,11 +3,11 @@ use Rattle.mg_reply.proofs.ReadingLaws.{going_start, going_more, closed, ended, 
 use Rattle.mg_reply.proofs.reader.LineReader.next.Goals as goal
 
 pub bytes-init : goal.bytes-init
-bytes-init g c = rw (← c.self.view_is) (let h = rw (← c.self.view_is) at c.requires in record {
+bytes-init g c = rw (← c.self.view_is) (record {
   going = rw c.clear.ensures (going_start _);
   used = refl;
   room = omega arith;
-  limit = omega (arith, h);
+  limit = omega arith;
   faults = omega arith;
 })
 
