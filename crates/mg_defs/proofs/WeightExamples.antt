@@ -29,9 +29,9 @@ line bytes = bytes ++ 10 ∷ []
 abbrev k : List ℕ
 k = line (codes "the cat sat") ++ 2 ∷ line (codes "the dog") ++ 2 ∷ line (codes "Cat, cat & dog!") ++ 2 ∷ []
 
-k_weights : (wt k (codes "cat") ≡ 338) × (wd (document k 3) (codes "cat") ≡ 512) × (weight (document k 3) ≡ 572) × (weight (document k 1) ≡ 443)
+k_weights : (wt k (codes "cat") ≡ 338) × (wd (document k 3) (codes "cat") ≡ 512) × (weight (document k 3) ≡ 572) × (weight (document k 1) ≡ 443) × (weight (document k 2) ≡ 362)
 unfolding parse weight_of_term weight_in_doc weight lg digits_of digit next isqrt root_from
-k_weights = (refl, refl, refl, refl)
+k_weights = (refl, refl, refl, refl, refl)
 
 k_top : (top k (codes "cat" ∷ []) None ≡ record { number = 3; score = 77451 } ∷ record { number = 1; score = 50002 } ∷ []) × (hit_count k (codes "cat" ∷ []) ≡ 2)
 unfolding parse weight_of_term weight_in_doc weight lg digits_of digit next isqrt root_from score_of

@@ -1,9 +1,23 @@
 // Laws of query lines.
-ghost use Rattle.std.specs.Prelude.{◌≡◌, List, Some};
-ghost use Rattle.mg_defs.specs.Tokens.{Token};
+ghost use Rattle.std.specs.Prelude.{◌≡◌, ◌+◌, ◌↔◌, ◌⊎◌, ℕ, true, false, List, [], ◌∷◌, ◌++◌, length, Some};
+ghost use Rattle.std.specs.List.{AllByRecursion};
+ghost use Rattle.mg_defs.specs.declared.Stream.TheVariants.{Words};
+ghost use Rattle.mg_defs.specs.Parse.{is_word_byte, EndsBefore};
+ghost use Rattle.mg_defs.specs.Tokens.{Token, word, Placed, placed, tokens_from, onto_sign, sign_of};
 ghost use Rattle.mg_defs.specs.Grammar.{BeginsQuery, ReadsAs};
 ghost use Rattle.mg_defs.specs.Sat.{Query};
 ghost use Rattle.mg_defs.specs.Walk.{Spot, walk, start};
+ghost use Rattle.mg_defs.specs.Read.{Refusal, reads, refused, boolean, ranked};
+ghost use Rattle.mg_defs.specs.FirstRefusal.{NoneRefused};
+ghost use Rattle.mg_defs.specs.BooleanLines.{IsRefusedAfter, IsAccepted, IsRefusal};
+ghost use Rattle.mg_defs.specs.RankedLines.{IsTermRefusedAfter, IsTermList, IsTermRefusal};
+
+/// The tokens of a line are its longest runs of word bytes and its signs, from the front.
+pub fn token_runs()
+    ensures none { (at : ℕ) → tokens_from at [] ≡ [] }
+    ensures run { (at b : ℕ) (w rest : List ℕ) → AllByRecursion (λ c. is_word_byte c ≡ true) (b ∷ w) → EndsBefore Words rest → tokens_from at (b ∷ (w ++ rest)) ≡ placed at (word (b ∷ w)) ∷ tokens_from (at + length (b ∷ w)) rest }
+    ensures other { (at b : ℕ) (rest : List ℕ) → is_word_byte b ≡ false → tokens_from at (b ∷ rest) ≡ onto_sign at (sign_of b) (tokens_from (at + 1) rest) }
+{}
 
 /// Tokens begin a query exactly where the walk over them goes on.
 pub fn walk_decides()
@@ -14,4 +28,38 @@ pub fn walk_decides()
 /// A token list reads as at most one query.
 pub fn one_query()
     ensures { (ts : List Token) (p q : Query) → ReadsAs ts p → ReadsAs ts q → p ≡ q }
+{}
+
+/// Where none of the tokens before it is refused, a token meets at most one cause.
+pub fn one_cause()
+    ensures boolean { (before : List Placed) (t : Placed) (why other : Refusal) → NoneRefused IsRefusedAfter [] before → IsRefusedAfter before t why → IsRefusedAfter before t other → why ≡ other }
+    ensures ranked { (before : List Placed) (t : Placed) (why other : Refusal) → IsTermRefusedAfter before t why → IsTermRefusedAfter before t other → why ≡ other }
+{}
+
+/// A line has one query or one refusal, and not both.
+pub fn one_reading()
+    ensures some { (line : List ℕ) → ((q : Query) × IsAccepted line q) ⊎ ((why : Refusal) × IsRefusal line why) }
+    ensures not_both { (line : List ℕ) (q : Query) (why : Refusal) → IsAccepted line q → IsRefusal line why → ⊥ }
+    ensures query { (line : List ℕ) (p q : Query) → IsAccepted line p → IsAccepted line q → p ≡ q }
+    ensures refusal { (line : List ℕ) (why other : Refusal) → IsRefusal line why → IsRefusal line other → why ≡ other }
+{}
+
+/// The computed reading of a Boolean line is the one that the grammar gives.
+pub fn boolean_is()
+    ensures accepted { (line : List ℕ) (q : Query) → (boolean line ≡ reads q) ↔ IsAccepted line q }
+    ensures refused { (line : List ℕ) (why : Refusal) → (boolean line ≡ refused why) ↔ IsRefusal line why }
+{}
+
+/// A ranked line has one list of terms or one refusal, and not both.
+pub fn one_term_list()
+    ensures some { (line : List ℕ) → ((terms : List (List ℕ)) × IsTermList line terms) ⊎ ((why : Refusal) × IsTermRefusal line why) }
+    ensures not_both { (line : List ℕ) (terms : List (List ℕ)) (why : Refusal) → IsTermList line terms → IsTermRefusal line why → ⊥ }
+    ensures terms { (line : List ℕ) (terms other : List (List ℕ)) → IsTermList line terms → IsTermList line other → terms ≡ other }
+    ensures refusal { (line : List ℕ) (why other : Refusal) → IsTermRefusal line why → IsTermRefusal line other → why ≡ other }
+{}
+
+/// The computed reading of a ranked line is that of its tokens.
+pub fn ranked_is()
+    ensures accepted { (line : List ℕ) (terms : List (List ℕ)) → (ranked line ≡ reads terms) ↔ IsTermList line terms }
+    ensures refused { (line : List ℕ) (why : Refusal) → (ranked line ≡ refused why) ↔ IsTermRefusal line why }
 {}

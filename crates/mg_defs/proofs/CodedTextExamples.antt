@@ -1,0 +1,71 @@
+-- Coded documents, their text and places, computed.
+use Rattle.std.proofs.Common.{◌≡◌, ℕ, List, [], ◌∷◌, ◌++◌, true, false, refl, replicate, map, lit≤}
+use Rattle.std.specs.Prelude.{codes}
+use Rattle.mg_defs.specs.declared.Stream.TheVariants.{Words, Others}
+use Rattle.mg_defs.specs.Parse.{parse}
+use Rattle.mg_defs.specs.Bits.{digits, number}
+use Rattle.mg_defs.specs.Codes.{gamma, unary, ones}
+use Rattle.mg_defs.specs.Vocabulary.{sorted_pieces}
+use Rattle.mg_defs.specs.CodedText.{TextCode, IsTextCode, codeword_of, piece_fields, coded_doc, as_bytes, text_of, places, places_of, doc_range}
+use Rattle.mg_defs.proofs.CollectionExamples.{k}
+
+-- ---- eight bytes and an open end: each stream has one piece
+
+abbrev eight : List ℕ
+eight = codes "a a a a "
+
+abbrev eight_code : TextCode
+eight_code = record { words = record { pieces = codes "a" ∷ []; lengths = 1 ∷ [] }; others = record { pieces = codes " " ∷ []; lengths = 1 ∷ [] } }
+
+eight_is : IsTextCode eight eight_code
+unfolding parse
+eight_is = (record { pieces = refl; lengths = record { each = refl; good = refl; cost = refl } }, record { pieces = refl; lengths = record { each = refl; good = refl; cost = refl } })
+
+eight_fields : piece_fields eight_code.words ≡ (97 ∷ [], 1 ∷ []) ∷ []
+eight_fields = refl
+
+eight_text : (coded_doc eight_code eight ≡ true ∷ true ∷ false ∷ false ∷ true ∷ replicate 8 false) × (text_of eight_code eight ≡ 200 ∷ 0 ∷ [])
+unfolding parse gamma unary ones digits as_bytes number
+eight_text = (refl, refl)
+
+eight_places : (places_of 1 eight_code eight ≡ 0 ∷ 0 ∷ 0 ∷ 0 ∷ 0 ∷ 0 ∷ 0 ∷ 2 ∷ []) × (places_of 2 eight_code eight ≡ replicate 8 0 ++ replicate 7 0 ++ 2 ∷ []) × (doc_range eight_code eight 1 ≡ record { from = 0; to = 16 })
+unfolding parse gamma unary ones digits as_bytes number
+eight_places = (refl, refl, refl)
+
+-- ---- empty documents, and blanks alone
+
+abbrev no_code : TextCode
+no_code = record { words = record { pieces = []; lengths = [] }; others = record { pieces = []; lengths = [] } }
+
+two_empty : IsTextCode (2 ∷ 2 ∷ []) no_code × (text_of no_code (2 ∷ 2 ∷ []) ≡ 0 ∷ 0 ∷ []) × (places no_code (2 ∷ 2 ∷ []) ≡ 0 ∷ 1 ∷ 2 ∷ [])
+unfolding parse gamma unary ones digits as_bytes number
+two_empty = ((record { pieces = refl; lengths = record { each = refl; good = tt; cost = refl } }, record { pieces = refl; lengths = record { each = refl; good = tt; cost = refl } }), refl, refl)
+
+abbrev blanks_code : TextCode
+blanks_code = record { words = record { pieces = [] ∷ []; lengths = 1 ∷ [] }; others = record { pieces = replicate 45 32 ∷ replicate 255 32 ∷ []; lengths = 1 ∷ 1 ∷ [] } }
+
+blanks : text_of blanks_code (replicate 300 32) ≡ 168 ∷ []
+unfolding parse gamma unary ones digits as_bytes number
+blanks = refl
+
+blanks_is : IsTextCode (replicate 300 32) blanks_code
+unfolding parse
+blanks_is = (record { pieces = refl; lengths = record { each = refl; good = refl; cost = refl } }, record { pieces = refl; lengths = record { each = refl; good = (((lit≤ tt, lit≤ tt), ((lit≤ tt, lit≤ tt), tt)), refl); cost = refl } })
+
+-- ---- three documents
+
+abbrev k_code : TextCode
+k_code = record { words = record { pieces = sorted_pieces Words k; lengths = 3 ∷ 2 ∷ 2 ∷ 3 ∷ 2 ∷ [] }; others = record { pieces = sorted_pieces Others k; lengths = 2 ∷ 2 ∷ 2 ∷ 3 ∷ 3 ∷ [] } }
+
+k_codewords : map (codeword_of k_code.words) k_code.words.pieces ≡ (false ∷ false ∷ false ∷ []) ∷ (false ∷ true ∷ []) ∷ (true ∷ false ∷ []) ∷ (false ∷ false ∷ true ∷ []) ∷ (true ∷ true ∷ []) ∷ []
+unfolding parse digits
+k_codewords = refl
+
+k_fields : piece_fields k_code.words ≡ (codes "Cat", 3 ∷ []) ∷ (codes "cat", 2 ∷ []) ∷ (codes "dog", 2 ∷ []) ∷ (codes "sat", 3 ∷ []) ∷ (codes "the", 2 ∷ []) ∷ []
+unfolding parse
+k_fields = refl
+
+-- the documents have 18, 11 and 20 bits
+k_places : places k_code k ≡ 0 ∷ 3 ∷ 5 ∷ 8 ∷ []
+unfolding parse gamma unary ones digits as_bytes number
+k_places = refl
