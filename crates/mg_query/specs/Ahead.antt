@@ -1,0 +1,54 @@
+-- What the tokens ahead begin with.
+use Rattle.std.specs.Prelude.{◌≡◌, List, [], ◌∷◌}
+use Rattle.mg_defs.specs.Tokens.{Token, word, bar, amp, bang, opening, closing, Placed}
+
+abbrev pub EndsAnd : Token → Type 0
+EndsAnd bar = Unit {0}
+EndsAnd closing = Unit {0}
+EndsAnd (word w) = ⊥
+EndsAnd amp = ⊥
+EndsAnd bang = ⊥
+EndsAnd opening = ⊥
+
+-- what may follow a list on level and: the end, a sign | or a closing parenthesis
+abbrev pub StopsAnd : List Placed → Type 0
+StopsAnd [] = Unit {0}
+StopsAnd (t ∷ ts) = EndsAnd t.token
+
+abbrev pub EndsOr : Token → Type 0
+EndsOr closing = Unit {0}
+EndsOr bar = ⊥
+EndsOr (word w) = ⊥
+EndsOr amp = ⊥
+EndsOr bang = ⊥
+EndsOr opening = ⊥
+
+-- what may follow a list on level or: the end or a closing parenthesis
+abbrev pub StopsOr : List Placed → Type 0
+StopsOr [] = Unit {0}
+StopsOr (t ∷ ts) = EndsOr t.token
+
+abbrev pub IsNoBang : Token → Type 0
+IsNoBang bang = ⊥
+IsNoBang (word w) = Unit {0}
+IsNoBang bar = Unit {0}
+IsNoBang amp = Unit {0}
+IsNoBang opening = Unit {0}
+IsNoBang closing = Unit {0}
+
+abbrev pub NoBang : List Placed → Type 0
+NoBang [] = Unit {0}
+NoBang (t ∷ ts) = IsNoBang t.token
+
+abbrev pub JoinsBy : Token → Placed → List Placed → List Placed → Type 0
+JoinsBy amp t ts after = after ≡ ts
+JoinsBy (word w) t ts after = after ≡ t ∷ ts
+JoinsBy bang t ts after = after ≡ t ∷ ts
+JoinsBy opening t ts after = after ≡ t ∷ ts
+JoinsBy bar t ts after = ⊥
+JoinsBy closing t ts after = ⊥
+
+-- One more operand of an and begins with the tokens after: at once, or after a sign &.
+abbrev pub JoinsTo : List Placed → List Placed → Type 0
+JoinsTo [] after = ⊥
+JoinsTo (t ∷ ts) after = JoinsBy t.token t ts after

@@ -1,0 +1,33 @@
+//! Query lines: from a line's bytes to a Boolean query or to a list of terms.
+//!
+//! A line is read in one pass, with one token in hand: no list of its tokens is kept, and a
+//! query's terms are the only copies of its bytes. The parser descends once for each open
+//! parenthesis, of which a line has at most 32, and counts the signs `!` in a loop, so that the
+//! stack it takes does not grow with the line.
+//!
+//! Each line has exactly one answer, which the definitions of `mg_defs` give: the query that the
+//! grammar reads from its tokens, or the first token at which the line is refused. The contracts
+//! here say that the answer is that one, and leave open only a want of memory.
+#![tactic(auto)]
+
+mod boolean;
+mod lexer;
+mod parser;
+mod query;
+mod query_err;
+mod ranked;
+mod term;
+mod terms;
+
+pub use boolean::parse_boolean;
+pub use query::Query;
+pub use query_err::QueryErr;
+pub use ranked::parse_ranked;
+pub use term::Term;
+pub use terms::Terms;
+
+/// The most bytes of a line.
+pub const LINE_LIMIT: usize = 1024;
+
+//#[cfg(test)]
+//mod tests;

@@ -1,0 +1,75 @@
+//! A Boolean query.
+ghost use Rattle.std.specs.Prelude.{◌≡◌, ◌++◌, IfOk, OnOk};
+ghost use Rattle.mg_defs.specs.QueryTerms.{query_terms};
+ghost use Rattle.mg_defs.specs.Sat.{both, either, without};
+ghost use Rattle.mg_defs.specs.Read.{negated};
+ghost use Rattle.mg_query.specs.QueryOf.{query_of};
+
+use crate::term::Term;
+use crate::terms::Terms;
+use std::alloc::{AllocError, Global};
+
+/// What a Boolean line asks for.
+#[derive(Debug, Drop)]
+pub enum Query {
+    /// The documents that have the term.
+    Term(Term),
+    And(Box<Query>, Box<Query>),
+    Or(Box<Query>, Box<Query>),
+    Not(Box<Query>),
+}
+
+impl Query {
+    /// The terms from left to right, repeats kept.
+    pub fn terms(&self, alloc: Global) -> Result<Terms, AllocError>
+        ensures { IfOk result (λ terms. terms ≡ query_terms (query_of self.now)) }
+    {
+        let mut terms = Terms::new(alloc);
+        self.add_terms(alloc, &mut terms)?;
+        Ok(terms)
+    }
+
+    fn add_terms(&self, alloc: Global, terms: &mut Terms) -> Result<(), AllocError>
+        ensures { OnOk result (terms.new ≡ terms.old ++ query_terms (query_of self.now)) }
+    {
+        match self {
+            Query::Term(term) => terms.push(term.copied(alloc)?),
+            Query::And(left, right) => {
+                left.add_terms(alloc, terms)?;
+                right.add_terms(alloc, terms)
+            }
+            Query::Or(left, right) => {
+                left.add_terms(alloc, terms)?;
+                right.add_terms(alloc, terms)
+            }
+            Query::Not(inner) => inner.add_terms(alloc, terms),
+        }
+    }
+
+    pub(crate) fn and(alloc: Global, left: Query, right: Query) -> Result<Query, AllocError>
+        ensures { IfOk result (λ q. query_of q ≡ both (query_of left) (query_of right)) }
+    {
+        let left = Box::new(alloc, left)?;
+        let right = Box::new(alloc, right)?;
+        Ok(Query::And(left, right))
+    }
+
+    pub(crate) fn or(alloc: Global, left: Query, right: Query) -> Result<Query, AllocError>
+        ensures { IfOk result (λ q. query_of q ≡ either (query_of left) (query_of right)) }
+    {
+        let left = Box::new(alloc, left)?;
+        let right = Box::new(alloc, right)?;
+        Ok(Query::Or(left, right))
+    }
+
+    /// The query under so many signs `!`.
+    pub(crate) fn negated(alloc: Global, query: Query, signs: u32) -> Result<Query, AllocError>
+        ensures { IfOk result (λ q. query_of q ≡ negated signs (query_of query)) }
+    {
+        let mut negated = query;
+        for _sign in 0..signs {
+            negated = Query::Not(Box::new(alloc, negated)?);
+        }
+        Ok(negated)
+    }
+}
