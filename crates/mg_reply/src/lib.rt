@@ -14,4 +14,4 @@ pub use pending::Pending;
 pub use reader::{LineErr, LineEvent, LineReader};
 pub use mg_defs::{Command, Mode, Settings};
 pub use serve::{Answerer, ServeErr, serve_lines};
-pub use text::{put_close, put_count, put_row, put_shown, put_too_long, put_wrong};
+pub use text::{put_close, put_count, put_refusal, put_row, put_shown, put_too_long, put_wrong};

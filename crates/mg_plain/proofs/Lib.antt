@@ -1,0 +1,4 @@
+pub mod DocumentLaws
+pub mod CountLaws
+pub mod ScanLaws
+pub mod LoadLaws

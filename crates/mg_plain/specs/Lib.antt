@@ -1,0 +1,4 @@
+pub mod Inside
+pub mod Counts
+pub mod Scanned
+pub mod Loaded

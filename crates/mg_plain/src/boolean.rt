@@ -1,0 +1,73 @@
+// A collection that is held as it is.
+ghost use Rattle.std.specs.Prelude.{◌≡◌, ◌≤◌, ◌^◌, length, IfSome};
+ghost use Rattle.mg_dev.specs.Causes.{HasPutCause};
+ghost use Rattle.mg_dev.specs.Streams.{AfterPut};
+ghost use Rattle.mg_defs.specs.Reply.{satisfying, answer_text};
+ghost use Rattle.mg_defs.specs.Replies.{boolean_reply, refusal};
+ghost use Rattle.mg_query.specs.RefusalOf.{refusal_of};
+ghost use Rattle.mg_defs.specs.Read.{boolean};
+ghost use Rattle.mg_query.specs.QueryOf.{query_of};
+
+use crate::counts::{count_terms, holds};
+use crate::docs::Docs;
+use crate::show::put_hit;
+use mg_defs::Settings;
+use mg_dev::{PutErr, Sink};
+use mg_query::{Query, QueryErr, parse_boolean};
+use mg_reply::{Pending, put_refusal};
+use std::alloc::Global;
+
+/// Writes the reply to a query: the documents that satisfy it, rising.
+pub(crate) fn answer_query<O: Sink>(alloc: Global, bytes: &[u8], query: &Query, now: &Settings, out: &mut O) -> Result<(), PutErr>
+    requires { length bytes.now ≤ 2 ^ 28 }
+    ensures content { AfterPut (O.written out.old) (O.written out.new) (answer_text bytes.now now.now (satisfying bytes.now (query_of query.now))) result }
+    ensures cause { HasPutCause (O.faults out.old) (O.faults out.new) result }
+{
+    let terms = query.terms(alloc)?;
+    let mut counts = vec![in alloc; 0u32; terms.len()]?;
+    let mut pending = Pending::new();
+    let mut docs = Docs::new(bytes);
+    let mut number = 0u32;
+    let mut total = 0u32;
+    'docs: while let Some(doc) = docs.next_doc() {
+        number += 1;
+        count_terms(doc, terms.as_slice(), &mut counts);
+        if !holds(query, &counts) {
+            continue;
+        }
+        match put_hit(&mut pending, out, now, total, number, None, doc) {
+            Ok(()) => {}
+            Err(error) => return Err(error),
+        }
+        total += 1;
+    }
+    match pending.count(out, total) {
+        Ok(()) => pending.flush(out),
+        Err(error) => Err(error),
+    }
+}
+
+/// Writes the reply to a Boolean line.
+pub(crate) fn answer_boolean<O: Sink>(alloc: Global, bytes: &[u8], line: &[u8], now: &Settings, out: &mut O) -> Result<(), PutErr>
+    requires small { length bytes.now ≤ 2 ^ 28 }
+    requires short { length line.now ≤ 1024 }
+    ensures content { AfterPut (O.written out.old) (O.written out.new) (boolean_reply bytes.now now.now (boolean line.now)) result }
+    ensures cause { HasPutCause (O.faults out.old) (O.faults out.new) result }
+{
+    match parse_boolean(alloc, line) {
+        Ok(query) => answer_query(alloc, bytes, &query, now, out),
+        Err(why) => put_refused(out, why),
+    }
+}
+
+/// Writes why a line is no query, or answers that memory was wanted.
+fn put_refused<O: Sink>(out: &mut O, why: QueryErr) -> Result<(), PutErr>
+    ensures content { IfSome (refusal_of why) (λ refused. AfterPut (O.written out.old) (O.written out.new) (refusal refused) result) }
+    ensures memory { why ≡ QueryErr.Memory → (result ≡ Err PutErr.Memory) × (O.written out.new ≡ O.written out.old) }
+    ensures cause { HasPutCause (O.faults out.old) (O.faults out.new) result }
+{
+    if let QueryErr::Memory = why {
+        return Err(PutErr::Memory);
+    }
+    put_refusal(out, &why)
+}

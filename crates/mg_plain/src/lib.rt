@@ -1,0 +1,7 @@
+//! A session over plain documents.
+#![tactic(auto)]
+
+mod counts;
+mod boolean;
+mod docs;
+mod show;
