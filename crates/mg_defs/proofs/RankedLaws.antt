@@ -165,7 +165,7 @@ turn used t = turn-at used t.at t.token
 
 -- ---- all tokens
 
-refused-stays : (why : Refusal) (ts : List Placed) → ranked_from (refused why) ts ≡ refused why
+pub refused-stays : (why : Refusal) (ts : List Placed) → ranked_from (refused why) ts ≡ refused why
 refused-stays why [] = refl
 refused-stays why (t ∷ ts) = refused-stays why ts
 

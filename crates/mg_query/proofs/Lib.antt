@@ -1,3 +1,4 @@
 pub mod TermLaws
 pub mod Steps
 pub mod AheadFew
+pub mod LineSteps

@@ -29,5 +29,5 @@ pub use terms::Terms;
 /// The most bytes of a line.
 pub const LINE_LIMIT: usize = 1024;
 
-//#[cfg(test)]
-//mod tests;
+#[cfg(test)]
+mod tests;

@@ -38,8 +38,8 @@ pub fn parse_ranked(alloc: Global, line: &[u8]) -> Result<Terms, QueryErr>
 
 /// Adds the term of a token that is a word, unless it is there.
 fn add_token(alloc: Global, terms: &mut Terms, next: Placed<'_>) -> Result<(), QueryErr>
-    ensures added { OnOk result (ranked_next (reads terms.old) (placed_of next) ≡ reads terms.new) }
-    ensures refused { IfErr result (λ e. IfSome (refusal_of e) (λ why. ranked_next (reads terms.old) (placed_of next) ≡ refused why)) }
+    ensures added { OnOk result (ranked_next (reads terms.old) (placed_of next.entry) ≡ reads terms.new) }
+    ensures refused { IfErr result (λ e. IfSome (refusal_of e) (λ why. ranked_next (reads terms.old) (placed_of next.entry) ≡ refused why)) }
 {
     match next.token {
         Token::Word(word) => add_word(alloc, terms, word, next.at),
