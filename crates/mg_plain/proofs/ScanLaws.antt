@@ -1,5 +1,5 @@
 -- Laws of a scan.
-use Rattle.std.proofs.Common.{◌≡◌, ℕ, zero, suc, ◌+◌, ◌-◌, ◌<◌, ◌≤◌, ◌^◌, true, false, inl, inr, List, [], ◌∷◌, ◌++◌, length, take, Some, None, Ok, Err, refl, sym, ◌∙◌, ap, subst, arith, append_assoc, append-nil, length-append}
+use Rattle.std.proofs.Common.{◌≡◌, ℕ, zero, suc, ◌+◌, ◌-◌, ◌<◌, ◌≤◌, ◌^◌, true, false, inl, inr, List, [], ◌∷◌, ◌++◌, length, take, Some, None, refl, sym, ◌∙◌, ap, subst, arith, append_assoc, append-nil, length-append}
 use Rattle.std.specs.Prelude.{flat_map}
 use Rattle.std.specs.declared.option.Option.{Option}
 use Rattle.std.specs.declared.result.Result.{Result}
@@ -16,8 +16,8 @@ use Rattle.mg_defs.specs.Weights.{first}
 use Rattle.mg_defs.specs.Texts.{count}
 use Rattle.mg_defs.specs.Reply.{Shown, plain, found, shown, shown_as, answer_text, satisfying}
 use Rattle.mg_defs.proofs.ReplyLaws.{found-hit, found-miss, shows, shown-more, shown-full, document_at}
-use Rattle.mg_reply.specs.Pending.{Passed, AfterPass}
-use Rattle.mg_reply.proofs.PendingLaws.{pass_nothing, pass_more}
+use Rattle.mg_reply.specs.Pending.{Passed}
+use Rattle.mg_reply.proofs.PendingLaws.{pass_nothing, pass_both, pass_cut, pass_put}
 use Rattle.mg_plain.specs.Scanned.{Scanned, hit_text}
 use Rattle.mg_plain.proofs.DocumentLaws.{few_documents, short_document}
 
@@ -99,7 +99,7 @@ is_there collection q now w0 w waiting number total doc before rest s e =
 pub scanned_hit : (collection : List ℕ) (q : Query) (now : Settings) (w0 w w2 : Option (List ℕ)) (waiting waiting2 : List ℕ) (number total : ℕ) (doc : List ℕ) (before rest : List (List ℕ)) → Scanned collection q now w0 w waiting number total before → before ≡ doc ∷ rest → satisfies q doc ≡ true → Passed w w2 waiting waiting2 (hit_text doc now.mode now.most total (plain (number + 1))) → Scanned collection q now w0 w2 waiting2 (number + 1) (total + 1) rest
 scanned_hit collection q now w0 w w2 waiting waiting2 number total doc before rest s e hit given =
     let whole : Passed w0 w2 [] waiting2 (flat_map (shown collection now.mode) (first now.most s.so_far) ++ hit_text doc now.mode now.most total (plain (number + 1))) =
-    pass_more w0 w w2 [] waiting waiting2 (flat_map (shown collection now.mode) (first now.most s.so_far)) (hit_text doc now.mode now.most total (plain (number + 1))) (Ok {E = ℕ} tt) s.passed given in
+    pass_both w0 w w2 [] waiting waiting2 (flat_map (shown collection now.mode) (first now.most s.so_far)) (hit_text doc now.mode now.most total (plain (number + 1))) s.passed given in
     record {
       front = s.front ++ doc ∷ [];
       docs_is = s.docs_is ∙ ap (λ r. s.front ++ r) e ∙ sym (append_assoc s.front (doc ∷ []) rest);
@@ -123,7 +123,7 @@ scanned_part collection q now w0 w w2 waiting number total doc before rest s e h
     let is_text : answer_text collection now (satisfying collection q) ≡ (flat_map g (first now.most s.so_far) ++ text) ++ front.0 =
     ap (answer_text collection now) all ∙ front.1 ∙ ap (λ t. t ++ front.0) adds in
     let part : GrewByPrefix w0 w2 (flat_map g (first now.most s.so_far) ++ text) =
-    pass_more w0 w w2 [] waiting [] (flat_map g (first now.most s.so_far)) text (Err {T = ℕ} zero) s.passed grew in
+    pass_cut w0 w w2 [] waiting (flat_map g (first now.most s.so_far)) text s.passed grew in
     subst (GrewByPrefix w0 w2) (sym is_text) (grew_first w0 w2 (flat_map g (first now.most s.so_far) ++ text) front.0 part)
 
 -- all documents were scanned
@@ -141,3 +141,16 @@ scanned_count collection q now w0 w waiting number total before rest doc s e sma
   omega (arith, few_documents collection, ap length s.docs_is, length-append s.front before, ap length e, s.count),
   omega (arith, short_document collection doc s.front rest (s.docs_is ∙ ap (λ r. s.front ++ r) e), small),
 )
+
+-- the count was passed on, and what waited was put
+pub counted_text : {T E : Type 0} (collection : List ℕ) (q : Query) (now : Settings) (w0 w w2 w3 : Option (List ℕ)) (waiting waiting2 : List ℕ) (number total : ℕ) (rest : List (List ℕ)) (r : Result T E) → Scanned collection q now w0 w waiting number total rest → rest ≡ [] → Passed w w2 waiting waiting2 (count total) → AfterPut w2 w3 waiting2 r → AfterPut w0 w3 (answer_text collection now (satisfying collection q)) r
+counted_text collection q now w0 w w2 w3 waiting waiting2 number total rest r s none counted put =
+    let t = scanned_text collection q now w0 w waiting number total rest s none in
+    let whole : Passed w0 w2 [] waiting2 (t.0 ++ count total) = pass_both w0 w w2 [] waiting waiting2 t.0 (count total) t.1 counted in
+    subst (λ x. AfterPut w0 w3 x r) (sym t.2) (pass_put w0 w2 w3 [] waiting2 (t.0 ++ count total) r refl whole put)
+
+-- the count was refused
+pub refused_text : (collection : List ℕ) (q : Query) (now : Settings) (w0 w w2 : Option (List ℕ)) (waiting : List ℕ) (number total : ℕ) (rest : List (List ℕ)) → Scanned collection q now w0 w waiting number total rest → rest ≡ [] → GrewByPrefix w w2 (waiting ++ count total) → GrewByPrefix w0 w2 (answer_text collection now (satisfying collection q))
+refused_text collection q now w0 w w2 waiting number total rest s none grew =
+    let t = scanned_text collection q now w0 w waiting number total rest s none in
+    subst (GrewByPrefix w0 w2) (sym t.2) (pass_cut w0 w w2 [] waiting t.0 (count total) t.1 grew)

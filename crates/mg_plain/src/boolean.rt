@@ -1,5 +1,7 @@
-// A collection that is held as it is.
-ghost use Rattle.std.specs.Prelude.{◌≡◌, ◌≤◌, ◌^◌, length, IfSome};
+// Boolean lines.
+ghost use Rattle.std.specs.Prelude.{◌≡◌, ◌≤◌, ◌^◌, length, vec_len, IfOk, IfSome};
+ghost use Rattle.mg_defs.specs.Sat.{satisfies};
+ghost use Rattle.mg_defs.specs.QueryTerms.{query_terms};
 ghost use Rattle.mg_dev.specs.Causes.{HasPutCause};
 ghost use Rattle.mg_dev.specs.Streams.{AfterPut};
 ghost use Rattle.mg_defs.specs.Reply.{satisfying, answer_text};
@@ -13,9 +15,28 @@ use crate::docs::Docs;
 use crate::show::put_hit;
 use mg_defs::Settings;
 use mg_dev::{PutErr, Sink};
-use mg_query::{Query, QueryErr, parse_boolean};
+use mg_query::{Query, QueryErr, Terms, parse_boolean};
 use mg_reply::{Pending, put_refusal};
-use std::alloc::Global;
+use std::alloc::{AllocError, Global};
+
+/// Whether a document satisfies a query with these terms. The counts are left from the last one.
+fn is_satisfied(query: &Query, doc: &[u8], terms: &Terms, counts: &mut Vec<u32>) -> bool
+    requires terms { terms.now ≡ query_terms (query_of query.now) }
+    requires size { vec_len counts.old ≡ length terms.now }
+    requires small { length doc.now ≤ 2 ^ 28 }
+    ensures value { result ≡ satisfies (query_of query.now) doc.now }
+    ensures size { vec_len counts.new ≡ length terms.now }
+{
+    count_terms(doc, terms.as_slice(), counts);
+    holds(query, counts)
+}
+
+/// A count of nothing for each term.
+fn no_counts(alloc: Global, terms: &Terms) -> Result<Vec<u32>, AllocError>
+    ensures { IfOk result (λ counts. vec_len counts ≡ length terms.now) }
+{
+    vec![in alloc; 0; terms.len()]
+}
 
 /// Writes the reply to a query: the documents that satisfy it, rising.
 pub(crate) fn answer_query<O: Sink>(alloc: Global, bytes: &[u8], query: &Query, now: &Settings, out: &mut O) -> Result<(), PutErr>
@@ -24,15 +45,14 @@ pub(crate) fn answer_query<O: Sink>(alloc: Global, bytes: &[u8], query: &Query, 
     ensures cause { HasPutCause (O.faults out.old) (O.faults out.new) result }
 {
     let terms = query.terms(alloc)?;
-    let mut counts = vec![in alloc; 0u32; terms.len()]?;
+    let mut counts = no_counts(alloc, &terms)?;
     let mut pending = Pending::new();
     let mut docs = Docs::new(bytes);
     let mut number = 0u32;
     let mut total = 0u32;
     'docs: while let Some(doc) = docs.next_doc() {
         number += 1;
-        count_terms(doc, terms.as_slice(), &mut counts);
-        if !holds(query, &counts) {
+        if !is_satisfied(query, doc, &terms, &mut counts) {
             continue;
         }
         match put_hit(&mut pending, out, now, total, number, None, doc) {

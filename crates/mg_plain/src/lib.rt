@@ -4,4 +4,7 @@
 mod counts;
 mod boolean;
 mod docs;
+mod plain;
 mod show;
+
+pub use plain::PlainText;
