@@ -1,0 +1,5 @@
+pub mod ReadingLaws
+pub mod PendingLaws
+pub mod CommandLaws
+
+pub mod ServedLaws

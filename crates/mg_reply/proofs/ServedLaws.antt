@@ -1,0 +1,343 @@
+-- Laws of a session that is under way.
+use Rattle.std.proofs.Common.{◌≡◌, ◌==◌, ℕ, zero, suc, ◌+◌, ◌-◌, ◌<◌, ◌≤◌, ◌⊎◌, inl, inr, Bool, true, false, not, ◌&&◌, ◌||◌, List, [], ◌∷◌, ◌++◌, length, take, refl, sym, ◌∙◌, ap, subst, arith, Some, IsSome, IsTrue, append_assoc, append-nil, length-append}
+use Rattle.std.specs.List.{list_any}
+use Rattle.std.specs.declared.option.Option.{Option}
+use Rattle.std.proofs.Math.Seq.{take-length, take-append-add}
+use Rattle.std.proofs.lemmas.List.{take-append-le}
+use Rattle.std.proofs.lemmas.List.Folds.{list_any-append}
+use Rattle.std.proofs.lemmas.Bool.{cases_Bool, false≢true, lt-ltb, le-ltb, and_from, and_left, and_right, or_left, or_right, cond_both}
+use Rattle.mg_dev.specs.Streams.{appended, prepended, GrewByPrefix, IsAtEnd}
+use Rattle.mg_dev.specs.StreamLaws.{appended-nil, appended-appended, grew_first, grew_second, grew_nothing}
+use Rattle.mg_defs.specs.declared.session.Settings.{Settings}
+use Rattle.mg_defs.specs.declared.session.Command.{Command}
+use Rattle.mg_defs.specs.declared.session.Command.TheVariants.{Skip, Ask, Quit, Wrong, Set}
+use Rattle.mg_defs.specs.Commands.{start, command, text_of, settings_after, stops}
+use Rattle.mg_defs.specs.Texts.{bad_command}
+use Rattle.mg_defs.specs.Lines.{lines, HasNoEnd, without_return}
+use Rattle.mg_defs.specs.Session.{replies, session_of, read, ends, Question, questions, questions_of, asked_by}
+use Rattle.mg_defs.specs.Limit.{is_quit, ended_lines, has_quit, is_too_much, input_limit, IsReadEnough}
+use Rattle.mg_defs.proofs.SessionLaws.{Gives, gives_end, gives_line, ends_long, ends_short}
+use Rattle.mg_defs.proofs.LimitLaws.{ends_always, ended-line, ended-none}
+use Rattle.mg_reply.specs.Reading.{IsFirst, RunsOn}
+use Rattle.mg_reply.specs.Served.{Served, Rests, Used, Counted, AnsweredSome, LeftEnough}
+use Rattle.mg_reply.proofs.ReadingLaws.{first_line, left_now, empty}
+
+-- ---- what was printed and answered
+
+pub served_start : {A : Type 0} (After : A → A → List Question → Type 0) (a : A) (reply : Settings → List ℕ → List ℕ) (left written : Option (List ℕ)) → After a a [] → Served After a a reply left left written written start
+served_start After a reply left written none = record {
+  done = [];
+  answered = [];
+  given = sym (appended-nil written);
+  after = none;
+  goes_on = λ all told. record { rest = all; told = told; goes_on = refl; asks = refl };
+}
+
+-- answers between two states, and then between the second and a third
+abbrev pub Joins : {A : Type 0} → (A → A → List Question → Type 0) → Type 0
+Joins {A} After = (s t u : A) (xs ys : List Question) → After s t xs → After t u ys → After s u (xs ++ ys)
+
+-- a line more
+pub served_line : {A : Type 0} (After : A → A → List Question → Type 0) (old new next : A) (reply : Settings → List ℕ → List ℕ) (before left left2 w0 w1 w2 : Option (List ℕ)) (now after : Settings) (line text : List ℕ) (asking : List Question) (size : ℕ) → Joins After → Served After old new reply before left w0 w1 now → IsFirst line size left left2 → Gives reply now line text asking after → After new next asking → w2 ≡ appended w1 text → Served After old next reply before left2 w0 w2 after
+served_line After old new next reply before left left2 w0 w1 w2 now after line text asking size joins s first gives step given = record {
+  done = s.done ++ text;
+  answered = s.answered ++ asking;
+  given = given ∙ ap (λ w. appended w text) s.given ∙ appended-appended w0 s.done text;
+  after = joins old new next s.answered asking s.after step;
+  goes_on = λ all told.
+      let r = s.goes_on all told in
+      let f = first_line line r.rest size left left2 first r.told in
+      record {
+        rest = f.0;
+        told = f.1;
+        goes_on = r.goes_on ∙ ap (λ ls. s.done ++ replies reply now ls) f.2 ∙ ap (λ t. s.done ++ t) (gives.goes_on (lines f.0)) ∙ sym (append_assoc s.done text (replies reply after (lines f.0)));
+        asks = r.asks ∙ ap (λ ls. s.answered ++ questions now ls) f.2 ∙ ap (λ t. s.answered ++ t) (gives.asks (lines f.0)) ∙ sym (append_assoc s.answered asking (questions after (lines f.0)));
+      };
+}
+
+-- a part of a line's text
+pub served_part : {A : Type 0} (After : A → A → List Question → Type 0) (old new : A) (reply : Settings → List ℕ → List ℕ) (before left next w0 w1 w2 : Option (List ℕ)) (now after : Settings) (line text : List ℕ) (asking : List Question) (size : ℕ) → Served After old new reply before left w0 w1 now → IsFirst line size left next → Gives reply now line text asking after → GrewByPrefix w1 w2 text → (all : List ℕ) → before ≡ Some all → GrewByPrefix w0 w2 (session_of reply all)
+unfolding session_of
+served_part After old new reply before left next w0 w1 w2 now after line text asking size s first gives grew all told =
+    let r = s.goes_on all told in
+    let f = first_line line r.rest size left next first r.told in
+    let e : replies reply start (lines all) ≡ s.done ++ (text ++ replies reply after (lines f.0)) =
+    r.goes_on ∙ ap (λ ls. s.done ++ replies reply now ls) f.2 ∙ ap (λ t. s.done ++ t) (gives.goes_on (lines f.0)) in
+    subst (GrewByPrefix w0 w2) (sym e) (grew_second w0 w1 w2 s.done (text ++ replies reply after (lines f.0)) s.given (grew_first w1 w2 text (replies reply after (lines f.0)) grew))
+
+-- what was printed so far
+pub served_some : {A : Type 0} (After : A → A → List Question → Type 0) (old new : A) (reply : Settings → List ℕ → List ℕ) (before left w0 w1 : Option (List ℕ)) (now : Settings) → Served After old new reply before left w0 w1 now → (all : List ℕ) → before ≡ Some all → GrewByPrefix w0 w1 (session_of reply all)
+unfolding session_of
+served_some After old new reply before left w0 w1 now s all told =
+    let r = s.goes_on all told in
+    subst (GrewByPrefix w0 w1) (sym r.goes_on) (grew_second w0 w1 w1 s.done (replies reply now (lines r.rest)) s.given (grew_nothing w1 (replies reply now (lines r.rest))))
+
+-- the queries answered so far
+pub served_asked : {A : Type 0} (After : A → A → List Question → Type 0) (old new : A) (reply : Settings → List ℕ → List ℕ) (before left w0 w1 : Option (List ℕ)) (now : Settings) → Served After old new reply before left w0 w1 now → AnsweredSome After old new before
+unfolding questions_of
+served_asked After old new reply before left w0 w1 now s = record {
+  answered = s.answered;
+  after = s.after;
+  first = λ all told. let r = s.goes_on all told in (questions now (lines r.rest), r.asks);
+}
+
+-- nothing is left of a told input at its end
+nothing : (left : Option (List ℕ)) (rest : List ℕ) → left ≡ Some rest → IsAtEnd left → rest ≡ []
+nothing left rest told end =
+    let is_told : IsSome left = rw told in
+    let e = sym told ∙ end is_told in cc
+
+-- the input is at its end
+pub served_all : {A : Type 0} (After : A → A → List Question → Type 0) (old new : A) (reply : Settings → List ℕ → List ℕ) (before left w0 w1 : Option (List ℕ)) (now : Settings) → Served After old new reply before left w0 w1 now → IsAtEnd left → (all : List ℕ) → before ≡ Some all → w1 ≡ appended w0 (session_of reply all)
+unfolding session_of replies
+served_all After old new reply before left w0 w1 now s end all told =
+    let r = s.goes_on all told in
+    let none = nothing left r.rest r.told end in
+    s.given ∙ ap (appended w0) (sym (r.goes_on ∙ ap (λ x. s.done ++ replies reply now (lines x)) none ∙ append-nil s.done))
+
+-- a line ends it
+pub served_quit : {A : Type 0} (After : A → A → List Question → Type 0) (old new : A) (reply : Settings → List ℕ → List ℕ) (before left next w0 w1 : Option (List ℕ)) (now : Settings) (line : List ℕ) (size : ℕ) → Served After old new reply before left w0 w1 now → IsFirst line size left next → length line ≤ 1024 → stops (read now line) ≡ true → (all : List ℕ) → before ≡ Some all → w1 ≡ appended w0 (session_of reply all)
+unfolding session_of
+served_quit After old new reply before left next w0 w1 now line size s first short quits all told =
+    let r = s.goes_on all told in
+    let f = first_line line r.rest size left next first r.told in
+    let none = gives_end reply now line (lines f.0) short quits in
+    s.given ∙ ap (appended w0) (sym (r.goes_on ∙ ap (λ ls. s.done ++ replies reply now ls) f.2 ∙ ap (λ t. s.done ++ t) none.0 ∙ append-nil s.done))
+
+-- ---- what is said of a line's answer
+
+no_text : (reply : Settings → List ℕ → List ℕ) (wrong : List ℕ) (now : Settings) (line : List ℕ) (c : Command) → stops c ≡ true → (text_of reply wrong now line c ≡ []) × (asked_by now line c ≡ [])
+no_text reply wrong now line Skip h = (refl, refl)
+no_text reply wrong now line Ask h = absurd (false≢true h)
+no_text reply wrong now line Quit h = (refl, refl)
+no_text reply wrong now line Wrong h = absurd (false≢true h)
+no_text reply wrong now line (Set changed) h = (refl, refl)
+
+-- A line of an input, without a last carriage return, is answered by a state with this reply.
+pub record Answered (reply answering : Settings → List ℕ → List ℕ) (now : Settings) (line cut : List ℕ) : Type 0 where
+  pub same : answering ≡ reply
+  pub cut_is : cut ≡ without_return line
+  pub short : length line ≤ 1024
+
+-- the text of a line's answer
+abbrev pub answer : (Settings → List ℕ → List ℕ) → Settings → List ℕ → List ℕ
+answer answering now cut = text_of answering bad_command now cut (command cut now)
+
+pub answered_gives : (reply answering : Settings → List ℕ → List ℕ) (now : Settings) (line cut : List ℕ) → Answered reply answering now line cut → stops (command cut now) ≡ false → Gives reply now line (answer answering now cut) (asked_by now cut (command cut now)) (settings_after now (command cut now))
+answered_gives reply answering now line cut a goes =
+    let P : (Settings → List ℕ → List ℕ) → List ℕ → Type 0 = λ r l. Gives reply now line (answer r now l) (asked_by now l (command l now)) (settings_after now (command l now)) in
+    let goes2 : stops (read now line) ≡ false = ap (λ l. stops (command l now)) (sym a.cut_is) ∙ goes in
+    subst (λ r. P r cut) (sym a.same) (subst (λ l. P reply l) (sym a.cut_is) (gives_line reply now line a.short goes2))
+
+pub answered_quits : {A : Type 0} (After : A → A → List Question → Type 0) (old new : A) (reply answering : Settings → List ℕ → List ℕ) (before left next w0 w1 w2 : Option (List ℕ)) (now : Settings) (line cut : List ℕ) (size : ℕ) → Served After old new reply before left w0 w1 now → IsFirst line size left next → Answered reply answering now line cut → stops (command cut now) ≡ true → w2 ≡ appended w1 (answer answering now cut) → (all : List ℕ) → before ≡ Some all → w2 ≡ appended w0 (session_of reply all)
+answered_quits After old new reply answering before left next w0 w1 w2 now line cut size s first a quits given all told =
+    let quits2 : stops (read now line) ≡ true = ap (λ l. stops (command l now)) (sym a.cut_is) ∙ quits in
+    given ∙ ap (appended w1) ((no_text answering bad_command now cut (command cut now) quits).0) ∙ appended-nil w1 ∙ served_quit After old new reply before left next w0 w1 now line size s first a.short quits2 all told
+
+-- all of it is a prefix of it
+pub all_grew : (w0 w1 : Option (List ℕ)) (text : List ℕ) → w1 ≡ appended w0 text → GrewByPrefix w0 w1 text
+all_grew w0 w1 text e = record { count = length text; within = omega arith; is = e ∙ ap (appended w0) (sym (take-length text)) }
+
+-- a refused answer: it printed a part of its text, whatever the line was to do
+pub answered_part : {A : Type 0} (After : A → A → List Question → Type 0) (old new : A) (reply answering : Settings → List ℕ → List ℕ) (before left next w0 w1 w2 : Option (List ℕ)) (now : Settings) (line cut : List ℕ) (size : ℕ) → Served After old new reply before left w0 w1 now → IsFirst line size left next → Answered reply answering now line cut → GrewByPrefix w1 w2 (answer answering now cut) → (all : List ℕ) → before ≡ Some all → GrewByPrefix w0 w2 (session_of reply all)
+answered_part After old new reply answering before left next w0 w1 w2 now line cut size s first a grew all told =
+    elim (cases_Bool (stops (command cut now))) [
+      | inl quits ↦
+          let none : answer answering now cut ≡ [] = (no_text answering bad_command now cut (command cut now) quits).0 in
+          let g : GrewByPrefix w1 w2 [] = subst (GrewByPrefix w1 w2) none grew in
+          let same : w2 ≡ w1 = g.is ∙ ap (appended w1) (take-none g.count) ∙ appended-nil w1 in
+          subst (λ w. GrewByPrefix w0 w (session_of reply all)) (sym same) (served_some After old new reply before left w0 w1 now s all told)
+      | inr goes ↦ served_part After old new reply before left next w0 w1 w2 now (settings_after now (command cut now)) line (answer answering now cut) (asked_by now cut (command cut now)) size s first (answered_gives reply answering now line cut a goes) grew all told
+    ]
+  where
+    take-none : (n : ℕ) → take {A = ℕ} n [] ≡ []
+    take-none zero = refl
+    take-none (suc n) = refl
+
+-- the queries answered, those of the line that was answered last among them
+pub answered_asked : {A : Type 0} (After : A → A → List Question → Type 0) (old new next : A) (reply answering : Settings → List ℕ → List ℕ) (before left left2 w0 w1 : Option (List ℕ)) (now : Settings) (line cut : List ℕ) (size : ℕ) → Joins After → Served After old new reply before left w0 w1 now → IsFirst line size left left2 → Answered reply answering now line cut → After new next (asked_by now cut (command cut now)) → AnsweredSome After old next before
+unfolding questions_of
+answered_asked After old new next reply answering before left left2 w0 w1 now line cut size joins s first a step = record {
+  answered = s.answered ++ asked_by now cut (command cut now);
+  after = joins old new next s.answered (asked_by now cut (command cut now)) s.after step;
+  first = λ all told.
+      let r = s.goes_on all told in
+      let f = first_line line r.rest size left left2 first r.told in
+      let whole : questions start (lines all) ≡ s.answered ++ questions now (line ∷ lines f.0) = r.asks ∙ ap (λ ls. s.answered ++ questions now ls) f.2 in
+      elim (cases_Bool (stops (command cut now))) [
+        | inl quits ↦
+            let none : asked_by now cut (command cut now) ≡ [] = (no_text answering bad_command now cut (command cut now) quits).1 in
+            (questions now (line ∷ lines f.0), whole ∙ ap (λ x. x ++ questions now (line ∷ lines f.0)) (sym (append-nil s.answered) ∙ ap (λ x. s.answered ++ x) (sym none)))
+        | inr goes ↦
+            let gives = answered_gives reply answering now line cut a goes in
+            (questions (settings_after now (command cut now)) (lines f.0), whole ∙ ap (λ x. s.answered ++ x) (gives.asks (lines f.0)) ∙ sym (append_assoc s.answered (asked_by now cut (command cut now)) (questions (settings_after now (command cut now)) (lines f.0))))
+      ];
+}
+
+-- ---- how many bytes were used
+
+pub counted_start : (left : Option (List ℕ)) → Counted left left 0
+counted_start left = record { goes_on = λ all told. record {
+  front = [];
+  rest = all;
+  told = told;
+  whole = refl;
+  size = refl;
+  passed = [];
+  no_quit = refl;
+  ended = λ some more. refl;
+} }
+
+more_ended : (front line more : List ℕ) (passed : List (List ℕ)) → HasNoEnd line → ((more : List ℕ) → ended_lines (front ++ more) ≡ passed ++ ended_lines more) → ended_lines ((front ++ (line ++ 10 ∷ [])) ++ more) ≡ passed ++ (line ∷ ended_lines more)
+more_ended front line more passed plain ended =
+    ap ended_lines (append_assoc front (line ++ 10 ∷ []) more ∙ ap (λ t. front ++ t) (append_assoc line (10 ∷ []) more))
+    ∙ ended (line ++ (10 ∷ more))
+    ∙ ap (λ t. passed ++ t) (ended-line line more plain)
+
+some_left : (line rest all : List ℕ) → all ≡ (line ++ 10 ∷ []) ++ rest → 0 < length all
+some_left line rest all e = omega (arith, ap length e, length-append (line ++ 10 ∷ []) rest, length-append line (10 ∷ []))
+
+pub counted_line : (before left next : Option (List ℕ)) (line : List ℕ) (size used used2 : ℕ) → Counted before left used → IsFirst line size left next → is_quit line ≡ false → used2 ≡ used + size → Counted before next used2
+counted_line before left next line size used used2 c first goes e = record {
+  goes_on = λ all told.
+      let u = c.goes_on all told in
+      elim first.ends [
+        | inl f ↦
+            let now = left_now next (line ++ 10 ∷ []) u.rest (sym u.told ∙ f.1) in
+            record {
+              front = u.front ++ (line ++ 10 ∷ []);
+              rest = now.0;
+              told = now.1;
+              whole = u.whole ∙ ap (λ t. u.front ++ t) now.2 ∙ sym (append_assoc u.front (line ++ 10 ∷ []) now.0);
+              size = omega (arith, u.size, e, f.0, length-append u.front (line ++ 10 ∷ []), length-append line (10 ∷ []));
+              passed = u.passed ++ line ∷ [];
+              no_quit = list_any-append is_quit u.passed (line ∷ []) ∙ ap (λ b. b || (is_quit line || false)) u.no_quit ∙ ap (λ b. b || false) goes;
+              ended = λ some more. more_ended u.front line more u.passed first.plain (u.ended (some_left line now.0 u.rest now.2)) ∙ sym (append_assoc u.passed (line ∷ []) (ended_lines more));
+            }
+        | inr f ↦
+            let now = left_now next line u.rest (sym u.told ∙ f.2) in
+            let none : now.0 ≡ [] = nothing next now.0 now.1 f.3 in
+            record {
+              front = u.front ++ line;
+              rest = now.0;
+              told = now.1;
+              whole = u.whole ∙ ap (λ t. u.front ++ t) now.2 ∙ sym (append_assoc u.front line now.0);
+              size = omega (arith, u.size, e, f.0, length-append u.front line);
+              passed = u.passed;
+              no_quit = u.no_quit;
+              ended = λ some more. absurd (omega (arith, some, ap length none));
+            }
+      ];
+}
+
+quit_ends : (front line more : List ℕ) (passed : List (List ℕ)) → HasNoEnd line → is_quit line ≡ true → ((more : List ℕ) → ended_lines (front ++ more) ≡ passed ++ ended_lines more) → list_any is_quit (ended_lines ((front ++ (line ++ 10 ∷ [])) ++ more)) ≡ true
+quit_ends front line more passed plain quits ended =
+    ap (list_any is_quit) (more_ended front line more passed plain ended) ∙ list_any-append is_quit passed (line ∷ ended_lines more)
+    ∙ or_right _ _ (or_left _ _ quits)
+
+take_front : (n : ℕ) (front rest : List ℕ) → length front ≤ n → take n (front ++ rest) ≡ front ++ take (n - length front) rest
+take_front n front rest le =
+    let e : n ≡ length front + (n - length front) = omega (arith, le) in
+    ap (λ k. take k (front ++ rest)) e ∙ take-append-add front rest (n - length front)
+
+-- the input is too long: a line runs on past the limit
+pub counted_past : (before left next : Option (List ℕ)) (size used : ℕ) → Counted before left used → RunsOn size left next → used + size ≡ input_limit → (all : List ℕ) → before ≡ Some all → is_too_much input_limit all ≡ true
+unfolding is_too_much has_quit
+counted_past before left next size used c runs full all told =
+    let u = c.goes_on all told in
+    let now = left_now next (runs.front ++ runs.byte ∷ []) u.rest (sym u.told ∙ runs.taken) in
+    let within = u.front ++ runs.front in
+    let tail = runs.byte ∷ now.0 in
+    let long : length within ≡ input_limit = omega (arith, length-append u.front runs.front, u.size, runs.count, full) in
+    let split : all ≡ within ++ tail =
+    u.whole ∙ ap (λ t. u.front ++ t) (now.2 ∙ append_assoc runs.front (runs.byte ∷ []) now.0) ∙ sym (append_assoc u.front runs.front tail) in
+    let first : take input_limit all ≡ within =
+    ap (take input_limit) split ∙ take-append-le input_limit within tail (omega (arith, long)) ∙ ap (λ n. take n within) (sym long) ∙ take-length within in
+    let some : 0 < length u.rest = omega (arith, ap length now.2, length-append (runs.front ++ runs.byte ∷ []) now.0, length-append runs.front (runs.byte ∷ [])) in
+    let none : list_any is_quit (ended_lines (take input_limit all)) ≡ false =
+    ap (λ bytes. list_any is_quit (ended_lines bytes)) first ∙ ap (list_any is_quit) (u.ended some runs.front ∙ ap (λ t. u.passed ++ t) (ended-none runs.front runs.plain) ∙ append-nil u.passed) ∙ u.no_quit in
+    and_from _ _ (lt-ltb input_limit (length all) (omega (arith, ap length split, length-append within tail, long))) (ap not none)
+
+-- it is not: all of it was used
+pub counted_all : (before left : Option (List ℕ)) (used : ℕ) → Counted before left used → IsAtEnd left → used ≤ input_limit → (all : List ℕ) → before ≡ Some all → is_too_much input_limit all ≡ false
+unfolding is_too_much
+counted_all before left used c end within all told =
+    let u = c.goes_on all told in
+    let none = nothing left u.rest u.told end in
+    and_left _ _ (le-ltb input_limit (length all) (omega (arith, ap length u.whole, length-append u.front u.rest, ap length none, u.size, within)))
+
+-- it is not: a line that ends the session ended
+pub counted_quit : (before left next : Option (List ℕ)) (line : List ℕ) (size used used2 : ℕ) → Counted before left used → IsFirst line size left next → is_quit line ≡ true → used2 ≡ used + size → used2 ≤ input_limit → (all : List ℕ) → before ≡ Some all → is_too_much input_limit all ≡ false
+unfolding is_too_much has_quit
+counted_quit before left next line size used used2 c first quits e within all told =
+    let u = c.goes_on all told in
+    elim first.ends [
+      | inl f ↦
+          let now = left_now next (line ++ 10 ∷ []) u.rest (sym u.told ∙ f.1) in
+          let front = u.front ++ (line ++ 10 ∷ []) in
+          let split : all ≡ front ++ now.0 = u.whole ∙ ap (λ t. u.front ++ t) now.2 ∙ sym (append_assoc u.front (line ++ 10 ∷ []) now.0) in
+          let size_is : length front ≤ input_limit = omega (arith, u.size, e, f.0, within, length-append u.front (line ++ 10 ∷ []), length-append line (10 ∷ [])) in
+          let more = take (input_limit - length front) now.0 in
+          let some : list_any is_quit (ended_lines (take input_limit all)) ≡ true =
+          ap (λ bytes. list_any is_quit (ended_lines bytes)) (ap (take input_limit) split ∙ take_front input_limit front now.0 size_is)
+          ∙ quit_ends u.front line more u.passed first.plain quits (u.ended (some_left line now.0 u.rest now.2)) in
+          and_right _ _ (ap not some)
+      | inr f ↦
+          let now = left_now next line u.rest (sym u.told ∙ f.2) in
+          let none : now.0 ≡ [] = nothing next now.0 now.1 f.3 in
+          and_left _ _ (le-ltb input_limit (length all) (omega (arith, ap length u.whole, length-append u.front u.rest, ap length now.2, length-append line now.0, ap length none, u.size, e, f.0, within)))
+    ]
+
+-- ---- how much of the input was read
+
+pub left_at_end : (before input : Option (List ℕ)) (held : List ℕ) (used : ℕ) → Counted before (prepended held input) used → IsAtEnd (prepended held input) → (all : List ℕ) → before ≡ Some all → LeftEnough all input
+left_at_end before input held used c end all told =
+    let u = c.goes_on all told in
+    let none = nothing (prepended held input) u.rest u.told end in
+    let now = left_now input held u.rest (sym u.told) in
+    let gone : now.0 ≡ [] = empty now.0 (omega (arith, ap length now.2, length-append held now.0, ap length none)) in
+    (now.0, now.1, record { taken = all; whole = sym (append-nil all) ∙ ap (λ r. all ++ r) (sym gone); enough = inl gone })
+
+pub left_at_quit : (before left input : Option (List ℕ)) (held line : List ℕ) (size used : ℕ) → Counted before left used → IsFirst line size left (prepended held input) → is_quit line ≡ true → (all : List ℕ) → before ≡ Some all → LeftEnough all input
+unfolding has_quit
+left_at_quit before left input held line size used c first quits all told =
+    let u = c.goes_on all told in
+    elim first.ends [
+      | inl f ↦
+          let now = left_now (prepended held input) (line ++ 10 ∷ []) u.rest (sym u.told ∙ f.1) in
+          let ahead = left_now input held now.0 (sym now.1) in
+          let front = u.front ++ (line ++ 10 ∷ []) in (
+            ahead.0,
+            ahead.1,
+            record {
+              taken = front ++ held;
+              whole = u.whole ∙ ap (λ t. u.front ++ t) (now.2 ∙ ap (λ t. (line ++ 10 ∷ []) ++ t) ahead.2) ∙ sym (append_assoc u.front (line ++ 10 ∷ []) (held ++ ahead.0)) ∙ sym (append_assoc front held ahead.0);
+              enough = inr (quit_ends u.front line held u.passed first.plain quits (u.ended (some_left line now.0 u.rest now.2)));
+            },
+          )
+      | inr f ↦
+          let now = left_now (prepended held input) line u.rest (sym u.told ∙ f.2) in
+          let none : now.0 ≡ [] = nothing (prepended held input) now.0 now.1 f.3 in
+          let ahead = left_now input held now.0 (sym now.1) in
+          let gone : ahead.0 ≡ [] = empty ahead.0 (omega (arith, ap length ahead.2, length-append held ahead.0, ap length none)) in
+          (ahead.0, ahead.1, record { taken = all; whole = sym (append-nil all) ∙ ap (λ r. all ++ r) (sym gone); enough = inl gone })
+    ]
+
+-- ---- whether a line ends the session
+
+pub goes_long : (line : List ℕ) → 1024 < length line → is_quit line ≡ false
+goes_long line long = ends_long start line long
+
+pub quit_is : (now : Settings) (line cut : List ℕ) (b : Bool) → length line ≤ 1024 → cut ≡ without_return line → b ≡ stops (command cut now) → is_quit line ≡ b
+quit_is now line cut b short cut_is e = sym (ends_always now line) ∙ ends_short now line short ∙ ap (λ l. stops (command l now)) (sym cut_is) ∙ sym e
+
+pub cut_short : (line cut : List ℕ) → cut ≡ without_return line → length line ≤ 1024 → length cut ≤ 1024
+cut_short line cut e short = omega (arith, ap length e, shorter line, short)
+  where
+    one : (b : ℕ) → length (without_return (b ∷ [])) ≤ 1
+    one b = cond_both (b == 13) [] (b ∷ []) (λ l. length l ≤ 1) (λ _. omega arith) (λ _. omega arith)
+
+    shorter : (line : List ℕ) → length (without_return line) ≤ length line
+    shorter [] = omega arith
+    shorter (b ∷ []) = one b
+    shorter (b ∷ c ∷ line) = omega (arith, shorter (c ∷ line))

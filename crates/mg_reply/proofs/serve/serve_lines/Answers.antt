@@ -1,0 +1,126 @@
+use Rattle.std.proofs.Common.{◌≤◌, length, arith, refl, sym, ◌∙◌, subst}
+use Rattle.mg_dev.specs.StreamLaws.{prepended-nil}
+use Rattle.mg_defs.proofs.SessionLaws.{gives_long}
+use Rattle.mg_reply.proofs.ServedLaws.{served_start, served_line, served_part, served_some, served_asked, served_all, answered_gives, answered_quits, answered_part, answered_asked, all_grew, counted_start, counted_line, counted_past, counted_all, counted_quit, left_at_end, left_at_quit, goes_long, quit_is, cut_short}
+use Rattle.mg_reply.proofs.serve.serve_lines.Goals as goal
+
+pub lines-init : goal.lines-init
+lines-init g c = rw c.new-reader.ensures (record {
+  served = rw (prepended-nil, c.start-now.ensures) (served_start _ _ _ _ _ (g.met.A.Answerer.after_none c.args.answerer.now));
+  counted = rw prepended-nil (counted_start _);
+  used = omega arith;
+  faults = omega arith;
+  out_faults = omega arith;
+})
+
+pub returns-in-Err-Read-clause-prefix : goal.returns-in-Err-Read-clause-prefix
+returns-in-Err-Read-clause-prefix g c = λ all told. served_some _ _ _ _ _ _ _ _ _ c.lines.invariant.served all told
+
+pub returns-in-Err-Read-clause-answered : goal.returns-in-Err-Read-clause-answered
+returns-in-Err-Read-clause-answered g c = served_asked _ _ _ _ _ _ _ _ _ c.lines.invariant.served
+
+pub returns-in-Err-TooMuch-clause-prefix : goal.returns-in-Err-TooMuch-clause-prefix
+returns-in-Err-TooMuch-clause-prefix g c = λ all told. served_some _ _ _ _ _ _ _ _ _ c.lines.invariant.served all told
+
+pub returns-in-Err-TooMuch-clause-answered : goal.returns-in-Err-TooMuch-clause-answered
+returns-in-Err-TooMuch-clause-answered g c = served_asked _ _ _ _ _ _ _ _ _ c.lines.invariant.served
+
+pub returns-in-Err-TooMuch-clause-cause : goal.returns-in-Err-TooMuch-clause-cause
+returns-in-Err-TooMuch-clause-cause g c = λ all told.
+    let line = rw c.in-Err-TooMuch.field-0-is at c.in-Err-TooMuch.ensures.line in
+    counted_past _ _ _ _ _ c.lines.invariant.counted line.1 line.2 all told
+
+pub returns-in-End-clause-all : goal.returns-in-End-clause-all
+returns-in-End-clause-all g c = λ all told.
+    let line = rw c.in-End.is at c.in-Ok.ensures.line in
+    served_all _ _ _ _ _ _ _ _ _ c.lines.invariant.served line.0 all told
+
+pub returns-in-End-clause-prefix : goal.returns-in-End-clause-prefix
+returns-in-End-clause-prefix g c = λ all told. served_some _ _ _ _ _ _ _ _ _ c.lines.invariant.served all told
+
+pub returns-in-End-clause-left : goal.returns-in-End-clause-left
+returns-in-End-clause-left g c = λ all told.
+    let line = rw c.in-End.is at c.in-Ok.ensures.line in
+    left_at_end _ _ _ _ (rw (← line.1) at c.lines.invariant.counted) (rw (← line.1) at line.0) all told
+
+pub returns-in-End-clause-within : goal.returns-in-End-clause-within
+returns-in-End-clause-within g c = λ all told.
+    let line = rw c.in-End.is at c.in-Ok.ensures.line in
+    counted_all _ _ _ c.lines.invariant.counted line.0 c.lines.invariant.used all told
+
+pub returns-in-End-clause-answered : goal.returns-in-End-clause-answered
+returns-in-End-clause-answered g c = served_asked _ _ _ _ _ _ _ _ _ c.lines.invariant.served
+
+pub lines-preserved-in-Ok-put_too_long : goal.lines-preserved-in-Ok-put_too_long
+lines-preserved-in-Ok-put_too_long g c =
+    let line = rw c.in-TooLong.is at c.in-Ok.ensures.line in
+    record {
+      served = served_line _ _ _ _ _ _ _ _ _ _ _ _ _ _ _ _ _ g.met.A.Answerer.after_more c.lines.invariant.served line.2 (gives_long _ _ line.0 line.3) (g.met.A.Answerer.after_none c.lines.answerer) c.in-Ok-put_too_long.ensures.content;
+      counted = counted_line _ _ _ _ _ _ _ c.lines.invariant.counted line.2 (goes_long line.0 line.3) line.4;
+      used = line.5;
+      faults = omega arith;
+      out_faults = omega arith;
+    }
+
+pub returns-in-Err-clause-prefix : goal.returns-in-Err-clause-prefix
+returns-in-Err-clause-prefix g c = λ all told.
+    let line = rw c.in-TooLong.is at c.in-Ok.ensures.line in
+    served_part _ _ _ _ _ _ _ _ _ _ _ _ _ _ _ _ c.lines.invariant.served line.2 (gives_long _ _ line.0 line.3) c.in-Err.ensures.content all told
+
+pub returns-in-Err-clause-answered : goal.returns-in-Err-clause-answered
+returns-in-Err-clause-answered g c = served_asked _ _ _ _ _ _ _ _ _ c.lines.invariant.served
+
+pub serve_line-requires : goal.serve_line-requires
+serve_line-requires g c =
+    let line = rw c.in-Line.is at c.in-Ok.ensures.line in
+    cut_short _ _ c.line.ensures line.2
+
+pub returns-in-Ok-true-clause-all : goal.returns-in-Ok-true-clause-all
+returns-in-Ok-true-clause-all g c = λ all told.
+    let line = rw c.in-Line.is at c.in-Ok.ensures.line in
+    answered_quits _ _ _ _ _ _ _ _ _ _ _ _ _ _ _ c.lines.invariant.served line.1 (record { same = g.met.A.Answerer.same_reply _ _ _ c.lines.invariant.served.after; cut_is = c.line.ensures; short = line.2 })
+    (sym c.in-Ok-true.ensures.stops ∙ c.in-Ok-true.field-0-test) c.in-Ok-true.ensures.text all told
+
+pub returns-in-Ok-true-clause-prefix : goal.returns-in-Ok-true-clause-prefix
+returns-in-Ok-true-clause-prefix g c = λ all told.
+    let line = rw c.in-Line.is at c.in-Ok.ensures.line in
+    all_grew _ _ _ (answered_quits _ _ _ _ _ _ _ _ _ _ _ _ _ _ _ c.lines.invariant.served line.1 (record { same = g.met.A.Answerer.same_reply _ _ _ c.lines.invariant.served.after; cut_is = c.line.ensures; short = line.2 })
+    (sym c.in-Ok-true.ensures.stops ∙ c.in-Ok-true.field-0-test) c.in-Ok-true.ensures.text all told)
+
+pub returns-in-Ok-true-clause-left : goal.returns-in-Ok-true-clause-left
+returns-in-Ok-true-clause-left g c = λ all told.
+    let line = rw c.in-Line.is at c.in-Ok.ensures.line in
+    left_at_quit _ _ _ _ _ _ _ c.lines.invariant.counted line.1 (quit_is _ _ _ _ line.2 c.line.ensures c.in-Ok-true.ensures.stops ∙ c.in-Ok-true.field-0-test) all told
+
+pub returns-in-Ok-true-clause-within : goal.returns-in-Ok-true-clause-within
+returns-in-Ok-true-clause-within g c = λ all told.
+    let line = rw c.in-Line.is at c.in-Ok.ensures.line in
+    counted_quit _ _ _ _ _ _ _ c.lines.invariant.counted line.1 (quit_is _ _ _ _ line.2 c.line.ensures c.in-Ok-true.ensures.stops ∙ c.in-Ok-true.field-0-test) line.3 line.4 all told
+
+pub returns-in-Ok-true-clause-answered : goal.returns-in-Ok-true-clause-answered
+returns-in-Ok-true-clause-answered g c =
+    let line = rw c.in-Line.is at c.in-Ok.ensures.line in
+    answered_asked _ _ _ _ _ _ _ _ _ _ _ _ _ _ _ g.met.A.Answerer.after_more c.lines.invariant.served line.1 (record { same = g.met.A.Answerer.same_reply _ _ _ c.lines.invariant.served.after; cut_is = c.line.ensures; short = line.2 }) c.in-Ok-true.ensures.after
+
+pub lines-preserved : goal.lines-preserved
+lines-preserved g c =
+    let line = rw c.in-Line.is at c.in-Ok.ensures.line in
+    record {
+      served = rw c.in-Ok-false.ensures.settings (served_line _ _ _ _ _ _ _ _ _ _ _ _ _ _ _ _ _ g.met.A.Answerer.after_more c.lines.invariant.served line.1
+          (answered_gives _ _ _ _ _ (record { same = g.met.A.Answerer.same_reply _ _ _ c.lines.invariant.served.after; cut_is = c.line.ensures; short = line.2 }) (sym c.in-Ok-false.ensures.stops ∙ c.in-Ok-false.field-0-test))
+          c.in-Ok-false.ensures.after c.in-Ok-false.ensures.text);
+      counted = counted_line _ _ _ _ _ _ _ c.lines.invariant.counted line.1 (quit_is _ _ _ _ line.2 c.line.ensures c.in-Ok-false.ensures.stops ∙ c.in-Ok-false.field-0-test) line.3;
+      used = line.4;
+      faults = omega arith;
+      out_faults = omega arith;
+    }
+
+pub returns-in-Err-serve_line-clause-prefix : goal.returns-in-Err-serve_line-clause-prefix
+returns-in-Err-serve_line-clause-prefix g c = λ all told.
+    let line = rw c.in-Line.is at c.in-Ok.ensures.line in
+    answered_part _ _ _ _ _ _ _ _ _ _ _ _ _ _ _ c.lines.invariant.served line.1 (record { same = g.met.A.Answerer.same_reply _ _ _ c.lines.invariant.served.after; cut_is = c.line.ensures; short = line.2 }) c.in-Err-serve_line.ensures.text all told
+
+pub returns-in-Err-serve_line-clause-answered : goal.returns-in-Err-serve_line-clause-answered
+returns-in-Err-serve_line-clause-answered g c =
+    let line = rw c.in-Line.is at c.in-Ok.ensures.line in
+    answered_asked _ _ _ _ _ _ _ _ _ _ _ _ _ _ _ g.met.A.Answerer.after_more c.lines.invariant.served line.1 (record { same = g.met.A.Answerer.same_reply _ _ _ c.lines.invariant.served.after; cut_is = c.line.ensures; short = line.2 }) c.in-Err-serve_line.ensures.after

@@ -1,0 +1,68 @@
+-- Lines of an input whose bytes come in pieces.
+use Rattle.std.specs.Prelude.{◌≡◌, ℕ, ◌+◌, ◌<◌, ◌≤◌, List, [], ◌∷◌, ◌++◌, length, take, MatchOption, Ok, Err, ◌⊎◌}
+use Rattle.std.specs.declared.result.Result.{Result}
+use Rattle.std.specs.declared.option.Option.{Option}
+use Rattle.mg_dev.specs.Streams.{prepended, IsAtEnd}
+use Rattle.mg_dev.specs.declared.device.Failed.{Failed}
+use Rattle.mg_defs.specs.Lines.{HasNoEnd}
+use Rattle.mg_defs.specs.Limit.{input_limit}
+use Rattle.mg_reply.specs.declared.reader.LineEvent.{LineEvent}
+use Rattle.mg_reply.specs.declared.reader.LineEvent.TheVariants.{Line, TooLong, End}
+use Rattle.mg_reply.specs.declared.reader.LineErr.{LineErr}
+use Rattle.mg_reply.specs.declared.reader.LineErr.TheVariants.{Read, TooMuch}
+
+-- what a line reader holds: bytes that were taken and not used, the line's first bytes, and how many bytes were used
+pub record Reading : Type 0 where
+  pub held : List ℕ
+  pub line : List ℕ
+  pub used : ℕ
+
+-- a byte was taken from the front, or none was left
+abbrev pub AfterByte : Option (List ℕ) → Option (List ℕ) → Result (Option ℕ) Failed → Type 0
+AfterByte before after (Ok byte) = MatchOption byte ((after ≡ before) × IsAtEnd before) (λ b. before ≡ prepended (b ∷ []) after)
+AfterByte before after (Err e) = after ≡ before
+
+-- a piece was taken from the front, and is held whole
+abbrev pub AfterFill : List ℕ → Option (List ℕ) → Option (List ℕ) → Result ℕ Failed → Type 0
+AfterFill held before after (Ok count) = (before ≡ prepended held after) × (length held ≡ count) × (count ≡ 0 → IsAtEnd before)
+AfterFill held before after (Err e) = (held ≡ []) × (after ≡ before)
+
+-- what a line of so many bytes is
+abbrev pub IsEvent : ℕ → LineEvent → Type 0
+IsEvent size Line = size ≤ 1024
+IsEvent size TooLong = 1024 < size
+IsEvent size End = ⊥
+
+-- the line's end follows it, or the input's end follows a line that isn't empty
+abbrev pub EndsAt : List ℕ → ℕ → Option (List ℕ) → Option (List ℕ) → Type 0
+EndsAt line size before after =
+    ((size ≡ length line + 1) × (before ≡ prepended (line ++ 10 ∷ []) after))
+    ⊎ ((size ≡ length line) × (0 < length line) × (before ≡ prepended line after) × IsAtEnd after)
+
+-- The first line of what is left, and what is left after it; it has so many bytes with its end.
+pub record IsFirst (line : List ℕ) (size : ℕ) (before after : Option (List ℕ)) : Type 0 where
+  pub plain : HasNoEnd line
+  pub ends : EndsAt line size before after
+
+-- The line went on without an end up to this byte.
+pub record RunsOn (size : ℕ) (before after : Option (List ℕ)) : Type 0 where
+  pub front : List ℕ
+  pub byte : ℕ
+  pub plain : HasNoEnd front
+  pub count : length front ≡ size
+  pub taken : before ≡ prepended (front ++ byte ∷ []) after
+
+abbrev pub AfterLine : Reading → Reading → Option (List ℕ) → Option (List ℕ) → Result LineEvent LineErr → Type 0
+AfterLine old new before after (Ok Line) = (size : ℕ) × IsFirst new.line size before after × (length new.line ≤ 1024) × (new.used ≡ old.used + size) × (new.used ≤ input_limit)
+AfterLine old new before after (Ok TooLong) = (line : List ℕ) × (size : ℕ) × IsFirst line size before after × (1024 < length line) × (new.used ≡ old.used + size) × (new.used ≤ input_limit)
+AfterLine old new before after (Ok End) = IsAtEnd before × (after ≡ before) × (new.used ≡ old.used)
+AfterLine old new before after (Err Read) = Unit {0}
+AfterLine old new before after (Err TooMuch) = (size : ℕ) × RunsOn size before after × (old.used + size ≡ input_limit)
+
+-- The bytes taken since the line began, of which the line keeps the first 1,024.
+pub record Going (before now : Option (List ℕ)) (line : List ℕ) (n : ℕ) : Type 0 where
+  pub front : List ℕ
+  pub plain : HasNoEnd front
+  pub count : length front ≡ n
+  pub taken : before ≡ prepended front now
+  pub kept : line ≡ take 1024 front

@@ -1,0 +1,79 @@
+-- A session that is under way, and one that is over.
+use Rattle.std.specs.Prelude.{◌≡◌, ℕ, ◌<◌, false, List, ◌++◌, length, Some}
+use Rattle.std.specs.List.{list_any}
+use Rattle.std.specs.declared.option.Option.{Option}
+use Rattle.mg_dev.specs.Streams.{appended}
+use Rattle.mg_dev.specs.declared.device.PutErr.{PutErr}
+use Rattle.mg_dev.specs.declared.device.PutErr.TheVariants as put
+use Rattle.mg_dev.specs.declared.part_err.PartErr.{PartErr}
+use Rattle.mg_dev.specs.declared.show_err.ShowErr.{ShowErr}
+use Rattle.mg_dev.specs.declared.show_err.ShowErr.TheVariants as show
+use Rattle.mg_defs.specs.declared.session.Settings.{Settings}
+use Rattle.mg_defs.specs.Commands.{start}
+use Rattle.mg_defs.specs.Lines.{lines}
+use Rattle.mg_defs.specs.Session.{replies, Question, questions, questions_of}
+use Rattle.mg_defs.specs.Limit.{is_quit, ended_lines, IsReadEnough}
+use Rattle.mg_reply.specs.declared.serve.ServeErr.{ServeErr}
+use Rattle.mg_reply.specs.declared.serve.ServeErr.TheVariants as serve
+
+-- ---- what is said of a session
+
+-- Some query lines were answered between two states; they are the first of those of the input, where it is told.
+pub record AnsweredSome {A : Type 0} (After : A → A → List Question → Type 0) (old new : A) (input : Option (List ℕ)) : Type 0 where
+  pub answered : List Question
+  pub after : After old new answered
+  pub first : (all : List ℕ) → input ≡ Some all → (more : List Question) × (questions_of all ≡ answered ++ more)
+
+-- What is left of a told input after a session.
+abbrev pub LeftEnough : List ℕ → Option (List ℕ) → Type 0
+LeftEnough all left = (rest : List ℕ) × (left ≡ Some rest) × IsReadEnough all rest
+
+-- which error a refused put becomes
+abbrev pub shown_put : PutErr → ShowErr
+shown_put put.Failed = show.Write
+shown_put put.Memory = show.Memory
+
+-- a part's refusal has this cause
+abbrev pub PartStops : (PartErr → Type 0) → ShowErr → Type 0
+PartStops Stops (show.Part error) = Stops error
+PartStops Stops show.Write = Unit {0}
+PartStops Stops show.Memory = Unit {0}
+
+-- the cause of each refusal of a session
+abbrev pub EndsFor : Type 0 → Type 0 → Type 0 → (PartErr → Type 0) → ServeErr → Type 0
+EndsFor Read Write TooMuch Stops serve.Read = Read
+EndsFor Read Write TooMuch Stops serve.TooMuch = TooMuch
+EndsFor Read Write TooMuch Stops (serve.Show (show.Part error)) = Stops error
+EndsFor Read Write TooMuch Stops (serve.Show show.Write) = Write
+EndsFor Read Write TooMuch Stops (serve.Show show.Memory) = Unit {0}
+
+-- ---- what holds from line to line
+
+-- Of what was told to be left there is this left; the session prints what was printed and then the replies to that, and answers what was answered and then the queries of that.
+pub record Rests (reply : Settings → List ℕ → List ℕ) (now : Settings) (done : List ℕ) (answered : List Question) (all : List ℕ) (left : Option (List ℕ)) : Type 0 where
+  pub rest : List ℕ
+  pub told : left ≡ Some rest
+  pub goes_on : replies reply start (lines all) ≡ done ++ replies reply now (lines rest)
+  pub asks : questions start (lines all) ≡ answered ++ questions now (lines rest)
+
+-- So much was printed and answered, whatever was told.
+pub record Served {A : Type 0} (After : A → A → List Question → Type 0) (old new : A) (reply : Settings → List ℕ → List ℕ) (before left written_old written : Option (List ℕ)) (now : Settings) : Type 0 where
+  pub done : List ℕ
+  pub answered : List Question
+  pub given : written ≡ appended written_old done
+  pub after : After old new answered
+  pub goes_on : (all : List ℕ) → before ≡ Some all → Rests reply now done answered all left
+
+-- So many bytes were used of what was told, the rest is left, and no line among the first ended the session.
+pub record Used (left : Option (List ℕ)) (used : ℕ) (all : List ℕ) : Type 0 where
+  pub front : List ℕ
+  pub rest : List ℕ
+  pub told : left ≡ Some rest
+  pub whole : all ≡ front ++ rest
+  pub size : length front ≡ used
+  pub passed : List (List ℕ)
+  pub no_quit : list_any is_quit passed ≡ false
+  pub ended : 0 < length rest → (more : List ℕ) → ended_lines (front ++ more) ≡ passed ++ ended_lines more
+
+pub record Counted (before left : Option (List ℕ)) (used : ℕ) : Type 0 where
+  pub goes_on : (all : List ℕ) → before ≡ Some all → Used left used all

@@ -1,0 +1,81 @@
+// Bytes that come in pieces, taken one at a time.
+ghost use Rattle.std.specs.Prelude.{◌≡◌, ℕ, ◌+◌, ◌-◌, ◌<◌, ◌≤◌, List, [], ◌∷◌, ◌++◌, length, take, drop, IsTrue, ◌↔◌};
+ghost use Rattle.mg_dev.specs.Causes.{HasCause};
+ghost use Rattle.mg_dev.specs.Streams.{prepended};
+ghost use Rattle.mg_reply.specs.Reading.{AfterByte, AfterFill};
+
+use mg_dev::{Failed, Source};
+use std::marker::Model;
+
+/// Bytes that were taken from a source and not used yet.
+#[derive(Drop)]
+pub struct Held {
+    buffer: [u8; 4096],
+    at: usize,
+    end: usize,
+}
+
+impl Model for Held {
+    ghost use Rattle.std.specs.Prelude.{List, ℕ, take, drop, ◌-◌, ◌≤◌};
+
+    ghost Value = { List ℕ };
+
+    ghost view = { λ h. drop h.at (take h.end h.buffer) };
+
+    ghost invariant = { λ h. (h.at ≤ h.end) × (h.end ≤ 4096) };
+}
+
+impl Held {
+    pub fn new() -> Held
+        ensures { result ≡ [] }
+    {
+        Held {
+            buffer: [0; 4096],
+            at: 0,
+            end: 0,
+        }
+    }
+
+    /// Takes a new piece where none is held.
+    fn fill<I: Source>(&mut self, input: &mut I) -> Result<usize, Failed>
+        requires { self.old ≡ [] }
+        ensures filled { AfterFill self.new (I.left input.old) (I.left input.new) result }
+        ensures cause { HasCause (I.faults input.old) (I.faults input.new) result }
+    {
+        self.at = 0;
+        self.end = 0;
+        let count = input.read(&mut self.buffer)?;
+        self.end = count;
+        Ok(count)
+    }
+
+    fn first(&mut self) -> u8
+        requires { 0 < length self.old }
+        ensures { self.old ≡ result ∷ self.new }
+    {
+        let byte = self.buffer[self.at];
+        self.at += 1;
+        byte
+    }
+
+    fn is_empty(&self) -> bool
+        ensures { IsTrue result ↔ (self.now ≡ []) }
+    {
+        self.at == self.end
+    }
+
+    /// Takes the next byte: a held one, or the first of a new piece.
+    pub fn byte<I: Source>(&mut self, input: &mut I) -> Result<Option<u8>, Failed>
+        ensures took { AfterByte (prepended self.old (I.left input.old)) (prepended self.new (I.left input.new)) result }
+        ensures cause { HasCause (I.faults input.old) (I.faults input.new) result }
+    {
+        if !self.is_empty() {
+            return Ok(Some(self.first()));
+        }
+        let count = self.fill(input)?;
+        if count == 0 {
+            return Ok(None);
+        }
+        Ok(Some(self.first()))
+    }
+}

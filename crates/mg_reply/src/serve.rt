@@ -1,0 +1,137 @@
+// A session: a reply to each line of an input.
+ghost use Rattle.std.specs.Prelude.{◌≡◌, ℕ, ◌≤◌, List, [], ◌∷◌, ◌++◌, length, OnOk, IfOk, IfErr, IsErrOf, true, false};
+ghost use Rattle.std.specs.Option.{ForSome};
+ghost use Rattle.mg_dev.specs.Causes.{Rose};
+ghost use Rattle.mg_dev.specs.Streams.{appended, GrewByPrefix, AfterPut};
+ghost use Rattle.mg_dev.specs.declared.part_err.PartErr.{PartErr};
+ghost use Rattle.mg_dev.specs.declared.show_err.ShowErr.TheVariants.{Write};
+ghost use Rattle.mg_defs.specs.declared.session.Settings.{Settings};
+ghost use Rattle.mg_defs.specs.Commands.{command, text_of, settings_after, stops as stops_spec};
+ghost use Rattle.mg_defs.specs.Texts.{bad_command};
+ghost use Rattle.mg_defs.specs.Session.{session_of, Question, asked_by};
+ghost use Rattle.mg_defs.specs.Limit.{is_too_much, input_limit};
+ghost use Rattle.mg_reply.specs.Served.{AnsweredSome, LeftEnough, shown_put, PartStops, EndsFor};
+
+use crate::{LineErr, LineEvent, LineReader, put_too_long, put_wrong, read_command};
+use mg_defs::{Command, Settings};
+use mg_dev::{PutErr, ShowErr, Sink, Source};
+
+/// Answers the query lines of a session.
+pub trait Answerer {
+    /// The reply to a query line.
+    ghost reply: { Self → Settings → List ℕ → List ℕ };
+
+    /// What holds between two states where these queries were answered in between.
+    ghost after: { Self → Self → List Question → Type 0 };
+
+    /// Why a part may be refused between two states.
+    ghost may_stop: { Self → Self → PartErr → Type 0 };
+
+    /// Writes the reply to a query line.
+    fn answer_line<O: Sink>(&mut self, line: &[u8], now: &Settings, out: &mut O) -> Result<(), ShowErr>
+        requires { length line.now ≤ 1024 }
+        ensures content { AfterPut (O.written out.old) (O.written out.new) (reply self.old now.now line.now) result }
+        ensures after { after self.old self.new (record { now = now.now; line = line.now } ∷ []) }
+        ensures later { O.faults out.old ≤ O.faults out.new }
+        ensures write { IsErrOf result Write → Rose (O.faults out.old) (O.faults out.new) }
+        ensures part { IfErr result (PartStops (may_stop self.old self.new)) };
+
+    ghost after_none: { (s : Self) → after s s [] };
+
+    ghost after_more: { (s t u : Self) (xs ys : List Question) → after s t xs → after t u ys → after s u (xs ++ ys) };
+
+    ghost same_reply: { (s t : Self) (xs : List Question) → after s t xs → reply t ≡ reply s };
+
+    ghost stops_later: { (s t u : Self) (xs : List Question) (error : PartErr) → after s t xs → may_stop t u error → may_stop s u error };
+}
+
+/// Why a session stopped.
+#[derive(Clone, Copy, Debug, PartialEq, Eq)]
+pub enum ServeErr {
+    /// The input failed.
+    Read,
+    /// The input is too long.
+    TooMuch,
+    /// A reply could not be written.
+    Show(ShowErr),
+}
+
+fn of_put(error: PutErr) -> ShowErr
+    ensures { result ≡ shown_put error }
+{
+    match error {
+        PutErr::Failed => ShowErr::Write,
+        PutErr::Memory => ShowErr::Memory,
+    }
+}
+
+/// Answers one line, and says whether it ends the session.
+fn serve_line<O: Sink, A: Answerer>(answerer: &mut A, line: &[u8], now: &mut Settings, out: &mut O) -> Result<bool, ShowErr>
+    requires { length line.now ≤ 1024 }
+    ensures after { A.after answerer.old answerer.new (asked_by now.old line.now (command line.now now.old)) }
+    ensures text { AfterPut (O.written out.old) (O.written out.new) (text_of (A.reply answerer.old) bad_command now.old line.now (command line.now now.old)) result }
+    ensures settings { OnOk result (now.new ≡ settings_after now.old (command line.now now.old)) }
+    ensures stops { IfOk result (λ stop. stop ≡ stops_spec (command line.now now.old)) }
+    ensures later { O.faults out.old ≤ O.faults out.new }
+    ensures write { IsErrOf result Write → Rose (O.faults out.old) (O.faults out.new) }
+    ensures part { IfErr result (PartStops (A.may_stop answerer.old answerer.new)) }
+{
+    match read_command(line, now) {
+        Command::Skip => Ok(false),
+        Command::Quit => Ok(true),
+        Command::Set(changed) => {
+            *now = changed;
+            Ok(false)
+        }
+        Command::Wrong => match put_wrong(out) {
+            Ok(()) => Ok(false),
+            Err(error) => Err(of_put(error)),
+        },
+        Command::Ask => match answerer.answer_line(line, now, out) {
+            Ok(()) => Ok(false),
+            Err(error) => Err(error),
+        },
+    }
+}
+
+/// Answers the lines of an input in turn, to its end or to a line `.quit`.
+///
+/// It reads ahead, so bytes of the input behind a line `.quit` may be taken too. Where the input is
+/// told, it is too long exactly where it has more than 2^32 bytes and no line `.quit` ends within
+/// the first 2^32; the lines up to there are answered.
+pub fn serve_lines<I: Source, O: Sink, A: Answerer>(answerer: &mut A, input: &mut I, out: &mut O) -> Result<(), ServeErr>
+    ensures all { ForSome (I.left input.old) (λ bytes. OnOk result (O.written out.new ≡ appended (O.written out.old) (session_of (A.reply answerer.old) bytes))) }
+    ensures prefix { ForSome (I.left input.old) (λ bytes. GrewByPrefix (O.written out.old) (O.written out.new) (session_of (A.reply answerer.old) bytes)) }
+    ensures left { ForSome (I.left input.old) (λ bytes. OnOk result (LeftEnough bytes (I.left input.new))) }
+    ensures within { ForSome (I.left input.old) (λ bytes. OnOk result (is_too_much input_limit bytes ≡ false)) }
+    ensures answered { AnsweredSome A.after answerer.old answerer.new (I.left input.old) }
+    ensures read_later { I.faults input.old ≤ I.faults input.new }
+    ensures write_later { O.faults out.old ≤ O.faults out.new }
+    ensures cause { IfErr result (EndsFor
+        (Rose (I.faults input.old) (I.faults input.new))
+        (Rose (O.faults out.old) (O.faults out.new))
+        (ForSome (I.left input.old) (λ bytes. is_too_much input_limit bytes ≡ true))
+        (A.may_stop answerer.old answerer.new)) }
+{
+    let mut reader = LineReader::new();
+    let mut now = Settings::start();
+    'lines: loop {
+        let event = match reader.next(input) {
+            Ok(event) => event,
+            Err(LineErr::Read) => return Err(ServeErr::Read),
+            Err(LineErr::TooMuch) => return Err(ServeErr::TooMuch),
+        };
+        match event {
+            LineEvent::End => return Ok(()),
+            LineEvent::TooLong => match put_too_long(out) {
+                Ok(()) => {}
+                Err(error) => return Err(ServeErr::Show(of_put(error))),
+            },
+            LineEvent::Line => match serve_line(answerer, reader.line(), &mut now, out) {
+                Ok(false) => {}
+                Ok(true) => return Ok(()),
+                Err(error) => return Err(ServeErr::Show(error)),
+            },
+        }
+    }
+}
