@@ -1,11 +1,11 @@
 -- Laws of a session: one line after another.
 use Rattle.std.proofs.Common.{◌≡◌, ℕ, ◌<◌, ◌≤◌, true, false, List, [], ◌∷◌, ◌++◌, length}
 use Rattle.std.proofs.lemmas.Bool.{lt-ltb, le-ltb}
-use Rattle.mg_defs.specs.Cut.{without_return}
+use Rattle.mg_defs.specs.Lines.{without_return}
 use Rattle.mg_defs.specs.Commands.{text_of, settings_after, stops}
 use Rattle.mg_defs.specs.Session.{replies, line_text, after_line, ends, read}
 use Rattle.mg_defs.specs.Texts.{bad_command, line_too_long}
-use Rattle.mg_defs.specs.declared.Settings.{Settings}
+use Rattle.mg_defs.specs.declared.session.Settings.{Settings}
 
 -- A line prints a text, and the session goes on with these settings.
 pub record Gives (reply : Settings → List ℕ → List ℕ) (now : Settings) (line text : List ℕ) (after : Settings) : Type 0 where

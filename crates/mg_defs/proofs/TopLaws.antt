@@ -1,19 +1,14 @@
 -- One list of hits is sorted: by falling score, ties by rising number.
 use Rattle.std.proofs.Common.{◌≡◌, ℕ, ◌+◌, ◌<◌, ◌≤◌, ◌⊎◌, inl, inr, Bool, true, false, ◌==◌, ◌&&◌, List, [], ◌∷◌, refl, sym, ◌∙◌, ap, arith}
-use Rattle.std.specs.List.{AllByRecursion, sum_by}
-use Rattle.std.specs.Prelude.{if◌then◌else◌, nat_le}
+use Rattle.std.specs.List.{AllByRecursion, sum_by, list_any, enumerate_from}
+use Rattle.std.specs.Prelude.{if◌then◌else◌, nat_le, map, filter}
 use Rattle.std.specs.List.Sorted.{IsPermutation}
 use Rattle.std.proofs.lemmas.List.Sums.{sum_by-cons}
-use Rattle.std.proofs.lemmas.List.Sorted.{sum_by-IsPermutation}
+use Rattle.std.proofs.lemmas.List.Sorted.{sum_by-IsPermutation, IsPermutation-refl, IsPermutation-sym, IsPermutation-trans, IsPermutation-cons, IsPermutation-middle}
 use Rattle.std.proofs.lemmas.Bool.{cases_order, cases_lt, ne_eqb, eq-eqb, and_from, and_left, and_right, cond-true, cond-false, cond_both, leb-true, leb-false}
-use Rattle.mg_defs.specs.Weights.{Hit, placed, by_score}
-
-abbrev pub IsBefore : Hit → Hit → Type 0
-IsBefore a b = (b.score < a.score) ⊎ ((a.score ≡ b.score) × (a.number < b.number))
-
-abbrev pub AreSorted : List Hit → Type 0
-AreSorted [] = Unit {0}
-AreSorted (h ∷ hs) = AllByRecursion (IsBefore h) hs × AreSorted hs
+use Rattle.mg_defs.specs.Split.{documents}
+use Rattle.mg_defs.specs.Weights.{Hit, placed, by_score, hits, has_term, score}
+pub use Rattle.mg_defs.specs.Order.{IsBefore, AreSorted, AreRising}
 
 abbrev pub is_hit : Hit → Hit → Bool
 is_hit h other = h.number == other.number && h.score == other.score
@@ -135,11 +130,6 @@ by_score_many : (k : Hit) (hs : List Hit) → many k (by_score hs) ≡ many k hs
 by_score_many k [] = refl
 by_score_many k (h ∷ hs) = omega (arith, placed_many k h (by_score hs), by_score_many k hs, many-cons k h hs)
 
--- the numbers rise
-abbrev pub AreRising : List Hit → Type 0
-AreRising [] = Unit {0}
-AreRising (h ∷ hs) = AllByRecursion (λ (x : Hit). h.number < x.number) hs × AreRising hs
-
 pub by_score_sorted : (hs : List Hit) → AreRising hs → AreSorted (by_score hs)
 by_score_sorted [] r = tt
 by_score_sorted (h ∷ hs) r = placed_sorted h (by_score hs) (all_by_score h.number hs r.0) (by_score_sorted hs r.1)
@@ -147,3 +137,56 @@ by_score_sorted (h ∷ hs) r = placed_sorted h (by_score hs) (all_by_score h.num
 -- what a sort left is the computed order
 pub order_is : (hs ys : List Hit) → AreRising hs → AreSorted ys → IsPermutation hs ys → ys ≡ by_score hs
 order_is hs ys r s p = one_order ys (by_score hs) s (by_score_sorted hs r) (record { counts = λ h. sym ((same_from_permutation hs ys p).counts h) ∙ sym (by_score_many h hs) })
+
+-- ---- the computed order of the documents with a term of the query
+
+placed_permutes : (h : Hit) (hs : List Hit) → IsPermutation (h ∷ hs) (placed h hs)
+placed_permutes h [] = IsPermutation-refl (h ∷ [])
+placed_permutes h (x ∷ hs) =
+    cond_both (nat_le x.score h.score) (h ∷ x ∷ hs) (x ∷ placed h hs) (IsPermutation (h ∷ x ∷ hs))
+    (λ _. IsPermutation-refl (h ∷ x ∷ hs))
+    (λ _. IsPermutation-trans (h ∷ x ∷ hs) (x ∷ h ∷ hs) (x ∷ placed h hs)
+    (IsPermutation-sym (x ∷ h ∷ hs) (h ∷ x ∷ hs) (IsPermutation-middle (x ∷ []) h hs))
+    (IsPermutation-cons x (h ∷ hs) (placed h hs) (placed_permutes h hs)))
+
+pub by_score_permutes : (hs : List Hit) → IsPermutation hs (by_score hs)
+by_score_permutes [] = IsPermutation-refl []
+by_score_permutes (h ∷ hs) =
+    IsPermutation-trans (h ∷ hs) (h ∷ by_score hs) (placed h (by_score hs))
+    (IsPermutation-cons h hs (by_score hs) (by_score_permutes hs)) (placed_permutes h (by_score hs))
+
+abbrev hit_of : List ℕ → List (List ℕ) → ℕ × List ℕ → Hit
+hit_of collection query d = record { number = d.0; score = score collection query d.1 }
+
+abbrev is_met : List (List ℕ) → ℕ × List ℕ → Bool
+is_met query d = list_any (has_term d.1) query
+
+-- the numbers of what is met from document n on lie above m, and rise
+hits_above : (collection : List ℕ) (query : List (List ℕ)) (m n : ℕ) (docs : List (List ℕ)) → m < n →
+    AllByRecursion (λ (x : Hit). m < x.number) (map (hit_of collection query) (filter (is_met query) (enumerate_from n docs)))
+hits_above collection query m n [] lt = tt
+hits_above collection query m n (doc ∷ docs) lt =
+    let rest = filter (is_met query) (enumerate_from (n + 1) docs) in
+    let more = hits_above collection query m (n + 1) docs (omega (arith, lt)) in
+    cond_both (is_met query (n, doc)) ((n, doc) ∷ rest) rest (λ l. AllByRecursion (λ (x : Hit). m < x.number) (map (hit_of collection query) l))
+    (λ _. (lt, more)) (λ _. more)
+
+hits_rise_from : (collection : List ℕ) (query : List (List ℕ)) (n : ℕ) (docs : List (List ℕ)) → AreRising (map (hit_of collection query) (filter (is_met query) (enumerate_from n docs)))
+hits_rise_from collection query n [] = tt
+hits_rise_from collection query n (doc ∷ docs) =
+    let rest = filter (is_met query) (enumerate_from (n + 1) docs) in
+    let more = hits_rise_from collection query (n + 1) docs in
+    cond_both (is_met query (n, doc)) ((n, doc) ∷ rest) rest (λ l. AreRising (map (hit_of collection query) l))
+    (λ _. (hits_above collection query n (n + 1) docs (omega arith), more)) (λ _. more)
+
+pub hits_rise : (collection : List ℕ) (query : List (List ℕ)) → AreRising (hits collection query)
+hits_rise collection query = hits_rise_from collection query 1 (documents collection)
+
+pub ranking_sorted : (collection : List ℕ) (query : List (List ℕ)) → AreSorted (by_score (hits collection query))
+ranking_sorted collection query = by_score_sorted (hits collection query) (hits_rise collection query)
+
+pub ranking_permutes : (collection : List ℕ) (query : List (List ℕ)) → IsPermutation (hits collection query) (by_score (hits collection query))
+ranking_permutes collection query = by_score_permutes (hits collection query)
+
+pub one_ranking : (collection : List ℕ) (query : List (List ℕ)) (order : List Hit) → AreSorted order → IsPermutation (hits collection query) order → order ≡ by_score (hits collection query)
+one_ranking collection query order sorted permutes = order_is (hits collection query) order (hits_rise collection query) sorted permutes

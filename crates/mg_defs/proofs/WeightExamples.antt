@@ -8,8 +8,8 @@ use Rattle.mg_defs.specs.Fixed.{lg, isqrt, digits_of, digit, next, root_from}
 use Rattle.mg_defs.specs.Weights.{weight_of_term, weight_in_doc, weight, score_of, wt, wd, top, hit_count}
 use Rattle.mg_defs.specs.Texts.{row, header, close, count, bad_command}
 use Rattle.mg_defs.specs.Commands.{start, command, words, dot_of, set_query, set_mode, set_most, set_of, value, is_most}
-use Rattle.mg_defs.specs.declared.Mode.TheVariants.{Text}
-use Rattle.mg_defs.specs.declared.Settings.{Settings}
+use Rattle.mg_defs.specs.declared.session.Mode.TheVariants.{Text}
+use Rattle.mg_defs.specs.declared.session.Settings.{Settings}
 use Rattle.mg_defs.specs.Reply.{answer_text, satisfying, ranking, found}
 use Rattle.mg_defs.specs.Session.{session_of, replies, line_text, after_line, ends}
 use Rattle.std.specs.Fmt.{digits}
@@ -29,9 +29,9 @@ line bytes = bytes ++ 10 ∷ []
 abbrev k : List ℕ
 k = line (codes "the cat sat") ++ 2 ∷ line (codes "the dog") ++ 2 ∷ line (codes "Cat, cat & dog!") ++ 2 ∷ []
 
-k_weights : (wt k (codes "cat") ≡ 338) × (wd (document k 3) (codes "cat") ≡ 512) × (weight (document k 3) ≡ 572) × (weight (document k 1) ≡ 443)
+k_weights : (wt k (codes "cat") ≡ 338) × (wd (document k 3) (codes "cat") ≡ 512) × (weight (document k 3) ≡ 572) × (weight (document k 1) ≡ 443) × (weight (document k 2) ≡ 362)
 unfolding parse weight_of_term weight_in_doc weight lg digits_of digit next isqrt root_from
-k_weights = (refl, refl, refl, refl)
+k_weights = (refl, refl, refl, refl, refl)
 
 k_top : (top k (codes "cat" ∷ []) None ≡ record { number = 3; score = 77451 } ∷ record { number = 1; score = 50002 } ∷ []) × (hit_count k (codes "cat" ∷ []) ≡ 2)
 unfolding parse weight_of_term weight_in_doc weight lg digits_of digit next isqrt root_from score_of

@@ -1,5 +1,5 @@
 -- Bits and numbers: the highest bit first.
-use Rattle.std.specs.Prelude.{◌≡◌, ◌+◌, ◌/◌, ◌%◌, ◌^◌, ◌==◌, ◌++◌, ℕ, zero, suc, Bool, true, false, List, [], ◌∷◌, length, take, drop, Option, IfSome}
+use Rattle.std.specs.Prelude.{◌≡◌, ◌+◌, ◌-◌, ◌/◌, ◌%◌, ◌^◌, ◌==◌, ◌++◌, ℕ, zero, suc, Bool, true, false, List, [], ◌∷◌, length, take, drop, Option, IfSome}
 
 abbrev pub Bits : Type 0
 Bits = List Bool
@@ -23,6 +23,14 @@ number (false ∷ bits) = number bits
 unfoldable pub bits_of : List ℕ → List Bool
 bits_of [] = []
 bits_of (byte ∷ bytes) = digits 8 byte ++ bits_of bytes
+
+-- the bits from a place to the next byte
+abbrev pub to_byte : ℕ → ℕ
+to_byte place = (8 - place % 8) % 8
+
+-- with zero-bits up to a byte
+unfoldable pub filled : Bits → Bits
+filled bits = bits ++ digits (to_byte (length bits)) 0
 
 -- a fact on the bits from a place on, where the bytes are told
 abbrev pub FromPlace : Option (List ℕ) → ℕ → (List Bool → Type 0) → Type 0

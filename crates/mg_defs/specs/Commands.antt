@@ -2,10 +2,10 @@
 use Rattle.std.specs.Prelude.{ℕ, ◌+◌, ◌-◌, ◌*◌, nat_le, Bool, true, false, ◌==◌, ◌&&◌, ◌||◌, if◌then◌else◌, List, [], ◌∷◌, length, codes, Some, None}
 use Rattle.std.specs.List.{list_all, onto_first}
 use Rattle.mg_defs.specs.Terms.{same_term}
-use Rattle.mg_defs.specs.declared.Mode.TheVariants.{Docnums, Text, Count}
-use Rattle.mg_defs.specs.declared.Settings.{Settings}
-use Rattle.mg_defs.specs.declared.Command.{Command}
-use Rattle.mg_defs.specs.declared.Command.TheVariants.{Skip, Ask, Quit, Wrong, Set}
+use Rattle.mg_defs.specs.declared.session.Mode.TheVariants.{Docnums, Text, Count}
+use Rattle.mg_defs.specs.declared.session.Settings.{Settings}
+use Rattle.mg_defs.specs.declared.session.Command.{Command}
+use Rattle.mg_defs.specs.declared.session.Command.TheVariants.{Skip, Ask, Quit, Wrong, Set}
 
 abbrev pub start : Settings
 start = record { ranked = false; mode = Docnums; most = None }

@@ -1,7 +1,7 @@
 -- The reply to a line, and the session over a collection.
 use Rattle.std.specs.Prelude.{ℕ, Bool, true, false, List, ◌++◌, codes, decimal}
 use Rattle.mg_defs.specs.Sat.{Query}
-use Rattle.mg_defs.specs.declared.Settings.{Settings}
+use Rattle.mg_defs.specs.declared.session.Settings.{Settings}
 use Rattle.mg_defs.specs.Read.{Refusal, syntax, too_deep, too_long, too_many, Reading, reads, refused, boolean, ranked}
 use Rattle.mg_defs.specs.Reply.{satisfying, ranking, answer_text}
 use Rattle.mg_defs.specs.Session.{session_of}

@@ -5,9 +5,9 @@ use Rattle.mg_defs.specs.Split.{documents}
 use Rattle.mg_defs.specs.Terms.{document}
 use Rattle.mg_defs.specs.Sat.{Query, satisfies}
 use Rattle.mg_defs.specs.Weights.{Hit, hits, by_score, first}
-use Rattle.mg_defs.specs.declared.Mode.{Mode}
-use Rattle.mg_defs.specs.declared.Mode.TheVariants.{Docnums, Text, Count}
-use Rattle.mg_defs.specs.declared.Settings.{Settings}
+use Rattle.mg_defs.specs.declared.session.Mode.{Mode}
+use Rattle.mg_defs.specs.declared.session.Mode.TheVariants.{Docnums, Text, Count}
+use Rattle.mg_defs.specs.declared.session.Settings.{Settings}
 use Rattle.mg_defs.specs.Texts.{row, header, close, count}
 
 -- the documents of an answer, each with its score where there is one, as they are shown

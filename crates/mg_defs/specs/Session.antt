@@ -1,9 +1,10 @@
 -- What a session prints.
 use Rattle.std.specs.Prelude.{ℕ, nat_lt, if◌then◌else◌, Bool, false, List, [], ◌∷◌, ◌++◌, length}
-use Rattle.mg_defs.specs.Cut.{lines, without_return}
+use Rattle.mg_defs.specs.Lines.{lines, without_return}
 use Rattle.mg_defs.specs.Commands.{start, command, text_of, settings_after, stops}
-use Rattle.mg_defs.specs.declared.Settings.{Settings}
-use Rattle.mg_defs.specs.declared.Command.{Command}
+use Rattle.mg_defs.specs.declared.session.Settings.{Settings}
+use Rattle.mg_defs.specs.declared.session.Command.{Command}
+use Rattle.mg_defs.specs.declared.session.Command.TheVariants.{Skip, Ask, Quit, Wrong, Set}
 use Rattle.mg_defs.specs.Texts.{bad_command, line_too_long}
 
 abbrev pub is_long : List ℕ → Bool
@@ -30,3 +31,27 @@ replies reply now (l ∷ ls) = if ends now l then [] else line_text reply now l 
 
 unfoldable pub session_of : (Settings → List ℕ → List ℕ) → List ℕ → List ℕ
 session_of reply input = replies reply start (lines input)
+
+-- ---- the query lines that a session answers
+
+-- a query line, with the settings that hold there
+pub record Question : Type 0 where
+  pub now : Settings
+  pub line : List ℕ
+
+abbrev pub asked_by : Settings → List ℕ → Command → List Question
+asked_by now line Skip = []
+asked_by now line Ask = record { now = now; line = line } ∷ []
+asked_by now line Quit = []
+asked_by now line Wrong = []
+asked_by now line (Set changed) = []
+
+unfoldable pub asked : Settings → List ℕ → List Question
+asked now line = if is_long line then [] else asked_by now (without_return line) (read now line)
+
+unfoldable pub questions : Settings → List (List ℕ) → List Question
+questions now [] = []
+questions now (l ∷ ls) = if ends now l then [] else asked now l ++ questions (after_line now l) ls
+
+unfoldable pub questions_of : List ℕ → List Question
+questions_of input = questions start (lines input)

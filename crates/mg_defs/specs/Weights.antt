@@ -19,15 +19,18 @@ wt collection t = weight_of_term (docs collection t) (length (documents collecti
 abbrev pub wd : List ℕ → List ℕ → ℕ
 wd doc t = weight_in_doc (freq_in doc t)
 
+-- of a document: the root of the sum of the squares over its distinct terms
 unfoldable pub weight : List ℕ → ℕ
 weight doc = isqrt (sum_by (λ t. wd doc t * wd doc t) (sorted_distinct (terms doc)))
 
+-- by the sum of the products of weights, and the document's weight
 unfoldable pub score_of : ℕ → ℕ → ℕ
 score_of sum weight = 256 * sum / weight
 
 abbrev pub has_term : List ℕ → List ℕ → Bool
 has_term doc t = list_any (same_term t) (terms doc)
 
+-- for the distinct terms of a query, of which the document has some
 abbrev pub score : List ℕ → List (List ℕ) → List ℕ → ℕ
 score collection query doc = score_of (sum_by (λ t. wd doc t * wt collection t) (filter (has_term doc) query)) (weight doc)
 
@@ -55,8 +58,10 @@ abbrev pub first : {X : Type 0} → Option ℕ → List X → List X
 first None xs = xs
 first (Some k) xs = take k xs
 
+-- the documents with a term of the query by falling score, ties by rising number, as many as are asked for
 abbrev pub top : List ℕ → List (List ℕ) → Option ℕ → List Hit
 top collection query most = first most (by_score (hits collection query))
 
+-- how many there are before the cut
 abbrev pub hit_count : List ℕ → List (List ℕ) → ℕ
 hit_count collection query = length (hits collection query)

@@ -6,16 +6,35 @@
 //! crates can use them.
 #![tactic(auto)]
 
+mod codes;
+mod front;
+mod heads;
+mod huffman;
+mod lines;
+mod lists;
+mod postings;
 mod queries;
+mod session;
 mod texts;
 mod weights;
 
+pub use codes::{no_code_is_a_front, one_answer, pages_of_a_range};
+pub use front::{entries_are_read, one_front, strings_rise};
+pub use heads::{damage_decides, one_head};
+pub use huffman::{cost_in_any_order, first_is_exact, no_codeword_is_a_front};
+pub use lines::{lines_of, quit_always};
+pub use lists::{block_stands, list_rises, one_range};
+pub use postings::{merged_runs, one_list_of_postings, postings_of_joined};
 pub use queries::{
     boolean_is, one_cause, one_query, one_reading, one_term_list, ranked_is, token_runs,
     walk_decides,
 };
-pub use texts::{one_parse, one_split};
-pub use weights::{logarithm_rises, one_root};
+pub use session::{Command, Mode, Settings};
+pub use texts::{
+    closed_and_open, one_byte_more, one_dictionary, one_order, one_parse, one_split,
+    terms_have_numbers, test_decides, vocabulary_grows, vocabulary_tells,
+};
+pub use weights::{logarithm_rises, one_ranking, one_root, weight_is_root};
 
 /// The two kinds of pieces of a document.
 #[derive(Clone, Copy, Debug, PartialEq, Eq)]
@@ -26,37 +45,21 @@ pub enum Stream {
     Others,
 }
 
-/// What a reply shows.
+/// A document that has a term, and how often it has it.
 #[derive(Clone, Copy, Debug, PartialEq, Eq)]
-pub enum Mode {
-    /// A row with the number of each document.
-    Docnums,
-    /// Each document's bytes.
-    Text,
-    /// The count alone.
-    Count,
+pub struct Posting {
+    /// Its number, from 1.
+    pub doc: u32,
+    /// At least 1.
+    pub freq: u32,
 }
 
-/// How query lines are read and answered.
+/// A term and a document, and how often the term stands there.
 #[derive(Clone, Copy, Debug, PartialEq, Eq)]
-pub struct Settings {
-    pub ranked: bool,
-    pub mode: Mode,
-    /// The most rows or documents of a reply; all where there is none.
-    pub most: Option<u32>,
-}
-
-/// What a line of a session is.
-#[derive(Clone, Copy, Debug, PartialEq, Eq)]
-pub enum Command {
-    /// No bytes but blanks and tabs: no reply.
-    Skip,
-    /// A query.
-    Ask,
-    /// The end of the session.
-    Quit,
-    /// A line that begins with a full stop and is no command.
-    Wrong,
-    /// The settings from now on.
-    Set(Settings),
+pub struct TermPosting {
+    /// The term's number in the order of the terms' bytes, from 0.
+    pub term: u32,
+    /// The document's number, from 1.
+    pub doc: u32,
+    pub count: u32,
 }

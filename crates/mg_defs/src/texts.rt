@@ -1,16 +1,93 @@
-// Laws of collections, documents and pieces.
-ghost use Rattle.std.specs.Prelude.{◌≡◌, ℕ, List, Bool};
+// Laws of collections, documents, pieces and terms.
+ghost use Rattle.std.specs.Prelude.{◌≡◌, ◌≢◌, ℕ, ◌+◌, ◌<◌, ◌≤◌, ◌↔◌, Bool, IsTrue, if◌then◌else◌, List, [], ◌∷◌, ◌++◌, length, get_or, Contains, All};
 ghost use Rattle.mg_defs.specs.Parse.{Pair, IsParse, parse};
-ghost use Rattle.mg_defs.specs.Split.{IsSplit, documents, has_open_end};
+ghost use Rattle.mg_defs.specs.Sat.{Query, Sat, satisfies};
+ghost use Rattle.mg_defs.specs.Sorted.{IsSortedDistinct, sorted_distinct};
+ghost use Rattle.mg_defs.specs.Split.{IsSplit, documents, has_open_end, closed_count, closed_documents, open_part};
+ghost use Rattle.mg_defs.specs.Terms.{all_terms, dictionary, term_number, terms_of_words};
+ghost use Rattle.mg_defs.specs.Vocabulary.{vocabulary, counted, total, sorted_of, counts_of, all_pieces, sorted_pieces, piece_counts};
+ghost use Rattle.mg_defs.specs.declared.Stream.{Stream};
+ghost use Rattle.mg_defs.specs.declared.Stream.TheVariants.{Words};
 
 /// A collection has one split, and it is the computed one.
 pub fn one_split()
     ensures is { (bytes : List ℕ) → IsSplit bytes (documents bytes) (has_open_end bytes) }
-    ensures only { (bytes : List ℕ) (docs : List (List ℕ)) (open_end : Bool) → IsSplit bytes docs open_end → (docs ≡ documents bytes) × (open_end ≡ has_open_end bytes) }
+    ensures only { (bytes : List ℕ) (docs : List (List ℕ)) (open_end : Bool) → IsSplit bytes docs open_end →
+        (docs ≡ documents bytes) × (open_end ≡ has_open_end bytes) }
+{}
+
+/// The documents are the closed ones, and where the end is open one more that is not empty.
+pub fn closed_and_open()
+    ensures whole { (bytes : List ℕ) →
+        documents bytes ≡ closed_documents bytes ++ (if has_open_end bytes then open_part bytes ∷ [] else []) }
+    ensures end { (bytes : List ℕ) → IsTrue (has_open_end bytes) ↔ (0 < length (open_part bytes)) }
+    ensures count { (bytes : List ℕ) → length (closed_documents bytes) ≡ closed_count bytes }
+{}
+
+/// What one byte more does: a control-B closes the open part, and any other byte joins it.
+pub fn one_byte_more()
+    ensures closes { (bytes : List ℕ) →
+        closed_documents (bytes ++ 2 ∷ []) ≡ closed_documents bytes ++ open_part bytes ∷ [] }
+    ensures begins { (bytes : List ℕ) → open_part (bytes ++ 2 ∷ []) ≡ [] }
+    ensures stays { (bytes : List ℕ) (b : ℕ) → b ≢ 2 →
+        closed_documents (bytes ++ b ∷ []) ≡ closed_documents bytes }
+    ensures grows { (bytes : List ℕ) (b : ℕ) → b ≢ 2 →
+        open_part (bytes ++ b ∷ []) ≡ open_part bytes ++ b ∷ [] }
 {}
 
 /// A document has one list of pairs, and it is the computed one.
 pub fn one_parse()
     ensures is { (doc : List ℕ) → IsParse doc (parse doc) }
     ensures only { (doc : List ℕ) (pairs : List Pair) → IsParse doc pairs → pairs ≡ parse doc }
+{}
+
+/// Strings have one list in which they rise, each once, and it is the computed one.
+pub fn one_order()
+    ensures is { (strings : List (List ℕ)) → IsSortedDistinct strings (sorted_distinct strings) }
+    ensures only { (strings sorted : List (List ℕ)) → IsSortedDistinct strings sorted →
+        sorted ≡ sorted_distinct strings }
+{}
+
+/// The dictionary rises strictly and has exactly the terms, and it is that of the distinct words alone.
+pub fn one_dictionary()
+    ensures is { (collection : List ℕ) →
+        IsSortedDistinct (all_terms collection) (dictionary collection) }
+    ensures words { (collection : List ℕ) →
+        dictionary collection ≡ sorted_distinct (terms_of_words (sorted_pieces Words collection)) }
+{}
+
+/// A term has the number of its place in the dictionary, and every number is that of one term.
+pub fn terms_have_numbers()
+    ensures within { (collection t : List ℕ) → Contains (all_terms collection) t →
+        term_number collection t < length (dictionary collection) }
+    ensures place { (collection t : List ℕ) → Contains (all_terms collection) t →
+        get_or (dictionary collection) (term_number collection t) t ≡ t }
+    ensures back { (collection : List ℕ) (k : ℕ) (d : List ℕ) → k < length (dictionary collection) →
+        term_number collection (get_or (dictionary collection) k d) ≡ k }
+    ensures none { (collection t : List ℕ) → (Contains (all_terms collection) t → ⊥) →
+        term_number collection t ≡ length (dictionary collection) }
+{}
+
+/// The test of a query answers true exactly where the document satisfies it.
+pub fn test_decides()
+    ensures { (q : Query) (doc : List ℕ) → IsTrue (satisfies q doc) ↔ Sat q doc }
+{}
+
+/// A vocabulary grows by one piece at a time, and has each distinct piece once.
+pub fn vocabulary_grows()
+    ensures piece { (pieces : List (List ℕ)) (piece : List ℕ) →
+        vocabulary (pieces ++ piece ∷ []) ≡ counted piece (vocabulary pieces) }
+    ensures length { (pieces : List (List ℕ)) →
+        length (vocabulary pieces) ≡ length (sorted_distinct pieces) }
+    ensures total { (pieces : List (List ℕ)) → total (vocabulary pieces) ≡ length pieces }
+    ensures counts { (pieces : List (List ℕ)) →
+        All (λ (e : List ℕ × ℕ). 1 ≤ e.1) (vocabulary pieces) }
+{}
+
+/// The vocabulary of a stream has the stream's distinct pieces and their counts.
+pub fn vocabulary_tells()
+    ensures pieces { (kind : Stream) (collection : List ℕ) →
+        sorted_of (vocabulary (all_pieces kind collection)) ≡ sorted_pieces kind collection }
+    ensures counts { (kind : Stream) (collection : List ℕ) →
+        counts_of (vocabulary (all_pieces kind collection)) ≡ piece_counts kind collection }
 {}

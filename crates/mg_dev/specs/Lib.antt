@@ -4,8 +4,9 @@ pub mod Files
 pub mod Laws
 pub mod Streams
 pub mod StreamLaws
-pub mod Copy
 pub mod Shelf
 pub mod ShelfLaws
+pub mod Plans
 pub mod Mem
 pub mod Faults
+pub mod FaultLines

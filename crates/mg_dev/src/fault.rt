@@ -1,44 +1,48 @@
 // Why a run stopped.
 ghost use Rattle.std.specs.Prelude.{◌≡◌};
-ghost use Rattle.mg_dev.specs.Faults.{fault_number, status_number};
+ghost use Rattle.mg_dev.specs.Faults.{fault_number, fault_of_part, fault_of_show, fault_of_store, fault_of_output};
+ghost use Rattle.mg_dev.specs.declared.fault.Fault.TheVariants.{Memory};
 
-use crate::{Bad, Part};
+use crate::{Bad, Part, PartErr, PutErr, ShowErr, What};
 use mg_defs::Stream;
+use std::alloc::{AllocError, AllocFailed};
 
-/// What was counted twice and came out differently.
-#[derive(Clone, Copy, Debug, PartialEq, Eq)]
-pub enum What {
-    Size,
-    Documents,
-    Pairs,
-    Words,
-    Others,
-}
-
+/// Why a run stopped. Each has a status number, with which the program ends, and a line that the
+/// program writes to its standard error.
 #[derive(Clone, Copy, Debug, PartialEq, Eq)]
 pub enum Fault {
+    /// The words after the program's name are no words of a tool.
     Usage,
+    /// The store failed.
     StoreFault,
+    /// The input could not be read.
     ReadFault,
+    /// The output could not be written.
     WriteFault,
+    /// The head is missing or empty.
     NotBuilt,
+    /// The files are those of no collection.
     Damaged(Bad),
+    /// The collection's file is missing.
     NoCollection,
-    TooLarge { size: u64 },
+    /// The collection has `size` bytes, and the tool takes at most `most`.
+    TooLarge { size: u64, most: u64 },
+    /// The collection has more than 2^24 documents.
     TooManyDocuments,
+    /// The stream has more than 2^22 distinct pieces.
     TooManyPieces { stream: Stream },
+    /// The collection was read twice, and a number came out differently.
     Changed { what: What, first: u64, second: u64 },
+    /// There was no memory.
     Memory,
+    /// The collection has the full name of a part that would be written.
     NameClash { part: Part },
+    /// The input has more than 2^32 bytes.
     InputTooLong,
+    /// A set was to be made from itself.
     SameName,
+    /// The terms have `count` rotations, which is more than 2^27.
     TooManyRotations { count: u64 },
-}
-
-#[derive(Clone, Copy, Debug, PartialEq, Eq)]
-pub enum Status {
-    Done,
-    Stopped(Fault),
 }
 
 impl Fault {
@@ -65,16 +69,64 @@ impl Fault {
             Fault::TooManyRotations { .. } => 17,
         }
     }
+
+    /// The fault of a refused write to the store.
+    pub fn of_store(error: PutErr) -> Fault
+        ensures { result ≡ fault_of_store error }
+    {
+        match error {
+            PutErr::Failed => Fault::StoreFault,
+            PutErr::Memory => Fault::Memory,
+        }
+    }
+
+    /// The fault of a refused write to the output.
+    pub fn of_output(error: PutErr) -> Fault
+        ensures { result ≡ fault_of_output error }
+    {
+        match error {
+            PutErr::Failed => Fault::WriteFault,
+            PutErr::Memory => Fault::Memory,
+        }
+    }
 }
 
-impl Status {
-    /// The number that the program ends with: 0, or the fault's.
-    pub fn number(&self) -> u8
-        ensures { result ≡ status_number self.now }
-    {
-        match self {
-            Status::Done => 0,
-            Status::Stopped(fault) => fault.number(),
+impl From<PartErr> for Fault {
+    ghost from_gives = { λ p f. f ≡ fault_of_part p };
+
+    fn from(error: PartErr) -> Self {
+        match error {
+            PartErr::Device => Fault::StoreFault,
+            PartErr::Memory => Fault::Memory,
+            PartErr::Bad(bad) => Fault::Damaged(bad),
         }
+    }
+}
+
+impl From<ShowErr> for Fault {
+    ghost from_gives = { λ s f. f ≡ fault_of_show s };
+
+    fn from(error: ShowErr) -> Self {
+        match error {
+            ShowErr::Part(error) => Fault::from(error),
+            ShowErr::Write => Fault::WriteFault,
+            ShowErr::Memory => Fault::Memory,
+        }
+    }
+}
+
+impl From<AllocError> for Fault {
+    ghost from_gives = { λ _ f. f ≡ Memory };
+
+    fn from(_: AllocError) -> Self {
+        Fault::Memory
+    }
+}
+
+impl<T: Drop> From<AllocFailed<T>> for Fault {
+    ghost from_gives = { λ _ f. f ≡ Memory };
+
+    fn from(_: AllocFailed<T>) -> Self {
+        Fault::Memory
     }
 }

@@ -5,10 +5,14 @@ ghost use Rattle.mg_dev.specs.declared.part_err.PartErr.TheVariants.{Device, Mem
 use crate::{Bad, Failed};
 use std::alloc::{AllocError, AllocFailed};
 
+/// Why a part could not be read.
 #[derive(Clone, Copy, Debug, PartialEq, Eq)]
 pub enum PartErr {
+    /// The store failed.
     Device,
+    /// There was no memory for it.
     Memory,
+    /// Its bytes are those of no set of files.
     Bad(Bad),
 }
 

@@ -6,6 +6,8 @@ ghost use Rattle.mg_defs.specs.Parse.{is_word_byte as is_word_byte_spec};
 ghost use Rattle.mg_defs.specs.Tokens.{tokens_from, tokens, onto_sign, sign_of as sign_of_spec};
 ghost use Rattle.mg_query.specs.TokenOf.{token_of};
 
+use mg_parse::is_word_byte;
+
 /// A token of a line.
 #[derive(Clone, Copy)]
 pub(crate) enum Token<'a> {
@@ -74,12 +76,6 @@ fn lex<'a>(text: &'a [u8]) -> (Option<Token<'a>>, usize)
     let len = run_len(text);
     let (word, _) = text.split_at(len);
     (Some(Token::Word(word)), len)
-}
-
-fn is_word_byte(byte: u8) -> bool
-    ensures { result ≡ is_word_byte_spec byte }
-{
-    byte.is_ascii_alphanumeric() || byte >= 128
 }
 
 /// How many word bytes stand at the front.

@@ -1,0 +1,25 @@
+# make          proves and builds the program, and leaves it as bin/mg
+# make try      asks the sample collection a few questions
+# make check    the gate: every proof, edit, test and program, then the black-box suite
+# make install  copies the program to PREFIX/bin
+
+PREFIX ?= /usr/local
+SOURCES := crates.txt $(shell find crates -path '*/out' -prune -o -type f -print)
+
+bin/mg: $(SOURCES)
+	cd crates/mg && rt run
+	mkdir -p bin
+	cp crates/mg/out/mg bin/mg
+
+.PHONY: try check install
+
+try: bin/mg
+	bin/mg scan examples/letters.mail < examples/questions.txt
+
+check:
+	rt ci
+	$(MAKE) bin/mg
+	python3 tests/run.py bin/mg
+
+install: bin/mg
+	install -D bin/mg $(DESTDIR)$(PREFIX)/bin/mg

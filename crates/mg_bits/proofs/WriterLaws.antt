@@ -1,0 +1,28 @@
+-- What writes do to what was written.
+use Rattle.std.proofs.Common.{rules, arith, ◌≡◌, ◌≢◌, ◌+◌, ◌≤◌, ◌<◌, ◌++◌, ◌⊎◌, inl, inr, ℕ, List, [], ◌∷◌, length, take, set, Some, refl, sym, ◌∙◌, ap, unwrap_or, IsSome, is_some, append_assoc, append-nil, length-set}
+use Rattle.std.specs.declared.option.Option.{Option}
+use Rattle.std.proofs.lemmas.List.{take_more_set, take_all}
+use Rattle.mg_dev.specs.Files.{Files, Reads, SameReads, written, grown, bytes_at, file_at}
+use Rattle.mg_dev.specs.Laws.{told-written, file_at-written, file_at-other}
+use Rattle.mg_bits.specs.Writer.{Writing, put_to, WroteTo, Wrote}
+
+pub wrote_nothing : (name : List ℕ) (files now : Option Files) (reads reads_now : Reads) → now ≡ files → SameReads reads reads_now → WroteTo name files now reads reads_now
+wrote_nothing name files now reads reads_now e same = record { told = ap is_some e; others = λ n apart. ap (λ f. file_at f n) e; reads = same }
+
+pub wrote_written : (name x : List ℕ) (files now : Option Files) (reads reads_now : Reads) → now ≡ written files name x → SameReads reads reads_now → WroteTo name files now reads reads_now
+wrote_written name x files now reads reads_now e same = record {
+  told = ap is_some e ∙ told-written files name x;
+  others = λ n apart. ap (λ f. file_at f n) e ∙ file_at-other files name x n apart;
+  reads = same;
+}
+
+pub wrote_reset : (name : List ℕ) (files now : Option Files) (reads reads_now : Reads) → (now ≡ files) ⊎ (now ≡ written files name []) → SameReads reads reads_now → WroteTo name files now reads reads_now
+wrote_reset name files now reads reads_now (inl e) same = wrote_nothing name files now reads reads_now e same
+wrote_reset name files now reads reads_now (inr e) same = wrote_written name [] files now reads reads_now e same
+
+pub full_page : (files now : Option Files) (name page piece : List ℕ) (used byte : ℕ) → piece ≡ set page used byte → length page ≡ 4096 → used < 4096 → 4096 ≤ used + 1 → now ≡ grown files name piece → IsSome files →
+    bytes_at now name ++ [] ≡ (bytes_at files name ++ take used page) ++ byte ∷ []
+full_page files now name page piece used byte same long within last e told =
+    let whole : set page used byte ≡ take used page ++ byte ∷ [] = sym (take_all (used + 1) (set page used byte) (omega (arith, length-set page used byte))) ∙ take_more_set page used byte (omega arith) in
+    append-nil (bytes_at now name) ∙ ap (λ f. bytes_at f name) e ∙ ap (λ o. unwrap_or o []) (file_at-written files name (bytes_at files name ++ piece) told) ∙ ap (λ t. bytes_at files name ++ t) (same ∙ whole)
+    ∙ sym (append_assoc (bytes_at files name) (take used page) (byte ∷ []))

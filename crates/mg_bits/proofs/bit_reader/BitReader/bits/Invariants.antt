@@ -1,0 +1,17 @@
+use Rattle.std.proofs.Common.{◌≡◌, ◌+◌, ◌-◌, ◌≤◌, ◌<◌, ◌^◌, ℕ}
+use Rattle.mg_bits.specs.Feed.{Read}
+use Rattle.mg_defs.specs.Bits.{FromPlace, Begins, digits}
+use Rattle.mg_bits.proofs.bit_reader.BitReader.bits.Given as goal
+
+abbrev pub invariant-loop-done : goal.invariant-loop-done
+invariant-loop-done g l = record {
+  fits : g.F.Feed.fits l.self.feed (g.F.Feed.device l.dev).files;
+  done : l.done ≤ l.count;
+  place : l.self.place ≡ l.start + l.done;
+  value : l.value < 2 ^ l.done;
+  told : FromPlace ((g.F.Feed.feeding l.initial.self.feed).source (g.F.Feed.device l.initial.dev).files) l.start (Begins (digits l.done l.value));
+  read : Read (g.F.Feed.feeding l.initial.self.feed) (g.F.Feed.feeding l.self.feed) (g.F.Feed.device l.initial.dev) (g.F.Feed.device l.dev) l.start (l.start + l.done);
+}
+
+abbrev pub decreases-loop-done : goal.decreases-loop-done
+decreases-loop-done g l = l.count - l.done

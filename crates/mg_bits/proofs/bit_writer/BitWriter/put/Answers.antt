@@ -1,0 +1,30 @@
+use Rattle.std.proofs.Common.{rules, arith, ◌≡◌, ◌≤◌, ◌<◌, ◌+◌, ◌-◌, ◌/◌, ◌^◌, ℕ, length, sym, ◌∙◌, ap, subst, refl, Bool, List, []}
+use Rattle.mg_defs.specs.Bits.{digits}
+use Rattle.mg_defs.proofs.BitLaws.{length_digits}
+use Rattle.mg_bits.proofs.BitsWritten.{bits_none, bits_more, to_none, to_more, digits_next}
+use Rattle.mg_bits.proofs.bit_writer.BitWriter.put.Goals as goal
+
+no_digits : (count value : ℕ) → digits (count - count) value ≡ []
+unfolding digits
+no_digits count value = let e : count - count ≡ 0 = omega arith in rw e refl
+
+pub loop-left-init : goal.loop-left-init
+loop-left-init g c = record {
+  left = omega arith;
+  bits = rw no_digits (bits_none _ _);
+  wrote = to_none _ _ _;
+  faults = omega arith;
+}
+
+pub put_piece-requires-clause-place : goal.put_piece-requires-clause-place
+put_piece-requires-clause-place g c =
+    omega (arith, c.loop-left.invariant.bits.place, length_digits (c.args.count - c.loop-left.left) (c.args.value / 2 ^ c.loop-left.left))
+
+pub loop-left-preserved : goal.loop-left-preserved
+loop-left-preserved g c = record {
+  left = omega arith;
+  bits = rw (← digits_next c.args.count c.loop-left.left c.min-size.result c.args.value (omega arith) c.loop-left.invariant.left)
+      (bits_more _ _ _ _ _ _ _ _ c.loop-left.invariant.wrote.told c.loop-left.invariant.bits (rw c.low.ensures at c.in_ok-put_piece.ensures.bits));
+  wrote = to_more _ _ _ _ _ _ _ c.loop-left.invariant.wrote (rw c.loop-left.invariant.bits.name at c.in_ok-put_piece.ensures.wrote);
+  faults = omega (arith, c.in_ok-put_piece.ensures.cause.later);
+}

@@ -1,0 +1,16 @@
+use Rattle.std.proofs.Common.{◌≡◌, ◌+◌, ◌-◌, ◌/◌, ◌≤◌, ◌^◌, ℕ}
+use Rattle.mg_defs.specs.Bits.{digits}
+use Rattle.mg_bits.specs.Writer.{WroteTo}
+use Rattle.mg_bits.specs.BitWriting.{WroteBits}
+use Rattle.mg_bits.proofs.bit_writer.BitWriter.put.Given as goal
+
+abbrev pub invariant-loop-left : goal.invariant-loop-left
+invariant-loop-left g l = record {
+  left : l.left ≤ l.count;
+  bits : WroteBits l.initial.self l.self (g.S.Store.files l.initial.store) (g.S.Store.files l.store) (digits (l.count - l.left) (l.value / 2 ^ l.left));
+  wrote : WroteTo l.initial.self.name (g.S.Store.files l.initial.store) (g.S.Store.files l.store) (g.S.Store.reads l.initial.store) (g.S.Store.reads l.store);
+  faults : g.S.Store.faults l.initial.store ≤ g.S.Store.faults l.store;
+}
+
+abbrev pub decreases-loop-left : goal.decreases-loop-left
+decreases-loop-left g l = l.left

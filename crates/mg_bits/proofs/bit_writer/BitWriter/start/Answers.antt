@@ -1,0 +1,18 @@
+use Rattle.std.proofs.Common.{rules, arith, ◌≡◌, refl, List, [], ◌++◌, ap, ◌∙◌, ℕ, Bool, IsSome, length, sym, is_some}
+use Rattle.std.specs.declared.option.Option.{Option}
+use Rattle.mg_dev.specs.Files.{Files}
+use Rattle.mg_defs.specs.Bits.{Bits, digits, bits_of}
+use Rattle.mg_bits.specs.Writer.{Writing, put_to}
+use Rattle.mg_bits.specs.BitWriting.{bits_put}
+use Rattle.mg_bits.proofs.BitsWritten.{as_bits}
+use Rattle.mg_bits.proofs.bit_writer.BitWriter.start.Goals as goal
+
+none_put : (w : Writing) (files : Option Files) → put_to w files ≡ [] → bits_put (record { name = w.name; buffered = bits_of w.buffered ++ digits 0 0; place = 0 }) files ≡ []
+unfolding bits_of digits
+none_put w files none = as_bits w files (digits 0 0) ∙ ap (λ l. bits_of l ++ digits 0 0) none
+
+pub returns-in-Ok-clause-empty : goal.returns-in-Ok-clause-empty
+returns-in-Ok-clause-empty g c = λ told. none_put _ _ (c.in-Ok.ensures.empty told)
+
+pub returns-in-Ok-clause-holds : goal.returns-in-Ok-clause-holds
+returns-in-Ok-clause-holds g c = record { count = λ told. ap length (none_put _ _ (c.in-Ok.ensures.empty (sym c.in-Ok.ensures.wrote.told ∙ told))) }

@@ -1,0 +1,30 @@
+-- What contracts see of a bit writer, and what its calls do.
+use Rattle.std.specs.Prelude.{◌≡◌, ◌≤◌, ◌<◌, ◌+◌, ◌-◌, ◌%◌, ◌++◌, ℕ, List, length}
+use Rattle.std.specs.Option.{IsSome}
+use Rattle.std.specs.declared.option.Option.{Option}
+use Rattle.mg_dev.specs.Files.{Files, bytes_at}
+use Rattle.mg_defs.specs.Bits.{Bits, bits_of}
+
+-- a bit writer: the full name of its file, the bits that it still holds, and how many were written
+pub record BitWriting : Type 0 where
+  pub name : List ℕ
+  pub buffered : Bits
+  pub place : ℕ
+
+-- the bits that were written: those of the file, and those that the writer holds
+abbrev pub bits_put : BitWriting → Option Files → Bits
+bits_put w files = bits_of (bytes_at files w.name) ++ w.buffered
+
+-- the place is the number of the bits written, where the files are told
+pub record Holds (w : BitWriting) (files : Option Files) : Type 0 where
+  pub count : IsSome files → length (bits_put w files) ≡ w.place
+
+-- these bits were written
+pub record WroteBits (old new : BitWriting) (files_before files_now : Option Files) (bits : Bits) : Type 0 where
+  pub name : new.name ≡ old.name
+  pub place : new.place ≡ old.place + length bits
+  pub told : IsSome files_before → bits_put new files_now ≡ bits_put old files_before ++ bits
+
+-- how many bits go from a place to the next byte
+abbrev pub to_byte : ℕ → ℕ
+to_byte place = (8 - place % 8) % 8

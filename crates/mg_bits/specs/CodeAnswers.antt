@@ -1,0 +1,35 @@
+-- The three answers of a reader of a code, and its refusals.
+use Rattle.std.specs.Prelude.{◌≡◌, ◌≤◌, ◌<◌, ◌+◌, ℕ, length, Ok, Err}
+use Rattle.std.specs.declared.result.Result.{Result}
+use Rattle.mg_dev.specs.Causes.{Rose}
+use Rattle.mg_defs.specs.Bits.{Bits, Begins}
+use Rattle.mg_defs.specs.Answers.{value, end, over, Answers}
+use Rattle.mg_bits.specs.Feed.{Feeding, Device as Seen, ReadsWithin}
+use Rattle.mg_bits.specs.declared.bit_err.BitErr.{BitErr}
+use Rattle.mg_bits.specs.declared.bit_err.BitErr.TheVariants.{Device as BitDevice, End as BitEnd}
+use Rattle.mg_bits.specs.declared.code_err.CodeErr.{CodeErr}
+use Rattle.mg_bits.specs.declared.code_err.CodeErr.TheVariants.{Device, End, Over}
+
+-- the value whose code stands first, or why there is none; a failing device leaves it open
+abbrev pub AnswersCode : Result ℕ CodeErr → (ℕ → Type 0) → (ℕ → Bits) → ℕ → ℕ → Bits → Type 0
+AnswersCode (Ok x) within code limit place bits = Answers within code bits (value x)
+AnswersCode (Err Device) within code limit place bits = Unit {0}
+AnswersCode (Err (End at)) within code limit place bits = (at ≡ place) × Answers within code bits end
+AnswersCode (Err (Over at most)) within code limit place bits = (at ≡ place) × (most ≡ limit) × Answers within code bits over
+
+-- where the code of a value stands first, only pages on which it lies are read
+abbrev pub OnlyPagesOf : (ℕ → Type 0) → (ℕ → Bits) → Feeding → Feeding → Seen → Seen → ℕ → Bits → Type 0
+OnlyPagesOf within code old new before now place bits =
+    (x : ℕ) → within x → Begins (code x) bits → ReadsWithin old new before now place (place + length (code x))
+
+-- a device's failure has a cause
+abbrev pub CodeCause : {T : Type 0} → Result T CodeErr → ℕ → ℕ → Type 0
+CodeCause (Ok x) before now = Unit {0}
+CodeCause (Err Device) before now = Rose before now
+CodeCause (Err (End at)) before now = Unit {0}
+CodeCause (Err (Over at most)) before now = Unit {0}
+
+-- a bit reader's refusal as that of a code
+abbrev pub of_bit : BitErr → ℕ → CodeErr
+of_bit BitDevice place = Device
+of_bit (BitEnd at) place = End place

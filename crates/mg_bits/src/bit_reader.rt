@@ -1,0 +1,142 @@
+// Bits of a feed.
+ghost use Rattle.std.specs.Prelude.{◌≡◌, ◌+◌, ◌*◌, ◌/◌, ◌≤◌, ◌<◌, ◌^◌, IfOk, ◌%◌, OnOk, OnErr, MatchResult, Some};
+ghost use Rattle.mg_bits.specs.Feed.{Read, ReadPart, page_of};
+ghost use Rattle.mg_defs.specs.Bits.{FromPlace};
+ghost use Rattle.mg_bits.specs.Reader.{AnswersBit, AnswersBits, AnswersPiece, DeviceCause, EndHolds, at_place};
+
+use crate::{BitErr, Feed};
+
+/// Reads bits, the highest of each byte first.
+#[derive(Drop)]
+pub struct BitReader<F> {
+    feed: F,
+    place: u64,
+}
+
+impl<F: Feed> BitReader<F> {
+    pub fn new(feed: F, place: u64) -> Self
+        ensures feed { result.feed ≡ feed }
+        ensures place { result.place ≡ place }
+    {
+        BitReader { feed, place }
+    }
+
+    pub fn place(&self) -> u64
+        ensures { result ≡ self.now.place }
+    {
+        self.place
+    }
+
+    pub fn seek(&mut self, place: u64)
+        ensures feed { self.new.feed ≡ self.old.feed }
+        ensures place { self.new.place ≡ place }
+    {
+        self.place = place;
+    }
+
+    /// The next bits of one byte, as a number.
+    fn piece(&mut self, dev: &mut F::Dev, count: u32) -> Result<u64, BitErr>
+        requires fits { F.fits self.old.feed (F.device dev.old).files }
+        requires place { self.old.place + count < 2 ^ 64 }
+        requires some { 0 < count }
+        requires room { self.old.place % 8 + count ≤ 8 }
+        ensures fits { F.fits self.new.feed (F.device dev.new).files }
+        ensures read { OnOk result (Read (F.feeding self.old.feed) (F.feeding self.new.feed) (F.device dev.old) (F.device dev.new) self.old.place (self.old.place + count)) }
+        ensures part { OnErr result (ReadPart (F.feeding self.old.feed) (F.feeding self.new.feed) (F.device dev.old) (F.device dev.new) self.old.place (self.old.place + count)) }
+        ensures place { MatchResult result (λ _. self.new.place ≡ self.old.place + count) (λ _. self.new.place ≡ self.old.place) }
+        ensures below { IfOk result (λ value. value < 2 ^ count) }
+        ensures keeps { (F.feeding self.old.feed).held ≡ Some (page_of (F.feeding self.old.feed).page self.old.place) → (F.feeding self.new.feed).held ≡ (F.feeding self.old.feed).held }
+        ensures told { FromPlace ((F.feeding self.old.feed).source (F.device dev.old).files) self.old.place (AnswersPiece result self.old.place count) }
+        ensures cause { DeviceCause result (F.device dev.old).faults (F.device dev.new).faults }
+    {
+        let place = self.place;
+        match self.feed.byte(dev, place / 8) {
+            Err(_) => Err(BitErr::Device),
+            Ok(None) => Err(BitErr::End { at: place }),
+            Ok(Some(byte)) => {
+                self.place = place + u64::from(count);
+                let rest = 8 - (place % 8) as u32 - count;
+                Ok(field(byte, rest, count))
+            }
+        }
+    }
+
+    /// The next bits, as a number.
+    pub fn bits(&mut self, dev: &mut F::Dev, count: u32) -> Result<u64, BitErr>
+        requires fits { F.fits self.old.feed (F.device dev.old).files }
+        requires place { self.old.place + count < 2 ^ 64 }
+        requires count { count ≤ 64 }
+        ensures fits { F.fits self.new.feed (F.device dev.new).files }
+        ensures read { OnOk result (Read (F.feeding self.old.feed) (F.feeding self.new.feed) (F.device dev.old) (F.device dev.new) self.old.place (self.old.place + count)) }
+        ensures part { OnErr result (ReadPart (F.feeding self.old.feed) (F.feeding self.new.feed) (F.device dev.old) (F.device dev.new) self.old.place (self.old.place + count)) }
+        ensures place { MatchResult result (λ _. self.new.place ≡ self.old.place + count) (λ _. self.new.place ≡ self.old.place) }
+        ensures below { IfOk result (λ value. value < 2 ^ count) }
+        ensures told { FromPlace ((F.feeding self.old.feed).source (F.device dev.old).files) self.old.place (AnswersBits result self.old.place count) }
+        ensures end { FromPlace ((F.feeding self.old.feed).source (F.device dev.old).files) self.old.place
+            (EndHolds result (F.feeding self.old.feed).page self.old.place count (F.feeding self.new.feed).held) }
+        ensures cause { DeviceCause result (F.device dev.old).faults (F.device dev.new).faults }
+    {
+        let start = self.place;
+        let mut value = 0u64;
+        let mut done = 0u32;
+        while done < count {
+            let room = 8 - (self.place % 8) as u32;
+            let size = room.min(count - done);
+            match self.piece(dev, size) {
+                Err(refusal) => {
+                    self.place = start;
+                    return Err(at_start(refusal, start));
+                }
+                Ok(more) => {
+                    value = join(value, done, more, size);
+                    done += size;
+                }
+            }
+        }
+        Ok(value)
+    }
+
+    /// The next bit.
+    pub fn bit(&mut self, dev: &mut F::Dev) -> Result<bool, BitErr>
+        requires fits { F.fits self.old.feed (F.device dev.old).files }
+        requires place { self.old.place + 1 < 2 ^ 64 }
+        ensures fits { F.fits self.new.feed (F.device dev.new).files }
+        ensures read { OnOk result (Read (F.feeding self.old.feed) (F.feeding self.new.feed) (F.device dev.old) (F.device dev.new) self.old.place (self.old.place + 1)) }
+        ensures part { OnErr result (ReadPart (F.feeding self.old.feed) (F.feeding self.new.feed) (F.device dev.old) (F.device dev.new) self.old.place (self.old.place + 1)) }
+        ensures place { MatchResult result (λ _. self.new.place ≡ self.old.place + 1) (λ _. self.new.place ≡ self.old.place) }
+        ensures told { FromPlace ((F.feeding self.old.feed).source (F.device dev.old).files) self.old.place (AnswersBit result self.old.place) }
+        ensures cause { DeviceCause result (F.device dev.old).faults (F.device dev.new).faults }
+    {
+        Ok(self.piece(dev, 1)? == 1)
+    }
+}
+
+/// The refusal, at the place where the call began.
+fn at_start(refusal: BitErr, start: u64) -> BitErr
+    ensures { result ≡ at_place refusal start }
+{
+    match refusal {
+        BitErr::Device => BitErr::Device,
+        BitErr::End { .. } => BitErr::End { at: start },
+    }
+}
+
+/// The bits of a byte above its lowest `rest`.
+fn field(byte: u8, rest: u32, count: u32) -> u64
+    requires rest { rest ≤ 8 }
+    requires count { count ≤ 8 }
+    ensures { result ≡ byte / 2 ^ rest % 2 ^ count }
+{
+    (u64::from(byte) >> rest) % (1u64 << count)
+}
+
+/// The number of the bits of two numbers, of so many each.
+fn join(value: u64, done: u32, more: u64, size: u32) -> u64
+    requires high { value < 2 ^ done }
+    requires low { more < 2 ^ size }
+    requires size { size ≤ 8 }
+    requires fits { done + size ≤ 64 }
+    ensures { result ≡ value * 2 ^ size + more }
+{
+    value * (1u64 << size) + more
+}

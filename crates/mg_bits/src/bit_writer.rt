@@ -1,0 +1,196 @@
+// Bits into a file.
+ghost use Rattle.std.specs.Prelude.{◌≡◌, ◌+◌, ◌*◌, ◌/◌, ◌%◌, ◌≤◌, ◌<◌, ◌^◌, ◌++◌, [], IfOk, OnOk, IsSome, length};
+ghost use Rattle.mg_dev.specs.Names.{full_name};
+ghost use Rattle.mg_dev.specs.Files.{bytes_at};
+ghost use Rattle.mg_dev.specs.Causes.{HasPutCause};
+ghost use Rattle.mg_defs.specs.Bits.{digits, bits_of};
+ghost use Rattle.mg_bits.specs.Writer.{WroteTo};
+ghost use Rattle.mg_bits.specs.BitWriting.{Holds, WroteBits, bits_put, to_byte};
+
+use crate::PageWriter;
+use mg_dev::{FileRef, PutErr, Store};
+use std::alloc::Global;
+use std::marker::Model;
+
+/// Writes bits into a file, the highest of each byte first.
+///
+/// It doesn't keep what was written: it holds back up to a page of bytes and the bits of a last
+/// byte that isn't full. What was written is the bits of the file and then those that it holds.
+#[derive(Drop)]
+pub struct BitWriter<'a> {
+    bytes: PageWriter<'a>,
+    rest: u64,
+    count: u32,
+    place: u64,
+}
+
+impl<'a> Model for BitWriter<'a> {
+    ghost use Rattle.std.specs.Prelude.{◌≡◌, ◌<◌, ◌^◌, ◌%◌, ◌++◌};
+    ghost use Rattle.mg_defs.specs.Bits.{digits, bits_of};
+    ghost use Rattle.mg_bits.specs.BitWriting.{BitWriting};
+
+    ghost Value = { BitWriting };
+
+    ghost view = { λ w. record { name = w.bytes.name; buffered = bits_of w.bytes.buffered ++ digits w.count w.rest; place = w.place } };
+
+    ghost invariant = { λ w. (w.count < 8) × (w.rest < 2 ^ w.count) × (w.place % 8 ≡ w.count) };
+}
+
+impl<'a> BitWriter<'a> {
+    /// A writer of a file, which it empties. It takes a buffer of a page.
+    pub fn start<S: Store>(alloc: Global, store: &mut S, file: FileRef<'a>) -> Result<Self, PutErr>
+        ensures name { IfOk result (λ w. w.name ≡ full_name file.entry.base.now file.entry.part) }
+        ensures empty { IsSome (S.files store.old) → IfOk result (λ w. bits_put w (S.files store.new) ≡ []) }
+        ensures place { IfOk result (λ w. w.place ≡ 0) }
+        ensures holds { IfOk result (λ w. Holds w (S.files store.new)) }
+        ensures wrote { WroteTo (full_name file.entry.base.now file.entry.part) (S.files store.old) (S.files store.new) (S.reads store.old) (S.reads store.new) }
+        ensures cause { HasPutCause (S.faults store.old) (S.faults store.new) result }
+    {
+        match PageWriter::start(alloc, store, file) {
+            Ok(bytes) => Ok(BitWriter {
+                bytes,
+                rest: 0,
+                count: 0,
+                place: 0,
+            }),
+            Err(refusal) => Err(refusal),
+        }
+    }
+
+    /// The number of bits that were written.
+    pub fn place(&self) -> u64
+        ensures { result ≡ self.now.place }
+    {
+        self.place
+    }
+
+    /// Writes the lowest bits of a number, at most 64, the highest of them first.
+    pub fn put<S: Store>(&mut self, store: &mut S, value: u64, count: u32) -> Result<(), PutErr>
+        requires holds { Holds self.old (S.files store.old) }
+        requires place { self.old.place ≤ 2 ^ 63 + 2 ^ 62 }
+        requires count { count ≤ 64 }
+        ensures holds { OnOk result (Holds self.new (S.files store.new)) }
+        ensures bits { OnOk result (WroteBits self.old self.new (S.files store.old) (S.files store.new) (digits count value)) }
+        ensures name { self.new.name ≡ self.old.name }
+        ensures wrote { WroteTo self.old.name (S.files store.old) (S.files store.new) (S.reads store.old) (S.reads store.new) }
+        ensures cause { HasPutCause (S.faults store.old) (S.faults store.new) result }
+    {
+        let mut left = count;
+        while left > 0 {
+            let size = left.min(8);
+            left -= size;
+            self.put_piece(store, low(value >> left, size), size)?;
+        }
+        Ok(())
+    }
+
+    /// Writes zero-bits to the next byte.
+    pub fn align<S: Store>(&mut self, store: &mut S) -> Result<(), PutErr>
+        requires holds { Holds self.old (S.files store.old) }
+        requires place { self.old.place ≤ 2 ^ 63 + 2 ^ 62 }
+        ensures holds { OnOk result (Holds self.new (S.files store.new)) }
+        ensures bits { OnOk result (WroteBits self.old self.new (S.files store.old) (S.files store.new) (digits (to_byte self.old.place) 0)) }
+        ensures whole { OnOk result (self.new.place % 8 ≡ 0) }
+        ensures name { self.new.name ≡ self.old.name }
+        ensures wrote { WroteTo self.old.name (S.files store.old) (S.files store.new) (S.reads store.old) (S.reads store.new) }
+        ensures cause { HasPutCause (S.faults store.old) (S.faults store.new) result }
+    {
+        let size = (8 - (self.place % 8) as u32) % 8;
+        self.put_piece(store, 0, size)?;
+        Ok(())
+    }
+
+    /// Ends the file: writes zero-bits to the next byte and appends what is held. Then the file
+    /// holds the bits that were written.
+    pub fn finish<S: Store>(&mut self, store: &mut S) -> Result<(), PutErr>
+        requires holds { Holds self.old (S.files store.old) }
+        requires place { self.old.place ≤ 2 ^ 63 + 2 ^ 62 }
+        ensures holds { OnOk result (Holds self.new (S.files store.new)) }
+        ensures bits { OnOk result (WroteBits self.old self.new (S.files store.old) (S.files store.new) (digits (to_byte self.old.place) 0)) }
+        ensures file { IsSome (S.files store.old) → OnOk result (bits_of (bytes_at (S.files store.new) self.old.name) ≡ bits_put self.old (S.files store.old) ++ digits (to_byte self.old.place) 0) }
+        ensures nothing { OnOk result (self.new.buffered ≡ []) }
+        ensures name { self.new.name ≡ self.old.name }
+        ensures wrote { WroteTo self.old.name (S.files store.old) (S.files store.new) (S.reads store.old) (S.reads store.new) }
+        ensures cause { HasPutCause (S.faults store.old) (S.faults store.new) result }
+    {
+        self.align(store)?;
+        self.flush(store)?;
+        Ok(())
+    }
+
+    /// Appends the bytes that are held.
+    fn flush<S: Store>(&mut self, store: &mut S) -> Result<(), PutErr>
+        requires whole { self.old.place % 8 ≡ 0 }
+        ensures bits { OnOk result (WroteBits self.old self.new (S.files store.old) (S.files store.new) []) }
+        ensures nothing { OnOk result (self.new.buffered ≡ []) }
+        ensures name { self.new.name ≡ self.old.name }
+        ensures wrote { WroteTo self.old.name (S.files store.old) (S.files store.new) (S.reads store.old) (S.reads store.new) }
+        ensures cause { HasPutCause (S.faults store.old) (S.faults store.new) result }
+    {
+        self.bytes.finish(store)?;
+        Ok(())
+    }
+
+    /// Writes at most eight bits.
+    #[inline]
+    fn put_piece<S: Store>(&mut self, store: &mut S, bits: u64, size: u32) -> Result<(), PutErr>
+        requires place { self.old.place ≤ 2 ^ 63 + 2 ^ 62 + 64 }
+        requires size { size ≤ 8 }
+        requires bits { bits < 2 ^ size }
+        ensures bits { OnOk result (WroteBits self.old self.new (S.files store.old) (S.files store.new) (digits size bits)) }
+        ensures name { self.new.name ≡ self.old.name }
+        ensures wrote { WroteTo self.old.name (S.files store.old) (S.files store.new) (S.reads store.old) (S.reads store.new) }
+        ensures cause { HasPutCause (S.faults store.old) (S.faults store.new) result }
+    {
+        let total = self.count + size;
+        let word = join(self.rest, self.count, bits, size);
+        if total < 8 {
+            self.rest = word;
+            self.count = total;
+            self.place += u64::from(size);
+            return Ok(());
+        }
+        let over = total - 8;
+        match self.bytes.put(store, high(word, over)) {
+            Ok(()) => {
+                self.rest = low(word, over);
+                self.count = over;
+                self.place += u64::from(size);
+                Ok(())
+            }
+            Err(refusal) => Err(refusal),
+        }
+    }
+}
+
+/// The number of the bits of two numbers, of so many each.
+#[inline]
+fn join(rest: u64, count: u32, bits: u64, size: u32) -> u64
+    requires high { rest < 2 ^ count }
+    requires low { bits < 2 ^ size }
+    requires count { count < 8 }
+    requires size { size ≤ 8 }
+    ensures value { result ≡ rest * 2 ^ size + bits }
+    ensures below { result < 2 ^ (count + size) }
+{
+    rest * (1u64 << size) + bits
+}
+
+/// The eight bits above the lowest `over`.
+#[inline]
+fn high(word: u64, over: u32) -> u8
+    requires over { over < 8 }
+    requires word { word < 2 ^ (8 + over) }
+    ensures { result ≡ word / 2 ^ over }
+{
+    (word >> over) as u8
+}
+
+/// The lowest bits.
+#[inline]
+fn low(word: u64, over: u32) -> u64
+    requires { over ≤ 8 }
+    ensures { result ≡ word % 2 ^ over }
+{
+    word % (1u64 << over)
+}

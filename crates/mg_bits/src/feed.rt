@@ -1,0 +1,41 @@
+// Bytes of a file, through pages.
+ghost use Rattle.std.specs.Prelude.{◌≡◌, ◌+◌, ◌*◌, ℕ, Option, IfOk, IfSome, OnSome, slice_get};
+ghost use Rattle.mg_dev.specs.Files.{Files};
+ghost use Rattle.mg_dev.specs.Causes.{HasCause};
+ghost use Rattle.mg_bits.specs.Feed.{Device, Feeding, IsPageLength, Calm, ReadsWithin, page_of};
+
+use mg_dev::Failed;
+
+/// The bytes of one file of a device, by their places. A feed keeps a page of them, and its calls
+/// take the device that they read from.
+pub trait Feed {
+    /// What it reads from.
+    type Dev;
+
+    /// What contracts see of the device.
+    ghost device: { Self.Dev → Device };
+
+    /// What contracts see of the feed.
+    ghost feeding: { Self → Feeding };
+
+    /// The page that is held agrees with what the device holds.
+    ghost fits: { Self → Option Files → Type 0 };
+
+    /// The byte at a place, or None at and past the end.
+    fn byte(&mut self, dev: &mut Self::Dev, at: u64) -> Result<Option<u8>, Failed>
+        requires { fits self.old (device dev.old).files }
+        ensures fits { fits self.new (device dev.new).files }
+        ensures told { IfSome ((feeding self.old).source (device dev.old).files) (λ bytes. IfOk result (λ byte. byte ≡ slice_get bytes at)) }
+        ensures calm { Calm (feeding self.old) (feeding self.new) (device dev.old) (device dev.new) }
+        ensures pages { ReadsWithin (feeding self.old) (feeding self.new) (device dev.old) (device dev.new) (8 * at) (8 * at + 1) }
+        ensures held { IfOk result (λ byte. OnSome byte ((feeding self.new).held ≡ Some (page_of (feeding self.old).page (8 * at)))) }
+        ensures keeps { (feeding self.old).held ≡ Some (page_of (feeding self.old).page (8 * at)) → (feeding self.new).held ≡ (feeding self.old).held }
+        ensures cause { HasCause (device dev.old).faults (device dev.new).faults result };
+
+    /// A page is a number of times 64 bytes.
+    ghost whole_pages: { (feed : Self) → IsPageLength (feeding feed).page };
+
+    /// A feed agrees with each device that holds the same bytes for it: only the bytes that it
+    /// reads count for that.
+    ghost fits_source: { (feed : Self) (f g : Option Files) → (feeding feed).source f ≡ (feeding feed).source g → fits feed f → fits feed g };
+}

@@ -1,0 +1,186 @@
+// A feed over a file, through one page of 4,096 bytes.
+ghost use Rattle.std.specs.Prelude.{◌≡◌, ◌≤◌, ◌<◌, ◌+◌, ◌*◌, ◌^◌, Option, Some, None, IfOk, IfSome, OnSome, slice_get, length, IsSome, true};
+ghost use Rattle.std.proofs.Common.{rules};
+ghost use Rattle.mg_dev.specs.Files.{Files, bytes_at};
+ghost use Rattle.mg_dev.specs.Names.{full_name};
+ghost use Rattle.mg_dev.specs.Causes.{HasCause};
+ghost use Rattle.mg_bits.specs.Feed.{Calm, ReadPart, ReadsWithin, of_store, held_after, page_of};
+ghost use Rattle.mg_bits.specs.FeedLaws.{same_page};
+ghost use Rattle.mg_bits.specs.Pages.{Fits, SameFile, Looked, IsFilled, feeding_of};
+
+use crate::Feed;
+use crate::window::{Window, byte_in, is_held, window_byte};
+use mg_dev::{Failed, FileRef, Part, Store};
+use std::alloc::{AllocError, Global};
+use std::marker::{Model, PhantomData};
+
+const PAGE: usize = 4096;
+
+/// A feed over one file of a store, which keeps one page of it.
+///
+/// It is seen as the file's full name and part, and the page that it holds. Its calls take the
+/// store, so that many feeds can stand over one.
+#[derive(Drop)]
+pub struct PageFeed<'a, S> {
+    file: FileRef<'a>,
+    page: Vec<u8>,
+    window: Window,
+    of: PhantomData<S>,
+}
+
+impl<'a, S> Model for PageFeed<'a, S> {
+    ghost use Rattle.std.specs.Prelude.{◌≡◌, ◌≤◌, take, length};
+    ghost use Rattle.mg_dev.specs.Names.{full_name};
+    ghost use Rattle.mg_bits.specs.Pages.{Paging};
+
+    ghost Value = { Paging };
+
+    ghost view = { λ f. record { name = full_name f.file.base.now f.file.part; part = f.file.part; held = f.window.held; page = take f.window.count f.page.items; count = f.window.reads } };
+
+    ghost invariant = { λ f. (length f.page.items ≡ 4096) × (f.window.count ≤ 4096) };
+}
+
+impl<'a, S: Store> PageFeed<'a, S> {
+    /// A feed that holds no page.
+    pub fn new(alloc: Global, file: FileRef<'a>) -> Result<Self, AllocError>
+        ensures name { IfOk result (λ feed. feed.name ≡ full_name file.entry.base.now file.entry.part) }
+        ensures part { IfOk result (λ feed. feed.part ≡ file.entry.part) }
+        ensures held { IfOk result (λ feed. feed.held ≡ None) }
+        ensures count { IfOk result (λ feed. feed.count ≡ 0) }
+        ensures fits { IfOk result (λ feed. (files : Option Files) → Fits feed files) }
+    {
+        Ok(PageFeed {
+            file,
+            page: vec![in alloc; 0; PAGE]?,
+            window: Window {
+                held: None,
+                count: 0,
+                reads: 0,
+            },
+            of: PhantomData,
+        })
+    }
+
+    /// The byte at a place, or None at and past the end.
+    #[inline]
+    pub fn byte(&mut self, store: &mut S, at: u64) -> Result<Option<u8>, Failed>
+        requires fits { Fits self.old (S.files store.old) }
+        ensures fits { Fits self.new (S.files store.new) }
+        ensures file { SameFile self.old self.new }
+        ensures looked { Looked self.old.part (S.files store.old) (S.files store.new) (S.reads store.old) (S.reads store.new) (S.faults store.old) (S.faults store.new) }
+        ensures told { IsSome (S.files store.old) → IfOk result (λ byte. byte ≡ slice_get (bytes_at (S.files store.old) self.old.name) at) }
+        ensures calm { Calm (feeding_of 4096 self.old) (feeding_of 4096 self.new) (of_store (S.files store.old) (S.faults store.old) (S.reads store.old)) (of_store (S.files store.new) (S.faults store.new) (S.reads store.new)) }
+        ensures pages { ReadsWithin (feeding_of 4096 self.old) (feeding_of 4096 self.new) (of_store (S.files store.old) (S.faults store.old) (S.reads store.old)) (of_store (S.files store.new) (S.faults store.new) (S.reads store.new)) (8 * at) (8 * at + 1) }
+        ensures held { IfOk result (λ byte. OnSome byte (self.new.held ≡ Some (page_of 4096 (8 * at)))) }
+        ensures keeps { self.old.held ≡ Some (page_of 4096 (8 * at)) → self.new.held ≡ self.old.held }
+        ensures cause { HasCause (S.faults store.old) (S.faults store.new) result }
+    {
+        if is_held(self.window.held, at / 4096) {
+            let byte = byte_in(&self.page[..self.window.count], (at % 4096) as usize);
+            return Ok(byte);
+        }
+        self.turn(store, at)
+    }
+
+    /// The byte at a place of any page. It stands apart so that `byte` is short where the page is
+    /// held.
+    #[inline(never)]
+    fn turn(&mut self, store: &mut S, at: u64) -> Result<Option<u8>, Failed>
+        requires fits { Fits self.old (S.files store.old) }
+        ensures fits { Fits self.new (S.files store.new) }
+        ensures file { SameFile self.old self.new }
+        ensures looked { Looked self.old.part (S.files store.old) (S.files store.new) (S.reads store.old) (S.reads store.new) (S.faults store.old) (S.faults store.new) }
+        ensures told { IsSome (S.files store.old) → IfOk result (λ byte. byte ≡ slice_get (bytes_at (S.files store.old) self.old.name) at) }
+        ensures calm { Calm (feeding_of 4096 self.old) (feeding_of 4096 self.new) (of_store (S.files store.old) (S.faults store.old) (S.reads store.old)) (of_store (S.files store.new) (S.faults store.new) (S.reads store.new)) }
+        ensures pages { ReadsWithin (feeding_of 4096 self.old) (feeding_of 4096 self.new) (of_store (S.files store.old) (S.faults store.old) (S.reads store.old)) (of_store (S.files store.new) (S.faults store.new) (S.reads store.new)) (8 * at) (8 * at + 1) }
+        ensures held { IfOk result (λ byte. OnSome byte (self.new.held ≡ Some (page_of 4096 (8 * at)))) }
+        ensures keeps { self.old.held ≡ Some (page_of 4096 (8 * at)) → self.new.held ≡ self.old.held }
+        ensures cause { HasCause (S.faults store.old) (S.faults store.new) result }
+    {
+        let file = self.file;
+        let mut window = self.window;
+        let answer = window_byte(
+            store,
+            &file,
+            &mut self.page,
+            &mut window,
+            at,
+            at / 4096,
+            (at % 4096) as usize,
+        );
+        self.window = window;
+        answer
+    }
+
+    /// The number of bytes of the file; a missing one has none.
+    pub fn size(&mut self, store: &mut S) -> Result<u64, Failed>
+        ensures same { self.new ≡ self.old }
+        ensures looked { Looked self.old.part (S.files store.old) (S.files store.new) (S.reads store.old) (S.reads store.new) (S.faults store.old) (S.faults store.new) }
+        ensures told { IsSome (S.files store.old) → IfOk result (λ size. size ≡ length (bytes_at (S.files store.old) self.old.name)) }
+        ensures cause { HasCause (S.faults store.old) (S.faults store.new) result }
+    {
+        let file = self.file;
+        match store.size(&file) {
+            Ok(Some(size)) => Ok(size),
+            Ok(None) => Ok(0),
+            Err(failed) => Err(failed),
+        }
+    }
+
+    /// The part that it reads.
+    pub fn part(&self) -> Part
+        ensures { result ≡ self.now.part }
+    {
+        self.file.part
+    }
+
+    /// How often it read a page, up to the number's end.
+    pub fn reads(&self) -> u64
+        ensures { result ≡ self.now.count }
+    {
+        self.window.reads
+    }
+
+    /// Fills the buffer with the bytes from a place on; false where they end before it is full.
+    pub fn fill(&mut self, store: &mut S, at: u64, buf: &mut [u8]) -> Result<bool, Failed>
+        requires fits { Fits self.old (S.files store.old) }
+        requires place { at + length buf.old < 2 ^ 64 }
+        ensures fits { Fits self.new (S.files store.new) }
+        ensures file { SameFile self.old self.new }
+        ensures looked { Looked self.old.part (S.files store.old) (S.files store.new) (S.reads store.old) (S.reads store.new) (S.faults store.old) (S.faults store.new) }
+        ensures told { IsSome (S.files store.old) → IfOk result (λ whole. IsFilled whole buf.new at (bytes_at (S.files store.old) self.old.name)) }
+        ensures part { ReadPart (feeding_of 4096 self.old) (feeding_of 4096 self.new) (of_store (S.files store.old) (S.faults store.old) (S.reads store.old)) (of_store (S.files store.new) (S.faults store.new) (S.reads store.new)) (8 * at) (8 * (at + length buf.old)) }
+        ensures held { IfOk result (λ whole. whole ≡ true → self.new.held ≡ held_after 4096 self.old.held (8 * at) (8 * (at + length buf.old))) }
+        ensures cause { HasCause (S.faults store.old) (S.faults store.new) result }
+    {
+        for i in 0..buf.len() {
+            match self.byte(store, at + i as u64) {
+                Ok(Some(byte)) => {
+                    buf[i] = byte;
+                }
+                Ok(None) => return Ok(false),
+                Err(failed) => return Err(failed),
+            }
+        }
+        Ok(true)
+    }
+}
+
+impl<'a, S: Store> Feed for PageFeed<'a, S> {
+    type Dev = S;
+
+    ghost device = { λ d. of_store (S.files d) (S.faults d) (S.reads d) };
+
+    ghost feeding = { λ feed. feeding_of 4096 feed };
+
+    ghost fits = { λ feed files. Fits feed files };
+
+    #[inline]
+    fn byte(&mut self, dev: &mut S, at: u64) -> Result<Option<u8>, Failed> {
+        PageFeed::byte(self, dev, at)
+    }
+
+    ghost whole_pages = { λ s. Prim.search rules };
+
+    ghost fits_source = { λ s f g same fit. record { held = same_page 4096 s.held s.page s.name f g same fit.held } };
+}

@@ -1,0 +1,109 @@
+// Bytes into a file, through one page.
+ghost use Rattle.std.specs.Prelude.{◌≡◌, ◌≤◌, ◌<◌, ◌+◌, ◌++◌, ◌∷◌, ℕ, List, [], IfOk, OnOk, length, take, IsSome};
+ghost use Rattle.mg_dev.specs.Names.{full_name};
+ghost use Rattle.mg_dev.specs.Causes.{HasPutCause};
+ghost use Rattle.mg_dev.specs.Files.{bytes_at};
+ghost use Rattle.mg_bits.specs.Writer.{Writing, put_to, WroteTo, Wrote};
+
+use mg_dev::{FileRef, PutErr, Store};
+use std::alloc::Global;
+use std::marker::Model;
+
+const PAGE: usize = 4096;
+
+/// Writes bytes behind each other into a file.
+#[derive(Drop)]
+pub struct PageWriter<'a> {
+    file: FileRef<'a>,
+    page: Vec<u8>,
+    used: usize,
+}
+
+impl<'a> Model for PageWriter<'a> {
+    ghost use Rattle.std.specs.Prelude.{◌≡◌, ◌<◌, take, length};
+    ghost use Rattle.mg_dev.specs.Names.{full_name};
+    ghost use Rattle.mg_bits.specs.Writer.{Writing};
+
+    ghost Value = { Writing };
+
+    ghost view = { λ w. record { name = full_name w.file.base.now w.file.part; buffered = take w.used w.page.items } };
+
+    ghost invariant = { λ w. (length w.page.items ≡ 4096) × (w.used < 4096) };
+}
+
+#[tactic(auto, using(mg_dev::specs::Laws::file_laws))]
+impl<'a> PageWriter<'a> {
+    /// A writer of a file, which it empties.
+    pub fn start<S: Store>(alloc: Global, store: &mut S, file: FileRef<'a>) -> Result<Self, PutErr>
+        ensures name { IfOk result (λ w. w.name ≡ full_name file.entry.base.now file.entry.part) }
+        ensures empty { IsSome (S.files store.old) → IfOk result (λ w. put_to w (S.files store.new) ≡ []) }
+        ensures wrote { WroteTo (full_name file.entry.base.now file.entry.part) (S.files store.old) (S.files store.new) (S.reads store.old) (S.reads store.new) }
+        ensures cause { HasPutCause (S.faults store.old) (S.faults store.new) result }
+    {
+        let page = vec![in alloc; 0; PAGE]?;
+        match store.reset(&file) {
+            Ok(()) => Ok(PageWriter {
+                file,
+                page,
+                used: 0,
+            }),
+            Err(refusal) => Err(refusal),
+        }
+    }
+
+    /// Writes one byte.
+    pub fn put<S: Store>(&mut self, store: &mut S, byte: u8) -> Result<(), PutErr>
+        ensures bytes { OnOk result (Wrote self.old self.new (S.files store.old) (S.files store.new) (byte ∷ [])) }
+        ensures name { self.new.name ≡ self.old.name }
+        ensures wrote { WroteTo self.old.name (S.files store.old) (S.files store.new) (S.reads store.old) (S.reads store.new) }
+        ensures cause { HasPutCause (S.faults store.old) (S.faults store.new) result }
+    {
+        let used = self.used;
+        self.page[used] = byte;
+        if used + 1 < PAGE {
+            self.used = used + 1;
+            return Ok(());
+        }
+        match store.append(&self.file, &self.page) {
+            Ok(()) => {
+                self.used = 0;
+                Ok(())
+            }
+            Err(refusal) => Err(refusal),
+        }
+    }
+
+    /// Writes the bytes of a piece.
+    pub fn put_all<S: Store>(&mut self, store: &mut S, piece: &[u8]) -> Result<(), PutErr>
+        ensures bytes { OnOk result (Wrote self.old self.new (S.files store.old) (S.files store.new) piece.now) }
+        ensures name { self.new.name ≡ self.old.name }
+        ensures wrote { WroteTo self.old.name (S.files store.old) (S.files store.new) (S.reads store.old) (S.reads store.new) }
+        ensures cause { HasPutCause (S.faults store.old) (S.faults store.new) result }
+    {
+        for byte in piece {
+            match self.put(store, *byte) {
+                Ok(()) => {}
+                Err(refusal) => return Err(refusal),
+            }
+        }
+        Ok(())
+    }
+
+    /// Appends what is held; then the file holds all bytes that were written.
+    pub fn finish<S: Store>(&mut self, store: &mut S) -> Result<(), PutErr>
+        ensures bytes { OnOk result (Wrote self.old self.new (S.files store.old) (S.files store.new) []) }
+        ensures nothing { OnOk result (self.new.buffered ≡ []) }
+        ensures name { self.new.name ≡ self.old.name }
+        ensures wrote { WroteTo self.old.name (S.files store.old) (S.files store.new) (S.reads store.old) (S.reads store.new) }
+        ensures cause { HasPutCause (S.faults store.old) (S.faults store.new) result }
+    {
+        let used = self.used;
+        match store.append(&self.file, &self.page[..used]) {
+            Ok(()) => {
+                self.used = 0;
+                Ok(())
+            }
+            Err(refusal) => Err(refusal),
+        }
+    }
+}

@@ -1,0 +1,118 @@
+// One page of a file, kept in a buffer.
+ghost use Rattle.std.specs.Prelude.{◌≡◌, ◌+◌, ◌*◌, ◌/◌, ◌%◌, ◌≤◌, ◌<◌, ◌^◌, ℕ, Option, Some, IfOk, IfSome, OnOk, OnSome, slice_get, length, take, IsSome};
+ghost use Rattle.std.specs.Bool.{OnTrue, OnFalse};
+ghost use Rattle.mg_dev.specs.Files.{Files, bytes_at};
+ghost use Rattle.mg_dev.specs.Names.{full_name};
+ghost use Rattle.mg_dev.specs.Causes.{HasCause};
+ghost use Rattle.mg_bits.specs.Feed.{Calm, ReadsWithin, lacks, over_file, of_store, page_of, told_at};
+ghost use Rattle.mg_bits.specs.Pages.{IsPageIn};
+
+use mg_dev::{Failed, FileRef, Store};
+
+/// Which page a buffer keeps, and how often a page was read.
+#[derive(Clone, Copy, Drop)]
+pub struct Window {
+    /// The number of the page, if one is kept.
+    pub held: Option<u64>,
+    /// The bytes of that page: fewer than the buffer takes only where the file ends.
+    pub count: usize,
+    /// How often a page was read, up to the number's end.
+    pub reads: u64,
+}
+
+/// Whether the page of this number is held.
+#[inline]
+pub fn is_held(held: Option<u64>, number: u64) -> bool
+    ensures yes { OnTrue result (held ≡ Some number) }
+    ensures no { OnFalse result (lacks held number ≡ 1) }
+{
+    match held {
+        Some(there) => there == number,
+        None => false,
+    }
+}
+
+/// Holds the page of this number.
+fn load<S: Store>(
+    store: &mut S,
+    file: &FileRef<'_>,
+    page: &mut [u8],
+    window: &mut Window,
+    number: u64,
+) -> Result<(), Failed>
+    requires fits { length page.old * number < 2 ^ 64 }
+    requires within { window.old.count ≤ length page.old }
+    requires agrees { IsSome (S.files store.old) → IsPageIn (length page.old) window.old.held (take window.old.count page.old) (bytes_at (S.files store.old) (full_name file.now.base.now file.now.part)) }
+    ensures within { window.new.count ≤ length page.new }
+    ensures agrees { IsSome (S.files store.new) → IsPageIn (length page.new) window.new.held (take window.new.count page.new) (bytes_at (S.files store.new) (full_name file.now.base.now file.now.part)) }
+    ensures calm { Calm (over_file (full_name file.now.base.now file.now.part) file.now.part (length page.old) window.old.held window.old.reads)
+        (over_file (full_name file.now.base.now file.now.part) file.now.part (length page.old) window.new.held window.new.reads)
+        (of_store (S.files store.old) (S.faults store.old) (S.reads store.old))
+        (of_store (S.files store.new) (S.faults store.new) (S.reads store.new)) }
+    ensures device { S.reads store.new file.now.part ≤ S.reads store.old file.now.part + lacks window.old.held number }
+    ensures feed { window.new.reads ≤ window.old.reads + lacks window.old.held number }
+    ensures held { OnOk result (window.new.held ≡ Some number) }
+    ensures keeps { window.old.held ≡ Some number → window.new.held ≡ window.old.held }
+    ensures cause { HasCause (S.faults store.old) (S.faults store.new) result }
+{
+    if is_held(window.held, number) {
+        return Ok(());
+    }
+    window.held = None;
+    window.reads = window.reads.saturating_add(1);
+    match store.read_at(file, page.len() as u64 * number, page) {
+        Ok(count) => {
+            window.count = count;
+            window.held = Some(number);
+            Ok(())
+        }
+        Err(failed) => {
+            window.count = 0;
+            Err(failed)
+        }
+    }
+}
+
+/// The byte at an index.
+#[inline]
+pub fn byte_in(bytes: &[u8], index: usize) -> Option<u8>
+    ensures { result ≡ slice_get bytes.now index }
+{
+    bytes.get(index).copied()
+}
+
+/// The byte at a place of a file, which is that at `offset` of the page `number`. The caller
+/// divides, since it knows the length of its pages when it is compiled.
+pub fn window_byte<S: Store>(
+    store: &mut S,
+    file: &FileRef<'_>,
+    page: &mut [u8],
+    window: &mut Window,
+    at: u64,
+    number: u64,
+    offset: usize,
+) -> Result<Option<u8>, Failed>
+    requires number { number ≡ at / length page.old }
+    requires offset { offset ≡ at % length page.old }
+    requires some { 0 < length page.old }
+    requires within { window.old.count ≤ length page.old }
+    requires agrees { IsSome (S.files store.old) → IsPageIn (length page.old) window.old.held (take window.old.count page.old) (bytes_at (S.files store.old) (full_name file.now.base.now file.now.part)) }
+    ensures within { window.new.count ≤ length page.new }
+    ensures agrees { IsSome (S.files store.new) → IsPageIn (length page.new) window.new.held (take window.new.count page.new) (bytes_at (S.files store.new) (full_name file.now.base.now file.now.part)) }
+    ensures told { IsSome (S.files store.old) → IfOk result (λ byte. byte ≡ slice_get (bytes_at (S.files store.old) (full_name file.now.base.now file.now.part)) at) }
+    ensures calm { Calm (over_file (full_name file.now.base.now file.now.part) file.now.part (length page.old) window.old.held window.old.reads)
+        (over_file (full_name file.now.base.now file.now.part) file.now.part (length page.old) window.new.held window.new.reads)
+        (of_store (S.files store.old) (S.faults store.old) (S.reads store.old))
+        (of_store (S.files store.new) (S.faults store.new) (S.reads store.new)) }
+    ensures pages { ReadsWithin (over_file (full_name file.now.base.now file.now.part) file.now.part (length page.old) window.old.held window.old.reads)
+        (over_file (full_name file.now.base.now file.now.part) file.now.part (length page.old) window.new.held window.new.reads)
+        (of_store (S.files store.old) (S.faults store.old) (S.reads store.old))
+        (of_store (S.files store.new) (S.faults store.new) (S.reads store.new)) (8 * at) (8 * at + 1) }
+    ensures held { IfOk result (λ byte. OnSome byte (window.new.held ≡ Some (page_of (length page.old) (8 * at)))) }
+    ensures keeps { window.old.held ≡ Some (page_of (length page.old) (8 * at)) → window.new.held ≡ window.old.held }
+    ensures cause { HasCause (S.faults store.old) (S.faults store.new) result }
+{
+    load(store, file, page, window, number)?;
+    let byte = byte_in(&page[..window.count], offset);
+    Ok(byte)
+}

@@ -1,0 +1,184 @@
+// The line of a fault.
+ghost use Rattle.std.specs.Prelude.{◌≡◌, ◌++◌};
+ghost use Rattle.std.specs.List.{flat_map};
+ghost use Rattle.mg_dev.specs.Streams.{AfterPut};
+ghost use Rattle.mg_dev.specs.Causes.{HasPutCause, HasLack};
+ghost use Rattle.mg_dev.specs.FaultLines.{piece_text, fault_line, stream_name};
+
+use crate::{Bad, Fault, Part, PutErr, Sink, What};
+use itoa::Buffer;
+use mg_defs::Stream;
+
+// A piece of a line.
+#[derive(Clone, Copy)]
+pub enum Piece<'a> {
+    Text(&'a str),
+    Number(u64),
+}
+
+fn put_piece<O: Sink>(out: &mut O, piece: Piece<'_>) -> Result<(), PutErr>
+    ensures content { AfterPut (O.written out.old) (O.written out.new) (piece_text piece.entry) result }
+    ensures cause { HasPutCause (O.faults out.old) (O.faults out.new) result }
+    ensures lack { HasLack (O.lacks out.old) (O.lacks out.new) result }
+{
+    match piece {
+        Piece::Text(text) => out.put(text.as_bytes()),
+        Piece::Number(number) => {
+            let mut buffer = Buffer::new();
+            out.put(buffer.format(number).as_bytes())
+        }
+    }
+}
+
+#[tactic(auto, using(crate::specs::StreamLaws::stream_laws))]
+fn put_pieces<O: Sink>(out: &mut O, pieces: &[Piece<'_>]) -> Result<(), PutErr>
+    ensures content { AfterPut (O.written out.old) (O.written out.new) (flat_map piece_text pieces.now) result }
+    ensures cause { HasPutCause (O.faults out.old) (O.faults out.new) result }
+    ensures lack { HasLack (O.lacks out.old) (O.lacks out.new) result }
+{
+    match pieces {
+        [] => Ok(()),
+        [first, rest @ ..] => {
+            put_piece(out, *first)?;
+            put_pieces(out, rest)
+        }
+    }
+}
+
+fn stream_name(stream: Stream) -> &'static str
+    ensures { result.now ≡ stream_name stream }
+{
+    match stream {
+        Stream::Words => "words",
+        Stream::Others => "non-words",
+    }
+}
+
+#[tactic(auto, unfolding(crate::specs::FaultLines::fault_line))]
+fn put_damaged<O: Sink>(out: &mut O, bad: Bad) -> Result<(), PutErr>
+    ensures content { AfterPut (O.written out.old) (O.written out.new) (fault_line (Fault.Damaged bad)) result }
+    ensures cause { HasPutCause (O.faults out.old) (O.faults out.new) result }
+    ensures lack { HasLack (O.lacks out.old) (O.lacks out.new) result }
+{
+    let pieces = [
+        Piece::Text("mg: damaged: part "),
+        Piece::Text(bad.part.name()),
+        Piece::Text(" at "),
+        Piece::Number(bad.at),
+        Piece::Text(": found "),
+        Piece::Number(bad.found),
+        Piece::Text(", wanted "),
+        Piece::Number(bad.low),
+        Piece::Text(" to "),
+        Piece::Number(bad.high),
+        Piece::Text("\n"),
+    ];
+    put_pieces(out, &pieces)
+}
+
+#[tactic(auto, unfolding(crate::specs::FaultLines::fault_line))]
+fn put_changed<O: Sink>(out: &mut O, what: What, first: u64, second: u64) -> Result<(), PutErr>
+    ensures content { AfterPut (O.written out.old) (O.written out.new) (fault_line (Fault.Changed what first second)) result }
+    ensures cause { HasPutCause (O.faults out.old) (O.faults out.new) result }
+    ensures lack { HasLack (O.lacks out.old) (O.lacks out.new) result }
+{
+    let pieces = [
+        Piece::Text("mg: the collection changed while it was read: "),
+        Piece::Text(what.name()),
+        Piece::Text(" was "),
+        Piece::Number(first),
+        Piece::Text(", then "),
+        Piece::Number(second),
+        Piece::Text("\n"),
+    ];
+    put_pieces(out, &pieces)
+}
+
+#[tactic(auto, unfolding(crate::specs::FaultLines::fault_line))]
+fn put_too_large<O: Sink>(out: &mut O, size: u64, most: u64) -> Result<(), PutErr>
+    ensures content { AfterPut (O.written out.old) (O.written out.new) (fault_line (Fault.TooLarge size most)) result }
+    ensures cause { HasPutCause (O.faults out.old) (O.faults out.new) result }
+    ensures lack { HasLack (O.lacks out.old) (O.lacks out.new) result }
+{
+    let pieces = [
+        Piece::Text("mg: the collection has "),
+        Piece::Number(size),
+        Piece::Text(" bytes, more than "),
+        Piece::Number(most),
+        Piece::Text("\n"),
+    ];
+    put_pieces(out, &pieces)
+}
+
+#[tactic(auto, unfolding(crate::specs::FaultLines::fault_line))]
+fn put_too_many_pieces<O: Sink>(out: &mut O, stream: Stream) -> Result<(), PutErr>
+    ensures content { AfterPut (O.written out.old) (O.written out.new) (fault_line (Fault.TooManyPieces stream)) result }
+    ensures cause { HasPutCause (O.faults out.old) (O.faults out.new) result }
+    ensures lack { HasLack (O.lacks out.old) (O.lacks out.new) result }
+{
+    let pieces = [
+        Piece::Text("mg: more than 4194304 distinct "),
+        Piece::Text(stream_name(stream)),
+        Piece::Text("\n"),
+    ];
+    put_pieces(out, &pieces)
+}
+
+#[tactic(auto, unfolding(crate::specs::FaultLines::fault_line))]
+fn put_name_clash<O: Sink>(out: &mut O, part: Part) -> Result<(), PutErr>
+    ensures content { AfterPut (O.written out.old) (O.written out.new) (fault_line (Fault.NameClash part)) result }
+    ensures cause { HasPutCause (O.faults out.old) (O.faults out.new) result }
+    ensures lack { HasLack (O.lacks out.old) (O.lacks out.new) result }
+{
+    let pieces = [
+        Piece::Text("mg: the collection has the name of part "),
+        Piece::Text(part.name()),
+        Piece::Text("\n"),
+    ];
+    put_pieces(out, &pieces)
+}
+
+#[tactic(auto, unfolding(crate::specs::FaultLines::fault_line))]
+fn put_too_many_rotations<O: Sink>(out: &mut O, count: u64) -> Result<(), PutErr>
+    ensures content { AfterPut (O.written out.old) (O.written out.new) (fault_line (Fault.TooManyRotations count)) result }
+    ensures cause { HasPutCause (O.faults out.old) (O.faults out.new) result }
+    ensures lack { HasLack (O.lacks out.old) (O.lacks out.new) result }
+{
+    let pieces = [
+        Piece::Text("mg: the terms have "),
+        Piece::Number(count),
+        Piece::Text(" rotations, more than 134217728\n"),
+    ];
+    put_pieces(out, &pieces)
+}
+
+/// Writes the fault's line, with its line feed.
+#[tactic(auto, unfolding(crate::specs::FaultLines::fault_line))]
+pub fn put_fault_line<O: Sink>(out: &mut O, fault: &Fault) -> Result<(), PutErr>
+    ensures content { AfterPut (O.written out.old) (O.written out.new) (fault_line fault.now) result }
+    ensures cause { HasPutCause (O.faults out.old) (O.faults out.new) result }
+    ensures lack { HasLack (O.lacks out.old) (O.lacks out.new) result }
+{
+    match *fault {
+        Fault::Usage => out.put(b"mg: the words are not understood\n"),
+        Fault::StoreFault => out.put(b"mg: the store failed\n"),
+        Fault::ReadFault => out.put(b"mg: the input could not be read\n"),
+        Fault::WriteFault => out.put(b"mg: the output could not be written\n"),
+        Fault::NotBuilt => out.put(b"mg: nothing is built under this name\n"),
+        Fault::Damaged(bad) => put_damaged(out, bad),
+        Fault::NoCollection => out.put(b"mg: there is no such collection\n"),
+        Fault::TooLarge { size, most } => put_too_large(out, size, most),
+        Fault::TooManyDocuments => out.put(b"mg: more than 16777216 documents\n"),
+        Fault::TooManyPieces { stream } => put_too_many_pieces(out, stream),
+        Fault::Changed {
+            what,
+            first,
+            second,
+        } => put_changed(out, what, first, second),
+        Fault::Memory => out.put(b"mg: out of memory\n"),
+        Fault::NameClash { part } => put_name_clash(out, part),
+        Fault::InputTooLong => out.put(b"mg: the input is longer than 4294967296 bytes\n"),
+        Fault::SameName => out.put(b"mg: both names are the same\n"),
+        Fault::TooManyRotations { count } => put_too_many_rotations(out, count),
+    }
+}

@@ -1,0 +1,3 @@
+pub mod Forest
+pub mod Rising
+pub mod Ranking

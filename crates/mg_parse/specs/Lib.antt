@@ -1,0 +1,4 @@
+pub mod Seen
+pub mod Lent
+pub mod Offered
+pub mod Told

@@ -1,0 +1,195 @@
+// The worked examples, and pieces at the edges of 255 bytes, by both ways to read them.
+ghost use Rattle.std.specs.Prelude.{◌≡◌, ◌<◌, ◌^◌, [], ◌∷◌, ◌++◌, IfOk, length};
+ghost use Rattle.mg_defs.specs.Pieces.{pieces, left_at_end, other_kind};
+ghost use Rattle.mg_defs.specs.Split.{closed_count, has_open_end};
+ghost use Rattle.mg_parse.specs.Told.{lists};
+
+use super::*;
+use std::alloc::{AllocError, Global};
+use std::process::Abort;
+use std::test::Fail;
+
+/// Three documents in 39 bytes.
+const COLLECTION: &[u8] = b"the cat sat\n\x02the dog\n\x02Cat, cat & dog!\n\x02";
+
+/// Takes the reader's current piece, and turns to the next.
+fn take(alloc: Global, reader: &mut PieceReader, told: &mut Vec<Vec<u8>>) -> Result<(), AllocError>
+    ensures told { IfOk result (λ _. lists told.new.items ≡ lists told.old.items ++ reader.old.piece ∷ []) }
+    ensures turned { IfOk result (λ _. reader.new ≡ record { kind = other_kind reader.old.kind; piece = [] }) }
+{
+    let piece = reader.piece().to_vec(alloc)?;
+    told.push(piece)?;
+    reader.turn();
+    Ok(())
+}
+
+/// Takes what is left at the document's end.
+fn take_rest(
+    alloc: Global,
+    reader: &mut PieceReader,
+    told: &mut Vec<Vec<u8>>,
+) -> Result<(), AllocError>
+    ensures { IfOk result (λ _. lists told.new.items ≡ lists told.old.items ++ left_at_end reader.old.kind reader.old.piece) }
+{
+    let left = reader.ends();
+    if left == 0 {
+        return Ok(());
+    }
+    take(alloc, reader, told)?;
+    if left == 1 {
+        return Ok(());
+    }
+    take(alloc, reader, told)?;
+    Ok(())
+}
+
+/// The pieces of a document, from its bytes one at a time.
+fn pieces_by_reader(alloc: Global, doc: &[u8]) -> Result<Vec<Vec<u8>>, AllocError>
+    ensures { IfOk result (λ told. lists told.items ≡ pieces doc.now) }
+{
+    let mut told: Vec<Vec<u8>> = Vec::new(alloc);
+    let mut reader = PieceReader::new();
+    'bytes: for byte in doc {
+        'turns: while let Offer::Ended = reader.offer(*byte) {
+            take(alloc, &mut reader, &mut told)?;
+        }
+    }
+    take_rest(alloc, &mut reader, &mut told)?;
+    Ok(told)
+}
+
+/// The lengths of the pieces that the reader tells.
+fn lengths_by_reader(alloc: Global, doc: &[u8]) -> Result<Vec<usize>, AllocError> {
+    let told = pieces_by_reader(alloc, doc)?;
+    let mut lengths = Vec::new(alloc);
+    for piece in &told {
+        lengths.push(piece.len())?;
+    }
+    Ok(lengths)
+}
+
+/// The lengths of the pieces that the pairs have.
+fn lengths_by_pairs(alloc: Global, doc: &[u8]) -> Result<Vec<usize>, AllocError> {
+    let mut lengths = Vec::new(alloc);
+    for pair in Pairs::new(doc) {
+        lengths.push(pair.word.len())?;
+        lengths.push(pair.other.len())?;
+    }
+    Ok(lengths)
+}
+
+/// A byte so many times, and then some others.
+fn run_before(alloc: Global, byte: u8, count: usize, end: &[u8]) -> Result<Vec<u8>, AllocError> {
+    let mut doc = vec![in alloc; byte; count]?;
+    doc.extend_from_slice(end)?;
+    Ok(doc)
+}
+
+/// Both ways to read a document give pieces of these lengths.
+fn expect_lengths(
+    rt: &impl Abort,
+    alloc: Global,
+    byte: u8,
+    count: usize,
+    end: &[u8],
+    want: &[usize],
+) -> Result<(), Fail> {
+    let doc = run_before(alloc, byte, count, end)?;
+    let read = lengths_by_reader(alloc, doc.as_slice())?;
+    assert_eq!(rt; read.as_slice(), want, "by bytes: {count} of {byte}");
+    let paired = lengths_by_pairs(alloc, doc.as_slice())?;
+    assert_eq!(rt; paired.as_slice(), want, "by pairs: {count} of {byte}");
+    Ok(())
+}
+
+#[test]
+fn words_and_others_alternate(rt: HostRuntime) -> Result<(), Fail> {
+    expect_lengths(&rt, rt.alloc(), b' ', 0, b"", &[])?;
+    expect_lengths(
+        &rt,
+        rt.alloc(),
+        b' ',
+        0,
+        b"the cat sat\n",
+        &[3, 1, 3, 1, 3, 1],
+    )?;
+    expect_lengths(&rt, rt.alloc(), b' ', 0, b"the dog\n", &[3, 1, 3, 1])?;
+    expect_lengths(
+        &rt,
+        rt.alloc(),
+        b' ',
+        0,
+        b"Cat, cat & dog!\n",
+        &[3, 2, 3, 3, 3, 2],
+    )?;
+    expect_lengths(&rt, rt.alloc(), b' ', 0, b"a b c", &[1, 1, 1, 1, 1, 0])?;
+    expect_lengths(&rt, rt.alloc(), b' ', 1, b"a b", &[0, 1, 1, 1, 1, 0])?;
+    expect_lengths(&rt, rt.alloc(), b' ', 0, b"\x80A\xff\x7f0", &[3, 1, 1, 0])?;
+    Ok(())
+}
+
+#[test]
+fn a_word_has_at_most_255_bytes(rt: HostRuntime) -> Result<(), Fail> {
+    expect_lengths(&rt, rt.alloc(), b'a', 255, b"", &[255, 0])?;
+    expect_lengths(&rt, rt.alloc(), b'a', 256, b"", &[255, 0, 1, 0])?;
+    expect_lengths(&rt, rt.alloc(), b'a', 510, b"", &[255, 0, 255, 0])?;
+    expect_lengths(&rt, rt.alloc(), b'a', 511, b"", &[255, 0, 255, 0, 1, 0])?;
+    expect_lengths(&rt, rt.alloc(), b'a', 255, b" ", &[255, 1])?;
+    expect_lengths(&rt, rt.alloc(), b'a', 256, b" ", &[255, 0, 1, 1])?;
+    Ok(())
+}
+
+#[test]
+fn an_other_has_at_most_255_bytes(rt: HostRuntime) -> Result<(), Fail> {
+    expect_lengths(&rt, rt.alloc(), b' ', 255, b"", &[0, 255])?;
+    expect_lengths(&rt, rt.alloc(), b' ', 256, b"", &[0, 255, 0, 1])?;
+    expect_lengths(&rt, rt.alloc(), b' ', 300, b"", &[0, 255, 0, 45])?;
+    expect_lengths(&rt, rt.alloc(), b' ', 510, b"", &[0, 255, 0, 255])?;
+    expect_lengths(&rt, rt.alloc(), b' ', 511, b"", &[0, 255, 0, 255, 0, 1])?;
+    expect_lengths(&rt, rt.alloc(), b' ', 256, b"a", &[0, 255, 0, 1, 1, 0])?;
+    Ok(())
+}
+
+/// How many documents the bytes close, and whether they end in an open one.
+fn split_counts(bytes: &[u8]) -> (u64, bool)
+    requires { length bytes.now < 2 ^ 63 }
+    ensures closed { result.0 ≡ closed_count bytes.now }
+    ensures ends { result.1 ≡ has_open_end bytes.now }
+{
+    let mut splitter = Splitter::new();
+    for byte in bytes {
+        let _event = splitter.feed(*byte);
+    }
+    let closed = splitter.documents();
+    (closed, splitter.finish())
+}
+
+#[test]
+fn documents_end_at_control_b(rt: HostRuntime) {
+    assert_eq!(rt; split_counts(b""), (0, false));
+    assert_eq!(rt; split_counts(b"\x02"), (1, false));
+    assert_eq!(rt; split_counts(b"\x02\x02"), (2, false));
+    assert_eq!(rt; split_counts(COLLECTION), (3, false));
+    assert_eq!(rt; split_counts(&COLLECTION[..38]), (2, true));
+    assert_eq!(rt; split_counts(b"a\x02b"), (1, true));
+    assert_eq!(rt; split_counts(b"\x02a"), (1, true));
+}
+
+#[test]
+fn folding_keeps_all_but_capitals(rt: HostRuntime) {
+    let mut out = *b"________________";
+    let length = fold(b"@AZ[`az{\x80\xc1\xdf09", &mut out);
+    assert_eq!(rt; length, 13);
+    assert_eq!(rt; &out, b"@az[`az{\x80\xc1\xdf09___");
+}
+
+#[test]
+fn word_bytes_are_letters_digits_and_high_bytes(rt: HostRuntime) {
+    let mut count = 0u32;
+    for byte in 0..=255u8 {
+        if is_word_byte(byte) {
+            count = count.wrapping_add(1);
+        }
+    }
+    assert_eq!(rt; count, 26 + 26 + 10 + 128);
+}

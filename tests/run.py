@@ -1,0 +1,196 @@
+"""The black-box suite: drives the built program through real files and pipes.
+
+    python3 tests/run.py [--slow] bin/mg
+
+Expected outputs are rows worked by hand or stored ones, which a reference wrote that shares no
+code with the program (tests/make_expected.py). The last line is `N passed, N failed`. With --slow
+it also feeds an input of more than 4,294,967,296 bytes.
+"""
+
+import os
+import pathlib
+import subprocess
+import sys
+import tempfile
+
+from kinds import Draws, cases
+
+EXPECTED = pathlib.Path(__file__).parent / "expected"
+K = b"the cat sat\n\x02the dog\n\x02Cat, cat & dog!\n\x02"
+MOST = 268_435_456
+
+
+class Suite:
+    """Runs of the program in a folder of its own, and how many came out as they should."""
+
+    def __init__(self, program, folder):
+        self.program = pathlib.Path(program).resolve()
+        self.folder = pathlib.Path(folder)
+        self.passed = 0
+        self.failed = 0
+
+    def file(self, name, content):
+        """A file of the folder with these bytes."""
+        (self.folder / name).write_bytes(content)
+        return name
+
+    def run(self, words, given=b"", stdin=None, stdout=subprocess.PIPE):
+        """The program's status, output and error output."""
+        source = {"stdin": stdin} if stdin is not None else {"input": given}
+        run = subprocess.run(
+            [self.program, *words], cwd=self.folder, stdout=stdout, stderr=subprocess.PIPE, timeout=300, **source
+        )
+        return run.returncode, run.stdout, run.stderr
+
+    def check(self, name, got, wanted):
+        if got == wanted:
+            self.passed += 1
+            return
+        self.failed += 1
+        print(f"FAILED {name}")
+        print(f"  wanted {str(wanted)[:400]}")
+        print(f"  got    {str(got)[:400]}")
+
+    def answers(self, name, collection, session, wanted):
+        """`scan` prints this at status 0, and no fault line."""
+        self.file("text", collection)
+        self.check(name, self.run(["scan", "text"], session), (0, wanted, b""))
+
+
+def replies(*lines):
+    return b"".join(line.encode() + b"\n" for line in lines)
+
+
+def rows(suite):
+    """Lines over small collections, worked by hand."""
+    table = [
+        ("an empty collection", b"", b"!cat\n", replies("= 0")),
+        ("words", K, b"cat\nzebra\n", replies("1", "3", "= 2", "= 0")),
+        ("a conjunction", K, b"cat & !the", replies("3", "= 1")),
+        ("side by side and or", K, b"cat dog | sat", replies("1", "3", "= 2")),
+        ("a negation of an absent word", K, b"!zebra\n", replies("1", "2", "3", "= 3")),
+        ("empty documents", b"\x02\x02", b"!x\n", replies("1", "2", "= 2")),
+        ("one empty document", b"\x02", b"!x\n", replies("1", "= 1")),
+        ("a word of 256 bytes", b"a" * 256, b"a\n" + b"a" * 255 + b"\n" + b"a" * 256,
+         replies("1", "= 1", "1", "= 1", "? word too long at 0")),
+        ("refusals", K, b"cat & (dog\ncat ) dog\ncat & | dog\n" + b"(" * 33 + b"\n, ,\n",
+         replies("? syntax at 10", "? syntax at 4", "? syntax at 6", "? too deep at 32", "? syntax at 3")),
+        ("ranked", K, b".set query ranked\ncat\ncat CAT cat\ncat dog\nzebra\n, ,\n",
+         replies("3 77451", "1 50002", "= 2", "3 77451", "1 50002", "= 2",
+                 "3 116177", "2 61191", "1 50002", "= 3", "= 0", "= 0")),
+        ("a tie goes to the earlier document", b"a\x02a\x02", b".set query ranked\n.set maxdocs 1\na\n",
+         replies("1 65536", "= 2")),
+        ("too many ranked words", K,
+         b".set query ranked\n" + b" ".join(bytes([97 + n // 26, 97 + n % 26]) for n in range(65)),
+         replies("? too many words at 192")),
+        ("a shown document", K, b".set mode text\nsat\n.set mode count\ncat\n", b"-- 1\nthe cat sat\n\x02\n= 1\n= 2\n"),
+        ("a carriage return", K, b"cat\r\n\r\n\ncat\r\r\n", replies("1", "3", "= 2", "1", "3", "= 2")),
+        ("commands", K, b".set  query   ranked\n.set maxdocs 0\n.cat\ncat\n",
+         replies("? bad command", "? bad command", "3 77451", "1 50002", "= 2")),
+        ("a line of 1,025 bytes", K, b"x" * 1025 + b"\n" + b" " * 1021 + b"sat\n", replies("? line too long", "1", "= 1")),
+        ("the end of a session", K, b"sat\n.quit\nsat\n", replies("1", "= 1")),
+        ("maxdocs leaves the count", K, b".set maxdocs 1\ncat\n", replies("1", "= 2")),
+        ("no end", b"cat \x02 dog", b"dog\n", replies("2", "= 1")),
+        ("a null byte", b"a\x00b\x02", b"a\nb", replies("1", "= 1", "1", "= 1")),
+        ("bytes that are no ASCII", "Ärger\x02ärger\x02".encode(), "Ärger\n".encode(), replies("1", "= 1")),
+        ("lines of the collection with carriage returns", b"a\r\nb\r\n\x02", b"a b\n", replies("1", "= 1")),
+    ]
+    for name, collection, session, wanted in table:
+        suite.answers(name, collection, session, wanted)
+
+
+def stored(suite):
+    """Sessions of two hundred lines over collections of each kind."""
+    for name, collection, session in cases():
+        suite.answers(name, collection, session, (EXPECTED / f"{name}.out").read_bytes())
+
+
+def words(suite):
+    """The words of the command line."""
+    suite.file("text", K)
+    usage = (1, b"", b"mg: the words are not understood\n")
+    for name, given in [
+        ("no words", []), ("no tool", ["index"]), ("no name", ["scan"]), ("a word too many", ["scan", "text", "more"]),
+        ("an empty name", ["scan", ""]), ("an option", ["scan", "--all", "text"]),
+    ]:
+        suite.check(name, suite.run(given, b"sat\n"), usage)
+    for name in ["name with blanks", "Bücher.txt", "a.b"]:
+        suite.file(name, K)
+        suite.check(f"a collection {name!r}", suite.run(["scan", name], b"sat\n"), (0, replies("1", "= 1"), b""))
+    status, out, _ = suite.run([b"scan", b"\xff\xfe"], b"sat\n")
+    suite.check("words that are no UTF-8", (status, out), (18, b""))
+
+
+def devices(suite):
+    """Files and streams that are missing, of the wrong kind, full, or gone."""
+    suite.file("text", K)
+    missing = (7, b"", b"mg: there is no such collection\n")
+    suite.check("a missing collection", suite.run(["scan", "none"], b"sat\n"), missing)
+    (suite.folder / "folder").mkdir(exist_ok=True)
+    suite.check("a folder as collection", suite.run(["scan", "folder"], b"sat\n"), (2, b"", b"mg: the store failed\n"))
+    with open(suite.folder / "big", "wb") as big:
+        big.truncate(MOST + 1)
+    large = b"mg: the collection has 268435457 bytes, more than 268435456\n"
+    suite.check("a collection that is too large", suite.run(["scan", "big"], b"sat\n"), (8, b"", large))
+    os.remove(suite.folder / "big")
+    folder = os.open(suite.folder, os.O_RDONLY)
+    unread = (3, b"", b"mg: the input could not be read\n")
+    suite.check("a folder as input", suite.run(["scan", "text"], stdin=folder), unread)
+    os.close(folder)
+    with open("/dev/full", "wb") as full:
+        unwritten = (4, None, b"mg: the output could not be written\n")
+        suite.check("a full output", suite.run(["scan", "text"], b"sat\n", stdout=full), unwritten)
+    reader, writer = os.pipe()
+    os.close(reader)
+    status, _, _ = suite.run(["scan", "text"], b"sat\n", stdout=writer)
+    os.close(writer)
+    suite.check("a reader that went away", status, 4)
+    status = subprocess.run(f"'{suite.program}' scan text 2>/dev/full >/dev/null <.", shell=True, cwd=suite.folder)
+    suite.check("a full error output changes no status", status.returncode, 3)
+    suite.check("the collection is as it was", (suite.folder / "text").read_bytes(), K)
+
+
+def large_collection(suite):
+    """Fifty megabytes."""
+    draws = Draws(99)
+    vocabulary = [bytes(draws.one_of(b"abcdefghijklmnop") for _ in range(2 + draws.below(6))) for _ in range(500)]
+    block = b"".join(b" ".join(draws.one_of(vocabulary) for _ in range(60)) + b"\n\x02" for _ in range(1000))
+    copies = 50_000_000 // len(block) + 1
+    word = vocabulary[7]
+    count = sum(word in document.split() for document in block.split(b"\x02"))
+    suite.file("large", block * copies + b"needle")
+    lines = b"needle\n.set mode count\n" + word + b"\n"
+    wanted = replies(f"{1000 * copies + 1}", "= 1", f"= {count * copies}")
+    suite.check("fifty megabytes", suite.run(["scan", "large"], lines), (0, wanted, b""))
+    os.remove(suite.folder / "large")
+
+
+def long_input(suite):
+    """An input of more than 2^32 bytes."""
+    suite.file("text", K)
+    for name, tail, wanted in [
+        ("an input that is too long", b"sat\n", (14, b"mg: the input is longer than 4294967296 bytes\n")),
+        ("a session that ends before", b"", (0, b"")),
+    ]:
+        command = [suite.program, "scan", "text"]
+        run = subprocess.Popen(command, cwd=suite.folder, stdin=subprocess.PIPE, stdout=subprocess.PIPE, stderr=subprocess.PIPE)
+        for _ in range(2**12):
+            run.stdin.write(b"\n" * 2**20)
+        run.stdin.write(tail)
+        out, err = run.communicate()
+        suite.check(name, (run.returncode, err, out), (*wanted, b""))
+
+
+def main():
+    slow = "--slow" in sys.argv
+    program = [word for word in sys.argv[1:] if word != "--slow"][0]
+    with tempfile.TemporaryDirectory() as folder:
+        suite = Suite(program, folder)
+        for part in [rows, stored, words, devices, large_collection] + [long_input] * slow:
+            part(suite)
+    print(f"{suite.passed} passed, {suite.failed} failed")
+    return 1 if suite.failed or not suite.passed else 0
+
+
+if __name__ == "__main__":
+    sys.exit(main())
