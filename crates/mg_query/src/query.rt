@@ -1,7 +1,7 @@
 //! A Boolean query.
 ghost use Rattle.std.specs.Prelude.{◌≡◌, ◌++◌, IfOk, OnOk};
 ghost use Rattle.mg_defs.specs.QueryTerms.{query_terms};
-ghost use Rattle.mg_defs.specs.Sat.{both, either, without};
+ghost use Rattle.mg_defs.specs.Sat.{both, either};
 ghost use Rattle.mg_defs.specs.Read.{negated};
 ghost use Rattle.mg_query.specs.QueryOf.{query_of};
 
