@@ -33,23 +33,37 @@ const SECOND: [u8; 80] = [
     0, 0, 0, 0, 0, 0, 0, 0, 0, 0, 2, 0, 0, 0, 0, 0, 0, 0, 1, 0, 0, 0, 0, 0, 0, 0, 1,
 ];
 
-fn second() -> Head {
-    Head {
-        version: 2,
-        documents: 1,
-        words: 1,
-        others: 1,
-        terms: 1,
-        cap: 1_398_101,
-        open_end: true,
-        collection: 8,
-        occurrences: 4,
-        runs: 1,
-        text_bytes: 2,
-        post_bytes: 1,
-        skip_count: 1,
-    }
-}
+const WIDE: Head = Head {
+    version: 2,
+    documents: 1,
+    words: 1,
+    others: 1,
+    terms: 1,
+    cap: 1_398_101,
+    open_end: true,
+    collection: 8,
+    occurrences: 4,
+    runs: 1,
+    text_bytes: 2,
+    post_bytes: 1,
+    skip_count: 1,
+};
+
+const UNFINISHED: Head = Head {
+    version: BUILT,
+    documents: 1,
+    words: 1,
+    others: 1,
+    terms: 1,
+    cap: 1_398_101,
+    open_end: true,
+    collection: 8,
+    occurrences: 4,
+    runs: 1,
+    text_bytes: 2,
+    post_bytes: 1,
+    skip_count: 1,
+};
 
 fn load(alloc: Global, bytes: &[u8]) -> Result<Option<Head>, PartErr> {
     let mut store = MemStore::new(alloc);
@@ -90,7 +104,7 @@ fn changed(
 fn heads_of_both_versions_are_written_in_one_append(rt: HostRuntime) -> Result<(), Fail> {
     let mut store = MemStore::new(rt.alloc());
     SMALL.write(&mut store, "one")?;
-    second().write(&mut store, "two")?;
+    WIDE.write(&mut store, "two")?;
     assert_eq!(rt; store.calls(), 2);
     assert!(rt; store.file("one.head") == Some(FIRST.as_slice()));
     assert!(rt; store.file("two.head") == Some(SECOND.as_slice()));
@@ -101,7 +115,7 @@ fn heads_of_both_versions_are_written_in_one_append(rt: HostRuntime) -> Result<(
 fn heads_of_both_versions_are_read(rt: HostRuntime) -> Result<(), Fail> {
     let alloc = rt.alloc();
     assert_eq!(rt; load(alloc, &FIRST)?, Some(SMALL));
-    assert_eq!(rt; load(alloc, &SECOND)?, Some(second()));
+    assert_eq!(rt; load(alloc, &SECOND)?, Some(WIDE));
     assert_eq!(rt; load(alloc, &[])?, None);
     assert_eq!(rt; Head::load(&mut MemStore::new(alloc), "set")?, None);
     Ok(())
@@ -242,13 +256,11 @@ fn a_failing_store_is_no_damage(rt: HostRuntime) -> Result<(), Fail> {
 #[test]
 fn a_head_that_is_built_has_another_magic(rt: HostRuntime) -> Result<(), Fail> {
     let mut store = MemStore::new(rt.alloc());
-    let mut head = second();
-    head.version = BUILT;
-    head.write(&mut store, "set")?;
+    UNFINISHED.write(&mut store, "set")?;
     assert!(rt;
         store.file("set.head").and_then(|bytes| bytes.get(..8)) == Some(b"MGROWv0\n".as_slice())
     );
-    assert_eq!(rt; Head::load_built(&mut store, "set")?, Some(head));
+    assert_eq!(rt; Head::load_built(&mut store, "set")?, Some(UNFINISHED));
     assert!(rt; Head::load(&mut store, "set").is_err());
     Ok(())
 }
