@@ -9,10 +9,10 @@ ghost use Rattle.mg_front.specs.Entries.{entry_of};
 ghost use Rattle.mg_front.specs.Walk.{Gave, with_next, SameWalk, AnswersNext, AfterNext, AnswersAmong};
 ghost use Rattle.mg_dev.specs.declared.part_err.PartErr.TheVariants.{Memory};
 
-use crate::entry::read_entry;
 use crate::FrontEntry;
-use mg_dev::{Bad, FileRef, PartErr, Store};
+use crate::entry::read_entry;
 use mg_bits::PageFeed;
+use mg_dev::{Bad, FileRef, PartErr, Store};
 use std::alloc::Global;
 use std::marker::Model;
 
