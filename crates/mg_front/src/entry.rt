@@ -6,8 +6,8 @@ ghost use Rattle.mg_bits.specs.Pages.{Fits, SameFile, Looked};
 ghost use Rattle.mg_defs.specs.Front.{is_below, rises, read_entry, read_whole, read_cut};
 ghost use Rattle.mg_front.specs.Entries.{string_of, found_of, IsPut};
 
-use mg_dev::{Failed, Store};
 use mg_bits::PageFeed;
+use mg_dev::{Failed, Store};
 
 /// A string and its field.
 #[derive(Clone, Copy, Debug)]

@@ -19,3 +19,6 @@ pub use entry::FrontEntry;
 pub use reader::FrontReader;
 pub use walk::FrontWalk;
 pub use writer::FrontWriter;
+
+#[cfg(test)]
+mod tests;

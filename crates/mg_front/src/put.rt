@@ -7,8 +7,8 @@ ghost use Rattle.mg_defs.specs.Front.{Entry, shared, entry_bytes};
 ghost use Rattle.mg_front.specs.Fronting.{PlaceWrote, WroteToPlaces};
 ghost use Rattle.mg_front.specs.Entries.{string_of};
 
-use mg_dev::{PutErr, Store};
 use mg_bits::PageWriter;
+use mg_dev::{PutErr, Store};
 
 /// How many bytes two strings share at their front.
 #[tactic(auto, unfolding(mg_defs::specs::Front::shared))]

@@ -12,10 +12,10 @@ ghost use Rattle.mg_dev.specs.Names.{full_name};
 ghost use Rattle.std.specs.Bool.{OnTrue, OnFalse};
 ghost use Rattle.mg_dev.specs.PartCauses.{HasPartCause};
 
-use crate::entry::{is_below, read_entry};
 use crate::FrontEntry;
-use mg_dev::{Bad, Failed, FileRef, PartErr, Store};
+use crate::entry::{is_below, read_entry};
 use mg_bits::PageFeed;
+use mg_dev::{Bad, Failed, FileRef, PartErr, Store};
 use std::alloc::Global;
 use std::marker::Model;
 
@@ -132,11 +132,7 @@ fn scan_block<S: Store>(
 }
 
 // Compares the size of the places with that of a place for each whole entry.
-fn expect_places<S: Store>(
-    store: &mut S,
-    places: &FileRef<'_>,
-    count: u32,
-) -> Result<(), PartErr>
+fn expect_places<S: Store>(store: &mut S, places: &FileRef<'_>, count: u32) -> Result<(), PartErr>
     ensures answer { IsSome (S.files store.old) → AnswersPlaces places.now.part (places_size count) (bytes_at (S.files store.old) (full_name places.now.base.now places.now.part)) result }
     ensures memory { result ≢ Err PartErr.Memory }
     ensures files { S.files store.new ≡ S.files store.old }

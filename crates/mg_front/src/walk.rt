@@ -1,22 +1,26 @@
 // All entries of a part, in order.
-ghost use Rattle.std.specs.Prelude.{◌≡◌, ◌≤◌, ◌<◌, ◌+◌, ◌^◌, List, [], IfOk, IfErr, IsSome, length, take, drop};
+ghost use Rattle.std.specs.Prelude.{Err, ◌≢◌, ◌≡◌, ◌≤◌, ◌<◌, ◌+◌, ◌^◌, List, [], IfOk, IfErr, IsSome, length, take, drop};
 ghost use Rattle.mg_dev.specs.Files.{bytes_at};
 ghost use Rattle.mg_dev.specs.Names.{full_name};
 ghost use Rattle.mg_dev.specs.PartCauses.{HasPartCause};
 ghost use Rattle.mg_bits.specs.Pages.{Fits, SameFile, Looked};
-ghost use Rattle.mg_defs.specs.Front.{Entry};
+ghost use Rattle.mg_defs.specs.Front.{Entry, IsFront};
 ghost use Rattle.mg_front.specs.Entries.{entry_of};
-ghost use Rattle.mg_front.specs.Walk.{Gave, with_next, SameWalk, AnswersNext, AfterNext};
+ghost use Rattle.mg_front.specs.Walk.{Gave, with_next, SameWalk, AnswersNext, AfterNext, AnswersAmong};
 ghost use Rattle.mg_dev.specs.declared.part_err.PartErr.TheVariants.{Memory};
 
-use crate::entry::read_entry;
 use crate::FrontEntry;
-use mg_dev::{Bad, FileRef, PartErr, Store};
+use crate::entry::read_entry;
 use mg_bits::PageFeed;
+use mg_dev::{Bad, FileRef, PartErr, Store};
 use std::alloc::Global;
 use std::marker::Model;
 
-/// A walk over the entries of a part.
+/// A walk over the entries of a part, in their order.
+///
+/// It keeps a page of the part and the last entry, and checks each entry as it comes: its string
+/// rises above the last one, and its parts stand whole in the part. It never asks for more than
+/// `count` entries, and every call returns whatever the part holds.
 #[derive(Drop)]
 pub struct FrontWalk<'a, S> {
     feed: PageFeed<'a, S>,
@@ -67,7 +71,8 @@ impl<'a, S: Store> FrontWalk<'a, S> {
         })
     }
 
-    /// The next entry; false after the last.
+    /// The next entry; false after the last. It answers that the part is bad where no entry stands
+    /// next, for any string above the last one and any field, and where bytes are left over.
     pub fn next(&mut self, store: &mut S, out: &mut FrontEntry) -> Result<bool, PartErr>
         requires gave { (es : List Entry) × Gave self.old (S.files store.old) es }
         ensures gave { (es : List Entry) → Gave self.old (S.files store.old) es → IfOk result (λ more. Gave self.new (S.files store.new) (with_next es more (entry_of self.old.width out.new))) }
@@ -76,6 +81,22 @@ impl<'a, S: Store> FrontWalk<'a, S> {
         ensures same { SameWalk self.old self.new }
         ensures looked { Looked self.old.feed.part (S.files store.old) (S.files store.new) (S.reads store.old) (S.reads store.new) (S.faults store.old) (S.faults store.new) }
         ensures cause { HasPartCause (S.faults store.old) (S.faults store.new) result }
+        ensures among { (all : List Entry) → IsSome (S.files store.old) → IsFront self.old.width (bytes_at (S.files store.old) self.old.feed.name) all → length all ≡ self.old.count → AnswersAmong result self.old out.new all }
+        ensures memory { result ≢ Err PartErr.Memory }
+    {
+        self.step(store, out)
+    }
+
+    // The next entry, over any bytes.
+    fn step(&mut self, store: &mut S, out: &mut FrontEntry) -> Result<bool, PartErr>
+        requires gave { (es : List Entry) × Gave self.old (S.files store.old) es }
+        ensures gave { (es : List Entry) → Gave self.old (S.files store.old) es → IfOk result (λ more. Gave self.new (S.files store.new) (with_next es more (entry_of self.old.width out.new))) }
+        ensures answer { IsSome (S.files store.old) → AnswersNext result self.old out.new (bytes_at (S.files store.old) self.old.feed.name) }
+        ensures step { IfOk result (λ more. AfterNext more self.old self.new) }
+        ensures same { SameWalk self.old self.new }
+        ensures looked { Looked self.old.feed.part (S.files store.old) (S.files store.new) (S.reads store.old) (S.reads store.new) (S.faults store.old) (S.faults store.new) }
+        ensures cause { HasPartCause (S.faults store.old) (S.faults store.new) result }
+        ensures memory { result ≢ Err PartErr.Memory }
     {
         if self.done == self.count {
             return match self.feed.size(store) {

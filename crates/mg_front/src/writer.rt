@@ -9,8 +9,8 @@ ghost use Rattle.mg_bits.specs.Writer.{put_to};
 ghost use Rattle.mg_front.specs.Fronting.{Took, IsOther, StartedPlaces, WroteToAsked, IsNotAsked, Finished, HoldsNothing, PlaceWrote, WroteToPlaces};
 
 use crate::put::{put_entry, put_place};
-use mg_dev::{FileRef, PutErr, Store};
 use mg_bits::PageWriter;
+use mg_dev::{FileRef, PutErr, Store};
 use std::alloc::Global;
 use std::marker::Model;
 
@@ -65,10 +65,7 @@ fn start_places<'a, S: Store>(
 }
 
 // Writes the places that are held, where there are any.
-fn finish_places<S: Store>(
-    places: &mut Option<PageWriter<'_>>,
-    store: &mut S,
-) -> Result<(), PutErr>
+fn finish_places<S: Store>(places: &mut Option<PageWriter<'_>>, store: &mut S) -> Result<(), PutErr>
     ensures bytes { OnOk result (PlaceWrote places.old places.new (S.files store.old) (S.files store.new) []) }
     ensures nothing { OnOk result (HoldsNothing places.new) }
     ensures wrote { WroteToPlaces places.old (S.files store.old) (S.files store.new) (S.reads store.old) (S.reads store.new) }
@@ -132,6 +129,8 @@ impl<'a> FrontWriter<'a> {
         requires width { self.old.width ≤ 24 }
         requires entry { IsEntry self.old.width self.old.count self.old.last (record { string = string.now; field = field.now }) }
         ensures took { OnOk result ((es : List Entry) → Took self.old (S.files store.old) es → Took self.new (S.files store.new) (es ++ record { string = string.now; field = field.now } ∷ [])) }
+        ensures count { OnOk result (self.new.count ≡ self.old.count + 1) }
+        ensures last { OnOk result (self.new.last ≡ string.now) }
         ensures name { OnOk result (self.new.strings.name ≡ self.old.strings.name) }
         ensures width { self.new.width ≡ self.old.width }
         ensures others { (n : List ℕ) → IsOther n self.old.strings.name self.old.places → file_at (S.files store.new) n ≡ file_at (S.files store.old) n }

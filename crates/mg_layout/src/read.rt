@@ -11,6 +11,7 @@ use mg_dev::Bad;
 
 // The sizes of a head of version 1 and of the others.
 const NARROW: u64 = 64;
+
 const WIDE: u64 = 80;
 
 /// Reads a head of a version from low to high, in a part of this size that begins with these bytes.

@@ -1,8 +1,7 @@
 // What no clause says: the bytes of real heads, the damages by their numbers, and that calls succeed.
 use crate::{BUILT, Head, TermInfo, expect_size};
-use mg_dev::{Bad, FileRef, MemStore, Part, PartErr, Store};
+use mg_dev::{FileRef, MemStore, Part, PartErr};
 use std::alloc::Global;
-use std::process::Abort;
 use std::test::Fail;
 
 // The head of the eight bytes "a a a a ", which end in no control-B.
@@ -34,23 +33,37 @@ const SECOND: [u8; 80] = [
     0, 0, 0, 0, 0, 0, 0, 0, 0, 0, 2, 0, 0, 0, 0, 0, 0, 0, 1, 0, 0, 0, 0, 0, 0, 0, 1,
 ];
 
-fn second() -> Head {
-    Head {
-        version: 2,
-        documents: 1,
-        words: 1,
-        others: 1,
-        terms: 1,
-        cap: 1_398_101,
-        open_end: true,
-        collection: 8,
-        occurrences: 4,
-        runs: 1,
-        text_bytes: 2,
-        post_bytes: 1,
-        skip_count: 1,
-    }
-}
+const WIDE: Head = Head {
+    version: 2,
+    documents: 1,
+    words: 1,
+    others: 1,
+    terms: 1,
+    cap: 1_398_101,
+    open_end: true,
+    collection: 8,
+    occurrences: 4,
+    runs: 1,
+    text_bytes: 2,
+    post_bytes: 1,
+    skip_count: 1,
+};
+
+const UNFINISHED: Head = Head {
+    version: BUILT,
+    documents: 1,
+    words: 1,
+    others: 1,
+    terms: 1,
+    cap: 1_398_101,
+    open_end: true,
+    collection: 8,
+    occurrences: 4,
+    runs: 1,
+    text_bytes: 2,
+    post_bytes: 1,
+    skip_count: 1,
+};
 
 fn load(alloc: Global, bytes: &[u8]) -> Result<Option<Head>, PartErr> {
     let mut store = MemStore::new(alloc);
@@ -67,11 +80,20 @@ fn damage(alloc: Global, bytes: &[u8]) -> Option<(u64, u64, u64, u64)> {
 }
 
 // The head of this version with one number in place of another, highest byte first.
-fn changed(alloc: Global, head: &[u8], at: usize, width: usize, number: u64) -> Result<Vec<u8>, PartErr> {
+fn changed(
+    alloc: Global,
+    head: &[u8],
+    at: usize,
+    width: usize,
+    number: u64,
+) -> Result<Vec<u8>, PartErr> {
     let mut bytes = head.to_vec(alloc)?;
     let digits = number.to_be_bytes();
     for i in 0..8 {
-        if i < width && let Some(place) = at.checked_add(width - 1 - i) && let Some(byte) = bytes.get_mut(place) {
+        if i < width
+            && let Some(place) = at.checked_add(width - 1 - i)
+            && let Some(byte) = bytes.get_mut(place)
+        {
             *byte = digits[7 - i];
         }
     }
@@ -82,7 +104,7 @@ fn changed(alloc: Global, head: &[u8], at: usize, width: usize, number: u64) -> 
 fn heads_of_both_versions_are_written_in_one_append(rt: HostRuntime) -> Result<(), Fail> {
     let mut store = MemStore::new(rt.alloc());
     SMALL.write(&mut store, "one")?;
-    second().write(&mut store, "two")?;
+    WIDE.write(&mut store, "two")?;
     assert_eq!(rt; store.calls(), 2);
     assert!(rt; store.file("one.head") == Some(FIRST.as_slice()));
     assert!(rt; store.file("two.head") == Some(SECOND.as_slice()));
@@ -93,8 +115,189 @@ fn heads_of_both_versions_are_written_in_one_append(rt: HostRuntime) -> Result<(
 fn heads_of_both_versions_are_read(rt: HostRuntime) -> Result<(), Fail> {
     let alloc = rt.alloc();
     assert_eq!(rt; load(alloc, &FIRST)?, Some(SMALL));
-    assert_eq!(rt; load(alloc, &SECOND)?, Some(second()));
+    assert_eq!(rt; load(alloc, &SECOND)?, Some(WIDE));
     assert_eq!(rt; load(alloc, &[])?, None);
     assert_eq!(rt; Head::load(&mut MemStore::new(alloc), "set")?, None);
     Ok(())
+}
+
+#[test]
+fn each_damage_is_told_with_its_range(rt: HostRuntime) -> Result<(), Fail> {
+    let alloc = rt.alloc();
+    // Of which version, the place and width of the number that is written there, the number, and
+    // what is told: place, lowest, highest.
+    for (wide, at, width, number, place, low, high) in [
+        (false, 7, 1, 11, 7, 10, 10),
+        (false, 0, 1, 0x4e, 0, 0x4d, 0x4d),
+        (false, 6, 1, 0x33, 6, 49, 50),
+        (false, 8, 4, 1_048_577, 8, 0, 1_048_576),
+        (true, 8, 4, 16_777_217, 8, 0, 16_777_216),
+        (false, 12, 4, 1_048_577, 12, 0, 1_048_576),
+        (true, 12, 4, 4_194_305, 12, 0, 4_194_304),
+        (false, 16, 4, 1_048_577, 16, 0, 1_048_576),
+        (true, 16, 4, 4_194_305, 16, 0, 4_194_304),
+        (false, 20, 4, 2, 20, 0, 1),
+        (false, 24, 4, 340, 24, 341, 89_478_485),
+        (true, 24, 4, 89_478_486, 24, 341, 89_478_485),
+        (true, 28, 4, 2, 28, 0, 1),
+        (false, 32, 4, 268_435_457, 32, 0, 268_435_456),
+        (true, 32, 8, 4_294_967_296, 32, 0, 4_294_967_295),
+        (false, 36, 4, 9, 36, 0, 8),
+        (true, 40, 8, 9, 40, 0, 8),
+        (false, 40, 4, 2, 40, 1, 1),
+        (true, 48, 4, 0, 48, 1, 1),
+        (true, 52, 4, 1, 52, 0, 0),
+        (false, 56, 8, 5, 56, 0, 4),
+        (true, 72, 8, 5, 72, 0, 4),
+    ] {
+        let head = if wide {
+            SECOND.as_slice()
+        } else {
+            FIRST.as_slice()
+        };
+        let bytes = changed(alloc, head, at, width, number)?;
+        assert_eq!(rt;
+            damage(alloc, &bytes),
+            Some((place, low, high, number)),
+            "at {at}"
+        );
+    }
+    Ok(())
+}
+
+#[test]
+fn fields_at_their_bounds_are_read(rt: HostRuntime) -> Result<(), Fail> {
+    let alloc = rt.alloc();
+    for (wide, at, width, number) in [
+        (false, 8, 4, 0),
+        (false, 8, 4, 1_048_576),
+        (true, 8, 4, 16_777_216),
+        (false, 12, 4, 1_048_576),
+        (true, 12, 4, 4_194_304),
+        (false, 16, 4, 0),
+        (true, 16, 4, 4_194_304),
+        (true, 20, 4, 0),
+        (false, 24, 4, 341),
+        (true, 24, 4, 89_478_485),
+        (false, 28, 4, 0),
+        (false, 32, 4, 268_435_456),
+        (true, 32, 8, 4_294_967_295),
+        (true, 40, 8, 8),
+        (false, 44, 4, 4_294_967_295),
+        (true, 56, 8, u64::MAX),
+        (false, 48, 8, u64::MAX),
+        (false, 56, 8, 0),
+        (true, 72, 8, 4),
+    ] {
+        let head = if wide {
+            SECOND.as_slice()
+        } else {
+            FIRST.as_slice()
+        };
+        let bytes = changed(alloc, head, at, width, number)?;
+        assert!(rt; load(alloc, &bytes)?.is_some(), "at {at}");
+    }
+    Ok(())
+}
+
+#[test]
+fn sizes_are_compared_with_the_version(rt: HostRuntime) -> Result<(), Fail> {
+    let alloc = rt.alloc();
+    let mut bytes = FIRST.to_vec(alloc)?;
+    bytes.extend_from_slice(&[0; 17])?;
+    for (size, told) in [
+        (10, Some((0, 64, 64, 10))),
+        (63, Some((0, 64, 64, 63))),
+        (64, None),
+        (65, Some((0, 64, 64, 65))),
+        (80, Some((0, 64, 64, 80))),
+        (81, Some((0, 64, 64, 81))),
+    ] {
+        assert_eq!(rt;
+            damage(alloc, bytes.get(..size).unwrap_or(&[])),
+            told,
+            "{size} bytes"
+        );
+    }
+    if let Some(digit) = bytes.get_mut(6) {
+        *digit = b'2';
+    }
+    for size in [64, 79, 81] {
+        let told = Some((0, 80, 80, size as u64));
+        assert_eq!(rt;
+            damage(alloc, bytes.get(..size).unwrap_or(&[])),
+            told,
+            "{size} bytes"
+        );
+    }
+    Ok(())
+}
+
+#[test]
+fn a_failing_store_is_no_damage(rt: HostRuntime) -> Result<(), Fail> {
+    let alloc = rt.alloc();
+    for call in 0..2 {
+        let mut store = MemStore::new(alloc);
+        store.put_file("set.head", &FIRST)?;
+        store.fail_at(call, 0)?;
+        assert_eq!(rt;
+            Head::load(&mut store, "set"),
+            Err(PartErr::Device),
+            "call {call}"
+        );
+    }
+    let mut store = MemStore::new(alloc);
+    store.fail_at(0, 3)?;
+    assert!(rt; SMALL.write(&mut store, "set").is_err());
+    assert!(rt; store.file("set.head") == Some(b"MGR".as_slice()));
+    Ok(())
+}
+
+#[test]
+fn a_head_that_is_built_has_another_magic(rt: HostRuntime) -> Result<(), Fail> {
+    let mut store = MemStore::new(rt.alloc());
+    UNFINISHED.write(&mut store, "set")?;
+    assert!(rt;
+        store.file("set.head").and_then(|bytes| bytes.get(..8)) == Some(b"MGROWv0\n".as_slice())
+    );
+    assert_eq!(rt; Head::load_built(&mut store, "set")?, Some(UNFINISHED));
+    assert!(rt; Head::load(&mut store, "set").is_err());
+    Ok(())
+}
+
+#[test]
+fn a_size_is_compared(rt: HostRuntime) -> Result<(), Fail> {
+    let mut store = MemStore::new(rt.alloc());
+    store.put_file("set.text", b"abc")?;
+    let text = FileRef {
+        base: "set",
+        part: Part::Text,
+    };
+    let post = FileRef {
+        base: "set",
+        part: Part::Post,
+    };
+    expect_size(&mut store, text, 3)?;
+    expect_size(&mut store, post, 0)?;
+    match expect_size(&mut store, text, 2) {
+        Err(PartErr::Bad(bad)) => assert_eq!(rt;
+            (bad.at, bad.low, bad.high, bad.found),
+            (0, 2, 2, 3)
+        ),
+        _ => assert!(rt; false, "another size is refused"),
+    }
+    Ok(())
+}
+
+#[test]
+fn a_term_keeps_what_is_told_of_it(rt: HostRuntime) {
+    let info = TermInfo {
+        number: 7,
+        docs: 2,
+        post_at: 258,
+        skip_at: 3,
+    };
+    let field = info.field();
+    assert_eq!(rt; field, [0, 0, 0, 2, 0, 0, 0, 0, 0, 0, 1, 2, 0, 0, 0, 3]);
+    assert_eq!(rt; TermInfo::of_field(7, &field), info);
 }

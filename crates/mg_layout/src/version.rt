@@ -6,4 +6,5 @@ pub const BUILT: u8 = 0;
 
 /// The versions that are read.
 pub(crate) const FIRST: u8 = 1;
+
 pub(crate) const LAST: u8 = 2;

@@ -13,5 +13,5 @@ invariant-loop-number g l = record {
   looked : Looked l.fn.strings.part (g.S.Store.files l.fn.store) (g.S.Store.files l.store) (g.S.Store.reads l.fn.store) (g.S.Store.reads l.store) (g.S.Store.faults l.fn.store) (g.S.Store.faults l.store);
   place : l.place ≤ l.fn.from + 281 * l.number;
   told : IsSome (g.S.Store.files l.fn.store) → (es : List Entry) (block : ℕ) → IsFront l.width (bytes_at (g.S.Store.files l.fn.store) l.fn.strings.name) es → l.fn.from ≡ length (front (take (4 * block) es)) → 4 * block + l.fn.most ≤ length es →
-    ReadSoFar l.width l.number l.place l.out es block × NoneAmong es (4 * block) l.number l.string;
+      ReadSoFar l.width l.number l.place l.out es block × NoneAmong es (4 * block) l.number l.string;
 }
