@@ -175,8 +175,10 @@ fn bytes_are_written_and_fill_a_buffer(rt: HostRuntime) -> Result<(), Fail> {
     let bytes = sample(alloc, 5000)?;
     let mut store = SureStore::new(alloc);
     let mut w = PageWriter::start(alloc, &mut store, TEXT)?;
-    w.put(&mut store, bytes[0])?;
-    w.put_all(&mut store, &bytes[1..])?;
+    if let [first, rest @ ..] = bytes.as_slice() {
+        w.put(&mut store, *first)?;
+        w.put_all(&mut store, rest)?;
+    }
     w.finish(&mut store)?;
     assert_eq!(rt; store.file("x.text"), Some(bytes.as_slice()));
     let mut feed = PageFeed::new(alloc, TEXT)?;

@@ -1,2 +1,4 @@
 pub mod ShortWalk
 pub mod UnaryWalk
+pub mod TwoParts
+pub mod Instances

@@ -17,3 +17,9 @@ least_from few t = if nat_lt t few then t else 2 * t - few
 -- the least remainder whose code begins with the bits that were read
 abbrev pub least_of : ℕ → ℕ → ℕ → ℕ → ℕ
 least_of size few done high = if nat_eq done size then high - few else least_from few (high * 2 ^ (size - 1 - done))
+
+-- the bound of the remainders after the quotient q: all of them, and after the greatest quotient those up to the last
+pub record IsBound (b top last q bound : ℕ) : Type 0 where
+  pub most : q ≤ top
+  pub before : q < top → bound ≡ b
+  pub at_top : q ≡ top → bound ≡ last + 1

@@ -7,8 +7,10 @@
 //! chapter 3.)
 #![tactic(auto)]
 
+mod golomb;
 mod refusals;
 mod remainder;
 mod unary;
 
+pub use golomb::get_golomb;
 pub use unary::get_unary;

@@ -5,7 +5,7 @@ ghost use Rattle.mg_defs.specs.Codes.{short, shorter, ceil_log2};
 ghost use Rattle.mg_defs.specs.Answers.{Below};
 ghost use Rattle.mg_bits.specs.Feed.{Calm, Read};
 ghost use Rattle.mg_bits.specs.CodeAnswers.{AnswersCode, CodeCause, OnlyPagesOf};
-ghost use Rattle.mg_codes.specs.Remainders.{IsWholeAt, IsOpenAt, least_of};
+ghost use Rattle.mg_codes.specs.Remainders.{IsBound, IsWholeAt, IsOpenAt, least_of};
 
 use crate::refusals::refused;
 use mg_bits::{BitReader, CodeErr, Feed};
@@ -131,4 +131,16 @@ pub fn get_below<F: Feed>(
             },
         }
     }
+}
+
+/// The bound of the remainders after a quotient: all below `b`, and after the greatest quotient
+/// those up to the last.
+pub fn bound_of(quotient: u64, top: u64, b: u64, last: u64) -> u64
+    requires most { quotient ≤ top }
+    requires last { last < b }
+    ensures bound { IsBound b top last quotient result }
+    ensures some { 1 ≤ result }
+    ensures within { result ≤ b }
+{
+    if quotient < top { b } else { last + 1 }
 }
