@@ -165,3 +165,19 @@ top_small n b some =
     let whole : b * (n / b) + n % b ≡ n = div-add-mod n b in
     let up : 1 * (n / b) ≤ b * (n / b) = mul-le-mul_right (n / b) some in
     omega (arith, whole, up)
+
+pub gamma_second_at : (limit top q bound p w : ℕ) → limit < 2 ^ 48 → IsLog limit top → p ≡ 2 ^ q → w ≡ 2 ^ top → IsBound p top (limit - w) q bound → bound ≤ p → q ≤ 64 →
+    Second (UpTo limit) log2 lower_of q bound (short p) (λ v. p + v)
+gamma_second_at limit top q bound p w small is ep ew bounds within short_q =
+    let bounds : IsBound (2 ^ q) top (limit - w) q bound = subst (λ n. IsBound n top (limit - w) q bound) ep bounds in
+    let bounds : IsBound (2 ^ q) top (limit - 2 ^ top) q bound = subst (λ n. IsBound (2 ^ q) top (limit - n) q bound) ew bounds in
+    subst (λ n. Second (UpTo limit) log2 lower_of q bound (short n) (λ v. n + v)) (sym ep) (gamma_second limit top q bound small is bounds (subst (λ n. bound ≤ n) ep within) short_q)
+
+pub as_log : (x e : ℕ) → 2 ^ e ≤ x → x < 2 * 2 ^ e → IsLog x e
+as_log x e low high = record { low = low; high = omega (arith, two-pow-succ e, high) }
+
+pub log_small : (x e : ℕ) → x < 2 ^ 48 → 2 ^ e ≤ x → e < 48
+log_small x e small low = elim (cases_lt e 48) [ inl lt ↦ lt | inr ge ↦ absurd (let m : 2 ^ 48 ≤ 2 ^ e = pow_mono ge in omega (arith, m, small, low)) ]
+
+pub last_below : (limit top q p w : ℕ) → limit < 2 * 2 ^ top → p ≡ 2 ^ q → w ≡ 2 ^ top → q ≡ top → limit - w < p
+last_below limit top q p w high ep ew same = omega (arith, high, ep, ew, ap (λ n. 2 ^ n) same, pow_pos top)

@@ -2,3 +2,4 @@ pub mod ShortWalk
 pub mod UnaryWalk
 pub mod TwoParts
 pub mod Instances
+pub mod Written

@@ -54,10 +54,10 @@ digits_first d e n h v is hb vb begins =
     quotient : (d e n v : ℕ) → d + e ≡ n → v < 2 ^ n → v / 2 ^ e < 2 ^ d
     quotient d e n v is vb = shr_below v d e (rw is vb)
 
-low_code : (b size few r : ℕ) → IsShort b size few → r < few → short b r ≡ digits (size - 1) r
+pub low_code : (b size few r : ℕ) → IsShort b size few → r < few → short b r ≡ digits (size - 1) r
 low_code b size few r is lt = short_low b r (rw is.few_is lt) ∙ ap (λ n. digits (n - 1) r) is.size_is
 
-high_code : (b size few r : ℕ) → IsShort b size few → few ≤ r → short b r ≡ digits size (r + few)
+pub high_code : (b size few r : ℕ) → IsShort b size few → few ≤ r → short b r ≡ digits size (r + few)
 high_code b size few r is le = short_high b r (rw is.few_is le) ∙ ap (λ n. digits n (r + shorter b)) is.size_is ∙ ap (λ n. digits size (r + n)) is.few_is
 
 -- zero-bits behind the bits of a number
@@ -286,3 +286,29 @@ pub next_told : (told : Option (List ℕ)) (start place done high v : ℕ) (b : 
     FromPlace told start (Begins (digits done high)) → FromPlace told place (Begins (b ∷ [])) → FromPlace told start (Begins (digits (done + 1) v))
 next_told told start place done high v b here is one two =
     rw (digits_bit done high v b is) (walk_bit told start place (digits done high) (b ∷ []) (omega (arith, here, length_digits done high)) one two)
+
+-- the least remainder is one
+pub least_below : (b size few done high : ℕ) → 1 ≤ b → IsShort b size few → Walked size few done high → least_of size few done high < b
+least_below b size few done high some is w =
+    elim (cases_lt done size) [
+      | inl lt ↦
+          let e : ℕ = size - 1 - done in
+          let half : 2 ^ (size - 1) < b = is.low (omega (arith, lt)) in
+          let up : suc (size - 1) ≡ size = omega (arith, lt) in
+          let twice : 2 ^ size ≡ 2 * 2 ^ (size - 1) = omega (arith, ap (λ n. 2 ^ n) up, two-pow-succ (size - 1)) in
+          let sum : 2 ^ (size - 1) ≡ 2 ^ done * 2 ^ e = ap (λ n. 2 ^ n) (let x : size - 1 ≡ done + (size - 1 - done) = omega (arith, lt) in x) ∙ pow-add 2 done e in
+          let t : (high + 1) * 2 ^ e ≤ 2 ^ done * 2 ^ e = (let le : high + 1 ≤ 2 ^ done = omega (arith, w.below) in mul-le-mul_right (2 ^ e) le) in
+          let least : least_of size few done high ≡ least_from few (high * 2 ^ e) = least_before size few done high lt in
+          elim (cases_lt (high * 2 ^ e) few) [
+            | inl low ↦ omega (arith, least, least_low few (high * 2 ^ e) low, low, is.sum, twice, half)
+            | inr ge ↦ omega (arith, least, least_high few (high * 2 ^ e) ge, ge, is.sum, twice, sum, t, pow_pos e)
+          ]
+      | inr ge ↦
+          let end : done ≡ size = omega (arith, ge, w.within) in
+          let below : high < 2 ^ size = rw end at w.below in
+          omega (arith, least_end size few done high end, below, is.sum, w.last end, some)
+    ]
+
+pub some_bits : (b size few : ℕ) → 1 ≤ b → IsShort b size few → 0 < few → 1 ≤ size
+some_bits b zero few some is more = absurd (omega (arith, is.sum, some, more))
+some_bits b (suc k) few some is more = omega arith

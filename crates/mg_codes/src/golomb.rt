@@ -1,15 +1,20 @@
 // The Golomb code.
-ghost use Rattle.std.specs.Prelude.{◌≡◌, ◌+◌, ◌-◌, ◌*◌, ◌≤◌, ◌<◌, ◌^◌, ℕ, IfOk, OnErr, MatchResult, length};
+ghost use Rattle.std.specs.Prelude.{◌≡◌, ◌+◌, ◌-◌, ◌*◌, ◌≤◌, ◌<◌, ◌^◌, ◌/◌, ◌%◌, ℕ, IfOk, OnOk, OnErr, MatchResult, length};
 ghost use Rattle.mg_defs.specs.Bits.{FromPlace};
 ghost use Rattle.mg_defs.specs.Codes.{golomb};
 ghost use Rattle.mg_defs.specs.Answers.{UpTo};
 ghost use Rattle.mg_bits.specs.Feed.{Calm, Read};
 ghost use Rattle.mg_bits.specs.CodeAnswers.{AnswersCode, CodeCause, OnlyPagesOf};
+ghost use Rattle.mg_dev.specs.Causes.{HasPutCause};
+ghost use Rattle.mg_bits.specs.Writer.{WroteTo};
+ghost use Rattle.mg_bits.specs.BitWriting.{Holds, WroteBits};
 
 use crate::refusals::refused_whole;
 use crate::remainder::{bound_of, get_below};
-use crate::unary::get_unary;
-use mg_bits::{BitReader, CodeErr, Feed};
+use crate::short::put_short;
+use crate::unary::{get_unary, put_unary};
+use mg_bits::{BitReader, BitWriter, CodeErr, Feed};
+use mg_dev::{PutErr, Store};
 
 /// The value with a quotient and a remainder.
 fn joined(quotient: u64, b: u64, low: u64) -> u64
@@ -17,6 +22,31 @@ fn joined(quotient: u64, b: u64, low: u64) -> u64
     ensures { result ≡ quotient * b + low + 1 }
 {
     quotient * b + low + 1
+}
+
+/// Writes a number, of at least 1, in the Golomb code with parameter `b`.
+pub fn put_golomb<S: Store>(
+    w: &mut BitWriter<'_>,
+    store: &mut S,
+    b: u64,
+    x: u64,
+) -> Result<(), PutErr>
+    requires holds { Holds w.old (S.files store.old) }
+    requires place { w.old.place ≤ 2 ^ 63 }
+    requires parameter { 1 ≤ b }
+    requires limit { b < 2 ^ 48 }
+    requires some { 1 ≤ x }
+    requires small { x < 2 ^ 48 }
+    ensures holds { OnOk result (Holds w.new (S.files store.new)) }
+    ensures bits { OnOk result (WroteBits w.old w.new (S.files store.old) (S.files store.new) (golomb b x)) }
+    ensures name { w.new.name ≡ w.old.name }
+    ensures wrote { WroteTo w.old.name (S.files store.old) (S.files store.new) (S.reads store.old) (S.reads store.new) }
+    ensures cause { HasPutCause (S.faults store.old) (S.faults store.new) result }
+{
+    let quotient = (x - 1) / b;
+    put_unary(w, store, 1 + quotient)?;
+    put_short(w, store, b, (x - 1) % b)?;
+    Ok(())
 }
 
 /// Reads a number in the Golomb code with parameter `b`, of at most `limit`.

@@ -7,10 +7,14 @@
 //! chapter 3.)
 #![tactic(auto)]
 
+mod gamma;
 mod golomb;
 mod refusals;
 mod remainder;
+mod short;
 mod unary;
 
-pub use golomb::get_golomb;
-pub use unary::get_unary;
+pub use gamma::{get_gamma, put_gamma};
+pub use golomb::{get_golomb, put_golomb};
+pub use short::{get_short, put_short};
+pub use unary::{get_unary, put_unary};

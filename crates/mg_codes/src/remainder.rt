@@ -6,6 +6,7 @@ ghost use Rattle.mg_defs.specs.Answers.{Below};
 ghost use Rattle.mg_bits.specs.Feed.{Calm, Read};
 ghost use Rattle.mg_bits.specs.CodeAnswers.{AnswersCode, CodeCause, OnlyPagesOf};
 ghost use Rattle.mg_codes.specs.Remainders.{IsBound, IsWholeAt, IsOpenAt, least_of};
+ghost use Rattle.mg_codes.specs.Refusals.{OverBelow};
 
 use crate::refusals::refused;
 use mg_bits::{BitReader, CodeErr, Feed};
@@ -102,6 +103,7 @@ pub fn get_below<F: Feed>(
     ensures told { FromPlace ((F.feeding r.old.feed).source (F.device dev.old).files) r.old.place (AnswersCode result (Below bound) (short b) bound r.old.place) }
     ensures range { IfOk result (λ x. x < bound) }
     ensures cause { CodeCause result (F.device dev.old).faults (F.device dev.new).faults }
+    ensures over { OverBelow result bound b }
 {
     let start = r.place();
     let size = code_size(b);
@@ -137,7 +139,8 @@ pub fn get_below<F: Feed>(
 /// those up to the last.
 pub fn bound_of(quotient: u64, top: u64, b: u64, last: u64) -> u64
     requires most { quotient ≤ top }
-    requires last { last < b }
+    requires last { quotient ≡ top → last < b }
+    requires some { 1 ≤ b }
     ensures bound { IsBound b top last quotient result }
     ensures some { 1 ≤ result }
     ensures within { result ≤ b }

@@ -1,13 +1,46 @@
 // The unary code.
-ghost use Rattle.std.specs.Prelude.{◌≡◌, ◌+◌, ◌≤◌, ◌<◌, ◌^◌, ℕ, IfOk, OnErr, MatchResult, length};
+ghost use Rattle.std.specs.Prelude.{◌≡◌, ◌+◌, ◌≤◌, ◌<◌, ◌^◌, ℕ, ◌-◌, ◌*◌, IfOk, OnOk, OnErr, MatchResult, length};
 ghost use Rattle.mg_defs.specs.Bits.{FromPlace};
 ghost use Rattle.mg_defs.specs.Codes.{unary};
 ghost use Rattle.mg_defs.specs.Answers.{UpTo};
 ghost use Rattle.mg_bits.specs.Feed.{Calm, Read};
 ghost use Rattle.mg_bits.specs.CodeAnswers.{AnswersCode, CodeCause, OnlyPagesOf};
+ghost use Rattle.mg_dev.specs.Causes.{HasPutCause};
+ghost use Rattle.mg_bits.specs.Writer.{WroteTo};
+ghost use Rattle.mg_bits.specs.BitWriting.{Holds, WroteBits};
 
 use crate::refusals::refused;
-use mg_bits::{BitReader, CodeErr, Feed};
+use mg_bits::{BitReader, BitWriter, CodeErr, Feed};
+use mg_dev::{PutErr, Store};
+
+/// So many one-bits and a zero-bit, as a number.
+pub fn ones_and_zero(count: u32) -> u64
+    requires { count < 64 }
+    ensures { result ≡ (2 ^ count - 1) * 2 }
+{
+    ((1u64 << count) - 1) * 2
+}
+
+/// Writes a number, of at least 1, in unary.
+pub fn put_unary<S: Store>(w: &mut BitWriter<'_>, store: &mut S, x: u64) -> Result<(), PutErr>
+    requires holds { Holds w.old (S.files store.old) }
+    requires place { w.old.place ≤ 2 ^ 63 }
+    requires some { 1 ≤ x }
+    requires small { x < 2 ^ 48 }
+    ensures holds { OnOk result (Holds w.new (S.files store.new)) }
+    ensures bits { OnOk result (WroteBits w.old w.new (S.files store.old) (S.files store.new) (unary x)) }
+    ensures name { w.new.name ≡ w.old.name }
+    ensures wrote { WroteTo w.old.name (S.files store.old) (S.files store.new) (S.reads store.old) (S.reads store.new) }
+    ensures cause { HasPutCause (S.faults store.old) (S.faults store.new) result }
+{
+    let mut left = x - 1;
+    while left >= 32 {
+        w.put(store, 0xffff_ffff, 32)?;
+        left -= 32;
+    }
+    w.put(store, ones_and_zero(left as u32), left as u32 + 1)?;
+    Ok(())
+}
 
 /// Reads a number in unary, of at most `limit`.
 pub fn get_unary<F: Feed>(

@@ -8,7 +8,7 @@ use Rattle.mg_bits.proofs.Ranges.{read_none, read_step, part_step}
 use Rattle.mg_bits.proofs.Told.{same_told, told_nothing}
 use Rattle.mg_bits.proofs.Walks.{walk_none, walk_whole, walk_refused, walk_pages, no_pages}
 use Rattle.mg_codes.specs.Remainders.{IsWholeAt, IsOpenAt, least_of}
-use Rattle.mg_codes.proofs.ShortWalk.{IsShort, Walked, shape, walked_start, least_start, whole_code, whole_least, open_cut, walked_none, walked_bit, below_free, next_told}
+use Rattle.mg_codes.proofs.ShortWalk.{IsShort, Walked, shape, walked_start, least_start, whole_code, whole_least, open_cut, walked_none, walked_bit, below_free, least_below, next_told}
 use Rattle.mg_codes.proofs.remainder.get_below.Goals as goal
 
 pub loop-value-init : goal.loop-value-init
@@ -62,6 +62,11 @@ returns-then-least-bound-clause-told g c =
     (ap (λ x. 2 * c.loop-value.high + x) c.number_of-low.ensures.value) c.loop-value.invariant.told (rw (same_told _ _ _ _ c.loop-value.invariant.read.calm) at c.in-Ok.ensures.told))
     (walked_none c.args.b c.code_size-size.result c.shorter_codes-few.result (c.loop-value.done + 1) (2 * c.loop-value.high + c.number_of-low.result) c.args.bound (omega arith) (omega arith) is
     (walked_bit _ _ _ _ _ c.number_of-low.ensures.small c.loop-value.invariant.walked c.in-None.ensures) (rw c.least.ensures at c.if-least-bound.true) c.requires.within))
+
+pub returns-then-least-bound-clause-over : goal.returns-then-least-bound-clause-over
+returns-then-least-bound-clause-over g c =
+    let is : IsShort c.args.b c.code_size-size.result c.shorter_codes-few.result = shape _ _ _ (omega arith) c.requires.small c.code_size-size.ensures.size c.shorter_codes-few.ensures.few in
+    omega (arith, least_below c.args.b _ _ _ _ (omega arith) is (walked_bit _ _ _ _ _ c.number_of-low.ensures.small c.loop-value.invariant.walked c.in-None.ensures), (let above : c.args.bound ≤ least_of c.code_size-size.result c.shorter_codes-few.result (c.loop-value.done + 1) (2 * c.loop-value.high + c.number_of-low.result) = rw c.least.ensures at c.if-least-bound.true in above))
 
 pub loop-value-preserved : goal.loop-value-preserved
 loop-value-preserved g c = record {
