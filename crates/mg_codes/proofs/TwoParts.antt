@@ -102,9 +102,10 @@ pub second_value : (within : ℕ → Type 0) (code : ℕ → Bits) (lead : ℕ �
     FromPlace told start (Begins (unary (1 + q))) → FromPlace told place (AnswersCode (Ok v) (Below bound) tail bound place) →
     FromPlace told start (AnswersCode (Ok (join v)) within code limit start)
 second_value within code lead rest top q bound tail join None start place limit v parts second below here one two = tt
-second_value within code lead rest top q bound tail join (Some bytes) start place limit v parts second below here one two =
-    (second.value v below,
-     rw (whole_is within code lead rest top q bound tail join v parts second below) (begins_both (unary (1 + q)) (tail v) (drop start (bits_of bytes)) one (rw drop-drop (rw here at two.1))))
+second_value within code lead rest top q bound tail join (Some bytes) start place limit v parts second below here one two = (
+  second.value v below,
+  rw (whole_is within code lead rest top q bound tail join v parts second below) (begins_both (unary (1 + q)) (tail v) (drop start (bits_of bytes)) one (rw drop-drop (rw here at two.1))),
+)
 
 second_cut : (within : ℕ → Type 0) (code : ℕ → Bits) (lead : ℕ → ℕ) (rest : ℕ → Bits) (top q bound : ℕ) (tail : ℕ → Bits) (join : ℕ → ℕ) (t : Bits) →
     TwoParts within code lead rest top → Second within lead rest q bound tail join → CutShort (Below bound) tail t → CutShort within code (unary (1 + q) ++ t)

@@ -11,10 +11,15 @@ mod gamma;
 mod golomb;
 mod refusals;
 mod remainder;
+mod round_trip;
 mod short;
 mod unary;
 
 pub use gamma::{get_gamma, put_gamma};
 pub use golomb::{get_golomb, put_golomb};
+pub use round_trip::what_was_put_is_got;
 pub use short::{get_short, put_short};
 pub use unary::{get_unary, put_unary};
+
+#[cfg(test)]
+mod tests;

@@ -55,11 +55,7 @@ pub fn put_short<S: Store>(
 }
 
 /// Reads a remainder below `b` in the short code with parameter `b`.
-pub fn get_short<F: Feed>(
-    r: &mut BitReader<F>,
-    dev: &mut F::Dev,
-    b: u64,
-) -> Result<u64, BitErr>
+pub fn get_short<F: Feed>(r: &mut BitReader<F>, dev: &mut F::Dev, b: u64) -> Result<u64, BitErr>
     requires fits { F.fits r.old.feed (F.device dev.old).files }
     requires place { r.old.place ≤ 2 ^ 63 + 2 ^ 49 }
     requires parameter { 1 ≤ b }

@@ -75,7 +75,7 @@ loop-value-preserved g c = record {
   least = rw c.least.ensures at c.if-least-bound.false;
   place = omega (arith, c.in-Ok.ensures.place, c.loop-value.invariant.place);
   told = (next_told _ c.place-start.result c.loop-value.r.place c.loop-value.done c.loop-value.high (2 * c.loop-value.high + c.number_of-low.result) c.in-Ok.bit c.loop-value.invariant.place
-    (ap (λ x. 2 * c.loop-value.high + x) c.number_of-low.ensures.value) c.loop-value.invariant.told (rw (same_told _ _ _ _ c.loop-value.invariant.read.calm) at c.in-Ok.ensures.told));
+      (ap (λ x. 2 * c.loop-value.high + x) c.number_of-low.ensures.value) c.loop-value.invariant.told (rw (same_told _ _ _ _ c.loop-value.invariant.read.calm) at c.in-Ok.ensures.told));
   read = read_step _ _ _ _ _ _ c.place-start.result c.loop-value.done 1 c.loop-value.r.place
       (g.met.F.Feed.whole_pages c.args.r.now.feed).some c.loop-value.invariant.place
       c.loop-value.invariant.read c.in-Ok.ensures.read;
