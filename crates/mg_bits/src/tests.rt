@@ -140,9 +140,13 @@ fn written_bits_fill_the_file(rt: HostRuntime) -> Result<(), Fail> {
     store.put_file("x.post", &[1, 2, 3])?;
     let mut w = BitWriter::start(alloc, &mut store, TEXT)?;
     w.put(&mut store, 0xfff5, 3)?;
+    assert!(rt; w.place() == 3);
     w.align(&mut store)?;
+    assert!(rt; w.place() == 8);
     w.put(&mut store, 0x3456_789a_bcde_f00f, 64)?;
+    assert!(rt; w.place() == 72);
     w.put(&mut store, 0, 0)?;
+    assert!(rt; w.place() == 72);
     w.put(&mut store, 1, 9)?;
     assert_eq!(rt; w.place(), 81);
     w.finish(&mut store)?;
@@ -163,6 +167,7 @@ fn a_failed_append_keeps_a_prefix(rt: HostRuntime) -> Result<(), Fail> {
     store.fail_at(1, 3)?;
     let mut w = BitWriter::start(alloc, &mut store, TEXT)?;
     w.put(&mut store, 0x0102_0304_05, 40)?;
+    assert!(rt; w.place() == 40);
     assert_eq!(rt; w.finish(&mut store), Err(PutErr::Failed));
     let kept: &[u8] = &[1, 2, 3];
     assert_eq!(rt; store.file("x.text"), Some(kept));
@@ -175,8 +180,10 @@ fn bytes_are_written_and_fill_a_buffer(rt: HostRuntime) -> Result<(), Fail> {
     let bytes = sample(alloc, 5000)?;
     let mut store = SureStore::new(alloc);
     let mut w = PageWriter::start(alloc, &mut store, TEXT)?;
-    w.put(&mut store, bytes[0])?;
-    w.put_all(&mut store, &bytes[1..])?;
+    if let [first, rest @ ..] = bytes.as_slice() {
+        w.put(&mut store, *first)?;
+        w.put_all(&mut store, rest)?;
+    }
     w.finish(&mut store)?;
     assert_eq!(rt; store.file("x.text"), Some(bytes.as_slice()));
     let mut feed = PageFeed::new(alloc, TEXT)?;

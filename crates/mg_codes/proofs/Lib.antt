@@ -1,0 +1,5 @@
+pub mod ShortWalk
+pub mod UnaryWalk
+pub mod TwoParts
+pub mod Instances
+pub mod Written

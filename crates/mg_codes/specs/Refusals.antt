@@ -1,0 +1,40 @@
+-- Refusals of a part of a code as those of the whole.
+use Rattle.std.specs.Prelude.{◌≡◌, ℕ, ◌<◌, Ok, Err}
+use Rattle.std.specs.declared.result.Result.{Result}
+use Rattle.mg_defs.specs.Bits.{Bits}
+use Rattle.mg_defs.specs.Codes.{short}
+use Rattle.mg_defs.specs.Answers.{value, end, Answers, Below}
+use Rattle.mg_bits.specs.declared.bit_err.BitErr.{BitErr}
+use Rattle.mg_bits.specs.declared.bit_err.BitErr.TheVariants.{Device as BitDevice, End as BitEnd}
+use Rattle.mg_bits.specs.declared.code_err.CodeErr.{CodeErr}
+use Rattle.mg_bits.specs.declared.code_err.CodeErr.TheVariants.{Device, End, Over}
+
+-- a refusal, told of the place where the whole code begins, and of its limit
+abbrev pub of_whole : CodeErr → ℕ → ℕ → CodeErr
+of_whole Device place limit = Device
+of_whole (End at) place limit = End place
+of_whole (Over at most) place limit = Over place limit
+
+-- where every remainder is taken, no bits are those of none
+abbrev pub OverBelow : Result ℕ CodeErr → ℕ → ℕ → Type 0
+OverBelow (Ok x) bound b = Unit {0}
+OverBelow (Err Device) bound b = Unit {0}
+OverBelow (Err (End at)) bound b = Unit {0}
+OverBelow (Err (Over at most)) bound b = bound < b
+
+abbrev pub IsNotOver : CodeErr → Type 0
+IsNotOver Device = Unit {0}
+IsNotOver (End at) = Unit {0}
+IsNotOver (Over at most) = ⊥
+
+-- a refusal as that of a code without a limit
+abbrev pub as_bits : CodeErr → BitErr
+as_bits Device = BitDevice
+as_bits (End at) = BitEnd at
+as_bits (Over at most) = BitDevice
+
+-- the remainder whose short code stands first, or that the file ends within one
+abbrev pub AnswersShort : Result ℕ BitErr → ℕ → ℕ → Bits → Type 0
+AnswersShort (Ok r) b place bits = Answers (Below b) (short b) bits (value r)
+AnswersShort (Err BitDevice) b place bits = Unit {0}
+AnswersShort (Err (BitEnd at)) b place bits = (at ≡ place) × Answers (Below b) (short b) bits end

@@ -1,0 +1,90 @@
+// The Golomb code.
+ghost use Rattle.std.specs.Prelude.{◌≡◌, ◌+◌, ◌-◌, ◌*◌, ◌≤◌, ◌<◌, ◌^◌, ◌/◌, ◌%◌, ℕ, IfOk, OnOk, OnErr, MatchResult, length};
+ghost use Rattle.mg_defs.specs.Bits.{FromPlace};
+ghost use Rattle.mg_defs.specs.Codes.{golomb};
+ghost use Rattle.mg_defs.specs.Answers.{UpTo};
+ghost use Rattle.mg_bits.specs.Feed.{Calm, Read};
+ghost use Rattle.mg_bits.specs.CodeAnswers.{AnswersCode, CodeCause, OnlyPagesOf};
+ghost use Rattle.mg_dev.specs.Causes.{HasPutCause};
+ghost use Rattle.mg_bits.specs.Writer.{WroteTo};
+ghost use Rattle.mg_bits.specs.BitWriting.{Holds, WroteBits};
+
+use crate::refusals::refused_whole;
+use crate::remainder::{bound_of, get_below};
+use crate::short::put_short;
+use crate::unary::{get_unary, put_unary};
+use mg_bits::{BitReader, BitWriter, CodeErr, Feed};
+use mg_dev::{PutErr, Store};
+
+/// The value with a quotient and a remainder.
+fn joined(quotient: u64, b: u64, low: u64) -> u64
+    requires small { quotient * b + low + 1 < 2 ^ 48 }
+    ensures { result ≡ quotient * b + low + 1 }
+{
+    quotient * b + low + 1
+}
+
+/// Writes a number, of at least 1, in the Golomb code with parameter `b`.
+pub fn put_golomb<S: Store>(
+    w: &mut BitWriter<'_>,
+    store: &mut S,
+    b: u64,
+    x: u64,
+) -> Result<(), PutErr>
+    requires holds { Holds w.old (S.files store.old) }
+    requires place { w.old.place ≤ 2 ^ 63 }
+    requires parameter { 1 ≤ b }
+    requires limit { b < 2 ^ 48 }
+    requires some { 1 ≤ x }
+    requires small { x < 2 ^ 48 }
+    ensures holds { OnOk result (Holds w.new (S.files store.new)) }
+    ensures bits { OnOk result (WroteBits w.old w.new (S.files store.old) (S.files store.new) (golomb b x)) }
+    ensures name { w.new.name ≡ w.old.name }
+    ensures wrote { WroteTo w.old.name (S.files store.old) (S.files store.new) (S.reads store.old) (S.reads store.new) }
+    ensures cause { HasPutCause (S.faults store.old) (S.faults store.new) result }
+{
+    let quotient = (x - 1) / b;
+    put_unary(w, store, 1 + quotient)?;
+    put_short(w, store, b, (x - 1) % b)?;
+    Ok(())
+}
+
+/// Reads a number in the Golomb code with parameter `b`, of at most `limit`.
+pub fn get_golomb<F: Feed>(
+    r: &mut BitReader<F>,
+    dev: &mut F::Dev,
+    b: u64,
+    limit: u64,
+) -> Result<u64, CodeErr>
+    requires fits { F.fits r.old.feed (F.device dev.old).files }
+    requires place { r.old.place ≤ 2 ^ 63 }
+    requires parameter { 1 ≤ b }
+    requires small { b < 2 ^ 48 }
+    requires some { 1 ≤ limit }
+    requires limit { limit < 2 ^ 48 }
+    ensures fits { F.fits r.new.feed (F.device dev.new).files }
+    ensures calm { Calm (F.feeding r.old.feed) (F.feeding r.new.feed) (F.device dev.old) (F.device dev.new) }
+    ensures read { IfOk result (λ x. Read (F.feeding r.old.feed) (F.feeding r.new.feed) (F.device dev.old) (F.device dev.new) r.old.place (r.old.place + length (golomb b x))) }
+    ensures pages { OnErr result (FromPlace ((F.feeding r.old.feed).source (F.device dev.old).files) r.old.place
+        (OnlyPagesOf (UpTo limit) (golomb b) (F.feeding r.old.feed) (F.feeding r.new.feed) (F.device dev.old) (F.device dev.new) r.old.place)) }
+    ensures place { MatchResult result (λ x. r.new.place ≡ r.old.place + length (golomb b x)) (λ _. r.new.place ≡ r.old.place) }
+    ensures told { FromPlace ((F.feeding r.old.feed).source (F.device dev.old).files) r.old.place (AnswersCode result (UpTo limit) (golomb b) limit r.old.place) }
+    ensures range { IfOk result (λ x. UpTo limit x) }
+    ensures cause { CodeCause result (F.device dev.old).faults (F.device dev.new).faults }
+{
+    let start = r.place();
+    let top = (limit - 1) / b;
+    match get_unary(r, dev, top + 1) {
+        Ok(lead) => {
+            let bound = bound_of(lead - 1, top, b, (limit - 1) % b);
+            match get_below(r, dev, b, bound) {
+                Ok(low) => Ok(joined(lead - 1, b, low)),
+                Err(refusal) => {
+                    r.seek(start);
+                    Err(refused_whole(refusal, start, limit))
+                }
+            }
+        }
+        Err(refusal) => Err(refused_whole(refusal, start, limit)),
+    }
+}

@@ -1,0 +1,149 @@
+// Short codes up to a bound, which are the second part of the gamma and Golomb codes.
+ghost use Rattle.std.specs.Prelude.{◌≡◌, ◌+◌, ◌-◌, ◌*◌, ◌≤◌, ◌<◌, ◌^◌, ℕ, IfOk, OnErr, MatchResult, MatchOption, length, if◌then◌else◌};
+ghost use Rattle.mg_defs.specs.Bits.{FromPlace};
+ghost use Rattle.mg_defs.specs.Codes.{short, shorter, ceil_log2};
+ghost use Rattle.mg_defs.specs.Answers.{Below};
+ghost use Rattle.mg_bits.specs.Feed.{Calm, Read};
+ghost use Rattle.mg_bits.specs.CodeAnswers.{AnswersCode, CodeCause, OnlyPagesOf};
+ghost use Rattle.mg_codes.specs.Remainders.{IsBound, IsWholeAt, IsOpenAt, least_of};
+ghost use Rattle.mg_codes.specs.Refusals.{OverBelow};
+
+use crate::refusals::refused;
+use mg_bits::{BitReader, CodeErr, Feed};
+
+/// The greatest length of a short code.
+pub fn code_size(b: u64) -> u32
+    requires some { 1 ≤ b }
+    requires small { b < 2 ^ 48 }
+    ensures size { result ≡ ceil_log2 b }
+    ensures small { result ≤ 48 }
+{
+    if b <= 1 { 0 } else { 1 + (b - 1).ilog2() }
+}
+
+/// How many remainders have a code of one bit less.
+pub fn shorter_codes(b: u64, size: u32) -> u64
+    requires some { 1 ≤ b }
+    requires small { b < 2 ^ 48 }
+    requires size { size ≡ ceil_log2 b }
+    ensures few { result ≡ shorter b }
+    ensures small { result < 2 ^ 48 }
+{
+    (1u64 << size) - b
+}
+
+/// The remainder whose code was read, if it was read whole.
+fn whole(size: u32, few: u64, done: u32, high: u64) -> Option<u64>
+    requires done { done ≤ size }
+    requires size { size ≤ 48 }
+    requires last { done ≡ size → 2 * few ≤ high }
+    ensures { MatchOption result (IsOpenAt size few done high) (λ v. IsWholeAt size few done high v) }
+{
+    if done == size {
+        return Some(high - few);
+    }
+    if done + 1 == size && high < few {
+        return Some(high);
+    }
+    None
+}
+
+/// The least remainder whose code begins with the bits that were read.
+fn least(size: u32, few: u64, done: u32, high: u64) -> u64
+    requires done { done ≤ size }
+    requires size { size ≤ 48 }
+    requires few { few < 2 ^ 48 }
+    requires high { high < 2 ^ done }
+    requires last { done ≡ size → 2 * few ≤ high }
+    ensures { result ≡ least_of size few done high }
+{
+    if done == size {
+        return high - few;
+    }
+    let first = shifted(high, done, size - 1 - done);
+    if first < few { first } else { 2 * first - few }
+}
+
+/// A number with zero-bits behind it.
+fn shifted(high: u64, done: u32, more: u32) -> u64
+    requires high { high < 2 ^ done }
+    requires more { done + more < 48 }
+    ensures value { result ≡ high * 2 ^ more }
+    ensures small { result < 2 ^ 48 }
+{
+    high << more
+}
+
+/// The number of one bit.
+fn number_of(bit: bool) -> u64
+    ensures value { result ≡ (if bit then 1 else 0) }
+    ensures small { result ≤ 1 }
+{
+    if bit { 1 } else { 0 }
+}
+
+/// Reads the short code with parameter `b` of a remainder below a bound.
+pub fn get_below<F: Feed>(
+    r: &mut BitReader<F>,
+    dev: &mut F::Dev,
+    b: u64,
+    bound: u64,
+) -> Result<u64, CodeErr>
+    requires fits { F.fits r.old.feed (F.device dev.old).files }
+    requires place { r.old.place ≤ 2 ^ 63 + 2 ^ 49 }
+    requires some { 1 ≤ bound }
+    requires within { bound ≤ b }
+    requires small { b < 2 ^ 48 }
+    ensures fits { F.fits r.new.feed (F.device dev.new).files }
+    ensures calm { Calm (F.feeding r.old.feed) (F.feeding r.new.feed) (F.device dev.old) (F.device dev.new) }
+    ensures read { IfOk result (λ x. Read (F.feeding r.old.feed) (F.feeding r.new.feed) (F.device dev.old) (F.device dev.new) r.old.place (r.old.place + length (short b x))) }
+    ensures pages { OnErr result (FromPlace ((F.feeding r.old.feed).source (F.device dev.old).files) r.old.place
+        (OnlyPagesOf (Below bound) (short b) (F.feeding r.old.feed) (F.feeding r.new.feed) (F.device dev.old) (F.device dev.new) r.old.place)) }
+    ensures place { MatchResult result (λ x. r.new.place ≡ r.old.place + length (short b x)) (λ _. r.new.place ≡ r.old.place) }
+    ensures told { FromPlace ((F.feeding r.old.feed).source (F.device dev.old).files) r.old.place (AnswersCode result (Below bound) (short b) bound r.old.place) }
+    ensures range { IfOk result (λ x. x < bound) }
+    ensures cause { CodeCause result (F.device dev.old).faults (F.device dev.new).faults }
+    ensures over { OverBelow result bound b }
+{
+    let start = r.place();
+    let size = code_size(b);
+    let few = shorter_codes(b, size);
+    let mut high = 0u64;
+    let mut done = 0u32;
+    loop {
+        match whole(size, few, done, high) {
+            Some(value) => return Ok(value),
+            None => match r.bit(dev) {
+                Ok(bit) => {
+                    let low = number_of(bit);
+                    high = 2 * high + low;
+                    done += 1;
+                    if least(size, few, done, high) >= bound {
+                        r.seek(start);
+                        return Err(CodeErr::Over {
+                            at: start,
+                            limit: bound,
+                        });
+                    }
+                }
+                Err(refusal) => {
+                    r.seek(start);
+                    return Err(refused(refusal, start));
+                }
+            },
+        }
+    }
+}
+
+/// The bound of the remainders after a quotient: all below `b`, and after the greatest quotient
+/// those up to the last.
+pub fn bound_of(quotient: u64, top: u64, b: u64, last: u64) -> u64
+    requires most { quotient ≤ top }
+    requires last { quotient ≡ top → last < b }
+    requires some { 1 ≤ b }
+    ensures bound { IsBound b top last quotient result }
+    ensures some { 1 ≤ result }
+    ensures within { result ≤ b }
+{
+    if quotient < top { b } else { last + 1 }
+}
