@@ -1,5 +1,4 @@
 pub mod ReadingLaws
 pub mod PendingLaws
 pub mod CommandLaws
-
 pub mod ServedLaws

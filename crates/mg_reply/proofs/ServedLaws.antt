@@ -177,16 +177,18 @@ answered_asked After old new next reply answering before left left2 w0 w1 now li
 -- ---- how many bytes were used
 
 pub counted_start : (left : Option (List ℕ)) → Counted left left 0
-counted_start left = record { goes_on = λ all told. record {
-  front = [];
-  rest = all;
-  told = told;
-  whole = refl;
-  size = refl;
-  passed = [];
-  no_quit = refl;
-  ended = λ some more. refl;
-} }
+counted_start left = record {
+  goes_on = λ all told. record {
+    front = [];
+    rest = all;
+    told = told;
+    whole = refl;
+    size = refl;
+    passed = [];
+    no_quit = refl;
+    ended = λ some more. refl;
+  };
+}
 
 more_ended : (front line more : List ℕ) (passed : List (List ℕ)) → HasNoEnd line → ((more : List ℕ) → ended_lines (front ++ more) ≡ passed ++ ended_lines more) → ended_lines ((front ++ (line ++ 10 ∷ [])) ++ more) ≡ passed ++ (line ∷ ended_lines more)
 more_ended front line more passed plain ended =

@@ -114,7 +114,12 @@ impl Pending {
     }
 
     /// A number, and its score where there is one.
-    fn numbered<O: Sink>(&mut self, out: &mut O, number: u32, score: Option<u64>) -> Result<(), PutErr>
+    fn numbered<O: Sink>(
+        &mut self,
+        out: &mut O,
+        number: u32,
+        score: Option<u64>,
+    ) -> Result<(), PutErr>
         ensures content { AfterPass (O.written out.old) (O.written out.new) self.old self.new (numbered_text number score) result }
         ensures cause { HasPutCause (O.faults out.old) (O.faults out.new) result }
         ensures lack { HasLack (O.lacks out.old) (O.lacks out.new) result }
@@ -129,7 +134,12 @@ impl Pending {
     }
 
     /// The row of a document: its number, and its score where the answer is ranked.
-    pub fn row<O: Sink>(&mut self, out: &mut O, number: u32, score: Option<u64>) -> Result<(), PutErr>
+    pub fn row<O: Sink>(
+        &mut self,
+        out: &mut O,
+        number: u32,
+        score: Option<u64>,
+    ) -> Result<(), PutErr>
         ensures content { AfterPass (O.written out.old) (O.written out.new) self.old self.new (row_text number score) result }
         ensures cause { HasPutCause (O.faults out.old) (O.faults out.new) result }
         ensures lack { HasLack (O.lacks out.old) (O.lacks out.new) result }
@@ -141,7 +151,12 @@ impl Pending {
     }
 
     /// What stands before a document that is shown.
-    pub fn header<O: Sink>(&mut self, out: &mut O, number: u32, score: Option<u64>) -> Result<(), PutErr>
+    pub fn header<O: Sink>(
+        &mut self,
+        out: &mut O,
+        number: u32,
+        score: Option<u64>,
+    ) -> Result<(), PutErr>
         ensures content { AfterPass (O.written out.old) (O.written out.new) self.old self.new (header_text number score) result }
         ensures cause { HasPutCause (O.faults out.old) (O.faults out.new) result }
         ensures lack { HasLack (O.lacks out.old) (O.lacks out.new) result }

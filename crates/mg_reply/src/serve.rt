@@ -28,7 +28,12 @@ pub trait Answerer {
     ghost may_stop: { Self → Self → PartErr → Type 0 };
 
     /// Writes the reply to a query line.
-    fn answer_line<O: Sink>(&mut self, line: &[u8], now: &Settings, out: &mut O) -> Result<(), ShowErr>
+    fn answer_line<O: Sink>(
+        &mut self,
+        line: &[u8],
+        now: &Settings,
+        out: &mut O,
+    ) -> Result<(), ShowErr>
         requires { length line.now ≤ 1024 }
         ensures content { AfterPut (O.written out.old) (O.written out.new) (reply self.old now.now line.now) result }
         ensures after { after self.old self.new (record { now = now.now; line = line.now } ∷ []) }
@@ -66,7 +71,12 @@ fn of_put(error: PutErr) -> ShowErr
 }
 
 /// Answers one line, and says whether it ends the session.
-fn serve_line<O: Sink, A: Answerer>(answerer: &mut A, line: &[u8], now: &mut Settings, out: &mut O) -> Result<bool, ShowErr>
+fn serve_line<O: Sink, A: Answerer>(
+    answerer: &mut A,
+    line: &[u8],
+    now: &mut Settings,
+    out: &mut O,
+) -> Result<bool, ShowErr>
     requires { length line.now ≤ 1024 }
     ensures after { A.after answerer.old answerer.new (asked_by now.old line.now (command line.now now.old)) }
     ensures text { AfterPut (O.written out.old) (O.written out.new) (text_of (A.reply answerer.old) bad_command now.old line.now (command line.now now.old)) result }
@@ -99,7 +109,11 @@ fn serve_line<O: Sink, A: Answerer>(answerer: &mut A, line: &[u8], now: &mut Set
 /// It reads ahead, so bytes of the input behind a line `.quit` may be taken too. Where the input is
 /// told, it is too long exactly where it has more than 2^32 bytes and no line `.quit` ends within
 /// the first 2^32; the lines up to there are answered.
-pub fn serve_lines<I: Source, O: Sink, A: Answerer>(answerer: &mut A, input: &mut I, out: &mut O) -> Result<(), ServeErr>
+pub fn serve_lines<I: Source, O: Sink, A: Answerer>(
+    answerer: &mut A,
+    input: &mut I,
+    out: &mut O,
+) -> Result<(), ServeErr>
     ensures all { ForSome (I.left input.old) (λ bytes. OnOk result (O.written out.new ≡ appended (O.written out.old) (session_of (A.reply answerer.old) bytes))) }
     ensures prefix { ForSome (I.left input.old) (λ bytes. GrewByPrefix (O.written out.old) (O.written out.new) (session_of (A.reply answerer.old) bytes)) }
     ensures left { ForSome (I.left input.old) (λ bytes. OnOk result (LeftEnough bytes (I.left input.new))) }

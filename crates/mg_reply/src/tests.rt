@@ -1,5 +1,5 @@
 // Lines, commands, texts and sessions, on whole examples.
-ghost use Rattle.std.specs.Prelude.{◌≡◌, ⊤, ⊥, refl};
+ghost use Rattle.std.specs.Prelude.{⊤, refl};
 
 use crate::{
     Answerer, Command, LineErr, LineEvent, LineReader, Mode, ServeErr, Settings, put_close,
@@ -20,7 +20,12 @@ impl Answerer for Echo {
 
     ghost may_stop = { λ _ _ _. ⊥ };
 
-    fn answer_line<O: Sink>(&mut self, line: &[u8], _now: &Settings, out: &mut O) -> Result<(), ShowErr> {
+    fn answer_line<O: Sink>(
+        &mut self,
+        line: &[u8],
+        _now: &Settings,
+        out: &mut O,
+    ) -> Result<(), ShowErr> {
         match out.put(line) {
             Ok(()) => Ok(()),
             Err(error) => Err(ShowErr::from(error)),
@@ -44,10 +49,22 @@ fn commands_are_read(rt: HostRuntime) -> Result<(), Fail> {
         most: Some(3),
     };
     let ranked = Command::Set(now);
-    let boolean = Command::Set(Settings { ranked: false, ..now });
-    let count = Command::Set(Settings { mode: Mode::Count, ..now });
-    let seven = Command::Set(Settings { most: Some(7), ..now });
-    let largest = Command::Set(Settings { most: Some(1_048_576), ..now });
+    let boolean = Command::Set(Settings {
+        ranked: false,
+        ..now
+    });
+    let count = Command::Set(Settings {
+        mode: Mode::Count,
+        ..now
+    });
+    let seven = Command::Set(Settings {
+        most: Some(7),
+        ..now
+    });
+    let largest = Command::Set(Settings {
+        most: Some(1_048_576),
+        ..now
+    });
     let all = Command::Set(Settings { most: None, ..now });
     let rows: [(&[u8], Command); 16] = [
         (b"", Command::Skip),
@@ -119,7 +136,8 @@ fn texts_are_written_whole(rt: HostRuntime) -> Result<(), Fail> {
     for each in &written {
         assert!(rt; each.is_ok());
     }
-    let wanted = b"3\n4294967295 77451\n-- 1\n-- 2 50002\n\x02\n= 0\n? syntax at 10\n? too deep at 32\n? word too long at 0\n? too many words at 192\n? bad command\n? line too long\n";
+    let wanted =
+        b"3\n4294967295 77451\n-- 1\n-- 2 50002\n\x02\n= 0\n? syntax at 10\n? too deep at 32\n? word too long at 0\n? too many words at 192\n? bad command\n? line too long\n";
     assert!(rt; out.bytes() == wanted.as_slice());
     Ok(())
 }
@@ -150,7 +168,10 @@ fn a_failure_leaves_a_prefix(rt: HostRuntime) -> Result<(), Fail> {
         let mut input = MemSource::new(rt.alloc(), LINES, 5)?;
         input.fail_at(call)?;
         let mut out = SureSink::new(rt.alloc());
-        assert_eq!(rt; serve_lines(&mut Echo, &mut input, &mut out), Err(ServeErr::Read));
+        assert_eq!(rt;
+            serve_lines(&mut Echo, &mut input, &mut out),
+            Err(ServeErr::Read)
+        );
         assert!(rt; whole.starts_with(out.bytes()));
     }
     Ok(())
