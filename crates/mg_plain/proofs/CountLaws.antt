@@ -1,0 +1,132 @@
+-- Laws of counting terms.
+use Rattle.std.proofs.Common.{◌≡◌, ℕ, zero, suc, ◌+◌, ◌<◌, ◌≤◌, Bool, true, false, not, cond, ◌&&◌, ◌||◌, ◌==◌, List, [], ◌∷◌, ◌++◌, length, take, drop, map, get_or, refl, sym, ◌∙◌, ap, subst, arith, add-one, one-add, zero-add, inl, inr, append_assoc, append-nil}
+use Rattle.std.specs.Prelude.{count_by, nat_lt, filter}
+use Rattle.std.specs.List.{list_any}
+use Rattle.std.proofs.Math.Seq.{drop-cons}
+use Rattle.std.proofs.lemmas.Bool.{cases_Bool, ne_eqb, and_right, lt-ltb, false≢true}
+use Rattle.std.proofs.lemmas.List.Sums.{sum_by-cons, count_by-le-length}
+use Rattle.mg_defs.specs.Parse.{Pair, parse}
+use Rattle.mg_defs.specs.Terms.{folded, fold_byte, same_term, is_empty, terms, freq_in}
+use Rattle.mg_defs.specs.Sat.{Query, term, both, either, without, satisfies}
+use Rattle.mg_defs.specs.QueryTerms.{query_terms}
+use Rattle.mg_defs.proofs.ParseLaws.{parse_short}
+use Rattle.mg_plain.specs.Counts.{is_hit, hits_in, AreCounts, holds}
+
+-- ---- a word and a term
+
+other_lengths : (a b : List ℕ) → (length a ≡ length b → ⊥) → same_term a b ≡ false
+other_lengths [] [] ne = absurd (ne refl)
+other_lengths [] (c ∷ b) ne = refl
+other_lengths (d ∷ a) [] ne = refl
+other_lengths (d ∷ a) (c ∷ b) ne = and_right (d == c) (same_term a b) (other_lengths a b (λ e. ne (ap suc e)))
+
+length-folded : (w : List ℕ) → length (folded w) ≡ length w
+length-folded [] = refl
+length-folded (b ∷ w) = ap suc (length-folded w)
+
+pub other_word : (word t : List ℕ) → (length word ≡ length t → ⊥) → same_term t (folded word) ≡ false
+other_word word t ne = other_lengths t (folded word) (λ e. ne (sym (e ∙ length-folded word)))
+
+pub folded-step : (word t : List ℕ) (i : ℕ) → i < length word → i < length t → same_term (drop i t) (folded (drop i word)) ≡ (get_or t i 0 == fold_byte (get_or word i 0) && same_term (drop (i + 1) t) (folded (drop (i + 1) word)))
+folded-step word t i p q = rw (add-one, drop-cons t i 0, drop-cons word i 0)
+
+-- ---- the pairs of a document
+
+count-cons : {X : Type 0} (p : X → Bool) (x : X) (xs : List X) → count_by p (x ∷ xs) ≡ cond (p x) 1 0 + count_by p xs
+count-cons p x xs = sum_by-cons (λ y. cond (p y) 1 0) x xs
+
+words-hits : (t : List ℕ) (pairs : List Pair) → count_by (same_term t) (map folded (filter (λ w. not (is_empty w)) (map (λ (p : Pair). p.word) pairs))) ≡ count_by (is_hit t) pairs
+words-hits t [] = refl
+words-hits t (p ∷ pairs) =
+    let later = map folded (filter (λ w. not (is_empty w)) (map (λ (q : Pair). q.word) pairs)) in
+    elim (cases_Bool (not (is_empty p.word))) [
+      | inl some ↦
+          let first : map folded (filter (λ w. not (is_empty w)) (map (λ (q : Pair). q.word) (p ∷ pairs))) ≡ folded p.word ∷ later = rw some in
+          let hit : is_hit t p ≡ same_term t (folded p.word) = ap (λ b. b && same_term t (folded p.word)) some in
+          ap (count_by (same_term t)) first ∙ count-cons (same_term t) (folded p.word) later ∙ ap (λ n. cond (same_term t (folded p.word)) 1 0 + n) (words-hits t pairs)
+          ∙ ap (λ b. cond b 1 0 + count_by (is_hit t) pairs) (sym hit) ∙ sym (count-cons (is_hit t) p pairs)
+      | inr none ↦
+          let first : map folded (filter (λ w. not (is_empty w)) (map (λ (q : Pair). q.word) (p ∷ pairs))) ≡ later = rw none in
+          let hit : is_hit t p ≡ false = ap (λ b. b && same_term t (folded p.word)) none in
+          ap (count_by (same_term t)) first ∙ words-hits t pairs ∙ sym (zero-add (count_by (is_hit t) pairs))
+          ∙ ap (λ b. cond b 1 0 + count_by (is_hit t) pairs) (sym hit) ∙ sym (count-cons (is_hit t) p pairs)
+    ]
+
+pub freq-hits : (doc t : List ℕ) → freq_in doc t ≡ hits_in t (parse doc)
+unfolding hits_in
+freq-hits doc t = words-hits t (parse doc)
+
+pub hits-none : (t : List ℕ) → hits_in t [] ≡ 0
+unfolding hits_in
+hits-none t = refl
+
+pub hits-word : (t : List ℕ) (p : Pair) (pairs : List Pair) → is_empty p.word ≡ false → hits_in t (p ∷ pairs) ≡ cond (same_term t (folded p.word)) 1 0 + hits_in t pairs
+unfolding hits_in
+hits-word t p pairs some = count-cons (is_hit t) p pairs ∙ ap (λ b. cond (not b && same_term t (folded p.word)) 1 0 + count_by (is_hit t) pairs) some
+
+pub hits-empty : (t : List ℕ) (p : Pair) (pairs : List Pair) → is_empty p.word ≡ true → hits_in t (p ∷ pairs) ≡ hits_in t pairs
+unfolding hits_in
+hits-empty t p pairs none = count-cons (is_hit t) p pairs ∙ ap (λ b. cond (not b && same_term t (folded p.word)) 1 0 + count_by (is_hit t) pairs) none ∙ zero-add (count_by (is_hit t) pairs)
+
+pub freq-few : (doc t : List ℕ) → freq_in doc t ≤ length doc
+unfolding hits_in
+freq-few doc t = omega (arith, freq-hits doc t, count_by-le-length (is_hit t) (parse doc), parse_short doc)
+
+-- ---- whether a query holds
+
+pub some-freq : (doc t : List ℕ) → nat_lt 0 (freq_in doc t) ≡ list_any (same_term t) (terms doc)
+some-freq doc t = any (terms doc)
+  where
+    any : (ts : List (List ℕ)) → nat_lt 0 (count_by (same_term t) ts) ≡ list_any (same_term t) ts
+    any [] = refl
+    any (u ∷ ts) =
+        elim (cases_Bool (same_term t u)) [
+          | inl same ↦ lt-ltb 0 (count_by (same_term t) (u ∷ ts)) (omega (arith, count-cons (same_term t) u ts, ap {B = ℕ} (λ b. cond b 1 0) same)) ∙ sym (ap (λ b. b || list_any (same_term t) ts) same)
+          | inr other ↦ ap (nat_lt 0) (count-cons (same_term t) u ts ∙ ap (λ b. cond b 1 0 + count_by (same_term t) ts) other ∙ zero-add (count_by (same_term t) ts)) ∙ any ts ∙ sym (ap (λ b. b || list_any (same_term t) ts) other)
+        ]
+
+-- the counts of terms and of more terms behind them
+first-counts : (of : List ℕ → ℕ) (xs ys : List (List ℕ)) (counts : List ℕ) → AreCounts of (xs ++ ys) counts → AreCounts of ys (drop (length xs) counts)
+first-counts of [] ys counts c = c
+first-counts of (x ∷ xs) ys [] c = absurd (omega (arith, c.size))
+first-counts of (x ∷ xs) ys (n ∷ counts) c = first-counts of xs ys counts (record { size = omega (arith, c.size); each = λ k lt. c.each (suc k) (omega (arith, lt)) })
+
+pub holds-front : (doc : List ℕ) (q : Query) (more : List (List ℕ)) (counts : List ℕ) → AreCounts (freq_in doc) (query_terms q ++ more) counts → holds q counts ≡ satisfies q doc
+holds-front doc (term t) more counts c = ap (nat_lt 0) (c.each 0 (omega arith)) ∙ some-freq doc t
+holds-front doc (both p q) more counts c =
+    let whole = subst (λ ts. AreCounts (freq_in doc) ts counts) (append_assoc (query_terms p) (query_terms q) more) c in
+    let left = holds-front doc p (query_terms q ++ more) counts whole in
+    let right = holds-front doc q more (drop (length (query_terms p)) counts) (first-counts (freq_in doc) (query_terms p) (query_terms q ++ more) counts whole) in
+    ap (λ b. b && holds q (drop (length (query_terms p)) counts)) left ∙ ap (λ b. satisfies p doc && b) right
+holds-front doc (either p q) more counts c =
+    let whole = subst (λ ts. AreCounts (freq_in doc) ts counts) (append_assoc (query_terms p) (query_terms q) more) c in
+    let left = holds-front doc p (query_terms q ++ more) counts whole in
+    let right = holds-front doc q more (drop (length (query_terms p)) counts) (first-counts (freq_in doc) (query_terms p) (query_terms q ++ more) counts whole) in
+    ap (λ b. b || holds q (drop (length (query_terms p)) counts)) left ∙ ap (λ b. satisfies p doc || b) right
+holds-front doc (without q) more counts c = ap not (holds-front doc q more counts c)
+
+pub holds-is : (doc : List ℕ) (q : Query) (counts : List ℕ) → AreCounts (freq_in doc) (query_terms q) counts → holds q counts ≡ satisfies q doc
+holds-is doc q counts c = holds-front doc q [] counts (subst (λ ts. AreCounts (freq_in doc) ts counts) (sym (append-nil (query_terms q))) c)
+
+-- ---- one pair after another
+
+empty_test : (w : List ℕ) → is_empty w ≡ (length w == 0)
+empty_test [] = refl
+empty_test (b ∷ w) = sym (ne_eqb (length (b ∷ w)) 0 (λ e. omega (arith, e)))
+
+-- a word that is not empty was counted
+pub word_counted : (t : List ℕ) (p : Pair) (pairs rest : List Pair) (n n2 total : ℕ) (none : Bool) → pairs ≡ p ∷ rest → none ≡ (length p.word == 0) → none ≡ false → n2 ≡ n + cond (same_term t (folded p.word)) 1 0 → n + hits_in t pairs ≡ total → n2 + hits_in t rest ≡ total
+word_counted t p pairs rest n n2 total none e test some counted sum =
+    let step : hits_in t pairs ≡ cond (same_term t (folded p.word)) 1 0 + hits_in t rest = ap (hits_in t) e ∙ hits-word t p rest (empty_test p.word ∙ sym test ∙ some) in
+    omega (arith, step, counted, sum)
+
+pub word_passed : (t : List ℕ) (p : Pair) (pairs rest : List Pair) (n total : ℕ) (none : Bool) → pairs ≡ p ∷ rest → none ≡ (length p.word == 0) → none ≡ true → n + hits_in t pairs ≡ total → n + hits_in t rest ≡ total
+word_passed t p pairs rest n total none e test is_none sum =
+    let step : hits_in t pairs ≡ hits_in t rest = ap (hits_in t) e ∙ hits-empty t p rest (empty_test p.word ∙ sym test ∙ is_none) in
+    omega (arith, step, sum)
+
+pub none_counted : (doc t : List ℕ) (pairs : List Pair) (n : ℕ) → pairs ≡ parse doc → n ≡ 0 → n + hits_in t pairs ≡ freq_in doc t
+none_counted doc t pairs n e zero_is = omega (arith, ap (hits_in t) e, freq-hits doc t, zero_is)
+
+pub all_counted : (doc t : List ℕ) (pairs : List Pair) (n : ℕ) → pairs ≡ [] → n + hits_in t pairs ≡ freq_in doc t → n ≡ freq_in doc t
+all_counted doc t pairs n e sum = omega (arith, ap (hits_in t) e, hits-none t, sum)

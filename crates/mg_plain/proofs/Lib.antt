@@ -1,0 +1,11 @@
+pub mod DocumentLaws
+pub mod CountLaws
+pub mod ScanLaws
+pub mod LoadLaws
+pub mod RunLaws
+pub mod WordLaws
+pub mod RowLaws
+pub mod ScoreLaws
+pub mod RankedLaws
+pub mod RankingLaws
+pub mod ScannerLaws

@@ -1,0 +1,46 @@
+-- Laws of loading.
+use Rattle.std.proofs.Common.{◌≡◌, ℕ, ◌+◌, ◌-◌, ◌≤◌, min, List, [], ◌++◌, length, take, drop, Some, None, IsSome, unwrap_or, refl, sym, ◌∙◌, ap, subst, arith, length-drop}
+use Rattle.std.specs.Option.{option_map}
+use Rattle.std.specs.declared.option.Option.{Option}
+use Rattle.std.proofs.Math.Seq.{take-length}
+use Rattle.std.proofs.lemmas.List.{take_all, take-append-le}
+use Rattle.mg_dev.specs.Files.{Files, file_at, bytes_at}
+use Rattle.mg_dev.specs.Laws.{read_count, size_is}
+use Rattle.mg_plain.specs.Loaded.{HasSize}
+
+-- a file that is told to have a size is there
+there : (o : Option (List ℕ)) (size : ℕ) → ◌≡◌ {A = Option ℕ} (Some size) (option_map length o) → (b : List ℕ) × (o ≡ Some b)
+there None size e = cc
+there (Some b) size e = (b, refl)
+
+-- what was read whole is the file
+pub loaded : (now files : Option Files) (name full buf : List ℕ) (n size : ℕ) → full ≡ name → now ≡ files → HasSize files name size → (IsSome now → take n buf ≡ take (length buf) (drop 0 (bytes_at now full))) → n ≡ length buf → length buf ≡ size → IsSome files → file_at files name ≡ Some buf
+loaded now files name full buf n size same_name same known is all long told =
+    let is2 : take n buf ≡ take (length buf) (bytes_at files name) = subst (λ x. IsSome files → take n buf ≡ take (length buf) (bytes_at files x)) same_name (subst (λ f. IsSome f → take n buf ≡ take (length buf) (bytes_at f full)) same is) told in
+    let found = there (file_at files name) size (known told) in
+    let here : bytes_at files name ≡ found.0 = ap (λ o. unwrap_or o []) found.1 in
+    let size_of : length (bytes_at files name) ≡ size = size_is files name size (known told) in
+    let whole : buf ≡ bytes_at files name = sym (take-length buf) ∙ ap (λ k. take k buf) (sym all) ∙ is2 ∙ take_all (length buf) (bytes_at files name) (omega (arith, size_of, long)) in
+    found.1 ∙ ap Some (sym here ∙ sym whole)
+
+-- a told file gives as many bytes as its size
+pub not_changed : (now files : Option Files) (name full buf : List ℕ) (n size : ℕ) → full ≡ name → now ≡ files → HasSize files name size → (IsSome now → take n buf ≡ take (length buf) (drop 0 (bytes_at now full))) → n ≤ length buf → length buf ≡ size → IsSome files → n ≡ length buf
+not_changed now files name full buf n size same_name same known is within long told =
+    let size_of : length (bytes_at files name) ≡ size = size_is files name size (known told) in
+    let size_full : length (bytes_at files full) ≡ size = ap (λ x. length (bytes_at files x)) same_name ∙ size_of in
+    omega (arith, read_count now files full buf 0 n same is told within, size_full, long)
+
+-- a size that is told, under the name of the part with no ending
+pub size_known : (files : Option Files) (name full : List ℕ) (size : ℕ) → full ≡ name → (IsSome files → ◌≡◌ {A = Option ℕ} (Some size) (option_map length (file_at files full))) → HasSize files name size
+size_known files name full size same known = subst (λ x. HasSize files x size) same known
+
+pub none_there : (files : Option Files) (name full : List ℕ) → full ≡ name → (IsSome files → ◌≡◌ {A = Option ℕ} None (option_map length (file_at files full))) → IsSome files → file_at files name ≡ None
+none_there files name full same missing told = subst (λ x. file_at files x ≡ None) same (gone (file_at files full) (missing told))
+  where
+    gone : (o : Option (List ℕ)) → ◌≡◌ {A = Option ℕ} None (option_map length o) → o ≡ None
+    gone None e = refl
+    gone (Some b) e = cc
+
+-- what stands in a vector after a write to all of its places
+pub vec_front : (n : ℕ) (buf items : List ℕ) → n ≡ length buf → take n (buf ++ drop (length buf) items) ≡ buf
+vec_front n buf items e = ap (λ k. take k (buf ++ drop (length buf) items)) e ∙ take-append-le (length buf) buf (drop (length buf) items) (omega arith) ∙ take-length buf

@@ -1,0 +1,176 @@
+-- Laws of a scan.
+use Rattle.std.proofs.Common.{◌≡◌, ℕ, zero, suc, ◌+◌, ◌-◌, ◌<◌, ◌≤◌, ◌^◌, true, false, inl, inr, List, [], ◌∷◌, ◌++◌, length, take, Some, None, Err, refl, sym, ◌∙◌, ap, subst, arith, append_assoc, append-nil, length-append}
+use Rattle.std.specs.Prelude.{flat_map, IfSome}
+use Rattle.std.specs.declared.option.Option.{Option}
+use Rattle.std.specs.declared.result.Result.{Result}
+use Rattle.std.proofs.lemmas.Bool.{cases_Bool, cases_lt, cond-true, cond-false}
+use Rattle.std.proofs.Math.Seq.{take-append-add}
+use Rattle.std.proofs.lemmas.List.{take-append-le, take_all}
+use Rattle.mg_dev.specs.Streams.{appended, GrewByPrefix, AfterPut}
+use Rattle.mg_dev.specs.StreamLaws.{grew_first, grew_nothing}
+use Rattle.mg_dev.specs.declared.device.PutErr.{PutErr}
+use Rattle.mg_dev.specs.declared.device.PutErr.TheVariants as put
+use Rattle.mg_query.specs.declared.query_err.QueryErr.{QueryErr}
+use Rattle.mg_query.specs.declared.query_err.QueryErr.TheVariants.{Syntax, TooDeep, TermTooLong, TooManyTerms, Memory}
+use Rattle.mg_query.specs.RefusalOf.{refusal_of}
+use Rattle.mg_defs.specs.Read.{boolean, refused}
+use Rattle.mg_defs.specs.Replies.{refusal, boolean_reply}
+use Rattle.mg_defs.specs.Split.{documents}
+use Rattle.mg_defs.specs.Terms.{document}
+use Rattle.mg_defs.specs.Sat.{Query, satisfies}
+use Rattle.mg_defs.specs.declared.session.Settings.{Settings}
+use Rattle.mg_defs.specs.Weights.{first}
+use Rattle.mg_defs.specs.Texts.{count}
+use Rattle.mg_defs.specs.Reply.{Shown, plain, found, shown, shown_as, answer_text, satisfying}
+use Rattle.mg_defs.proofs.ReplyLaws.{found-hit, found-miss, shows, shown-more, shown-full, document_at}
+use Rattle.mg_reply.specs.Pending.{Passed}
+use Rattle.mg_reply.proofs.PendingLaws.{pass_nothing, pass_both, pass_cut, pass_put}
+use Rattle.mg_plain.specs.Scanned.{Scanned, hit_text}
+use Rattle.mg_plain.proofs.DocumentLaws.{few_documents, short_document}
+
+-- ---- showing the documents of an answer, one after another
+
+none_first : (most : Option ℕ) → first {X = Shown} most [] ≡ []
+none_first None = refl
+none_first (Some zero) = refl
+none_first (Some (suc k)) = refl
+
+-- what is printed for one more
+pub hit_adds : (collection : List ℕ) (now : Settings) (doc : List ℕ) (so_far : List Shown) (hit : Shown) (total : ℕ) → document collection hit.number ≡ doc → length so_far ≡ total → flat_map (shown collection now.mode) (first now.most (so_far ++ hit ∷ [])) ≡ flat_map (shown collection now.mode) (first now.most so_far) ++ hit_text doc now.mode now.most total hit
+unfolding hit_text
+hit_adds collection now doc so_far hit total is_doc size =
+    elim (cases_Bool (shows now.most total)) [
+      | inl shown_too ↦
+          shown-more (shown collection now.mode) now.most so_far hit (ap (shows now.most) size ∙ shown_too)
+          ∙ ap (λ d. flat_map (shown collection now.mode) (first now.most so_far) ++ shown_as d now.mode hit) is_doc
+          ∙ ap (λ t. flat_map (shown collection now.mode) (first now.most so_far) ++ t) (sym (cond-true (shows now.most total) (shown_as doc now.mode hit) [] shown_too))
+      | inr full ↦
+          shown-full (shown collection now.mode) now.most so_far hit (ap (shows now.most) size ∙ full)
+          ∙ sym (append-nil (flat_map (shown collection now.mode) (first now.most so_far)))
+          ∙ ap (λ t. flat_map (shown collection now.mode) (first now.most so_far) ++ t) (sym (cond-false (shows now.most total) (shown_as doc now.mode hit) [] full))
+    ]
+
+first-front : (most : Option ℕ) (xs ys : List Shown) → (zs : List Shown) × (first most (xs ++ ys) ≡ first most xs ++ zs)
+first-front None xs ys = (ys, refl)
+first-front (Some k) xs ys =
+    elim (cases_lt k (length xs)) [
+      | inl lt ↦ ([], take-append-le k xs ys (omega (arith, lt)) ∙ sym (append-nil (take k xs)))
+      | inr ge ↦
+          let n = k - length xs in
+          let e : k ≡ length xs + n = omega (arith, ge) in
+          (take n ys, ap (λ j. take j (xs ++ ys)) e ∙ take-append-add xs ys n ∙ ap (λ t. t ++ take n ys) (sym (take_all k xs ge)))
+    ]
+
+flat_map-append : (f : Shown → List ℕ) (xs ys : List Shown) → flat_map f (xs ++ ys) ≡ flat_map f xs ++ flat_map f ys
+flat_map-append f [] ys = refl
+flat_map-append f (x ∷ xs) ys = ap (λ t. f x ++ t) (flat_map-append f xs ys) ∙ sym (append_assoc (f x) (flat_map f xs) (flat_map f ys))
+
+-- what was printed for the first of them begins the reply
+pub reply-front : (collection : List ℕ) (now : Settings) (xs ys : List Shown) → (more : List ℕ) × (answer_text collection now (xs ++ ys) ≡ flat_map (shown collection now.mode) (first now.most xs) ++ more)
+unfolding answer_text
+reply-front collection now xs ys =
+    let f = first-front now.most xs ys in
+    let g = shown collection now.mode in (
+      flat_map g f.0 ++ count (length (xs ++ ys)),
+      ap (λ zs. flat_map g zs ++ count (length (xs ++ ys))) f.1 ∙ ap (λ t. t ++ count (length (xs ++ ys))) (flat_map-append g (first now.most xs) f.0) ∙ append_assoc (flat_map g (first now.most xs)) (flat_map g f.0) (count (length (xs ++ ys))),
+    )
+
+-- ---- one document after another
+
+pub scanned_start : (collection : List ℕ) (q : Query) (now : Settings) (w : Option (List ℕ)) → Scanned collection q now w w [] 0 0 (documents collection)
+scanned_start collection q now w = record {
+  front = [];
+  docs_is = refl;
+  count = refl;
+  so_far = [];
+  split = refl;
+  total_is = refl;
+  passed = subst (λ xs. Passed w w [] [] (flat_map (shown collection now.mode) xs)) (sym (none_first now.most)) (pass_nothing w []);
+}
+
+pub scanned_miss : (collection : List ℕ) (q : Query) (now : Settings) (w0 w : Option (List ℕ)) (waiting : List ℕ) (number total : ℕ) (doc : List ℕ) (before rest : List (List ℕ)) → Scanned collection q now w0 w waiting number total before → before ≡ doc ∷ rest → satisfies q doc ≡ false → Scanned collection q now w0 w waiting (number + 1) total rest
+scanned_miss collection q now w0 w waiting number total doc before rest s e miss = record {
+  front = s.front ++ doc ∷ [];
+  docs_is = s.docs_is ∙ ap (λ r. s.front ++ r) e ∙ sym (append_assoc s.front (doc ∷ []) rest);
+  count = omega (arith, length-append s.front (doc ∷ []), s.count);
+  so_far = s.so_far;
+  split = s.split ∙ ap (λ r. s.so_far ++ found q (number + 1) r) e ∙ ap (λ r. s.so_far ++ r) (found-miss q (number + 1) doc rest miss);
+  total_is = s.total_is;
+  passed = s.passed;
+}
+
+is_there : (collection : List ℕ) (q : Query) (now : Settings) (w0 w : Option (List ℕ)) (waiting : List ℕ) (number total : ℕ) (doc : List ℕ) (before rest : List (List ℕ)) → Scanned collection q now w0 w waiting number total before → before ≡ doc ∷ rest → document collection (number + 1) ≡ doc
+is_there collection q now w0 w waiting number total doc before rest s e =
+    document_at collection doc s.front rest (number + 1) (s.docs_is ∙ ap (λ r. s.front ++ r) e) (omega (arith, s.count))
+
+pub scanned_hit : (collection : List ℕ) (q : Query) (now : Settings) (w0 w w2 : Option (List ℕ)) (waiting waiting2 : List ℕ) (number total : ℕ) (doc : List ℕ) (before rest : List (List ℕ)) → Scanned collection q now w0 w waiting number total before → before ≡ doc ∷ rest → satisfies q doc ≡ true → Passed w w2 waiting waiting2 (hit_text doc now.mode now.most total (plain (number + 1))) → Scanned collection q now w0 w2 waiting2 (number + 1) (total + 1) rest
+scanned_hit collection q now w0 w w2 waiting waiting2 number total doc before rest s e hit given =
+    let whole : Passed w0 w2 [] waiting2 (flat_map (shown collection now.mode) (first now.most s.so_far) ++ hit_text doc now.mode now.most total (plain (number + 1))) =
+    pass_both w0 w w2 [] waiting waiting2 (flat_map (shown collection now.mode) (first now.most s.so_far)) (hit_text doc now.mode now.most total (plain (number + 1))) s.passed given in
+    record {
+      front = s.front ++ doc ∷ [];
+      docs_is = s.docs_is ∙ ap (λ r. s.front ++ r) e ∙ sym (append_assoc s.front (doc ∷ []) rest);
+      count = omega (arith, length-append s.front (doc ∷ []), s.count);
+      so_far = s.so_far ++ plain (number + 1) ∷ [];
+      split = s.split ∙ ap (λ r. s.so_far ++ found q (number + 1) r) e ∙ ap (λ r. s.so_far ++ r) (found-hit q (number + 1) doc rest hit) ∙ sym (append_assoc s.so_far (plain (number + 1) ∷ []) (found q (number + 1 + 1) rest));
+      total_is = omega (arith, length-append s.so_far (plain (number + 1) ∷ []), s.total_is);
+      passed = subst (Passed w0 w2 [] waiting2) (sym (hit_adds collection now doc s.so_far (plain (number + 1)) total (is_there collection q now w0 w waiting number total doc before rest s e) s.total_is)) whole;
+    }
+
+-- a refused hit: what was printed is a prefix of the reply
+pub scanned_part : (collection : List ℕ) (q : Query) (now : Settings) (w0 w w2 : Option (List ℕ)) (waiting : List ℕ) (number total : ℕ) (doc : List ℕ) (before rest : List (List ℕ)) → Scanned collection q now w0 w waiting number total before → before ≡ doc ∷ rest → satisfies q doc ≡ true → GrewByPrefix w w2 (waiting ++ hit_text doc now.mode now.most total (plain (number + 1))) → GrewByPrefix w0 w2 (answer_text collection now (satisfying collection q))
+scanned_part collection q now w0 w w2 waiting number total doc before rest s e hit grew =
+    let x = plain (number + 1) in
+    let g = shown collection now.mode in
+    let text = hit_text doc now.mode now.most total x in
+    let all : found q 1 (documents collection) ≡ (s.so_far ++ x ∷ []) ++ found q (number + 1 + 1) rest =
+    s.split ∙ ap (λ r. s.so_far ++ found q (number + 1) r) e ∙ ap (λ r. s.so_far ++ r) (found-hit q (number + 1) doc rest hit) ∙ sym (append_assoc s.so_far (x ∷ []) (found q (number + 1 + 1) rest)) in
+    let front = reply-front collection now (s.so_far ++ x ∷ []) (found q (number + 1 + 1) rest) in
+    let adds = hit_adds collection now doc s.so_far x total (is_there collection q now w0 w waiting number total doc before rest s e) s.total_is in
+    let is_text : answer_text collection now (satisfying collection q) ≡ (flat_map g (first now.most s.so_far) ++ text) ++ front.0 =
+    ap (answer_text collection now) all ∙ front.1 ∙ ap (λ t. t ++ front.0) adds in
+    let part : GrewByPrefix w0 w2 (flat_map g (first now.most s.so_far) ++ text) =
+    pass_cut w0 w w2 [] waiting (flat_map g (first now.most s.so_far)) text s.passed grew in
+    subst (GrewByPrefix w0 w2) (sym is_text) (grew_first w0 w2 (flat_map g (first now.most s.so_far) ++ text) front.0 part)
+
+-- all documents were scanned
+pub scanned_text : (collection : List ℕ) (q : Query) (now : Settings) (w0 w : Option (List ℕ)) (waiting : List ℕ) (number total : ℕ) (rest : List (List ℕ)) → Scanned collection q now w0 w waiting number total rest → rest ≡ [] → (shown_part : List ℕ) × Passed w0 w [] waiting shown_part × (answer_text collection now (satisfying collection q) ≡ shown_part ++ count total)
+unfolding answer_text found
+scanned_text collection q now w0 w waiting number total rest s none =
+    let all : found q 1 (documents collection) ≡ s.so_far = s.split ∙ ap (λ r. s.so_far ++ found q (number + 1) r) none ∙ append-nil s.so_far in (
+      flat_map (shown collection now.mode) (first now.most s.so_far),
+      s.passed,
+      ap (λ xs. flat_map (shown collection now.mode) (first now.most xs) ++ count (length xs)) all ∙ ap (λ n. flat_map (shown collection now.mode) (first now.most s.so_far) ++ count n) s.total_is,
+    )
+
+pub scanned_count : (collection : List ℕ) (q : Query) (now : Settings) (w0 w : Option (List ℕ)) (waiting : List ℕ) (number total : ℕ) (before rest : List (List ℕ)) (doc : List ℕ) → Scanned collection q now w0 w waiting number total before → before ≡ doc ∷ rest → length collection ≤ 2 ^ 28 → (number + 1 ≤ 2 ^ 28) × (length doc ≤ 2 ^ 28)
+scanned_count collection q now w0 w waiting number total before rest doc s e small = (
+  omega (arith, few_documents collection, ap length s.docs_is, length-append s.front before, ap length e, s.count),
+  omega (arith, short_document collection doc s.front rest (s.docs_is ∙ ap (λ r. s.front ++ r) e), small),
+)
+
+-- the count was passed on, and what waited was put
+pub counted_text : {T E : Type 0} (collection : List ℕ) (q : Query) (now : Settings) (w0 w w2 w3 : Option (List ℕ)) (waiting waiting2 : List ℕ) (number total : ℕ) (rest : List (List ℕ)) (r : Result T E) → Scanned collection q now w0 w waiting number total rest → rest ≡ [] → Passed w w2 waiting waiting2 (count total) → AfterPut w2 w3 waiting2 r → AfterPut w0 w3 (answer_text collection now (satisfying collection q)) r
+counted_text collection q now w0 w w2 w3 waiting waiting2 number total rest r s none counted put =
+    let t = scanned_text collection q now w0 w waiting number total rest s none in
+    let whole : Passed w0 w2 [] waiting2 (t.0 ++ count total) = pass_both w0 w w2 [] waiting waiting2 t.0 (count total) t.1 counted in
+    subst (λ x. AfterPut w0 w3 x r) (sym t.2) (pass_put w0 w2 w3 [] waiting2 (t.0 ++ count total) r refl whole put)
+
+-- the count was refused
+pub refused_text : (collection : List ℕ) (q : Query) (now : Settings) (w0 w w2 : Option (List ℕ)) (waiting : List ℕ) (number total : ℕ) (rest : List (List ℕ)) → Scanned collection q now w0 w waiting number total rest → rest ≡ [] → GrewByPrefix w w2 (waiting ++ count total) → GrewByPrefix w0 w2 (answer_text collection now (satisfying collection q))
+refused_text collection q now w0 w w2 waiting number total rest s none grew =
+    let t = scanned_text collection q now w0 w waiting number total rest s none in
+    subst (GrewByPrefix w0 w2) (sym t.2) (pass_cut w0 w w2 [] waiting t.0 (count total) t.1 grew)
+
+-- ---- a line that is no query
+
+-- what was put for a refusal, or nothing at want of memory
+pub boolean_refused : (e : QueryErr) (line collection : List ℕ) (now : Settings) (w0 w1 : Option (List ℕ)) (r : Result (Unit {0}) PutErr) → IfSome (refusal_of e) (λ why. boolean line ≡ refused why) → IfSome (refusal_of e) (λ why. AfterPut w0 w1 (refusal why) r) → (e ≡ Memory → (r ≡ Err put.Memory) × (w1 ≡ w0)) → AfterPut w0 w1 (boolean_reply collection now (boolean line)) r
+boolean_refused (Syntax at) line collection now w0 w1 r is put none = subst (λ b. AfterPut w0 w1 (boolean_reply collection now b) r) (sym is) put
+boolean_refused (TooDeep at) line collection now w0 w1 r is put none = subst (λ b. AfterPut w0 w1 (boolean_reply collection now b) r) (sym is) put
+boolean_refused (TermTooLong at) line collection now w0 w1 r is put none = subst (λ b. AfterPut w0 w1 (boolean_reply collection now b) r) (sym is) put
+boolean_refused (TooManyTerms at) line collection now w0 w1 r is put none = subst (λ b. AfterPut w0 w1 (boolean_reply collection now b) r) (sym is) put
+boolean_refused Memory line collection now w0 w1 r is put none =
+    let m = none refl in
+    let text = boolean_reply collection now (boolean line) in
+    subst (AfterPut w0 w1 text) (sym m.0) (subst (λ w. GrewByPrefix w0 w text) (sym m.1) (grew_nothing w0 text))

@@ -1,0 +1,10 @@
+pub mod Inside
+pub mod Counts
+pub mod Scanned
+pub mod Loaded
+pub mod Runs
+pub mod Rows
+pub mod Ranked
+pub mod Products
+pub mod Ranking
+pub mod Scans

@@ -1,0 +1,25 @@
+-- A scan that is under way.
+use Rattle.std.specs.Prelude.{◌≡◌, ℕ, ◌+◌, if◌then◌else◌, List, [], ◌++◌, length, flat_map}
+use Rattle.std.specs.declared.option.Option.{Option}
+use Rattle.mg_defs.specs.Split.{documents}
+use Rattle.mg_defs.specs.Sat.{Query}
+use Rattle.mg_defs.specs.declared.session.Mode.{Mode}
+use Rattle.mg_defs.specs.declared.session.Settings.{Settings}
+use Rattle.mg_defs.specs.Weights.{first}
+use Rattle.mg_defs.specs.Reply.{Shown, found, shown, shown_as}
+use Rattle.mg_defs.proofs.ReplyLaws.{shows}
+use Rattle.mg_reply.specs.Pending.{Passed}
+
+-- what is printed for a document of the answer, after so many of them
+unfoldable pub hit_text : List ℕ → Mode → Option ℕ → ℕ → Shown → List ℕ
+hit_text doc mode most total hit = if shows most total then shown_as doc mode hit else []
+
+-- So many documents were read, and those of them that satisfy the query were shown.
+pub record Scanned (collection : List ℕ) (q : Query) (now : Settings) (before after : Option (List ℕ)) (waiting : List ℕ) (number total : ℕ) (rest : List (List ℕ)) : Type 0 where
+  pub front : List (List ℕ)
+  pub docs_is : documents collection ≡ front ++ rest
+  pub count : length front ≡ number
+  pub so_far : List Shown
+  pub split : found q 1 (documents collection) ≡ so_far ++ found q (number + 1) rest
+  pub total_is : length so_far ≡ total
+  pub passed : Passed before after [] waiting (flat_map (shown collection now.mode) (first now.most so_far))

@@ -1,0 +1,106 @@
+// Boolean lines.
+ghost use Rattle.std.specs.Prelude.{◌≡◌, ◌≤◌, ◌^◌, length, vec_len, IfOk, IfSome};
+ghost use Rattle.mg_defs.specs.Sat.{satisfies};
+ghost use Rattle.mg_defs.specs.QueryTerms.{query_terms};
+ghost use Rattle.mg_dev.specs.Causes.{HasPutCause};
+ghost use Rattle.mg_dev.specs.Streams.{AfterPut};
+ghost use Rattle.mg_defs.specs.Reply.{satisfying, answer_text};
+ghost use Rattle.mg_defs.specs.Replies.{boolean_reply, refusal};
+ghost use Rattle.mg_query.specs.RefusalOf.{refusal_of};
+ghost use Rattle.mg_defs.specs.Read.{boolean};
+ghost use Rattle.mg_query.specs.QueryOf.{query_of};
+
+use crate::counts::{count_terms, holds};
+use crate::docs::Docs;
+use crate::show::put_hit;
+use mg_defs::Settings;
+use mg_dev::{PutErr, Sink};
+use mg_query::{Query, QueryErr, Terms, parse_boolean};
+use mg_reply::{Pending, put_refusal};
+use std::alloc::{AllocError, Global};
+
+/// Whether a document satisfies a query with these terms. The counts are left from the last one.
+fn is_satisfied(query: &Query, doc: &[u8], terms: &Terms, counts: &mut Vec<u32>) -> bool
+    requires terms { terms.now ≡ query_terms (query_of query.now) }
+    requires size { vec_len counts.old ≡ length (query_terms (query_of query.now)) }
+    requires small { length doc.now ≤ 2 ^ 28 }
+    ensures value { result ≡ satisfies (query_of query.now) doc.now }
+    ensures size { vec_len counts.new ≡ length (query_terms (query_of query.now)) }
+{
+    count_terms(doc, terms.as_slice(), counts);
+    holds(query, counts)
+}
+
+/// A count of nothing for each term.
+fn no_counts(alloc: Global, terms: &Terms) -> Result<Vec<u32>, AllocError>
+    ensures { IfOk result (λ counts. vec_len counts ≡ length terms.now) }
+{
+    vec![in alloc; 0; terms.len()]
+}
+
+/// Writes the reply to a query: the documents that satisfy it, rising.
+#[tactic(auto, using(mg_dev::specs::StreamLaws::stream_laws))]
+pub(crate) fn answer_query<O: Sink>(
+    alloc: Global,
+    bytes: &[u8],
+    query: &Query,
+    now: &Settings,
+    out: &mut O,
+) -> Result<(), PutErr>
+    requires { length bytes.now ≤ 2 ^ 28 }
+    ensures content { AfterPut (O.written out.old) (O.written out.new) (answer_text bytes.now now.now (satisfying bytes.now (query_of query.now))) result }
+    ensures cause { HasPutCause (O.faults out.old) (O.faults out.new) result }
+{
+    let terms = query.terms(alloc)?;
+    let mut counts = no_counts(alloc, &terms)?;
+    let mut pending = Pending::new();
+    let mut docs = Docs::new(bytes);
+    let mut number = 0u32;
+    let mut total = 0u32;
+    'docs: while let Some(doc) = docs.next_doc() {
+        number += 1;
+        if !is_satisfied(query, doc, &terms, &mut counts) {
+            continue;
+        }
+        match put_hit(&mut pending, out, now, total, number, None, doc) {
+            Ok(()) => {}
+            Err(error) => return Err(error),
+        }
+        total += 1;
+    }
+    match pending.count(out, total) {
+        Ok(()) => pending.flush(out),
+        Err(error) => Err(error),
+    }
+}
+
+/// Writes the reply to a Boolean line.
+pub(crate) fn answer_boolean<O: Sink>(
+    alloc: Global,
+    bytes: &[u8],
+    line: &[u8],
+    now: &Settings,
+    out: &mut O,
+) -> Result<(), PutErr>
+    requires small { length bytes.now ≤ 2 ^ 28 }
+    requires short { length line.now ≤ 1024 }
+    ensures content { AfterPut (O.written out.old) (O.written out.new) (boolean_reply bytes.now now.now (boolean line.now)) result }
+    ensures cause { HasPutCause (O.faults out.old) (O.faults out.new) result }
+{
+    match parse_boolean(alloc, line) {
+        Ok(query) => answer_query(alloc, bytes, &query, now, out),
+        Err(why) => put_refused(out, why),
+    }
+}
+
+/// Writes why a line is no query, or answers that memory was wanted.
+pub(crate) fn put_refused<O: Sink>(out: &mut O, why: QueryErr) -> Result<(), PutErr>
+    ensures content { IfSome (refusal_of why) (λ refused. AfterPut (O.written out.old) (O.written out.new) (refusal refused) result) }
+    ensures memory { why ≡ QueryErr.Memory → (result ≡ Err PutErr.Memory) × (O.written out.new ≡ O.written out.old) }
+    ensures cause { HasPutCause (O.faults out.old) (O.faults out.new) result }
+{
+    if let QueryErr::Memory = why {
+        return Err(PutErr::Memory);
+    }
+    put_refusal(out, &why)
+}

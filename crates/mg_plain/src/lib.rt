@@ -1,0 +1,26 @@
+//! Plain documents: a collection in memory that is searched by reading it.
+//!
+//! It is the slow program whose contract is the definition of an answer, and the standard that every
+//! faster one is compared with. Nothing is kept from one line to the next but the collection's own
+//! bytes. A Boolean line parses each document once and counts the query's terms in it, whatever their
+//! number; a ranked line parses each document once to count the documents of each term, and once to
+//! score those that have one.
+#![tactic(auto)]
+
+mod answer;
+mod boolean;
+mod counts;
+mod docs;
+mod order;
+mod plain;
+mod ranked;
+mod rows;
+mod scanner;
+mod score;
+mod show;
+#[cfg(test)]
+mod tests;
+mod weigh;
+
+pub use plain::PlainText;
+pub use scanner::scan;

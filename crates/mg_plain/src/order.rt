@@ -1,0 +1,54 @@
+// The rows of a ranked answer.
+ghost use Rattle.std.specs.Prelude.{◌≡◌};
+ghost use Rattle.std.specs.List.Sorted.{IsPermutation};
+ghost use Rattle.mg_defs.specs.Order.{AreRising};
+ghost use Rattle.mg_defs.specs.Weights.{by_score};
+ghost use Rattle.mg_plain.specs.Rows.{hits_of};
+
+/// A document of a ranked answer.
+#[derive(Clone, Copy, Debug, PartialEq, Eq)]
+pub(crate) struct Row {
+    /// From 1.
+    pub number: u32,
+    /// The byte of the collection where it begins.
+    pub place: u32,
+    pub score: u64,
+}
+
+/// Sorts rows by falling score, ties by rising number.
+pub(crate) fn sort_rows(rows: &mut Vec<Row>)
+    requires { AreRising (hits_of rows.old.items) }
+    ensures sorted { hits_of rows.new.items ≡ by_score (hits_of rows.old.items) }
+    ensures same { IsPermutation rows.old.items rows.new.items }
+{
+    rows.sort_unstable_by(|left, right| {
+        right
+            .score
+            .cmp(&left.score)
+            .then(left.number.cmp(&right.number))
+    });
+}
+
+#[cfg(test)]
+mod tests {
+    use super::{Row, sort_rows};
+    use std::test::Fail;
+
+    #[test]
+    fn lower_numbers_come_first_at_a_tie(rt: HostRuntime) -> Result<(), Fail> {
+        let mut rows = Vec::new(rt.alloc());
+        for (number, score) in [(1, 195), (2, 400), (4, 195), (5, 399)] {
+            rows.push(Row {
+                number,
+                place: 0,
+                score,
+            })?;
+        }
+        sort_rows(&mut rows);
+        let numbers: [u32; 4] = [2, 5, 1, 4];
+        for (row, number) in rows.iter().zip(&numbers) {
+            assert_eq!(rt; row.number, *number);
+        }
+        Ok(())
+    }
+}

@@ -1,0 +1,168 @@
+// A collection that is held as it is.
+ghost use Rattle.std.specs.Prelude.{◌≡◌, ◌≤◌, ◌^◌, false, length, vec_len, IfOk, IfErr};
+ghost use Rattle.mg_dev.specs.Files.{file_at};
+ghost use Rattle.mg_dev.specs.Names.{same_part};
+ghost use Rattle.mg_dev.specs.declared.part.Part.{Part};
+ghost use Rattle.mg_dev.specs.declared.part.Part.TheVariants.{Plain};
+ghost use Rattle.mg_plain.specs.Loaded.{AfterLoad, HasSize, IsAnswerFault};
+ghost use Rattle.mg_dev.specs.Streams.{AfterPut};
+ghost use Rattle.mg_defs.specs.Read.{boolean};
+ghost use Rattle.mg_defs.specs.Replies.{boolean_reply, reply};
+
+use crate::answer::answer_query_line;
+use crate::boolean::answer_boolean;
+use mg_defs::Settings;
+use mg_dev::{Fault, FileRef, Part, PutErr, Sink, Store, What};
+use std::alloc::{AllocError, Global};
+use std::marker::Model;
+
+/// The most bytes of a collection.
+const MOST: u64 = 1 << 28;
+
+/// A collection, all its bytes in memory.
+///
+/// It is the slow and plain way to search: each line reads every document. Contracts see it as the
+/// list of the collection's bytes.
+#[derive(Drop)]
+pub struct PlainText {
+    bytes: Vec<u8>,
+}
+
+impl Model for PlainText {
+    ghost use Rattle.std.specs.Prelude.{List, ℕ, ◌≤◌, ◌^◌, vec_len};
+
+    ghost Value = { List ℕ };
+
+    ghost view = { λ p. p.bytes.items };
+
+    ghost invariant = { λ p. vec_len p.bytes ≤ 2 ^ 28 };
+}
+
+fn zeros(alloc: Global, len: usize) -> Result<Vec<u8>, AllocError>
+    ensures { IfOk result (λ bytes. vec_len bytes ≡ len) }
+{
+    vec![in alloc; 0; len]
+}
+
+/// Reads a file of this size.
+fn read_whole<S: Store>(
+    alloc: Global,
+    store: &mut S,
+    name: &str,
+    size: u64,
+) -> Result<PlainText, Fault>
+    requires small { size ≤ 2 ^ 28 }
+    requires known { HasSize (S.files store.old) name.now size }
+    ensures content { AfterLoad (S.files store.old) name.now (S.faults store.old) (S.faults store.new) result }
+    ensures files { S.files store.new ≡ S.files store.old }
+    ensures reads { (p : Part) → same_part p Plain ≡ false → S.reads store.new p ≡ S.reads store.old p }
+    ensures later { S.faults store.old ≤ S.faults store.new }
+{
+    let file = FileRef {
+        base: name,
+        part: Part::Plain,
+    };
+    let mut bytes = match zeros(alloc, size as usize) {
+        Ok(bytes) => bytes,
+        Err(_) => return Err(Fault::Memory),
+    };
+    let count = match store.read_at(&file, 0, &mut bytes) {
+        Ok(count) => count,
+        Err(_) => return Err(Fault::StoreFault),
+    };
+    if count != bytes.len() {
+        return Err(Fault::Changed {
+            what: What::Size,
+            first: size,
+            second: count as u64,
+        });
+    }
+    Ok(PlainText { bytes })
+}
+
+impl PlainText {
+    /// Reads the collection of this name.
+    ///
+    /// # Errors
+    ///
+    /// `NoCollection` where the file is missing, `TooLarge` where it has more than 2^28 bytes,
+    /// `Changed` where it gave fewer bytes than its size.
+    #[tactic(auto, using(mg_dev::specs::Laws::file_laws))]
+    pub fn load<S: Store>(alloc: Global, store: &mut S, name: &str) -> Result<PlainText, Fault>
+        ensures content { AfterLoad (S.files store.old) name.now (S.faults store.old) (S.faults store.new) result }
+        ensures small { IfOk result (λ text. length text ≤ 2 ^ 28) }
+        ensures files { S.files store.new ≡ S.files store.old }
+        ensures reads { (p : Part) → same_part p Plain ≡ false → S.reads store.new p ≡ S.reads store.old p }
+        ensures later { S.faults store.old ≤ S.faults store.new }
+    {
+        let file = FileRef {
+            base: name,
+            part: Part::Plain,
+        };
+        let size = match store.size(&file) {
+            Ok(Some(size)) => size,
+            Ok(None) => return Err(Fault::NoCollection),
+            Err(_) => return Err(Fault::StoreFault),
+        };
+        if size > MOST {
+            return Err(Fault::TooLarge { size, most: MOST });
+        }
+        read_whole(alloc, store, name, size)
+    }
+
+    /// Writes the reply to a Boolean line.
+    ///
+    /// # Errors
+    ///
+    /// `WriteFault` and `Memory`.
+    pub fn answer_boolean<O: Sink>(
+        &self,
+        alloc: Global,
+        line: &[u8],
+        now: &Settings,
+        out: &mut O,
+    ) -> Result<(), Fault>
+        requires { length line.now ≤ 1024 }
+        ensures content { AfterPut (O.written out.old) (O.written out.new) (boolean_reply self.now now.now (boolean line.now)) result }
+        ensures later { O.faults out.old ≤ O.faults out.new }
+        ensures cause { IfErr result (IsAnswerFault (O.faults out.old) (O.faults out.new)) }
+    {
+        match answer_boolean(alloc, &self.bytes, line, now, out) {
+            Ok(()) => Ok(()),
+            Err(PutErr::Failed) => Err(Fault::WriteFault),
+            Err(PutErr::Memory) => Err(Fault::Memory),
+        }
+    }
+
+    /// Writes the reply to a query line, ranked or Boolean as the settings say.
+    ///
+    /// # Errors
+    ///
+    /// `WriteFault` and `Memory`.
+    pub fn answer<O: Sink>(
+        &self,
+        alloc: Global,
+        line: &[u8],
+        now: &Settings,
+        out: &mut O,
+    ) -> Result<(), Fault>
+        requires { length line.now ≤ 1024 }
+        ensures content { AfterPut (O.written out.old) (O.written out.new) (reply self.now now.now line.now) result }
+        ensures later { O.faults out.old ≤ O.faults out.new }
+        ensures cause { IfErr result (IsAnswerFault (O.faults out.old) (O.faults out.new)) }
+    {
+        match answer_query_line(alloc, &self.bytes, line, now, out) {
+            Ok(()) => Ok(()),
+            Err(PutErr::Failed) => Err(Fault::WriteFault),
+            Err(PutErr::Memory) => Err(Fault::Memory),
+        }
+    }
+
+    /// The bytes of the collection.
+    pub(crate) fn bytes(&self) -> &[u8]
+        ensures is { result.now ≡ self.now }
+        ensures small { length result.now ≤ 2 ^ 28 }
+    {
+        &self.bytes
+    }
+}

@@ -1,0 +1,146 @@
+// Ranked lines.
+ghost use Rattle.std.specs.Prelude.{◌≡◌, ◌<◌, ◌≤◌, ◌^◌, length, take, drop, Some};
+ghost use Rattle.std.specs.List.{All, prefix_len};
+ghost use Rattle.mg_defs.specs.Weights.{first};
+ghost use Rattle.mg_defs.specs.Read.{ranked};
+ghost use Rattle.mg_defs.specs.Reply.{ranking, answer_text, shown};
+ghost use Rattle.mg_defs.specs.Replies.{ranked_reply};
+ghost use Rattle.mg_dev.specs.Causes.{HasPutCause};
+ghost use Rattle.mg_dev.specs.Streams.{AfterPut};
+ghost use Rattle.mg_reply.specs.Pending.{AfterPass};
+ghost use Rattle.mg_plain.specs.Inside.{is_inside};
+ghost use Rattle.mg_plain.specs.Rows.{IsPlaced};
+ghost use Rattle.mg_plain.specs.Ranked.{shown_of, shown_rows, rows_text};
+
+use crate::boolean::put_refused;
+use crate::docs::doc_len;
+use crate::order::{Row, sort_rows};
+use crate::rows::rows_of;
+use crate::show::put_shown;
+use mg_defs::{Mode, Settings};
+use mg_dev::{PutErr, Sink};
+use mg_query::{Terms, parse_ranked};
+use mg_reply::Pending;
+use std::alloc::Global;
+
+/// The document that begins at a place.
+fn document_at(bytes: &[u8], place: u32) -> &[u8]
+    requires { place ≤ length bytes.now }
+    ensures { result.now ≡ take (prefix_len is_inside (drop place bytes.now)) (drop place bytes.now) }
+{
+    let rest = &bytes[place as usize..];
+    &rest[..doc_len(rest)]
+}
+
+/// Passes on what a reply shows of a row. Only where its text is shown is the document looked for.
+fn put_row<O: Sink>(
+    pending: &mut Pending,
+    out: &mut O,
+    bytes: &[u8],
+    mode: Mode,
+    row: Row,
+) -> Result<(), PutErr>
+    requires { IsPlaced bytes.now row }
+    ensures content { AfterPass (O.written out.old) (O.written out.new) pending.old pending.new (shown bytes.now mode (shown_of row)) result }
+    ensures cause { HasPutCause (O.faults out.old) (O.faults out.new) result }
+{
+    let doc = match mode {
+        Mode::Text => document_at(bytes, row.place),
+        Mode::Docnums => &[],
+        Mode::Count => &[],
+    };
+    put_shown(pending, out, mode, row.number, Some(row.score), doc)
+}
+
+/// Passes on what a reply shows of rows, one after another.
+fn put_rows<O: Sink>(
+    pending: &mut Pending,
+    out: &mut O,
+    bytes: &[u8],
+    mode: Mode,
+    rows: &[Row],
+) -> Result<(), PutErr>
+    requires { All (IsPlaced bytes.now) rows.now }
+    ensures content { AfterPass (O.written out.old) (O.written out.new) pending.old pending.new (rows_text bytes.now mode rows.now) result }
+    ensures cause { HasPutCause (O.faults out.old) (O.faults out.new) result }
+{
+    for row in rows {
+        match put_row(pending, out, bytes, mode, *row) {
+            Ok(()) => {}
+            Err(error) => return Err(error),
+        }
+    }
+    Ok(())
+}
+
+/// The rows that are shown.
+fn first_rows(rows: &[Row], most: Option<u32>) -> &[Row]
+    ensures { result.now ≡ first most rows.now }
+{
+    match most {
+        None => rows,
+        Some(most) => &rows[..rows.len().min(most as usize)],
+    }
+}
+
+/// Writes the reply of rows in their order: the first of them, and how many there are.
+fn put_answer<O: Sink>(
+    bytes: &[u8],
+    rows: &[Row],
+    now: &Settings,
+    out: &mut O,
+) -> Result<(), PutErr>
+    requires few { length rows.now ≤ 2 ^ 28 }
+    requires placed { All (IsPlaced bytes.now) rows.now }
+    ensures content { AfterPut (O.written out.old) (O.written out.new) (answer_text bytes.now now.now (shown_rows rows.now)) result }
+    ensures cause { HasPutCause (O.faults out.old) (O.faults out.new) result }
+{
+    let mut pending = Pending::new();
+    let shown = first_rows(rows, now.most);
+    match put_rows(&mut pending, out, bytes, now.mode, shown) {
+        Ok(()) => {}
+        Err(error) => return Err(error),
+    }
+    match pending.count(out, rows.len() as u32) {
+        Ok(()) => pending.flush(out),
+        Err(error) => Err(error),
+    }
+}
+
+/// Writes the reply to terms: the documents with any of them, the highest score first.
+#[tactic(auto, using(mg_dev::specs::StreamLaws::stream_laws))]
+fn answer_terms<O: Sink>(
+    alloc: Global,
+    bytes: &[u8],
+    terms: &Terms,
+    now: &Settings,
+    out: &mut O,
+) -> Result<(), PutErr>
+    requires small { length bytes.now ≤ 2 ^ 28 }
+    requires few { length terms.now ≤ 64 }
+    ensures content { AfterPut (O.written out.old) (O.written out.new) (answer_text bytes.now now.now (ranking bytes.now terms.now)) result }
+    ensures cause { HasPutCause (O.faults out.old) (O.faults out.new) result }
+{
+    let mut rows = rows_of(alloc, bytes, terms)?;
+    sort_rows(&mut rows);
+    put_answer(bytes, &rows, now, out)
+}
+
+/// Writes the reply to a ranked line.
+pub(crate) fn answer_ranked<O: Sink>(
+    alloc: Global,
+    bytes: &[u8],
+    line: &[u8],
+    now: &Settings,
+    out: &mut O,
+) -> Result<(), PutErr>
+    requires small { length bytes.now ≤ 2 ^ 28 }
+    requires short { length line.now ≤ 1024 }
+    ensures content { AfterPut (O.written out.old) (O.written out.new) (ranked_reply bytes.now now.now (ranked line.now)) result }
+    ensures cause { HasPutCause (O.faults out.old) (O.faults out.new) result }
+{
+    match parse_ranked(alloc, line) {
+        Ok(terms) => answer_terms(alloc, bytes, &terms, now, out),
+        Err(why) => put_refused(out, why),
+    }
+}
