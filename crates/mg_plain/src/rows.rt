@@ -161,11 +161,7 @@ fn rows_by(
 }
 
 /// The documents with a term of the query, rising, each with its score and where it begins.
-pub(crate) fn rows_of(
-    alloc: Global,
-    bytes: &[u8],
-    terms: &Terms,
-) -> Result<Vec<Row>, AllocError>
+pub(crate) fn rows_of(alloc: Global, bytes: &[u8], terms: &Terms) -> Result<Vec<Row>, AllocError>
     requires small { length bytes.now ≤ 2 ^ 28 }
     requires few { length terms.now ≤ 64 }
     ensures hits { IfOk result (λ rows. hits_of rows.items ≡ hits bytes.now terms.now) }
