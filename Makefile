@@ -7,7 +7,7 @@ PREFIX ?= /usr/local
 SOURCES := crates.txt $(shell find crates -path '*/out' -prune -o -type f -print)
 
 bin/mg: $(SOURCES)
-	cd crates/mg && rt run
+	cd crates/mg && rt run -- scan data/mail < stdin
 	mkdir -p bin
 	cp crates/mg/out/mg bin/mg
 
