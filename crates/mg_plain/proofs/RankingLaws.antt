@@ -1,17 +1,17 @@
 -- Laws of a ranking.
-use Rattle.std.proofs.Common.{◌≡◌, ℕ, zero, suc, ◌+◌, ◌-◌, ◌*◌, ◌/◌, ◌<◌, ◌≤◌, ◌^◌, Bool, true, false, cond, ◌||◌, inl, inr, List, [], ◌∷◌, ◌++◌, length, take, drop, get_or, refl, sym, ◌∙◌, ap, subst, arith, append_assoc, append-nil, length-append, length-drop, All}
-use Rattle.std.specs.Prelude.{nat_lt, count_by, map}
-use Rattle.std.specs.List.{list_any, enumerate_from, prefix_len}
+use Rattle.std.proofs.Common.{◌≡◌, ℕ, suc, ◌+◌, ◌-◌, ◌*◌, ◌<◌, ◌≤◌, ◌^◌, true, false, cond, ◌||◌, inl, inr, List, [], ◌∷◌, ◌++◌, length, take, drop, get_or, refl, sym, ◌∙◌, ap, arith, append_assoc, append-nil, length-append, length-drop}
+use Rattle.std.specs.Prelude.{nat_lt}
+use Rattle.std.specs.List.{list_any, prefix_len}
 use Rattle.std.proofs.Math.Nat.{div-zero}
 use Rattle.std.proofs.Common.{drop-drop}
-use Rattle.std.proofs.lemmas.Bool.{cases_Bool, cases_lt, cond-true, cond-false, or_cases, false≢true}
+use Rattle.std.proofs.lemmas.Bool.{cases_lt, or_cases, false≢true}
 use Rattle.std.proofs.lemmas.List.Elements.{All-push}
 use Rattle.std.proofs.lemmas.List.Sums.{sum_by-cons, count_by-le-length, prefix_len-le-length}
 use Rattle.std.proofs.lemmas.List.Folds.{length-prefix_len}
 use Rattle.std.proofs.Math.ListN.{drop_of_length-le}
 use Rattle.mg_defs.specs.Fixed.{lg, digits_of, digit, next}
 use Rattle.mg_defs.specs.Split.{documents}
-use Rattle.mg_defs.specs.Terms.{document, docs, freq_in}
+use Rattle.mg_defs.specs.Terms.{docs, freq_in}
 use Rattle.mg_defs.specs.Weights.{Hit, has_term, score, hits, weight, weight_of_term, wt}
 use Rattle.mg_defs.proofs.ReplyLaws.{document_at}
 use Rattle.mg_plain.specs.declared.order.Row.{Row}

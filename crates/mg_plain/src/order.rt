@@ -36,14 +36,28 @@ mod tests {
 
     #[test]
     fn lower_numbers_come_first_at_a_tie(rt: HostRuntime) -> Result<(), Fail> {
-        let mut rows = Vec::new(rt.alloc());
-        for (number, score) in [(1, 195), (2, 400), (4, 195), (5, 399)] {
-            rows.push(Row {
-                number,
+        let mut rows = vec![in rt.alloc();
+            Row {
+                number: 1,
                 place: 0,
-                score,
-            })?;
-        }
+                score: 195
+            },
+            Row {
+                number: 2,
+                place: 0,
+                score: 400
+            },
+            Row {
+                number: 4,
+                place: 0,
+                score: 195
+            },
+            Row {
+                number: 5,
+                place: 0,
+                score: 399
+            },
+        ]?;
         sort_rows(&mut rows);
         let numbers: [u32; 4] = [2, 5, 1, 4];
         for (row, number) in rows.iter().zip(&numbers) {

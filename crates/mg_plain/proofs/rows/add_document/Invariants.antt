@@ -1,4 +1,4 @@
-use Rattle.std.proofs.Common.{◌≡◌, ℕ, ◌+◌, ◌<◌, ◌≤◌, length, get_or, nat_lt, cond}
+use Rattle.std.proofs.Common.{◌≡◌, ℕ, ◌+◌, ◌<◌, ◌≤◌, get_or, nat_lt, cond}
 use Rattle.mg_plain.proofs.rows.add_document.Given as goal
 
 abbrev pub invariant-loop-i : goal.invariant-loop-i

@@ -1,4 +1,4 @@
-use Rattle.std.proofs.Common.{arith, ◌∙◌}
+use Rattle.std.proofs.Common.{arith}
 use Rattle.mg_plain.proofs.RankingLaws.{tallied_start, tallied_more, tallied_all, tallied_found, tallied_small, next_small}
 use Rattle.mg_plain.proofs.rows.count_documents.Goals as goal
 

@@ -1,4 +1,4 @@
-use Rattle.std.proofs.Common.{◌≡◌, true, false, sym, ◌∙◌}
+use Rattle.std.proofs.Common.{◌≡◌, true, sym, ◌∙◌}
 use Rattle.std.specs.List.{list_any}
 use Rattle.mg_defs.specs.Weights.{has_term}
 use Rattle.mg_plain.proofs.RankingLaws.{some-is, weighs}

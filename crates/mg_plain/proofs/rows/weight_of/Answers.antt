@@ -1,4 +1,4 @@
-use Rattle.std.proofs.Common.{◌≡◌, sym, ◌∙◌, ap}
+use Rattle.std.proofs.Common.{sym, ◌∙◌, ap}
 use Rattle.mg_defs.specs.Weights.{weight_of_term}
 use Rattle.mg_plain.proofs.RankingLaws.{weightless}
 use Rattle.mg_plain.proofs.rows.weight_of.Goals as goal
