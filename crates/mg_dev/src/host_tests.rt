@@ -35,11 +35,12 @@ fn a_real_store_keeps_files(rt: HostRuntime) -> Result<(), Fail> {
 fn a_real_store_resets_a_file(rt: HostRuntime) -> Result<(), Fail> {
     let mut store = HostStore::new(rt.alloc(), rt.clone()?);
     let mut buf = [0u8; 4];
-    assert_eq!(rt; store.size(&TEXT)?, None);
-    assert_eq!(rt; store.read_at(&TEXT, 0, &mut buf)?, 0);
-    store.append(&TEXT, b"abc")?;
-    store.reset(&TEXT)?;
-    assert_eq!(rt; store.size(&TEXT)?, Some(0));
+    let text = plain("mg_dev_reset");
+    assert_eq!(rt; store.size(&text)?, None);
+    assert_eq!(rt; store.read_at(&text, 0, &mut buf)?, 0);
+    store.append(&text, b"abc")?;
+    store.reset(&text)?;
+    assert_eq!(rt; store.size(&text)?, Some(0));
     Ok(())
 }
 
