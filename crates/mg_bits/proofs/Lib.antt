@@ -6,3 +6,4 @@ pub mod WriterLaws
 pub mod BitsWritten
 pub mod Fills
 pub mod Walks
+pub mod EightBytes

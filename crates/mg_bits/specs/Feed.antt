@@ -75,6 +75,11 @@ pub record ReadsWithin (old new : Feeding) (before now : Device) (from to : ℕ)
   pub device : (part : Part) → old.part ≡ Some part → now.reads part ≤ before.reads part + to_read old.page old.held from to
   pub feed : new.count ≤ old.count + to_read old.page old.held from to
 
+-- the page that is held has all bits of a range that begins at a place
+pub record HoldsBits (feed : Feeding) (place count : ℕ) : Type 0 where
+  pub first : feed.held ≡ Some (page_of feed.page place)
+  pub last : page_of feed.page (place + count - 1) ≡ page_of feed.page place
+
 -- a range of bits was read
 pub record Read (old new : Feeding) (before now : Device) (from to : ℕ) : Type 0 where
   pub calm : Calm old new before now

@@ -5,6 +5,7 @@ use Rattle.std.specs.declared.option.Option.{Option}
 use Rattle.mg_dev.specs.declared.part.Part.{Part}
 use Rattle.mg_dev.specs.Files.{Files, Reads, bytes_at}
 use Rattle.mg_dev.specs.Names.{same_part}
+use Rattle.mg_defs.specs.Bits.{Begins, bits_of, digits}
 use Rattle.mg_bits.specs.Feed.{Feeding, over_file}
 
 -- a reader of the pages of one file: the file's full name and part, the number of the page that it holds, that page's bytes, and how often it read
@@ -48,3 +49,8 @@ pub record Looked (part : Part) (files_before files_now : Option Files) (reads_b
 abbrev pub IsFilled : Bool → List ℕ → ℕ → List ℕ → Type 0
 IsFilled true buf at bytes = buf ≡ take (length buf) (drop at bytes)
 IsFilled false buf at bytes = length (drop at bytes) < length buf
+
+-- the eight bytes from an index on are these bits, as a number
+pub record IsWordIn (bytes : List ℕ) (index word : ℕ) : Type 0 where
+  pub within : index + 8 ≤ length bytes
+  pub bits : Begins (digits 64 word) (bits_of (drop index bytes))

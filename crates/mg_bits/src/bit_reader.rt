@@ -1,7 +1,8 @@
 // Bits of a feed.
-ghost use Rattle.std.specs.Prelude.{◌≡◌, ◌+◌, ◌*◌, ◌/◌, ◌≤◌, ◌<◌, ◌^◌, IfOk, ◌%◌, OnOk, OnErr, MatchResult, Some};
-ghost use Rattle.mg_bits.specs.Feed.{Read, ReadPart, page_of};
-ghost use Rattle.mg_defs.specs.Bits.{FromPlace};
+ghost use Rattle.std.specs.Prelude.{◌≡◌, ◌+◌, ◌-◌, ◌*◌, ◌/◌, ◌≤◌, ◌<◌, ◌^◌, IfOk, ◌%◌, OnOk, OnErr, MatchResult, Option, Some, IfSome};
+ghost use Rattle.mg_dev.specs.Files.{Files};
+ghost use Rattle.mg_bits.specs.Feed.{HoldsBits, Read, ReadPart, page_of};
+ghost use Rattle.mg_defs.specs.Bits.{Begins, FromPlace, digits};
 ghost use Rattle.mg_bits.specs.Reader.{AnswersBit, AnswersBits, AnswersPiece, DeviceCause, EndHolds, at_place};
 
 use crate::{BitErr, Feed};
@@ -34,7 +35,22 @@ impl<F: Feed> BitReader<F> {
         self.place = place;
     }
 
+    /// The next 57 bits as a number, if the page that is held has them all: eight bytes hold as
+    /// many behind any place in the first of them. The device is not asked.
+    #[inline]
+    pub fn peek(&self) -> Option<u64>
+        ensures below { IfSome result (λ next. next < 2 ^ 57) }
+        ensures told { (files : Option Files) → F.fits self.now.feed files → IfSome result (λ next. FromPlace ((F.feeding self.now.feed).source files) self.now.place (Begins (digits 57 next))) }
+        ensures held { IfSome result (λ next. HoldsBits (F.feeding self.now.feed) self.now.place 57) }
+    {
+        match self.feed.word(self.place / 8) {
+            Some(word) => Some(middle(word, (self.place % 8) as u32)),
+            None => None,
+        }
+    }
+
     /// The next bits of one byte, as a number.
+    #[inline]
     fn piece(&mut self, dev: &mut F::Dev, count: u32) -> Result<u64, BitErr>
         requires fits { F.fits self.old.feed (F.device dev.old).files }
         requires place { self.old.place + count < 2 ^ 64 }
@@ -76,6 +92,33 @@ impl<F: Feed> BitReader<F> {
             (EndHolds result (F.feeding self.old.feed).page self.old.place count (F.feeding self.new.feed).held) }
         ensures cause { DeviceCause result (F.device dev.old).faults (F.device dev.new).faults }
     {
+        if count == 0 || count > 57 {
+            return self.bits_by_bytes(dev, count);
+        }
+        match self.peek() {
+            Some(next) => {
+                self.place += u64::from(count);
+                Ok(first_of(next, count))
+            }
+            None => self.bits_by_bytes(dev, count),
+        }
+    }
+
+    /// The next bits, as a number, from one byte after the other.
+    fn bits_by_bytes(&mut self, dev: &mut F::Dev, count: u32) -> Result<u64, BitErr>
+        requires fits { F.fits self.old.feed (F.device dev.old).files }
+        requires place { self.old.place + count < 2 ^ 64 }
+        requires count { count ≤ 64 }
+        ensures fits { F.fits self.new.feed (F.device dev.new).files }
+        ensures read { OnOk result (Read (F.feeding self.old.feed) (F.feeding self.new.feed) (F.device dev.old) (F.device dev.new) self.old.place (self.old.place + count)) }
+        ensures part { OnErr result (ReadPart (F.feeding self.old.feed) (F.feeding self.new.feed) (F.device dev.old) (F.device dev.new) self.old.place (self.old.place + count)) }
+        ensures place { MatchResult result (λ _. self.new.place ≡ self.old.place + count) (λ _. self.new.place ≡ self.old.place) }
+        ensures below { IfOk result (λ value. value < 2 ^ count) }
+        ensures told { FromPlace ((F.feeding self.old.feed).source (F.device dev.old).files) self.old.place (AnswersBits result self.old.place count) }
+        ensures end { FromPlace ((F.feeding self.old.feed).source (F.device dev.old).files) self.old.place
+            (EndHolds result (F.feeding self.old.feed).page self.old.place count (F.feeding self.new.feed).held) }
+        ensures cause { DeviceCause result (F.device dev.old).faults (F.device dev.new).faults }
+    {
         let start = self.place;
         let mut value = 0u64;
         let mut done = 0u32;
@@ -97,6 +140,7 @@ impl<F: Feed> BitReader<F> {
     }
 
     /// The next bit.
+    #[inline]
     pub fn bit(&mut self, dev: &mut F::Dev) -> Result<bool, BitErr>
         requires fits { F.fits self.old.feed (F.device dev.old).files }
         requires place { self.old.place + 1 < 2 ^ 64 }
@@ -111,6 +155,27 @@ impl<F: Feed> BitReader<F> {
     }
 }
 
+/// The 57 bits of a word behind its first ones.
+#[inline]
+fn middle(word: u64, skip: u32) -> u64
+    requires { skip < 8 }
+    ensures value { result ≡ word / 2 ^ (7 - skip) % 2 ^ 57 }
+    ensures below { result < 2 ^ 57 }
+{
+    (word >> (7 - skip)) % (1u64 << 57)
+}
+
+/// The first of 57 bits.
+#[inline]
+fn first_of(next: u64, count: u32) -> u64
+    requires next { next < 2 ^ 57 }
+    requires count { count ≤ 57 }
+    ensures value { result ≡ next / 2 ^ (57 - count) }
+    ensures below { result < 2 ^ count }
+{
+    next >> (57 - count)
+}
+
 /// The refusal, at the place where the call began.
 fn at_start(refusal: BitErr, start: u64) -> BitErr
     ensures { result ≡ at_place refusal start }
@@ -122,6 +187,7 @@ fn at_start(refusal: BitErr, start: u64) -> BitErr
 }
 
 /// The bits of a byte above its lowest `rest`.
+#[inline]
 fn field(byte: u8, rest: u32, count: u32) -> u64
     requires rest { rest ≤ 8 }
     requires count { count ≤ 8 }
@@ -131,6 +197,7 @@ fn field(byte: u8, rest: u32, count: u32) -> u64
 }
 
 /// The number of the bits of two numbers, of so many each.
+#[inline]
 fn join(value: u64, done: u32, more: u64, size: u32) -> u64
     requires high { value < 2 ^ done }
     requires low { more < 2 ^ size }

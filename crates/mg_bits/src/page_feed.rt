@@ -4,12 +4,13 @@ ghost use Rattle.std.proofs.Common.{rules};
 ghost use Rattle.mg_dev.specs.Files.{Files, bytes_at};
 ghost use Rattle.mg_dev.specs.Names.{full_name};
 ghost use Rattle.mg_dev.specs.Causes.{HasCause};
-ghost use Rattle.mg_bits.specs.Feed.{Calm, ReadPart, ReadsWithin, of_store, held_after, page_of};
+ghost use Rattle.mg_defs.specs.Bits.{Begins, FromPlace, digits};
+ghost use Rattle.mg_bits.specs.Feed.{Calm, HoldsBits, ReadPart, ReadsWithin, of_store, held_after, page_of};
 ghost use Rattle.mg_bits.specs.FeedLaws.{same_page};
 ghost use Rattle.mg_bits.specs.Pages.{Fits, SameFile, Looked, IsFilled, feeding_of};
 
 use crate::Feed;
-use crate::window::{Window, byte_in, is_held, window_byte};
+use crate::window::{Window, byte_in, is_held, window_byte, word_in};
 use mg_dev::{Failed, FileRef, Part, Store};
 use std::alloc::{AllocError, Global};
 use std::marker::{Model, PhantomData};
@@ -112,6 +113,18 @@ impl<'a, S: Store> PageFeed<'a, S> {
         answer
     }
 
+    /// The eight bytes from a place on as a number, if the page that is held has them all.
+    #[inline]
+    fn held_word(&self, at: u64) -> Option<u64>
+        ensures told { (files : Option Files) → Fits self.now files → IfSome result (λ word. FromPlace ((feeding_of 4096 self.now).source files) (8 * at) (Begins (digits 64 word))) }
+        ensures held { IfSome result (λ word. HoldsBits (feeding_of 4096 self.now) (8 * at) 64) }
+    {
+        if !is_held(self.window.held, at / 4096) {
+            return None;
+        }
+        word_in(&self.page[..self.window.count], (at % 4096) as usize)
+    }
+
     /// The number of bytes of the file; a missing one has none.
     pub fn size(&mut self, store: &mut S) -> Result<u64, Failed>
         ensures same { self.new ≡ self.old }
@@ -178,6 +191,11 @@ impl<'a, S: Store> Feed for PageFeed<'a, S> {
     #[inline]
     fn byte(&mut self, dev: &mut S, at: u64) -> Result<Option<u8>, Failed> {
         PageFeed::byte(self, dev, at)
+    }
+
+    #[inline]
+    fn word(&self, at: u64) -> Option<u64> {
+        self.held_word(at)
     }
 
     ghost whole_pages = { λ s. Prim.search rules };

@@ -80,13 +80,30 @@ impl<'a> PageWriter<'a> {
         ensures wrote { WroteTo self.old.name (S.files store.old) (S.files store.new) (S.reads store.old) (S.reads store.new) }
         ensures cause { HasPutCause (S.faults store.old) (S.faults store.new) result }
     {
-        for byte in piece {
-            match self.put(store, *byte) {
-                Ok(()) => {}
-                Err(refusal) => return Err(refusal),
-            }
+        if piece.len() < PAGE - self.used {
+            self.keep(piece);
+            return Ok(());
         }
-        Ok(())
+        match self.finish(store) {
+            Ok(()) => {}
+            Err(refusal) => return Err(refusal),
+        }
+        if piece.len() < PAGE {
+            self.keep(piece);
+            return Ok(());
+        }
+        store.append(&self.file, piece)
+    }
+
+    /// Holds bytes that leave room in the page.
+    fn keep(&mut self, piece: &[u8])
+        requires room { length self.old.buffered + length piece.now < 4096 }
+        ensures bytes { self.new.buffered ≡ self.old.buffered ++ piece.now }
+        ensures name { self.new.name ≡ self.old.name }
+    {
+        let end = self.used + piece.len();
+        self.page[self.used..end].copy_from_slice(piece);
+        self.used = end;
     }
 
     /// Appends what is held; then the file holds all bytes that were written.

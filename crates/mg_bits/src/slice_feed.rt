@@ -5,6 +5,7 @@ ghost use Rattle.mg_dev.specs.Files.{Files};
 ghost use Rattle.mg_bits.specs.Feed.{no_device, over_slice};
 
 use crate::Feed;
+use crate::window::word_in;
 use mg_dev::Failed;
 
 /// The device of a feed that reads no device.
@@ -38,6 +39,11 @@ impl<'a> Feed for SliceFeed<'a> {
 
     fn byte(&mut self, _dev: &mut NoDev, at: u64) -> Result<Option<u8>, Failed> {
         Ok(self.bytes.get(at as usize).copied())
+    }
+
+    #[inline]
+    fn word(&self, at: u64) -> Option<u64> {
+        word_in(self.bytes, at as usize)
     }
 
     ghost whole_pages = { λ s. Prim.search rules };

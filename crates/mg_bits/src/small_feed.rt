@@ -8,7 +8,7 @@ ghost use Rattle.mg_bits.specs.FeedLaws.{same_page};
 ghost use Rattle.mg_bits.specs.Pages.{IsPageIn};
 
 use crate::Feed;
-use crate::window::{Window, window_byte};
+use crate::window::{Window, is_held, window_byte, word_in};
 use mg_dev::{Failed, FileRef, Store};
 use std::marker::PhantomData;
 
@@ -67,6 +67,14 @@ impl<'a, 'b, S: Store> Feed for SmallFeed<'a, 'b, S> {
         );
         self.window = window;
         answer
+    }
+
+    #[inline]
+    fn word(&self, at: u64) -> Option<u64> {
+        if !is_held(self.window.held, at / 64) {
+            return None;
+        }
+        word_in(&self.slot[..self.window.count], (at % 64) as usize)
     }
 
     ghost whole_pages = { λ s. Prim.search rules };

@@ -5,7 +5,8 @@ ghost use Rattle.mg_dev.specs.Files.{Files, bytes_at};
 ghost use Rattle.mg_dev.specs.Names.{full_name};
 ghost use Rattle.mg_dev.specs.Causes.{HasCause};
 ghost use Rattle.mg_bits.specs.Feed.{Calm, ReadsWithin, lacks, over_file, of_store, page_of, told_at};
-ghost use Rattle.mg_bits.specs.Pages.{IsPageIn};
+ghost use Rattle.mg_defs.specs.Bits.{bits_of, digits};
+ghost use Rattle.mg_bits.specs.Pages.{IsPageIn, IsWordIn};
 
 use mg_dev::{Failed, FileRef, Store};
 
@@ -79,6 +80,28 @@ pub fn byte_in(bytes: &[u8], index: usize) -> Option<u8>
     ensures { result ≡ slice_get bytes.now index }
 {
     bytes.get(index).copied()
+}
+
+/// The eight bytes from an index on as a number, if there are so many.
+#[inline]
+pub fn word_in(bytes: &[u8], index: usize) -> Option<u64>
+    ensures { IfSome result (λ word. IsWordIn bytes.now index word) }
+{
+    if bytes.len() < 8 || index > bytes.len() - 8 {
+        return None;
+    }
+    match bytes[index..index + 8].first_chunk() {
+        Some(eight) => Some(word_of(eight)),
+        None => None,
+    }
+}
+
+/// Eight bytes as a number, the first of them highest.
+#[inline]
+fn word_of(eight: &[u8; 8]) -> u64
+    ensures { digits 64 result ≡ bits_of eight.now }
+{
+    u64::from_be_bytes(*eight)
 }
 
 /// The byte at a place of a file, which is that at `offset` of the page `number`. The caller

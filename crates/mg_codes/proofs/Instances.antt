@@ -176,8 +176,11 @@ gamma_second_at limit top q bound p w small is ep ew bounds within short_q =
 pub as_log : (x e : ℕ) → 2 ^ e ≤ x → x < 2 * 2 ^ e → IsLog x e
 as_log x e low high = record { low = low; high = omega (arith, two-pow-succ e, high) }
 
+pub below_power : (x e k : ℕ) → x < 2 ^ k → 2 ^ e ≤ x → e < k
+below_power x e k below low = elim (cases_lt e k) [ inl lt ↦ lt | inr ge ↦ absurd (let m : 2 ^ k ≤ 2 ^ e = pow_mono ge in omega (arith, m, below, low)) ]
+
 pub log_small : (x e : ℕ) → x < 2 ^ 48 → 2 ^ e ≤ x → e < 48
-log_small x e small low = elim (cases_lt e 48) [ inl lt ↦ lt | inr ge ↦ absurd (let m : 2 ^ 48 ≤ 2 ^ e = pow_mono ge in omega (arith, m, small, low)) ]
+log_small x e small low = below_power x e 48 small low
 
 pub last_below : (limit top q p w : ℕ) → limit < 2 * 2 ^ top → p ≡ 2 ^ q → w ≡ 2 ^ top → q ≡ top → limit - w < p
 last_below limit top q p w high ep ew same = omega (arith, high, ep, ew, ap (λ n. 2 ^ n) same, pow_pos top)

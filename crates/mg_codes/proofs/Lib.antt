@@ -3,3 +3,4 @@ pub mod UnaryWalk
 pub mod TwoParts
 pub mod Instances
 pub mod Written
+pub mod HeldCodes

@@ -1,9 +1,10 @@
 // Short codes up to a bound, which are the second part of the gamma and Golomb codes.
-ghost use Rattle.std.specs.Prelude.{◌≡◌, ◌+◌, ◌-◌, ◌*◌, ◌≤◌, ◌<◌, ◌^◌, ℕ, IfOk, OnErr, MatchResult, MatchOption, length, if◌then◌else◌};
-ghost use Rattle.mg_defs.specs.Bits.{FromPlace};
+ghost use Rattle.std.specs.Prelude.{◌≡◌, ◌+◌, ◌-◌, ◌*◌, ◌≤◌, ◌<◌, ◌^◌, ◌/◌, ℕ, Option, IfOk, IfSome, OnErr, MatchResult, MatchOption, length, if◌then◌else◌};
+ghost use Rattle.mg_dev.specs.Files.{Files};
+ghost use Rattle.mg_defs.specs.Bits.{Begins, FromPlace, digits};
 ghost use Rattle.mg_defs.specs.Codes.{short, shorter, ceil_log2};
 ghost use Rattle.mg_defs.specs.Answers.{Below};
-ghost use Rattle.mg_bits.specs.Feed.{Calm, Read};
+ghost use Rattle.mg_bits.specs.Feed.{Calm, HoldsBits, Read};
 ghost use Rattle.mg_bits.specs.CodeAnswers.{AnswersCode, CodeCause, OnlyPagesOf};
 ghost use Rattle.mg_codes.specs.Remainders.{IsBound, IsWholeAt, IsOpenAt, least_of};
 ghost use Rattle.mg_codes.specs.Refusals.{OverBelow};
@@ -84,6 +85,97 @@ fn number_of(bit: bool) -> u64
 
 /// Reads the short code with parameter `b` of a remainder below a bound.
 pub fn get_below<F: Feed>(
+    r: &mut BitReader<F>,
+    dev: &mut F::Dev,
+    b: u64,
+    bound: u64,
+) -> Result<u64, CodeErr>
+    requires fits { F.fits r.old.feed (F.device dev.old).files }
+    requires place { r.old.place ≤ 2 ^ 63 + 2 ^ 49 }
+    requires some { 1 ≤ bound }
+    requires within { bound ≤ b }
+    requires small { b < 2 ^ 48 }
+    ensures fits { F.fits r.new.feed (F.device dev.new).files }
+    ensures calm { Calm (F.feeding r.old.feed) (F.feeding r.new.feed) (F.device dev.old) (F.device dev.new) }
+    ensures read { IfOk result (λ x. Read (F.feeding r.old.feed) (F.feeding r.new.feed) (F.device dev.old) (F.device dev.new) r.old.place (r.old.place + length (short b x))) }
+    ensures pages { OnErr result (FromPlace ((F.feeding r.old.feed).source (F.device dev.old).files) r.old.place
+        (OnlyPagesOf (Below bound) (short b) (F.feeding r.old.feed) (F.feeding r.new.feed) (F.device dev.old) (F.device dev.new) r.old.place)) }
+    ensures place { MatchResult result (λ x. r.new.place ≡ r.old.place + length (short b x)) (λ _. r.new.place ≡ r.old.place) }
+    ensures told { FromPlace ((F.feeding r.old.feed).source (F.device dev.old).files) r.old.place (AnswersCode result (Below bound) (short b) bound r.old.place) }
+    ensures range { IfOk result (λ x. x < bound) }
+    ensures cause { CodeCause result (F.device dev.old).faults (F.device dev.new).faults }
+    ensures over { OverBelow result bound b }
+{
+    if let Some(code) = short_here(r, b, bound) {
+        r.seek(r.place() + u64::from(code.size));
+        return Ok(code.value);
+    }
+    below_by_bits(r, dev, b, bound)
+}
+
+/// A remainder and the number of bits of its short code.
+#[derive(Clone, Copy)]
+struct ShortCode {
+    value: u64,
+    size: u32,
+}
+
+/// The remainder below a bound whose short code begins the bits at the place, if the page that is
+/// held has the 57 bits from there on.
+#[inline]
+fn short_here<F: Feed>(r: &BitReader<F>, b: u64, bound: u64) -> Option<ShortCode>
+    requires place { r.now.place ≤ 2 ^ 63 + 2 ^ 49 }
+    requires some { 1 ≤ b }
+    requires small { b < 2 ^ 48 }
+    ensures range { IfSome result (λ code. code.value < bound) }
+    ensures some { IfSome result (λ code. 1 ≤ code.size) }
+    ensures size { IfSome result (λ code. length (short b code.value) ≡ code.size) }
+    ensures small { IfSome result (λ code. code.size ≤ 48) }
+    ensures held { IfSome result (λ code. HoldsBits (F.feeding r.now.feed) r.now.place code.size) }
+    ensures told { (files : Option Files) → F.fits r.now.feed files → IfSome result (λ code. FromPlace ((F.feeding r.now.feed).source files) r.now.place (Begins (short b code.value))) }
+{
+    let size = code_size(b);
+    if size == 0 {
+        return None;
+    }
+    let few = shorter_codes(b, size);
+    let next = match r.peek() {
+        Some(next) => next,
+        None => return None,
+    };
+    let code = first_short(next, b, size, few);
+    if code.value < bound { Some(code) } else { None }
+}
+
+/// The remainder whose short code 57 bits begin with.
+#[inline]
+fn first_short(next: u64, b: u64, size: u32, few: u64) -> ShortCode
+    requires next { next < 2 ^ 57 }
+    requires parameter { 1 ≤ b }
+    requires small { b < 2 ^ 48 }
+    requires size { size ≡ ceil_log2 b }
+    requires few { few ≡ shorter b }
+    requires some { 1 ≤ size }
+    requires most { size ≤ 48 }
+    ensures code { short b result.value ≡ digits result.size (next / 2 ^ (57 - result.size)) }
+    ensures least { 1 ≤ result.size }
+    ensures most { result.size ≤ 48 }
+{
+    let high = next >> (58 - size);
+    if high < few {
+        return ShortCode {
+            value: high,
+            size: size - 1,
+        };
+    }
+    ShortCode {
+        value: (next >> (57 - size)) - few,
+        size,
+    }
+}
+
+/// Reads the short code with parameter `b` of a remainder below a bound, bit by bit.
+fn below_by_bits<F: Feed>(
     r: &mut BitReader<F>,
     dev: &mut F::Dev,
     b: u64,

@@ -33,16 +33,16 @@ fn write_all<S: Store>(
     let mut w = BitWriter::start(alloc, store, TEXT)?;
     for number in numbers {
         let x = *number;
-        if x > 1 << 47 || w.place() > 1 << 60 {
+        if x >= 1 << 48 || w.place() > 1 << 60 {
             return Err(PutErr::Failed);
         }
         match kind {
             Kind::Unary if x >= 1 => put_unary(&mut w, store, x)?,
             Kind::Gamma if x >= 1 => put_gamma(&mut w, store, x)?,
-            Kind::Golomb(b) if x >= 1 && b >= 1 && b < 1 << 47 => {
+            Kind::Golomb(b) if x >= 1 && b >= 1 && b < 1 << 48 => {
                 put_golomb(&mut w, store, b, x)?
             }
-            Kind::Short(b) if x < b && b < 1 << 47 => put_short(&mut w, store, b, x)?,
+            Kind::Short(b) if x < b && b < 1 << 48 => put_short(&mut w, store, b, x)?,
             _ => {}
         }
     }
@@ -150,6 +150,74 @@ fn remainders_near_powers_of_two_are_read_back(rt: HostRuntime) -> Result<(), Fa
             reads_all(&mut paged, &mut store, kind, &numbers[..b]),
             "parameter {b}"
         );
+    }
+    Ok(())
+}
+
+/// The number at the reader's place, of at most `limit`.
+fn get_one<F: Feed>(
+    r: &mut BitReader<F>,
+    dev: &mut F::Dev,
+    kind: Kind,
+    limit: u64,
+) -> Option<Result<u64, CodeErr>>
+    requires fits { F.fits r.old.feed (F.device dev.old).files }
+{
+    if r.place() > 1 << 60 || limit < 1 || limit >= 1 << 48 {
+        return None;
+    }
+    match kind {
+        Kind::Unary => Some(get_unary(r, dev, limit)),
+        Kind::Gamma => Some(get_gamma(r, dev, limit)),
+        Kind::Golomb(b) if b >= 1 && b < 1 << 48 => Some(get_golomb(r, dev, b, limit)),
+        _ => None,
+    }
+}
+
+#[test]
+fn a_number_at_the_limit_is_read_and_one_above_it_is_not(rt: HostRuntime) -> Result<(), Fail> {
+    let alloc = rt.alloc();
+    let mut store = SureStore::new(alloc);
+    let most = (1 << 48) - 1;
+    let half = 1 << 47;
+    let cases = [
+        (Kind::Unary, 2),
+        (Kind::Unary, 10_000),
+        (Kind::Gamma, 2),
+        (Kind::Gamma, half - 1),
+        (Kind::Gamma, half),
+        (Kind::Gamma, most),
+        (Kind::Golomb(1), 10_000),
+        (Kind::Golomb(7), 10_000),
+        (Kind::Golomb(8), 10_000),
+        (Kind::Golomb(9), 10_000),
+        (Kind::Golomb(half - 1), most),
+        (Kind::Golomb(half), half),
+        (Kind::Golomb(half), half + 1),
+        (Kind::Golomb(half), most),
+        (Kind::Golomb(half + 1), half + 1),
+        (Kind::Golomb(half + 1), half + 2),
+        (Kind::Golomb(half + 1), most),
+        (Kind::Golomb(most), 2),
+        (Kind::Golomb(most), most),
+    ];
+    for (kind, number) in cases {
+        write_all(alloc, &mut store, kind, &[number])?;
+        let mut whole = BitReader::new(PageFeed::new(alloc, TEXT)?, 0);
+        let answer = get_one(&mut whole, &mut store, kind, number);
+        assert_eq!(rt; answer, Some(Ok(number)));
+        let limit = number - 1;
+        let mut less = BitReader::new(PageFeed::new(alloc, TEXT)?, 0);
+        let answer = get_one(&mut less, &mut store, kind, limit);
+        assert_eq!(rt; answer, Some(Err(CodeErr::Over { at: 0, limit })));
+        assert_eq!(rt; less.place(), 0);
+    }
+    for b in [half - 1, half, half + 1, most] {
+        let kind = Kind::Short(b);
+        let numbers = [0, 1, b / 2, b - 2, b - 1];
+        write_all(alloc, &mut store, kind, &numbers)?;
+        let mut paged = BitReader::new(PageFeed::new(alloc, TEXT)?, 0);
+        assert!(rt; reads_all(&mut paged, &mut store, kind, &numbers));
     }
     Ok(())
 }

@@ -1,9 +1,11 @@
 // The unary code.
-ghost use Rattle.std.specs.Prelude.{◌≡◌, ◌+◌, ◌≤◌, ◌<◌, ◌^◌, ℕ, ◌-◌, ◌*◌, IfOk, OnOk, OnErr, MatchResult, length};
-ghost use Rattle.mg_defs.specs.Bits.{FromPlace};
+ghost use Rattle.std.specs.Prelude.{◌≡◌, ◌+◌, ◌≤◌, ◌<◌, ◌^◌, ℕ, ◌-◌, ◌*◌, Option, IfOk, IfSome, OnOk, OnErr, MatchResult, length};
+ghost use Rattle.mg_dev.specs.Files.{Files};
+ghost use Rattle.mg_defs.specs.Bits.{Begins, FromPlace};
 ghost use Rattle.mg_defs.specs.Codes.{unary};
 ghost use Rattle.mg_defs.specs.Answers.{UpTo};
-ghost use Rattle.mg_bits.specs.Feed.{Calm, Read};
+ghost use Rattle.mg_bits.specs.Feed.{Calm, HoldsBits, Read};
+ghost use Rattle.mg_codes.specs.Held.{IsOnesBeforeZero};
 ghost use Rattle.mg_bits.specs.CodeAnswers.{AnswersCode, CodeCause, OnlyPagesOf};
 ghost use Rattle.mg_dev.specs.Causes.{HasPutCause};
 ghost use Rattle.mg_bits.specs.Writer.{WroteTo};
@@ -44,6 +46,66 @@ pub fn put_unary<S: Store>(w: &mut BitWriter<'_>, store: &mut S, x: u64) -> Resu
 
 /// Reads a number in unary, of at most `limit`.
 pub fn get_unary<F: Feed>(
+    r: &mut BitReader<F>,
+    dev: &mut F::Dev,
+    limit: u64,
+) -> Result<u64, CodeErr>
+    requires fits { F.fits r.old.feed (F.device dev.old).files }
+    requires place { r.old.place ≤ 2 ^ 63 }
+    requires some { 1 ≤ limit }
+    requires limit { limit < 2 ^ 48 }
+    ensures fits { F.fits r.new.feed (F.device dev.new).files }
+    ensures calm { Calm (F.feeding r.old.feed) (F.feeding r.new.feed) (F.device dev.old) (F.device dev.new) }
+    ensures read { IfOk result (λ x. Read (F.feeding r.old.feed) (F.feeding r.new.feed) (F.device dev.old) (F.device dev.new) r.old.place (r.old.place + length (unary x))) }
+    ensures pages { OnErr result (FromPlace ((F.feeding r.old.feed).source (F.device dev.old).files) r.old.place
+        (OnlyPagesOf (UpTo limit) unary (F.feeding r.old.feed) (F.feeding r.new.feed) (F.device dev.old) (F.device dev.new) r.old.place)) }
+    ensures place { MatchResult result (λ x. r.new.place ≡ r.old.place + length (unary x)) (λ _. r.new.place ≡ r.old.place) }
+    ensures told { FromPlace ((F.feeding r.old.feed).source (F.device dev.old).files) r.old.place (AnswersCode result (UpTo limit) unary limit r.old.place) }
+    ensures range { IfOk result (λ x. UpTo limit x) }
+    ensures cause { CodeCause result (F.device dev.old).faults (F.device dev.new).faults }
+{
+    if let Some(x) = unary_here(r, limit) {
+        r.seek(r.place() + x);
+        return Ok(x);
+    }
+    unary_by_bits(r, dev, limit)
+}
+
+/// The number in unary that begins the bits at the place, if the page that is held has the 57 bits
+/// from there on and its code is among them, and if it is at most `limit`.
+#[inline]
+fn unary_here<F: Feed>(r: &BitReader<F>, limit: u64) -> Option<u64>
+    requires { r.now.place ≤ 2 ^ 63 }
+    ensures range { IfSome result (λ x. UpTo limit x) }
+    ensures small { IfSome result (λ x. x ≤ 57) }
+    ensures held { IfSome result (λ x. HoldsBits (F.feeding r.now.feed) r.now.place x) }
+    ensures told { (files : Option Files) → F.fits r.now.feed files → IfSome result (λ x. FromPlace ((F.feeding r.now.feed).source files) r.now.place (Begins (unary x))) }
+{
+    let next = match r.peek() {
+        Some(next) => next,
+        None => return None,
+    };
+    match ones_before_zero(next) {
+        Some(ones) if ones < limit => Some(ones + 1),
+        _ => None,
+    }
+}
+
+/// How many of 57 bits are one-bits before the first zero-bit, if there is one.
+#[inline]
+fn ones_before_zero(next: u64) -> Option<u64>
+    requires { next < 2 ^ 57 }
+    ensures { IfSome result (λ ones. IsOnesBeforeZero next ones) }
+{
+    let rest = (1u64 << 57) - 1 - next;
+    if rest == 0 {
+        return None;
+    }
+    Some(56 - u64::from(rest.ilog2()))
+}
+
+/// Reads a number in unary, of at most `limit`, bit by bit.
+fn unary_by_bits<F: Feed>(
     r: &mut BitReader<F>,
     dev: &mut F::Dev,
     limit: u64,

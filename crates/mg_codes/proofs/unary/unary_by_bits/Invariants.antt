@@ -2,7 +2,7 @@ use Rattle.std.proofs.Common.{◌≡◌, ◌+◌, ◌-◌, ◌≤◌, ◌<◌, �
 use Rattle.mg_bits.specs.Feed.{Read}
 use Rattle.mg_defs.specs.Bits.{FromPlace, Begins}
 use Rattle.mg_defs.specs.Codes.{ones}
-use Rattle.mg_codes.proofs.unary.get_unary.Given as goal
+use Rattle.mg_codes.proofs.unary.unary_by_bits.Given as goal
 
 abbrev pub invariant-loop-ones : goal.invariant-loop-ones
 invariant-loop-ones g l = record {

@@ -1,7 +1,7 @@
 use Rattle.std.proofs.Common.{◌≡◌, ◌+◌, ◌-◌, ◌≤◌, ◌<◌, ◌^◌, ℕ}
 use Rattle.mg_bits.specs.Feed.{Read}
 use Rattle.mg_defs.specs.Bits.{FromPlace, Begins, digits}
-use Rattle.mg_bits.proofs.bit_reader.BitReader.bits.Given as goal
+use Rattle.mg_bits.proofs.bit_reader.BitReader.bits_by_bytes.Given as goal
 
 abbrev pub invariant-loop-done : goal.invariant-loop-done
 invariant-loop-done g l = record {

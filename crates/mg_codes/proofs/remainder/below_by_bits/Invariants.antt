@@ -3,7 +3,7 @@ use Rattle.mg_bits.specs.Feed.{Read}
 use Rattle.mg_defs.specs.Bits.{FromPlace, Begins, digits}
 use Rattle.mg_codes.specs.Remainders.{least_of}
 use Rattle.mg_codes.proofs.ShortWalk.{IsShort, Walked}
-use Rattle.mg_codes.proofs.remainder.get_below.Given as goal
+use Rattle.mg_codes.proofs.remainder.below_by_bits.Given as goal
 
 abbrev pub invariant-loop-value : goal.invariant-loop-value
 invariant-loop-value g l = record {

@@ -9,7 +9,7 @@ use Rattle.mg_bits.proofs.Told.{same_told, told_nothing}
 use Rattle.mg_bits.proofs.Walks.{walk_none, walk_whole, walk_refused, walk_pages, no_pages}
 use Rattle.mg_codes.specs.Remainders.{IsWholeAt, IsOpenAt, least_of}
 use Rattle.mg_codes.proofs.ShortWalk.{IsShort, Walked, shape, walked_start, least_start, whole_code, whole_least, open_cut, walked_none, walked_bit, below_free, least_below, next_told}
-use Rattle.mg_codes.proofs.remainder.get_below.Goals as goal
+use Rattle.mg_codes.proofs.remainder.below_by_bits.Goals as goal
 
 pub loop-value-init : goal.loop-value-init
 loop-value-init g c =
