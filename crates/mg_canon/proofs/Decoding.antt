@@ -1,8 +1,11 @@
 -- The steps of the decoder by lengths.
-use Rattle.std.proofs.Common.{◌≡◌, ℕ, zero, suc, ◌+◌, ◌-◌, ◌*◌, ◌/◌, ◌%◌, ◌<◌, ◌≤◌, Bool, true, false, cond, List, [], ◌∷◌, ◌++◌, length, refl, sym, ap, ◌∙◌, subst, arith, take, get_or, ◌⊎◌, inl, inr, ⊎_elim, add-one}
+use Rattle.std.proofs.Common.{◌≡◌, ℕ, zero, suc, ◌+◌, ◌-◌, ◌*◌, ◌/◌, ◌%◌, ◌^◌, ◌<◌, ◌≤◌, Bool, true, false, cond, List, [], ◌∷◌, ◌++◌, length, refl, sym, ap, ◌∙◌, subst, arith, take, get_or, ◌⊎◌, inl, inr, ⊎_elim, add-one}
+use Rattle.std.proofs.lemmas.Grind.{common_steps}
+use Rattle.std.proofs.lemmas.List.{get_or_default}
+use Rattle.std.proofs.lemmas.Nat.{shr-shr}
 use Rattle.std.proofs.lemmas.Bool.{cases_lt, cases_eq}
 use Rattle.std.specs.Prelude.{◌==◌}
-use Rattle.mg_defs.specs.Bits.{Bits, Begins, digits}
+use Rattle.mg_defs.specs.Bits.{Bits, Begins, digits, is_odd}
 use Rattle.mg_defs.specs.Canon.{first, count_of, AreGood, codeword_value, codeword}
 use Rattle.mg_defs.specs.Answers.{Below, CutShort, IsNone}
 use Rattle.mg_defs.proofs.BitLaws.{length_digits}
@@ -220,3 +223,22 @@ module _ (lengths : List ℕ) (good : AreGood lengths) (some : 0 < length length
 -- the same by the table of first codewords
 pub by_table : (lengths firsts : List ℕ) (read value : ℕ) → AreFirsts lengths firsts → read ≤ 48 → (read ≡ 0) ⊎ (value < get_or firsts read 0) → (read ≡ 0) ⊎ (value < first read lengths)
 by_table lengths firsts read value f short more = ⊎_elim (λ e. inl e) (λ lt. inr (omega (arith, f.at read short))) more
+
+odd_or_not : (n : ℕ) → n % 2 ≡ cond (is_odd n) 1 0
+odd_or_not n = grind (arith, common_steps)
+
+-- a bit more of 57 bits
+pub next_value : (next read value : ℕ) → read < 57 → value ≡ next / 2 ^ (57 - read) → 2 * value + cond (is_odd (next / 2 ^ (56 - read))) 1 0 ≡ next / 2 ^ (57 - (read + 1))
+next_value next read value short is =
+    let e : 56 - read + 1 ≡ 57 - read = omega arith in
+    let f : 57 - (read + 1) ≡ 56 - read = omega arith in
+    let half : next / 2 ^ (56 - read) / 2 ≡ value = shr-shr next (56 - read) 1 ∙ ap (λ k. next / 2 ^ k) e ∙ sym is in
+    let whole : 2 * value + cond (is_odd (next / 2 ^ (56 - read))) 1 0 ≡ next / 2 ^ (56 - read) = omega (arith, odd_or_not (next / 2 ^ (56 - read)), half) in
+    whole ∙ ap (λ k. next / 2 ^ k) (sym f)
+
+pub start_value : (next : ℕ) → next < 2 ^ 57 → 0 ≡ next / 2 ^ (57 - 0)
+start_value next small = omega arith
+
+-- an element that a list has is found with any default
+pub symbol_index : (items : List ℕ) (i x : ℕ) → x ≡ get_or items i x → i < length items → x ≡ get_or items i 0
+symbol_index items i x e h = e ∙ get_or_default items i x 0 h

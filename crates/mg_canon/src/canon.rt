@@ -1,8 +1,8 @@
 //! A canonical code: the codewords of given lengths, both ways.
-ghost use Rattle.std.specs.Prelude.{◌≡◌, ℕ, ◌+◌, ◌^◌, ◌<◌, ◌≤◌, ◌↔◌, ◌⊎◌, length, slice_index, Err, IfOk, OnOk, OnErr, MatchResult};
+ghost use Rattle.std.specs.Prelude.{◌≡◌, ℕ, ◌+◌, ◌-◌, ◌/◌, ◌^◌, ◌<◌, ◌≤◌, ◌↔◌, ◌⊎◌, length, slice_index, Err, IfOk, IfSome, OnOk, OnErr, MatchResult};
 ghost use Rattle.std.specs.Bool.{OnTrue, OnFalse};
 ghost use Rattle.mg_defs.specs.Answers.{Below};
-ghost use Rattle.mg_defs.specs.Bits.{FromPlace};
+ghost use Rattle.mg_defs.specs.Bits.{FromPlace, digits};
 ghost use Rattle.mg_defs.specs.Canon.{AreGood, codeword};
 ghost use Rattle.mg_dev.specs.Causes.{HasPutCause};
 ghost use Rattle.mg_bits.specs.BitWriting.{Holds, WroteBits};
@@ -19,6 +19,13 @@ use mg_bits::{BitReader, BitWriter, CodeErr, Feed};
 use mg_dev::{PutErr, Store};
 use std::alloc::{AllocError, Global};
 use std::marker::Model;
+
+/// A symbol and the number of bits of its codeword.
+#[derive(Clone, Copy)]
+struct Found {
+    symbol: u32,
+    size: u32,
+}
 
 /// A canonical code, seen as the list of its codewords' lengths.
 ///
@@ -102,6 +109,65 @@ impl Canon {
     /// not the front of one, which is so only at a one-bit where there is a single symbol, `Over`.
     /// After a refusal the place is the one before, and the reader may be used again.
     pub fn get<F: Feed>(&self, reader: &mut BitReader<F>, dev: &mut F::Dev) -> Result<u32, CodeErr>
+        requires some { 0 < length self.now }
+        requires fits { F.fits reader.old.feed (F.device dev.old).files }
+        requires place { reader.old.place ≤ 2 ^ 63 }
+        ensures fits { F.fits reader.new.feed (F.device dev.new).files }
+        ensures calm { Calm (F.feeding reader.old.feed) (F.feeding reader.new.feed) (F.device dev.old) (F.device dev.new) }
+        ensures read { IfOk result (λ s. Read (F.feeding reader.old.feed) (F.feeding reader.new.feed) (F.device dev.old) (F.device dev.new)
+            reader.old.place (reader.old.place + length (codeword self.now s))) }
+        ensures pages { OnErr result (FromPlace ((F.feeding reader.old.feed).source (F.device dev.old).files) reader.old.place
+            (OnlyPagesOf (Below (length self.now)) (codeword self.now) (F.feeding reader.old.feed) (F.feeding reader.new.feed) (F.device dev.old) (F.device dev.new) reader.old.place)) }
+        ensures place { MatchResult result (λ s. reader.new.place ≡ reader.old.place + length (codeword self.now s)) (λ _. reader.new.place ≡ reader.old.place) }
+        ensures told { FromPlace ((F.feeding reader.old.feed).source (F.device dev.old).files) reader.old.place
+            (AnswersCode result (Below (length self.now)) (codeword self.now) 1 reader.old.place) }
+        ensures symbol { IfOk result (λ s. s < length self.now) }
+        ensures over { (at limit : ℕ) → result ≡ Err (CodeErr.Over at limit) → length self.now ≡ 1 }
+        ensures cause { CodeCause result (F.device dev.old).faults (F.device dev.new).faults }
+    {
+        if let Some(next) = reader.peek() {
+            if let Some(found) = self.first_of(next) {
+                reader.seek(reader.place() + u64::from(found.size));
+                return Ok(found.symbol);
+            }
+        }
+        self.get_by_bits(reader, dev)
+    }
+
+    /// The symbol whose codeword 57 bits begin with: none is longer than 48. There is one but for a
+    /// single symbol and a one-bit.
+    fn first_of(&self, next: u64) -> Option<Found>
+        requires next { next < 2 ^ 57 }
+        requires some { 0 < length self.now }
+        ensures symbol { IfSome result (λ found. found.symbol < length self.now) }
+        ensures code { IfSome result (λ found. codeword self.now found.symbol ≡ digits found.size (next / 2 ^ (57 - found.size))) }
+        ensures some { IfSome result (λ found. 1 ≤ found.size) }
+        ensures small { IfSome result (λ found. found.size ≤ 48) }
+    {
+        let mut value = 0u32;
+        let mut read = 0usize;
+        let firsts = &self.firsts;
+        while needs_bit(firsts, read, value) {
+            let bit = (next >> (56 - read)) % 2 == 1;
+            value = 2 * value + number_of(bit);
+            read += 1;
+        }
+        let index = (self.offsets[read] + (value - firsts[read])) as usize;
+        if index >= self.symbols.len() {
+            return None;
+        }
+        Some(Found {
+            symbol: self.symbols[index],
+            size: read as u32,
+        })
+    }
+
+    /// Reads a symbol bit by bit.
+    fn get_by_bits<F: Feed>(
+        &self,
+        reader: &mut BitReader<F>,
+        dev: &mut F::Dev,
+    ) -> Result<u32, CodeErr>
         requires some { 0 < length self.now }
         requires fits { F.fits reader.old.feed (F.device dev.old).files }
         requires place { reader.old.place ≤ 2 ^ 63 }

@@ -2,7 +2,7 @@ use Rattle.std.proofs.Common.{◌≡◌, ◌+◌, ◌-◌}
 use Rattle.mg_defs.specs.Bits.{FromPlace, Begins, digits}
 use Rattle.mg_bits.specs.Feed.{Read}
 use Rattle.mg_canon.proofs.Decoding.{Walk}
-use Rattle.mg_canon.proofs.canon.Canon.get.Given as goal
+use Rattle.mg_canon.proofs.canon.Canon.get_by_bits.Given as goal
 
 abbrev pub invariant-loop-reader : goal.invariant-loop-reader
 invariant-loop-reader g l = record {
