@@ -1,7 +1,9 @@
 // Boolean lines over small collections.
 use crate::PlainText;
 use mg_defs::{Mode, Settings};
-use mg_dev::{Fault, MemSink, MemStore, Part, SureSink, SureStore};
+use mg_dev::{
+    Failed, Fault, FileRef, MemSink, MemStore, Part, PutErr, Store, SureSink, SureStore, What,
+};
 use std::test::Fail;
 
 const K: &[u8; 39] = b"the cat sat\n\x02the dog\n\x02Cat, cat & dog!\n\x02";
@@ -83,5 +85,61 @@ fn refusals_have_their_cause(rt: HostRuntime) -> Result<(), Fail> {
         Err(Fault::WriteFault)
     );
     assert!(rt; out.bytes() == b"1\n3".as_slice());
+    Ok(())
+}
+
+/// A store that claims a size of each of its files, and tells none of them.
+struct Claims {
+    size: u64,
+    held: SureStore,
+}
+
+impl Store for Claims {
+    ghost files = { λ _. None };
+
+    ghost faults = { λ _. 0 };
+
+    ghost reads = { λ s. ⟦<SureStore as Store>⟧.reads s.held };
+
+    fn size(&mut self, _file: &FileRef<'_>) -> Result<Option<u64>, Failed> {
+        Ok(Some(self.size))
+    }
+
+    fn read_at(&mut self, file: &FileRef<'_>, at: u64, buf: &mut [u8]) -> Result<usize, Failed> {
+        self.held.read_at(file, at, buf)
+    }
+
+    fn reset(&mut self, file: &FileRef<'_>) -> Result<(), PutErr> {
+        self.held.reset(file)
+    }
+
+    fn append(&mut self, file: &FileRef<'_>, piece: &[u8]) -> Result<(), PutErr> {
+        self.held.append(file, piece)
+    }
+}
+
+#[test]
+fn a_collection_too_large_or_cut_short_is_refused(rt: HostRuntime) -> Result<(), Fail> {
+    let mut held = SureStore::new(rt.alloc());
+    held.put_file("k", K)?;
+    let mut store = Claims { size: 40, held };
+    assert_eq!(rt;
+        PlainText::load(rt.alloc(), &mut store, "k").err(),
+        Some(Fault::Changed {
+            what: What::Size,
+            first: 40,
+            second: 39,
+        })
+    );
+    store.size = (1 << 28) + 1;
+    assert_eq!(rt;
+        PlainText::load(rt.alloc(), &mut store, "k").err(),
+        Some(Fault::TooLarge {
+            size: (1 << 28) + 1,
+            most: 1 << 28,
+        })
+    );
+    let Claims { held, .. } = store;
+    assert_eq!(rt; held.reads_of(Part::Plain), 1);
     Ok(())
 }
