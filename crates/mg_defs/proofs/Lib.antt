@@ -53,3 +53,4 @@ pub mod NumberLaws
 pub mod HeadLaws
 pub mod HeadExamples
 pub mod LexiconExamples
+pub mod LexiconLaws
