@@ -3,3 +3,4 @@ pub mod WalkLaws
 pub mod WriterLaws
 pub mod ReaderLaws
 pub mod OrderLaws
+pub mod ReadPages

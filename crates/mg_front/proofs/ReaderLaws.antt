@@ -13,7 +13,10 @@ use Rattle.mg_dev.specs.Files.{Reads}
 use Rattle.mg_dev.specs.Names.{same_part}
 use Rattle.mg_dev.specs.declared.part.Part.{Part}
 use Rattle.mg_bits.specs.Pages.{Looked}
-use Rattle.mg_front.specs.Reading.{Fronted, FrontStands, LookedAt, NoneAmong}
+use Rattle.mg_dev.specs.declared.part_err.PartErr.{PartErr}
+use Rattle.mg_dev.specs.declared.part_err.PartErr.TheVariants.{Device, Memory, Bad}
+use Rattle.std.specs.Prelude.{Err}
+use Rattle.mg_front.specs.Reading.{AnswersPlaces, Fronted, FrontStands, IsNotBad, LookedAt, NoneAmong, places_size}
 use Rattle.std.proofs.lemmas.Bool.{cases_lt}
 use Rattle.std.proofs.lemmas.Nat.{be_bytes_4, from_be_bytes-to_be_bytes_4}
 use Rattle.std.specs.Int.{from_be_bytes, w32}
@@ -154,3 +157,9 @@ scanned_more es from n string it none there apart k e within here same = by_side
 -- the entry that was read last
 pub last_read : (width number place : ℕ) (out : FrontEntry) (es : List Entry) (block : ℕ) → ReadSoFar width (number + 1) place out es block → slice_get es (4 * block + number) ≡ Some (entry_of width out)
 last_read width number place out es block so_far = ap (slice_get es) (omega arith) ∙ so_far.last_is (omega arith)
+
+-- the places of so many entries have the size that is wanted
+pub never_refused : (part : Part) (count : ℕ) (bytes : List ℕ) (es : List Entry) (refusal : PartErr) → bytes ≡ whole_at es → length es ≡ count → AnswersPlaces {T = Unit {0}} part (places_size count) bytes (Err refusal) → IsNotBad refusal
+never_refused part count bytes es Device holds long answer = tt
+never_refused part count bytes es Memory holds long answer = tt
+never_refused part count bytes es (Bad bad) holds long answer = answer.0 (ap length holds ∙ omega (arith, places_long 0 [] 0 es))

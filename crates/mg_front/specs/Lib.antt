@@ -1,4 +1,5 @@
 pub mod Entries
 pub mod Walk
 pub mod Fronting
+pub mod Looks
 pub mod Reading

@@ -97,6 +97,12 @@ AnswersPlaces part wanted bytes (Err Device) = Unit {0}
 AnswersPlaces part wanted bytes (Err Memory) = Unit {0}
 AnswersPlaces part wanted bytes (Err (Bad bad)) = (length bytes ≢ wanted) × IsBad bad part 0 wanted wanted (length bytes)
 
+-- a refusal that does not say that a part is bad
+abbrev pub IsNotBad : PartErr → Type 0
+IsNotBad Device = Unit {0}
+IsNotBad Memory = Unit {0}
+IsNotBad (Bad bad) = ⊥
+
 -- ---- looking a string up
 
 -- the first strings of the blocks before low are not above the string, and those of the others are

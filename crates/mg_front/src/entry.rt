@@ -1,10 +1,11 @@
 // One entry, and how it is read.
-ghost use Rattle.std.specs.Prelude.{◌≡◌, ◌≤◌, ◌<◌, ◌+◌, ◌^◌, ◌%◌, ◌==◌, ◌||◌, [], IfOk, IfSome, IsSome, length, take, drop, slice_get};
+ghost use Rattle.std.specs.Prelude.{◌≡◌, ◌≤◌, ◌<◌, ◌+◌, ◌^◌, ◌%◌, ◌==◌, ◌||◌, [], IfOk, IfSome, OnSome, IsSome, true, length, take, drop, slice_get};
 ghost use Rattle.mg_dev.specs.Files.{bytes_at};
 ghost use Rattle.mg_dev.specs.Causes.{HasCause};
 ghost use Rattle.mg_bits.specs.Pages.{Fits, SameFile, Looked};
 ghost use Rattle.mg_defs.specs.Front.{is_below, rises, read_entry, read_whole, read_cut};
 ghost use Rattle.mg_front.specs.Entries.{string_of, found_of, IsPut};
+ghost use Rattle.mg_front.specs.Looks.{ReadOn, ReadTo};
 
 use mg_bits::PageFeed;
 use mg_dev::{Failed, Store};
@@ -47,6 +48,26 @@ pub fn rises(before: &[u8], suffix: &[u8]) -> bool
     }
 }
 
+/// The byte at a place, or None at and past the end.
+#[inline]
+fn read_byte<S: Store>(
+    feed: &mut PageFeed<'_, S>,
+    store: &mut S,
+    at: u64,
+) -> Result<Option<u8>, Failed>
+    requires fits { Fits feed.old (S.files store.old) }
+    ensures fits { Fits feed.new (S.files store.new) }
+    ensures file { SameFile feed.old feed.new }
+    ensures looked { Looked feed.old.part (S.files store.old) (S.files store.new) (S.reads store.old) (S.reads store.new) (S.faults store.old) (S.faults store.new) }
+    ensures told { IsSome (S.files store.old) → IfOk result (λ byte. byte ≡ slice_get (bytes_at (S.files store.old) feed.old.name) at) }
+    ensures read_on { IfOk result (λ byte. OnSome byte (ReadOn feed.old feed.new (S.reads store.old) (S.reads store.new) at (at + 1))) }
+    ensures read_to { ReadTo feed.old (S.reads store.old) (S.reads store.new) at (at + 1) }
+    ensures cause { HasCause (S.faults store.old) (S.faults store.new) result }
+{
+    let byte = feed.byte(store, at)?;
+    Ok(byte)
+}
+
 /// Reads so many bytes into a buffer, from an index on; false where the bytes end before.
 pub fn read_bytes<S: Store>(
     feed: &mut PageFeed<'_, S>,
@@ -64,6 +85,8 @@ pub fn read_bytes<S: Store>(
     ensures file { SameFile feed.old feed.new }
     ensures looked { Looked feed.old.part (S.files store.old) (S.files store.new) (S.reads store.old) (S.reads store.new) (S.faults store.old) (S.faults store.new) }
     ensures told { IsSome (S.files store.old) → IfOk result (λ whole. IsPut whole out.old out.new from count at (bytes_at (S.files store.old) feed.old.name)) }
+    ensures read_on { IfOk result (λ whole. whole ≡ true → ReadOn feed.old feed.new (S.reads store.old) (S.reads store.new) at (at + count)) }
+    ensures read_to { ReadTo feed.old (S.reads store.old) (S.reads store.new) at (at + count) }
     ensures cause { HasCause (S.faults store.old) (S.faults store.new) result }
 {
     let whole = feed.fill(store, at, &mut out[from..from + count])?;
@@ -104,9 +127,11 @@ pub fn read_whole<S: Store>(
     ensures looked { Looked feed.old.part (S.files store.old) (S.files store.new) (S.reads store.old) (S.reads store.new) (S.faults store.old) (S.faults store.new) }
     ensures told { IsSome (S.files store.old) → IfOk result (λ size. read_whole width number (string_of before.now) (drop at (bytes_at (S.files store.old) feed.old.name)) ≡ found_of width out.new size) }
     ensures size { IfOk result (λ size. IfSome size (λ n. n ≤ 281)) }
+    ensures read_on { IfOk result (λ size. IfSome size (λ n. ReadOn feed.old feed.new (S.reads store.old) (S.reads store.new) at (at + n))) }
+    ensures read_to { ReadTo feed.old (S.reads store.old) (S.reads store.new) at (at + 281) }
     ensures cause { HasCause (S.faults store.old) (S.faults store.new) result }
 {
-    let Some(length) = feed.byte(store, at)? else {
+    let Some(length) = read_byte(feed, store, at)? else {
         return Ok(None);
     };
     let count = usize::from(length);
@@ -152,12 +177,14 @@ pub fn read_cut<S: Store>(
     ensures looked { Looked feed.old.part (S.files store.old) (S.files store.new) (S.reads store.old) (S.reads store.new) (S.faults store.old) (S.faults store.new) }
     ensures told { IsSome (S.files store.old) → IfOk result (λ size. read_cut width (string_of before.now) (drop at (bytes_at (S.files store.old) feed.old.name)) ≡ found_of width out.new size) }
     ensures size { IfOk result (λ size. IfSome size (λ n. n ≤ 281)) }
+    ensures read_on { IfOk result (λ size. IfSome size (λ n. ReadOn feed.old feed.new (S.reads store.old) (S.reads store.new) at (at + n))) }
+    ensures read_to { ReadTo feed.old (S.reads store.old) (S.reads store.new) at (at + 281) }
     ensures cause { HasCause (S.faults store.old) (S.faults store.new) result }
 {
-    let Some(shared) = feed.byte(store, at)? else {
+    let Some(shared) = read_byte(feed, store, at)? else {
         return Ok(None);
     };
-    let Some(more) = feed.byte(store, at + 1)? else {
+    let Some(more) = read_byte(feed, store, at + 1)? else {
         return Ok(None);
     };
     let length = before.bytes().len();
@@ -202,6 +229,8 @@ pub fn read_entry<S: Store>(
     ensures looked { Looked feed.old.part (S.files store.old) (S.files store.new) (S.reads store.old) (S.reads store.new) (S.faults store.old) (S.faults store.new) }
     ensures told { IsSome (S.files store.old) → IfOk result (λ size. read_entry width number (string_of before.now) (drop at (bytes_at (S.files store.old) feed.old.name)) ≡ found_of width out.new size) }
     ensures size { IfOk result (λ size. IfSome size (λ n. n ≤ 281)) }
+    ensures read_on { IfOk result (λ size. IfSome size (λ n. ReadOn feed.old feed.new (S.reads store.old) (S.reads store.new) at (at + n))) }
+    ensures read_to { ReadTo feed.old (S.reads store.old) (S.reads store.new) at (at + 281) }
     ensures cause { HasCause (S.faults store.old) (S.faults store.new) result }
 {
     if number % 4 == 0 {

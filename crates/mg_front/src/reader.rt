@@ -1,15 +1,17 @@
 // Entries of a part by their number.
-ghost use Rattle.std.specs.Prelude.{◌⊎◌, Err, ◌≡◌, ◌≢◌, ◌-◌, if◌then◌else◌, ◌≤◌, ◌<◌, ◌+◌, ◌*◌, ◌%◌, ◌/◌, ◌^◌, List, IfOk, IfSome, IsSome, length, take, drop, slice_get, None, Some, ℕ, true};
+ghost use Rattle.std.specs.Prelude.{◌⊎◌, Err, ◌≡◌, ◌≢◌, ◌-◌, if◌then◌else◌, ◌≤◌, ◌<◌, ◌+◌, ◌*◌, ◌%◌, ◌/◌, ◌^◌, List, IfErr, IfOk, IfSome, IsSome, length, take, drop, slice_get, None, Some, ℕ, true, false};
 ghost use Rattle.mg_dev.specs.Files.{bytes_at};
 ghost use Rattle.mg_dev.specs.Causes.{HasCause};
 ghost use Rattle.mg_bits.specs.Pages.{Fits, SameFile, Looked};
 ghost use Rattle.mg_defs.specs.Numbers.{four};
-ghost use Rattle.mg_defs.specs.Front.{Entry, IsFront, front};
+ghost use Rattle.mg_defs.specs.Front.{Entry, IsFront, front, whole_at};
 ghost use Rattle.mg_front.specs.Entries.{entry_of, string_of};
-ghost use Rattle.mg_front.specs.Reading.{Around, AnswersPlace, Fronted, FrontFits, FrontStands, AnswersAt, AnswersBlock, AnswersFind, AnswersIn, AnswersPlaces, AnswersScan, IsInBlock, IsReader, LookedAt, SameParts, places_size};
+ghost use Rattle.mg_front.specs.Reading.{Around, AnswersPlace, Fronted, FrontFits, FrontStands, AnswersAt, AnswersBlock, AnswersFind, AnswersIn, AnswersPlaces, AnswersScan, IsNotBad, IsInBlock, IsReader, LookedAt, SameParts, places_size};
 ghost use Rattle.mg_dev.specs.Files.{SameReads};
-ghost use Rattle.mg_dev.specs.Names.{full_name};
+ghost use Rattle.mg_dev.specs.Names.{full_name, same_part};
+ghost use Rattle.mg_front.specs.Looks.{ReadTo, ReadLooks, halvings, looks};
 ghost use Rattle.std.specs.Bool.{OnTrue, OnFalse};
+ghost use Rattle.std.specs.Int.{div_ceil};
 ghost use Rattle.mg_dev.specs.PartCauses.{HasPartCause};
 
 use crate::FrontEntry;
@@ -38,6 +40,7 @@ pub fn place_of<S: Store>(
     ensures looked { Looked places.old.part (S.files store.old) (S.files store.new) (S.reads store.old) (S.reads store.new) (S.faults store.old) (S.faults store.new) }
     ensures told { IsSome (S.files store.old) → IfOk result (λ place. AnswersPlace place block (bytes_at (S.files store.old) places.old.name)) }
     ensures small { IfOk result (λ place. IfSome place (λ at. at < 2 ^ 32)) }
+    ensures page { S.reads store.new places.old.part ≤ S.reads store.old places.old.part + 1 }
     ensures cause { HasCause (S.faults store.old) (S.faults store.new) result }
 {
     let mut four = [0u8; 4];
@@ -65,6 +68,7 @@ pub fn read_block<S: Store>(
     ensures looked { Looked strings.old.part (S.files store.old) (S.files store.new) (S.reads store.old) (S.reads store.new) (S.faults store.old) (S.faults store.new) }
     ensures told { IsSome (S.files store.old) → (es : List Entry) (block : ℕ) → IsFront width (bytes_at (S.files store.old) strings.old.name) es → from ≡ length (front (take (4 * block) es)) → 4 * block + last < length es →
         IfOk result (λ there. (there ≡ true) × (slice_get es (4 * block + last) ≡ Some (entry_of width out.new))) }
+    ensures read_to { ReadTo strings.old (S.reads store.old) (S.reads store.new) from (from + 1124) }
     ensures cause { HasCause (S.faults store.old) (S.faults store.new) result }
 {
     let mut place = from;
@@ -112,6 +116,7 @@ fn scan_block<S: Store>(
     ensures told { IsSome (S.files store.old) → (es : List Entry) (block : ℕ) → IsFront width (bytes_at (S.files store.old) strings.old.name) es → from ≡ length (front (take (4 * block) es)) → 4 * block + most ≤ length es →
         IfOk result (λ scan. AnswersScan scan (4 * block) most string.now width out.new es) }
     ensures number { IfOk result (λ scan. IsInBlock scan most) }
+    ensures read_to { ReadTo strings.old (S.reads store.old) (S.reads store.new) from (from + 1124) }
     ensures cause { HasCause (S.faults store.old) (S.faults store.new) result }
 {
     let mut place = from;
@@ -195,6 +200,7 @@ impl<'a, S: Store> FrontReader<'a, S> {
         ensures fits { IfOk result (λ reader. FrontFits reader (S.files store.new)) }
         ensures reader { IfOk result (λ reader. IsReader reader (full_name strings.entry.base.now strings.entry.part) strings.entry.part (full_name places.entry.base.now places.entry.part) places.entry.part width count) }
         ensures answer { IsSome (S.files store.old) → AnswersPlaces places.entry.part (places_size count) (bytes_at (S.files store.old) (full_name places.entry.base.now places.entry.part)) result }
+        ensures stands { (es : List Entry) → IsSome (S.files store.old) → bytes_at (S.files store.old) (full_name places.entry.base.now places.entry.part) ≡ whole_at es → length es ≡ count → IfErr result (λ refusal. IsNotBad refusal) }
         ensures files { S.files store.new ≡ S.files store.old }
         ensures reads { SameReads (S.reads store.old) (S.reads store.new) }
         ensures cause { HasPartCause (S.faults store.old) (S.faults store.new) result }
@@ -235,6 +241,7 @@ impl<'a, S: Store> FrontReader<'a, S> {
         ensures looked { LookedAt self.old.strings.part self.old.places.part (S.files store.old) (S.files store.new) (S.reads store.old) (S.reads store.new) (S.faults store.old) (S.faults store.new) }
         ensures entry { (es : List Entry) → FrontStands self.old (S.files store.old) es → AnswersAt result self.old.width i out.new es }
         ensures memory { result ≢ Err PartErr.Memory }
+        ensures reads { same_part self.old.strings.part self.old.places.part ≡ false → ReadLooks self.old.strings.part self.old.places.part (S.reads store.old) (S.reads store.new) 1 }
         ensures cause { HasPartCause (S.faults store.old) (S.faults store.new) result }
     {
         let place = match place_of(&mut self.places, store, i / 4) {
@@ -278,6 +285,7 @@ impl<'a, S: Store> FrontReader<'a, S> {
         ensures looked { LookedAt self.old.strings.part self.old.places.part (S.files store.old) (S.files store.new) (S.reads store.old) (S.reads store.new) (S.faults store.old) (S.faults store.new) }
         ensures found { (es : List Entry) → FrontStands self.old (S.files store.old) es → AnswersFind result self.old.width string.now out.new es }
         ensures memory { result ≢ Err PartErr.Memory }
+        ensures reads { same_part self.old.strings.part self.old.places.part ≡ false → ReadLooks self.old.strings.part self.old.places.part (S.reads store.old) (S.reads store.new) (looks self.old.count) }
         ensures cause { HasPartCause (S.faults store.old) (S.faults store.new) result }
     {
         let block = match self.block_of(store, string, out) {
@@ -302,6 +310,7 @@ impl<'a, S: Store> FrontReader<'a, S> {
         ensures found { (es : List Entry) → FrontStands self.old (S.files store.old) es → AnswersBlock result string.now es }
         ensures below { IfOk result (λ block. IfSome block (λ b. 4 * b < self.old.count)) }
         ensures memory { result ≢ Err PartErr.Memory }
+        ensures reads { same_part self.old.strings.part self.old.places.part ≡ false → ReadLooks self.old.strings.part self.old.places.part (S.reads store.old) (S.reads store.new) (halvings (div_ceil self.old.count 4)) }
         ensures cause { HasPartCause (S.faults store.old) (S.faults store.new) result }
     {
         let mut low = 0u32;
@@ -337,6 +346,7 @@ impl<'a, S: Store> FrontReader<'a, S> {
         ensures looked { LookedAt self.old.strings.part self.old.places.part (S.files store.old) (S.files store.new) (S.reads store.old) (S.reads store.new) (S.faults store.old) (S.faults store.new) }
         ensures found { (es : List Entry) → FrontStands self.old (S.files store.old) es → AnswersIn result block self.old.width string.now out.new es }
         ensures memory { result ≢ Err PartErr.Memory }
+        ensures reads { same_part self.old.strings.part self.old.places.part ≡ false → ReadLooks self.old.strings.part self.old.places.part (S.reads store.old) (S.reads store.new) 1 }
         ensures cause { HasPartCause (S.faults store.old) (S.faults store.new) result }
     {
         let place = match place_of(&mut self.places, store, block) {

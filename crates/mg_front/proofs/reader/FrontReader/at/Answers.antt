@@ -2,6 +2,7 @@ use Rattle.std.proofs.Common.{rules, arith, refl, sym, ◌∙◌, ap, subst, Boo
 use Rattle.mg_dev.specs.Files.{bytes_at}
 use Rattle.mg_defs.specs.Front.{IsFront, front}
 use Rattle.mg_front.specs.Reading.{AnswersAt}
+use Rattle.mg_front.proofs.ReadPages.{one_look, place_look}
 use Rattle.mg_front.proofs.ReaderLaws.{block_place, block_there}
 use Rattle.mg_front.proofs.reader.FrontReader.at.Goals.{in-Ok-true, in-Ok-false, in-Err-read_block}
 use Rattle.mg_front.proofs.reader.FrontReader.at.Goals as goal
@@ -34,3 +35,12 @@ returns-clause-entry g c =
       | in-Ok-false w ↦ absurd (clash w.in-Ok-false.field-0 w.in-Ok-false.field-0-test (w.in-Ok-false.ensures.told told es (c.args.i / 4) strings place within).0)
       | in-Err-read_block w ↦ subst (λ r. AnswersAt r c.self.inside.width c.args.i c.read_block.new.out es) (sym w.result-is) tt
     ])
+
+pub returns-in-Ok-None-clause-reads : goal.returns-in-Ok-None-clause-reads
+returns-in-Ok-None-clause-reads g c = rw (← c.self.view_is) (λ apart. place_look _ _ _ _ _ _ _ _ apart c.in-Ok-None.ensures.page c.in-Ok-None.ensures.looked)
+
+pub returns-in-Err-clause-reads : goal.returns-in-Err-clause-reads
+returns-in-Err-clause-reads g c = rw (← c.self.view_is) (λ apart. place_look _ _ _ _ _ _ _ _ apart c.in-Err.ensures.page c.in-Err.ensures.looked)
+
+pub returns-clause-reads : goal.returns-clause-reads
+returns-clause-reads g c = rw (← c.self.view_is) (λ apart. one_look _ _ _ _ _ _ _ _ _ _ _ _ apart c.in-Ok-Some.ensures.page c.in-Ok-Some.ensures.looked c.read_block.ensures.looked c.read_block.ensures.read_to)

@@ -1,10 +1,18 @@
-use Rattle.std.proofs.Common.{rules, arith, refl, sym, ◌∙◌, ap, cond, Bool, true, false, ◌≤◌, ◌<◌, ℕ, ◌≡◌, ◌≢◌, ◌+◌, ◌-◌, ◌*◌, ◌/◌}
+use Rattle.std.proofs.Common.{rules, arith, refl, sym, ◌∙◌, ap, cond, Bool, true, false, ◌≤◌, ◌<◌, ℕ, ◌≡◌, ◌≢◌, ◌+◌, ◌-◌, ◌*◌, ◌/◌, ◌^◌, subst}
 use Rattle.std.specs.Int.{div_ceil}
 use Rattle.mg_defs.specs.Front.{is_below}
 use Rattle.mg_front.specs.Entries.{entry_of, string_of}
 use Rattle.mg_front.proofs.OrderLaws.{between_start, between_step, around_of, stands_same}
+use Rattle.mg_dev.specs.Names.{same_part}
+use Rattle.mg_dev.specs.Files.{Reads}
+use Rattle.mg_dev.specs.declared.part.Part.{Part}
+use Rattle.mg_front.specs.Looks.{halvings}
+use Rattle.mg_front.proofs.ReadPages.{Halved, halved_none, halved_more, halved_look, halved_done, look_as}
 use Rattle.mg_front.proofs.ReaderLaws.{looked_again, looked_not}
 use Rattle.mg_front.proofs.reader.FrontReader.block_of.Goals as goal
+
+halved_none_as : (strings places : Part) (r : Reads) (blocks left : ℕ) → blocks < 2 ^ 32 → left ≡ blocks → Halved strings places r r left (halvings blocks)
+halved_none_as strings places r blocks left small same = subst (λ n. Halved strings places r r n (halvings blocks)) (sym same) (halved_none strings places r blocks small)
 
 pub loop-low-init : goal.loop-low-init
 loop-low-init g c = record {
@@ -13,12 +21,17 @@ loop-low-init g c = record {
   looked = looked_not _ _ _ _ _;
   high = omega (arith, c.div_ceil-high.ensures, c.count.ensures);
   low = omega arith;
+  reads = λ apart. halved_none_as _ _ _ _ _ (omega (arith, c.div_ceil-high.ensures, c.count.ensures)) (omega arith);
   between = λ es stands. between_start es _ _ (omega (arith, c.div_ceil-high.ensures, c.count.ensures, stands.count));
 }
 
 under : (above : Bool) (low high middle most l h : ℕ) → l ≡ cond above low (middle + 1) → h ≡ cond above middle high → high ≤ most → low ≤ middle → middle < high → (h ≤ most) × (l ≤ h)
 under true low high middle most l h e f p q r = (omega arith, omega arith)
 under false low high middle most l h e f p q r = (omega arith, omega arith)
+
+under_half : (above : Bool) (low high l h : ℕ) → l ≡ cond above low (low + (high - low) / 2 + 1) → h ≡ cond above (low + (high - low) / 2) high → low < high → h - l ≤ (high - low) / 2
+under_half true low high l h e f some = omega arith
+under_half false low high l h e f some = omega arith
 
 pub loop-low-preserved : goal.loop-low-preserved
 loop-low-preserved g c =
@@ -31,6 +44,9 @@ loop-low-preserved g c =
       looked = looked_again _ _ _ _ _ _ _ _ _ _ _ _ _ inv.looked at.looked inv.same.strings_part inv.same.places_part;
       high = room.0;
       low = room.1;
+      reads = λ apart.
+          let one = look_as _ _ _ _ _ _ inv.same.strings_part inv.same.places_part apart at.reads in
+          halved_more _ _ _ _ _ _ _ _ (omega arith) (under_half c.is_below-above.result c.loop-low.low c.loop-low.high _ _ c.lower-low.ensures c.higher-high.ensures (omega arith)) (inv.reads apart) one;
       between = λ es stands.
           let here = stands_same c.args.self.now c.loop-low.self (g.S.Store.files c.args.store.now) (g.S.Store.files c.loop-low.store) es inv.same inv.looked.files stands in
           between_step c.loop-low.self.width es c.args.string.now c.loop-low.low c.loop-low.high (c.loop-low.low + (c.loop-low.high - c.loop-low.low) / 2) c.is_below-above.result (entry_of c.loop-low.self.width c.at.new.out) c.lower-low.result c.higher-high.result here.strings.entries (at.entry es here) (c.is_below-above.ensures ∙ ap (is_below c.args.string.now) c.bytes.ensures) (inv.between es stands) c.lower-low.ensures c.higher-high.ensures;
@@ -41,3 +57,12 @@ returns-then-low-eq0-clause-found g c = λ es stands. around_of es _ c.loop-low.
 
 pub returns-clause-found : goal.returns-clause-found
 returns-clause-found g c = λ es stands. (omega (arith, c.loop-low.invariant.high, c.loop-low.invariant.low, stands.count), around_of es _ c.loop-low.low c.loop-low.high (c.loop-low.low - 1 + 1) (c.loop-low.invariant.between es stands) (omega arith) (omega arith))
+
+pub returns-in-Err-clause-reads : goal.returns-in-Err-clause-reads
+returns-in-Err-clause-reads g c = λ apart. halved_look _ _ _ _ _ _ _ (omega arith) (c.loop-low.invariant.reads apart) (look_as _ _ _ _ _ _ c.loop-low.invariant.same.strings_part c.loop-low.invariant.same.places_part apart c.in-Err.ensures.reads)
+
+pub returns-then-low-eq0-clause-reads : goal.returns-then-low-eq0-clause-reads
+returns-then-low-eq0-clause-reads g c = λ apart. halved_done _ _ _ _ _ _ (c.loop-low.invariant.reads apart)
+
+pub returns-clause-reads : goal.returns-clause-reads
+returns-clause-reads g c = λ apart. halved_done _ _ _ _ _ _ (c.loop-low.invariant.reads apart)

@@ -4,6 +4,7 @@ use Rattle.mg_dev.specs.Files.{bytes_at}
 use Rattle.mg_defs.specs.Front.{IsFront, front}
 use Rattle.mg_front.specs.Reading.{AnswersScan, IsInBlock}
 use Rattle.mg_front.proofs.OrderLaws.{none_behind, last_or_full}
+use Rattle.mg_front.proofs.ReadPages.{one_look, place_look}
 use Rattle.mg_front.proofs.ReaderLaws.{block_place, block_there}
 use Rattle.mg_front.proofs.reader.FrontReader.find_in.Goals as goal
 
@@ -63,3 +64,21 @@ returns-in-Damaged-clause-found g c =
     let within : 4 * c.args.block + c.min-most.result ≤ length es = omega (arith, below, stands.count, most) in
     let scan = c.in-Ok.ensures.told told es c.args.block strings place within in
     subst (λ scan. AnswersScan scan (4 * c.args.block) c.min-most.result c.args.string.now c.self.inside.width c.scan_block.new.out es) c.in-Damaged.is scan)
+
+pub returns-in-Ok-None-clause-reads : goal.returns-in-Ok-None-clause-reads
+returns-in-Ok-None-clause-reads g c = rw (← c.self.view_is) (λ apart. place_look _ _ _ _ _ _ _ _ apart c.in-Ok-None.ensures.page c.in-Ok-None.ensures.looked)
+
+pub returns-in-Err-clause-reads : goal.returns-in-Err-clause-reads
+returns-in-Err-clause-reads g c = rw (← c.self.view_is) (λ apart. place_look _ _ _ _ _ _ _ _ apart c.in-Err.ensures.page c.in-Err.ensures.looked)
+
+pub returns-in-Err-scan_block-clause-reads : goal.returns-in-Err-scan_block-clause-reads
+returns-in-Err-scan_block-clause-reads g c = rw (← c.self.view_is) (λ apart. one_look _ _ _ _ _ _ _ _ _ _ _ _ apart c.in-Ok-Some.ensures.page c.in-Ok-Some.ensures.looked c.scan_block.ensures.looked c.scan_block.ensures.read_to)
+
+pub returns-in-Absent-clause-reads : goal.returns-in-Absent-clause-reads
+returns-in-Absent-clause-reads g c = rw (← c.self.view_is) (λ apart. one_look _ _ _ _ _ _ _ _ _ _ _ _ apart c.in-Ok-Some.ensures.page c.in-Ok-Some.ensures.looked c.scan_block.ensures.looked c.scan_block.ensures.read_to)
+
+pub returns-in-Damaged-clause-reads : goal.returns-in-Damaged-clause-reads
+returns-in-Damaged-clause-reads g c = rw (← c.self.view_is) (λ apart. one_look _ _ _ _ _ _ _ _ _ _ _ _ apart c.in-Ok-Some.ensures.page c.in-Ok-Some.ensures.looked c.scan_block.ensures.looked c.scan_block.ensures.read_to)
+
+pub returns-clause-reads : goal.returns-clause-reads
+returns-clause-reads g c = rw (← c.self.view_is) (λ apart. one_look _ _ _ _ _ _ _ _ _ _ _ _ apart c.in-Ok-Some.ensures.page c.in-Ok-Some.ensures.looked c.scan_block.ensures.looked c.scan_block.ensures.read_to)

@@ -1,0 +1,29 @@
+-- How many pages a call reads of a part, and how many places a look-up looks at.
+use Rattle.std.specs.Prelude.{◌≤◌, ◌+◌, ◌*◌, ◌/◌, ℕ}
+use Rattle.std.specs.Int.{div_ceil}
+use Rattle.mg_dev.specs.declared.part.Part.{Part}
+use Rattle.mg_dev.specs.Files.{Reads}
+use Rattle.mg_bits.specs.Feed.{lacks}
+use Rattle.mg_bits.specs.Pages.{Paging}
+use Rattle.mg_defs.specs.Codes.{ceil_log2}
+
+-- A call that read the bytes from one place up to another read at most one page for each page boundary between them, and the page of the first where it was not held. The page that is held now counts for the next byte.
+pub record ReadOn (old new : Paging) (before now : Reads) (from to : ℕ) : Type 0 where
+  pub pages : now old.part + lacks new.held (to / 4096) + from / 4096 ≤ before old.part + lacks old.held (from / 4096) + to / 4096
+
+-- A call that read no byte past a place, and that may have stopped before it.
+pub record ReadTo (old : Paging) (before now : Reads) (from to : ℕ) : Type 0 where
+  pub pages : now old.part + from / 4096 ≤ before old.part + lacks old.held (from / 4096) + to / 4096
+
+-- So many places were looked at: each takes one page of the places, and the four entries at most from it on lie on two pages.
+pub record ReadLooks (strings places : Part) (before now : Reads) (looks : ℕ) : Type 0 where
+  pub places_read : now places ≤ before places + looks
+  pub strings_read : now strings ≤ before strings + 2 * looks
+
+-- how often so many blocks can be halved until none is left: the whole part of their logarithm and one
+abbrev pub halvings : ℕ → ℕ
+halvings blocks = ceil_log2 (blocks + 1)
+
+-- how many places a look-up among so many entries looks at, at most: one for each halving of the blocks of four, and that of the block that is left
+abbrev pub looks : ℕ → ℕ
+looks count = halvings (div_ceil count 4) + 1
