@@ -24,12 +24,12 @@ use Rattle.mg_dev.specs.declared.part.Part.TheVariants.{Lex, LexAt}
 use Rattle.mg_bits.specs.Writer.{Writing}
 use Rattle.mg_front.specs.Entries.{entry_of}
 use Rattle.mg_front.specs.Fronting.{Finished, IsOther, PlacesHold, Took}
-use Rattle.mg_front.specs.Reading.{AnswersFind, Fronted, FrontStands, IsAbsent, SameParts}
+use Rattle.mg_front.specs.Reading.{AnswersFind, Fronted, FrontStands, IsAbsent, IsReader, SameParts}
 use Rattle.mg_front.specs.Looks.{ReadLooks}
 use Rattle.mg_front.specs.declared.entry.FrontEntry.{FrontEntry}
 use Rattle.mg_layout.specs.Infos.{info_of as told_of}
 use Rattle.mg_layout.specs.declared.term_info.TermInfo as declared
-use Rattle.mg_lex.specs.Reading.{AnswersTerm, IsInfo, IsNoTerm, LexStands}
+use Rattle.mg_lex.specs.Reading.{AnswersTerm, IsInfo, IsLexicon, IsNoTerm, LexStands}
 use Rattle.mg_lex.specs.Writing.{LexWriting, TermsStand, TookTerms, places_name}
 use Rattle.mg_lex.specs.Terms.{FitsField, Term, entries_of, entry_of_term, terms_of}
 
@@ -101,6 +101,26 @@ front_stands lex files collection width stands = record {
   places = stands.lex_at;
   count = lexicon_long collection ∙ stands.terms;
   few = omega (arith, lexicon_long collection, stands.few);
+}
+
+-- a reader of the parts of a base
+pub lex_loaded : (r : Fronted) (base : List ℕ) (files files_now : Option Files) (terms : ℕ) (collection : List ℕ) → IsReader r (full_name base Lex) Lex (full_name base LexAt) LexAt 16 terms → files_now ≡ files → IsLexicon base files terms collection → LexStands r files_now collection
+lex_loaded r base files files_now terms collection reader e is = record {
+  told = subst IsSome (sym e) is.told;
+  lex = ap (bytes_at files_now) reader.strings_is ∙ ap (λ f. bytes_at f (full_name base Lex)) e ∙ is.lex_is;
+  lex_at = ap (bytes_at files_now) reader.places_is ∙ ap (λ f. bytes_at f (full_name base LexAt)) e ∙ is.lex_at_is;
+  terms = is.terms_are ∙ sym reader.count_is;
+  few = is.few;
+}
+
+-- what was written of the terms of a collection is its lexicon
+pub written_is : (base : List ℕ) (files : Option Files) (collection : List ℕ) → IsSome files → TermsStand base files (terms_of collection) → length (dictionary collection) ≤ 2 ^ 22 → IsLexicon base files (length (dictionary collection)) collection
+written_is base files collection told stand few = record {
+  told = told;
+  lex_is = stand.lex ∙ ap front (entries_of_terms collection);
+  lex_at_is = stand.lex_at ∙ ap whole_at (entries_of_terms collection);
+  terms_are = refl;
+  few = few;
 }
 
 -- an entry that was found tells of its term

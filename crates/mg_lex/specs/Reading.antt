@@ -4,6 +4,8 @@ use Rattle.std.specs.Option.{IsSome}
 use Rattle.std.specs.declared.option.Option.{Option}
 use Rattle.std.specs.declared.result.Result.{Result}
 use Rattle.mg_dev.specs.Files.{Files, bytes_at}
+use Rattle.mg_dev.specs.Names.{full_name}
+use Rattle.mg_dev.specs.declared.part.Part.TheVariants.{Lex, LexAt}
 use Rattle.mg_dev.specs.declared.part_err.PartErr.{PartErr}
 use Rattle.mg_dev.specs.declared.part_err.PartErr.TheVariants.{Device, Memory, Bad}
 use Rattle.mg_defs.specs.Lexicon as defs
@@ -12,7 +14,15 @@ use Rattle.mg_front.specs.Reading.{Fronted}
 use Rattle.mg_layout.specs.Infos.{info_of}
 use Rattle.mg_layout.specs.declared.term_info.TermInfo.{TermInfo}
 
--- its parts are the lexicon of this collection
+-- the two parts of a base are the lexicon of this collection, which has so many terms
+pub record IsLexicon (base : List ℕ) (files : Option Files) (terms : ℕ) (collection : List ℕ) : Type 0 where
+  pub told : IsSome files
+  pub lex_is : bytes_at files (full_name base Lex) ≡ defs.lex_bytes collection
+  pub lex_at_is : bytes_at files (full_name base LexAt) ≡ defs.lex_at_bytes collection
+  pub terms_are : length (dictionary collection) ≡ terms
+  pub few : length (dictionary collection) ≤ 2 ^ 22
+
+-- the parts of a reader are the lexicon of this collection
 pub record LexStands (r : Fronted) (files : Option Files) (collection : List ℕ) : Type 0 where
   pub told : IsSome files
   pub lex : bytes_at files r.strings.name ≡ defs.lex_bytes collection

@@ -1,15 +1,14 @@
 // What a lexicon tells of a term.
-ghost use Rattle.std.specs.Prelude.{◌≡◌, ◌≢◌, ◌≤◌, Err, IfErr, IfOk, IsSome, List, ℕ, length, take};
+ghost use Rattle.std.specs.Prelude.{◌≡◌, ◌≢◌, ◌≤◌, Err, IfErr, IfOk, IsSome, List, ℕ, take};
 ghost use Rattle.mg_dev.specs.Files.{SameReads, bytes_at};
 ghost use Rattle.mg_dev.specs.Names.{full_name};
 ghost use Rattle.mg_dev.specs.PartCauses.{HasPartCause};
 ghost use Rattle.mg_dev.specs.declared.part.Part.TheVariants as part;
-ghost use Rattle.mg_defs.specs.Lexicon.{info_bytes, lex_at_bytes};
-ghost use Rattle.mg_defs.specs.Terms.{dictionary};
+ghost use Rattle.mg_defs.specs.Lexicon.{info_bytes};
 ghost use Rattle.mg_front.specs.Looks.{ReadLooks, looks};
 ghost use Rattle.mg_front.specs.Reading.{AnswersPlaces, FrontFits, IsNotBad, IsReader, LookedAt, SameParts, places_size};
 ghost use Rattle.mg_layout.specs.Infos.{info_of};
-ghost use Rattle.mg_lex.specs.Reading.{AnswersTerm, LexStands};
+ghost use Rattle.mg_lex.specs.Reading.{AnswersTerm, IsLexicon, LexStands};
 
 use mg_dev::{FileRef, Part, PartErr, Store};
 use mg_front::{FrontEntry, FrontReader};
@@ -44,7 +43,8 @@ impl<'a, S: Store> Lex<'a, S> {
         ensures fits { IfOk result (λ lex. FrontFits lex (S.files store.new)) }
         ensures lex { IfOk result (λ lex. IsReader lex (full_name base.entry.now part.Lex) part.Lex (full_name base.entry.now part.LexAt) part.LexAt 16 head.now.terms) }
         ensures answer { IsSome (S.files store.old) → AnswersPlaces part.LexAt (places_size head.now.terms) (bytes_at (S.files store.old) (full_name base.entry.now part.LexAt)) result }
-        ensures stands { (collection : List ℕ) → IsSome (S.files store.old) → bytes_at (S.files store.old) (full_name base.entry.now part.LexAt) ≡ lex_at_bytes collection → length (dictionary collection) ≡ head.now.terms → IfErr result (λ refusal. IsNotBad refusal) }
+        ensures stands { (collection : List ℕ) → IsLexicon base.entry.now (S.files store.old) head.now.terms collection → IfOk result (λ lex. LexStands lex (S.files store.new) collection) }
+        ensures never_bad { (collection : List ℕ) → IsLexicon base.entry.now (S.files store.old) head.now.terms collection → IfErr result (λ refusal. IsNotBad refusal) }
         ensures files { S.files store.new ≡ S.files store.old }
         ensures reads { SameReads (S.reads store.old) (S.reads store.new) }
         ensures cause { HasPartCause (S.faults store.old) (S.faults store.new) result }

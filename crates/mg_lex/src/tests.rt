@@ -1,6 +1,7 @@
 // What no clause says: the bytes of real lexicons, that calls succeed, and what a look-up reads.
 ghost use Rattle.std.specs.Prelude.{◌≡◌, ◌==◌, ◌||◌};
 ghost use Rattle.mg_defs.specs.Front.{is_below};
+ghost use Rattle.mg_front.specs.Reading.{FrontFits};
 
 use crate::{Lex, LexWriter};
 use mg_dev::{MemStore, Part, PartErr, PutErr, Store};
@@ -143,6 +144,32 @@ fn many_bytes(alloc: Global, count: u32) -> Result<Vec<u8>, AllocError> {
     Ok(bytes)
 }
 
+// Whether what stands of each term is told, and none of its first four bytes.
+fn tells_each<S: Store>(
+    lex: &mut Lex<'_, S>,
+    store: &mut S,
+    lines: &[Line<'_>],
+) -> Result<bool, PartErr>
+    requires { FrontFits lex.old (S.files store.old) }
+{
+    let mut number = 0u32;
+    for line in lines {
+        let wanted = TermInfo {
+            number,
+            docs: line.1,
+            post_at: line.2,
+            skip_at: line.3,
+        };
+        let found = lex.find(store, line.0)?;
+        let shorter = lex.find(store, line.0.get(..4).unwrap_or(b""))?;
+        if found != Some(wanted) || shorter.is_some() {
+            return Ok(false);
+        }
+        number = number.wrapping_add(1);
+    }
+    Ok(true)
+}
+
 #[test]
 fn many_terms_are_told_with_few_reads(rt: HostRuntime) -> Result<(), Fail> {
     let alloc = rt.alloc();
@@ -150,43 +177,25 @@ fn many_terms_are_told_with_few_reads(rt: HostRuntime) -> Result<(), Fail> {
     let mut lines: Vec<Line<'_>> = Vec::new(alloc);
     let mut number = 0u32;
     for term in bytes.chunks_exact(5) {
-        lines.push((term, number, 7 * u64::from(number), number / 2))?;
+        lines.push((term, number, u64::from(number) << 20, number / 2))?;
         number = number.wrapping_add(1);
     }
     let mut store = MemStore::new(alloc);
     written(alloc, &mut store, &lines)?;
     let mut lex = Lex::load(alloc, &mut store, "set", &head_of(10_000))?;
-    number = 0;
-    for term in bytes.chunks_exact(5) {
-        let reads = [store.reads_of(Part::Lex), store.reads_of(Part::LexAt)];
-        let info = lex.find(&mut store, term)?;
-        let strings = store.reads_of(Part::Lex).saturating_sub(reads[0]);
-        let places = store.reads_of(Part::LexAt).saturating_sub(reads[1]);
-        let wanted = TermInfo {
-            number,
-            docs: number,
-            post_at: 7 * u64::from(number),
-            skip_at: number / 2,
-        };
-        assert_eq!(rt; info, Some(wanted));
-        assert!(rt;
-            strings <= 26 && places <= 13,
-            "{strings} and {places} reads for {number}"
-        );
-        assert_eq!(rt; lex.find(&mut store, term.get(..4).unwrap_or(term))?, None);
-        number = number.wrapping_add(1);
-    }
+    assert!(rt; tells_each(&mut lex, &mut store, &lines)?);
+    assert!(rt; store.reads_of(Part::Lex) <= 20_000 * 26);
+    assert!(rt; store.reads_of(Part::LexAt) <= 20_000 * 13);
     Ok(())
 }
 
 // Whether each look-up over these bytes ends, and without a refusal that has no cause.
-fn ends(alloc: Global, bytes: &[u8]) -> Result<bool, PartErr> {
+fn ends(alloc: Global, bytes: &[u8]) -> Result<bool, AllocError> {
     let mut store = MemStore::new(alloc);
     store.put_file("set.lex", bytes)?;
     store.put_file("set.lexat", &[0; 4])?;
-    let mut lex = Lex::load(alloc, &mut store, "set", &head_of(4))?;
     for line in TERMS {
-        if let Err(PartErr::Device | PartErr::Memory) = lex.find(&mut store, line.0) {
+        if let Err(PartErr::Device | PartErr::Memory) = told(&mut store, alloc, 4, line.0) {
             return Ok(false);
         }
     }
