@@ -272,7 +272,8 @@ impl<'a, S: Store> FrontReader<'a, S> {
 
     /// The number of a string, and its entry; None where it is no entry's string.
     ///
-    /// It goes over the whole entries first, and then reads the entries behind one.
+    /// It goes over the whole entries first, and then reads the entries behind one. Each whole
+    /// entry that it looks at takes at most one page of the places and two of the strings.
     pub fn find(
         &mut self,
         store: &mut S,

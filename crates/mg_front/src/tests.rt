@@ -347,6 +347,12 @@ fn a_failed_call_is_told_and_the_next_goes_on(rt: HostRuntime) -> Result<(), Fai
         let refused = written(alloc, &mut store, 0, items).is_err();
         assert_eq!(rt; refused, call < 4, "a failure at call {call} of a writer");
     }
+    for call in 0..3 {
+        let mut store = store_of(alloc, WORDS, WHOLE_AT)?;
+        store.fail_at(call, 0)?;
+        let refused = walked(alloc, &mut store, 5, &mut Vec::new(alloc)).is_err();
+        assert_eq!(rt; refused, call < 2, "a failure at call {call} of a walk");
+    }
     for call in 0..4 {
         let mut store = store_of(alloc, WORDS, WHOLE_AT)?;
         store.fail_at(call, 0)?;

@@ -1,0 +1,14 @@
+use Rattle.mg_lex.proofs.LexLaws.{entries_of_terms, lex_stays, terms_count, written_is}
+use Rattle.mg_lex.proofs.laws.lexicon_has_its_terms.Goals as goal
+
+pub returns-clause-entries : goal.returns-clause-entries
+returns-clause-entries c = entries_of_terms
+
+pub returns-clause-count : goal.returns-clause-count
+returns-clause-count c = terms_count
+
+pub returns-clause-stays : goal.returns-clause-stays
+returns-clause-stays c = lex_stays
+
+pub returns-clause-written : goal.returns-clause-written
+returns-clause-written c = written_is

@@ -1,0 +1,48 @@
+-- A reader of a lexicon: what it answers where its parts stand.
+use Rattle.std.specs.Prelude.{◌≡◌, ◌≢◌, ◌≤◌, ◌^◌, ℕ, List, length, slice_get, None, Some, Ok, Err}
+use Rattle.std.specs.Option.{IsSome}
+use Rattle.std.specs.declared.option.Option.{Option}
+use Rattle.std.specs.declared.result.Result.{Result}
+use Rattle.mg_dev.specs.Files.{Files, bytes_at}
+use Rattle.mg_dev.specs.Names.{full_name}
+use Rattle.mg_dev.specs.declared.part.Part.TheVariants.{Lex, LexAt}
+use Rattle.mg_dev.specs.declared.part_err.PartErr.{PartErr}
+use Rattle.mg_dev.specs.declared.part_err.PartErr.TheVariants.{Device, Memory, Bad}
+use Rattle.mg_defs.specs.Lexicon as defs
+use Rattle.mg_defs.specs.Terms.{dictionary}
+use Rattle.mg_front.specs.Reading.{Fronted}
+use Rattle.mg_layout.specs.Infos.{info_of}
+use Rattle.mg_layout.specs.declared.term_info.TermInfo.{TermInfo}
+
+-- the two parts of a base are the lexicon of this collection, which has so many terms
+pub record IsLexicon (base : List ℕ) (files : Option Files) (terms : ℕ) (collection : List ℕ) : Type 0 where
+  pub told : IsSome files
+  pub lex_is : bytes_at files (full_name base Lex) ≡ defs.lex_bytes collection
+  pub lex_at_is : bytes_at files (full_name base LexAt) ≡ defs.lex_at_bytes collection
+  pub terms_are : length (dictionary collection) ≡ terms
+  pub few : length (dictionary collection) ≤ 2 ^ 22
+
+-- the parts of a reader are the lexicon of this collection
+pub record LexStands (r : Fronted) (files : Option Files) (collection : List ℕ) : Type 0 where
+  pub told : IsSome files
+  pub lex : bytes_at files r.strings.name ≡ defs.lex_bytes collection
+  pub lex_at : bytes_at files r.places.name ≡ defs.lex_at_bytes collection
+  pub terms : length (dictionary collection) ≡ r.count
+  pub few : length (dictionary collection) ≤ 2 ^ 22
+
+-- what the lexicon tells of a term of the collection: its number, and the bytes of its field
+pub record IsInfo (info : TermInfo) (collection t : List ℕ) : Type 0 where
+  pub number : slice_get (dictionary collection) info.number ≡ Some t
+  pub field : defs.info_bytes (info_of info) ≡ defs.info_bytes (defs.info_of collection info.number t)
+
+-- no term of the collection
+abbrev pub IsNoTerm : List ℕ → List ℕ → Type 0
+IsNoTerm collection t = (i : ℕ) → slice_get (dictionary collection) i ≢ Some t
+
+-- where the parts stand: what they tell of the term, or none exactly where it is no term, and never that a part is bad
+abbrev pub AnswersTerm : Result (Option TermInfo) PartErr → List ℕ → List ℕ → Type 0
+AnswersTerm (Ok (Some info)) collection t = IsInfo info collection t
+AnswersTerm (Ok None) collection t = IsNoTerm collection t
+AnswersTerm (Err Device) collection t = Unit {0}
+AnswersTerm (Err Memory) collection t = ⊥
+AnswersTerm (Err (Bad bad)) collection t = ⊥

@@ -1,0 +1,93 @@
+// Terms into a lexicon, in order.
+ghost use Rattle.std.specs.Prelude.{◌≡◌, ◌≢◌, ◌≤◌, ◌<◌, ◌+◌, ◌++◌, ◌∷◌, ◌^◌, ◌==◌, ◌||◌, List, ℕ, [], IfOk, OnOk, IsSome, length, true};
+ghost use Rattle.std.specs.Option.{is_some};
+ghost use Rattle.mg_dev.specs.Causes.{HasPutCause};
+ghost use Rattle.mg_dev.specs.Files.{SameReads, file_at};
+ghost use Rattle.mg_dev.specs.Names.{full_name};
+ghost use Rattle.mg_dev.specs.declared.part.Part.TheVariants as part;
+ghost use Rattle.mg_defs.specs.Front.{is_below};
+ghost use Rattle.mg_layout.specs.Infos.{info_of};
+ghost use Rattle.mg_lex.specs.Terms.{Term};
+ghost use Rattle.mg_lex.specs.Writing.{TermsStand, TookTerms};
+
+use mg_dev::{FileRef, Part, PutErr, Store};
+use mg_front::FrontWriter;
+use mg_layout::TermInfo;
+use std::alloc::Global;
+use std::marker::Model;
+
+/// Writes the lexicon of terms that come in the order of their bytes.
+#[derive(Drop)]
+pub struct LexWriter<'a> {
+    base: &'a str,
+    front: FrontWriter<'a>,
+}
+
+impl<'a> Model for LexWriter<'a> {
+    ghost use Rattle.mg_lex.specs.Writing.{LexWriting};
+
+    ghost Value = { LexWriting };
+
+    ghost view = { λ w. record { base = w.base.now; front = w.front } };
+}
+
+impl<'a> LexWriter<'a> {
+    /// A writer of a lexicon under this base, whose two parts it empties.
+    pub fn start<S: Store>(alloc: Global, store: &mut S, base: &'a str) -> Result<Self, PutErr>
+        ensures took { IfOk result (λ writer. TookTerms writer (S.files store.new) []) }
+        ensures base { IfOk result (λ writer. writer.base ≡ base.entry.now) }
+        ensures others { (n : List ℕ) → n ≢ full_name base.entry.now part.Lex → n ≢ full_name base.entry.now part.LexAt → file_at (S.files store.new) n ≡ file_at (S.files store.old) n }
+        ensures told { is_some (S.files store.new) ≡ is_some (S.files store.old) }
+        ensures reads { SameReads (S.reads store.old) (S.reads store.new) }
+        ensures cause { HasPutCause (S.faults store.old) (S.faults store.new) result }
+    {
+        let strings = FileRef {
+            base,
+            part: Part::Lex,
+        };
+        let places = FileRef {
+            base,
+            part: Part::LexAt,
+        };
+        let front = FrontWriter::start(alloc, store, strings, Some(places), 16)?;
+        Ok(LexWriter { base, front })
+    }
+
+    /// Writes what stands of one term more, of at most 255 bytes and above the last one. Its
+    /// number is the count of those before.
+    pub fn push<S: Store>(
+        &mut self,
+        store: &mut S,
+        term: &[u8],
+        info: &TermInfo,
+    ) -> Result<(), PutErr>
+        requires took { (ts : List Term) × TookTerms self.old (S.files store.old) ts }
+        requires few { self.old.front.count < 2 ^ 22 }
+        requires short { length term.now ≤ 255 }
+        requires above { (self.old.front.count == 0 || is_below self.old.front.last term.now) ≡ true }
+        ensures took { OnOk result ((ts : List Term) → TookTerms self.old (S.files store.old) ts → TookTerms self.new (S.files store.new) (ts ++ record { string = term.now; info = info_of info.now } ∷ [])) }
+        ensures count { OnOk result (self.new.front.count ≡ self.old.front.count + 1) }
+        ensures last { OnOk result (self.new.front.last ≡ term.now) }
+        ensures base { self.new.base ≡ self.old.base }
+        ensures others { (n : List ℕ) → n ≢ full_name self.old.base part.Lex → n ≢ full_name self.old.base part.LexAt → file_at (S.files store.new) n ≡ file_at (S.files store.old) n }
+        ensures told { is_some (S.files store.new) ≡ is_some (S.files store.old) }
+        ensures reads { SameReads (S.reads store.old) (S.reads store.new) }
+        ensures cause { HasPutCause (S.faults store.old) (S.faults store.new) result }
+    {
+        self.front.push(store, term, &info.field())?;
+        Ok(())
+    }
+
+    /// Writes what is held. Then the parts are the lexicon of the terms that were pushed.
+    pub fn finish<S: Store>(&mut self, store: &mut S) -> Result<(), PutErr>
+        requires took { (ts : List Term) × TookTerms self.old (S.files store.old) ts }
+        ensures finished { OnOk result ((ts : List Term) → TookTerms self.old (S.files store.old) ts → IsSome (S.files store.old) → TermsStand self.old.base (S.files store.new) ts) }
+        ensures others { (n : List ℕ) → n ≢ full_name self.old.base part.Lex → n ≢ full_name self.old.base part.LexAt → file_at (S.files store.new) n ≡ file_at (S.files store.old) n }
+        ensures told { is_some (S.files store.new) ≡ is_some (S.files store.old) }
+        ensures reads { SameReads (S.reads store.old) (S.reads store.new) }
+        ensures cause { HasPutCause (S.faults store.old) (S.faults store.new) result }
+    {
+        self.front.finish(store)?;
+        Ok(())
+    }
+}
