@@ -17,6 +17,7 @@ pub mod CanonLaws
 pub mod CostLaws
 pub mod ListExamples
 pub mod ListLaws
+pub mod BlockLaws
 pub mod WalkLaws
 pub mod OneReading
 pub mod TokenLaws

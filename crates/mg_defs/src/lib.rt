@@ -6,6 +6,7 @@
 //! crates can use them.
 #![tactic(auto)]
 
+mod blocks;
 mod codes;
 mod front;
 mod heads;
@@ -18,6 +19,7 @@ mod session;
 mod texts;
 mod weights;
 
+pub use blocks::one_block;
 pub use codes::{no_code_is_a_front, one_answer, pages_of_a_range};
 pub use front::{entries_are_read, one_front, strings_rise};
 pub use heads::{damage_decides, one_head};
