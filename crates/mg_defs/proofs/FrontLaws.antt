@@ -1,5 +1,6 @@
 -- Laws of fronts of lists of bits, and of what a reader of a code answers.
-use Rattle.std.proofs.Common.{arith, ◌≡◌, ◌≤◌, ◌<◌, ℕ, [], ◌∷◌, ◌++◌, length, take, drop, refl, sym, ap, ◌⊎◌, inl, inr}
+use Rattle.std.proofs.Common.{rules, arith, suc, zero, ◌≡◌, ◌+◌, ◌≤◌, ◌<◌, ◌-◌, ℕ, Bool, true, false, List, [], ◌∷◌, ◌++◌, length, take, drop, refl, sym, ◌∙◌, ap, subst, ◌⊎◌, inl, inr, length-append, length-take}
+use Rattle.std.proofs.lemmas.Grind.{common_steps}
 use Rattle.mg_defs.specs.Bits.{Bits, Begins}
 use Rattle.mg_defs.specs.Answers.{Answer, value, end, over, Answers, CutShort, Ends, IsNone, IsPrefixFree}
 
