@@ -1,2 +1,5 @@
 pub mod Lengths
 pub mod WriterLaws
+pub mod ReadLaws
+pub mod FindLaws
+pub mod EnterLaws

@@ -9,7 +9,11 @@
 //! Lists and skips are those of Witten, Moffat and Bell, *Managing Gigabytes*, chapters 3 and 4.
 #![tactic(auto)]
 
+mod block;
+mod enter;
+mod find;
 mod put;
+mod read;
 mod refusal;
 mod writer;
 
