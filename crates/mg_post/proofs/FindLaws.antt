@@ -149,3 +149,14 @@ reads_same skip_at k j count now held now_held reads is same le page =
       read = subst (λ n. ReadTo (entry_page skip_at) (entry_page (skip_at + n)) now_held now) (sym f) (subst (λ h. ReadTo (entry_page skip_at) (entry_page (skip_at + j)) h now) (sym (same ∙ is)) there);
       none = λ z. absurd (omega (arith, z));
     }
+
+-- the entries between two of one page lie on that page
+pub page_between : (skip_at low middle high : ℕ) → entry_page (skip_at + low) ≡ entry_page (skip_at + high) → low ≤ middle → middle ≤ high → entry_page (skip_at + middle) ≡ entry_page (skip_at + high)
+page_between skip_at low middle high same le le' = omega (arith, same)
+
+-- nothing is read where the page is held
+pub count_same : (count now h p : ℕ) (held : Option ℕ) → held ≡ Some h → p ≡ h → now ≤ count + lacks held p → now ≤ count
+count_same count now h p held is same step =
+    let there : now ≤ count + lacks (Some h) p = subst (λ x. now ≤ count + lacks x p) is step in
+    let l : lacks (Some h) p ≡ 0 = lacks_next h p (omega (arith, same)) (omega (arith, same)) ∙ omega (arith, same) in
+    omega (arith, there, l)
