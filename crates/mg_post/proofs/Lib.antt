@@ -3,3 +3,4 @@ pub mod WriterLaws
 pub mod ReadLaws
 pub mod FindLaws
 pub mod EnterLaws
+pub mod CursorLaws

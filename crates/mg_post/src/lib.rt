@@ -10,6 +10,7 @@
 #![tactic(auto)]
 
 mod block;
+mod cursor;
 mod enter;
 mod find;
 mod put;
@@ -17,5 +18,6 @@ mod read;
 mod refusal;
 mod writer;
 
+pub use cursor::Cursor;
 pub use mg_defs::Posting;
 pub use writer::ListWriter;

@@ -48,13 +48,21 @@ returns-in-Ok-search_page-clause-reads g c =
 
 pub returns-in-Ok-search_page-clause-most : goal.returns-in-Ok-search_page-clause-most
 returns-in-Ok-search_page-clause-most g c =
-    omega (arith, c.in-Ok-search_page.ensures.count, within_entries c.args.skip_at c.page_end-high.result c.args.blocks _ c.page_end-high.ensures.there
-    (reads_to c.args.skip_at c.loop-low.low c.page_end-high.result _ _ _ c.loop-low.invariant.reads c.page_end-high.ensures.from c.in-Ok.ensures.count))
+    omega (
+      arith,
+      c.in-Ok-search_page.ensures.count,
+      within_entries c.args.skip_at c.page_end-high.result c.args.blocks _ c.page_end-high.ensures.there
+          (reads_to c.args.skip_at c.loop-low.low c.page_end-high.result _ _ _ c.loop-low.invariant.reads c.page_end-high.ensures.from c.in-Ok.ensures.count),
+    )
 
 pub returns-in-Err-search_page-clause-most : goal.returns-in-Err-search_page-clause-most
 returns-in-Err-search_page-clause-most g c =
-    omega (arith, c.in-Err-search_page.ensures.count, within_entries c.args.skip_at c.page_end-high.result c.args.blocks _ c.page_end-high.ensures.there
-    (reads_to c.args.skip_at c.loop-low.low c.page_end-high.result _ _ _ c.loop-low.invariant.reads c.page_end-high.ensures.from c.in-Ok.ensures.count))
+    omega (
+      arith,
+      c.in-Err-search_page.ensures.count,
+      within_entries c.args.skip_at c.page_end-high.result c.args.blocks _ c.page_end-high.ensures.there
+          (reads_to c.args.skip_at c.loop-low.low c.page_end-high.result _ _ _ c.loop-low.invariant.reads c.page_end-high.ensures.from c.in-Ok.ensures.count),
+    )
 
 pub returns-in-Err-clause-most : goal.returns-in-Err-clause-most
 returns-in-Err-clause-most g c =

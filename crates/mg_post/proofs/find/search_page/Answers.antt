@@ -28,45 +28,45 @@ loop-from-preserved g c =
     let step = count_same _ _ _ _ _ c.loop-from.invariant.held page c.in-Ok.ensures.count in
     elim c.if-doc-here.branch [
       | then-doc-here w ↦ record {
-          fits = c.in-Ok.ensures.fits;
-          calm = calm_more _ _ _ _ _ _ c.loop-from.invariant.calm c.in-Ok.ensures.calm;
-          count = omega (arith, step, c.loop-from.invariant.count);
-          held = c.in-Ok.ensures.held ∙ ap Some page;
-          low = omega (arith, w.from-is, c.loop-from.invariant.low);
-          order = omega (arith, w.from-is, w.to-is, c.loop-from.invariant.middle);
-          high = omega (arith, w.to-is, inside, c.loop-from.invariant.high);
-          middle = omega arith;
-          before_to = λ lt. omega (arith, lt);
-          known = omega (arith, w.passed-is, c.loop-from.invariant.known);
-          below = omega (arith, w.passed-is, c.loop-from.invariant.below);
-          within = omega (arith, w.end-is, w.if-doc-here.true);
-          most = omega (arith, w.end-is, c.in-Ok.ensures.within);
-          told = λ ps b blocks stands lt before last.
-              let old = c.loop-from.invariant.told ps b blocks stands lt before last in
-              let got : c.in-Ok.here ≡ doc_before (64 * (c.loop-from.middle + 1)) ps =
-              last_answer c.args.all b _ _ c.args.skip_at blocks c.loop-from.middle ps (Ok c.in-Ok.here) (same_told _ _ _ _ c.loop-from.invariant.calm) stands (omega (arith, inside, c.loop-from.invariant.high, lt)) c.in-Ok.ensures.told in
-              (rw (w.passed-is, w.from-is) old.0, rw (w.end-is, w.to-is) got);
-        }
+        fits = c.in-Ok.ensures.fits;
+        calm = calm_more _ _ _ _ _ _ c.loop-from.invariant.calm c.in-Ok.ensures.calm;
+        count = omega (arith, step, c.loop-from.invariant.count);
+        held = c.in-Ok.ensures.held ∙ ap Some page;
+        low = omega (arith, w.from-is, c.loop-from.invariant.low);
+        order = omega (arith, w.from-is, w.to-is, c.loop-from.invariant.middle);
+        high = omega (arith, w.to-is, inside, c.loop-from.invariant.high);
+        middle = omega arith;
+        before_to = λ lt. omega (arith, lt);
+        known = omega (arith, w.passed-is, c.loop-from.invariant.known);
+        below = omega (arith, w.passed-is, c.loop-from.invariant.below);
+        within = omega (arith, w.end-is, w.if-doc-here.true);
+        most = omega (arith, w.end-is, c.in-Ok.ensures.within);
+        told = λ ps b blocks stands lt before last.
+            let old = c.loop-from.invariant.told ps b blocks stands lt before last in
+            let got : c.in-Ok.here ≡ doc_before (64 * (c.loop-from.middle + 1)) ps =
+            last_answer c.args.all b _ _ c.args.skip_at blocks c.loop-from.middle ps (Ok c.in-Ok.here) (same_told _ _ _ _ c.loop-from.invariant.calm) stands (omega (arith, inside, c.loop-from.invariant.high, lt)) c.in-Ok.ensures.told in
+            (rw (w.passed-is, w.from-is) old.0, rw (w.end-is, w.to-is) got);
+      }
       | else-doc-here w ↦ record {
-          fits = c.in-Ok.ensures.fits;
-          calm = calm_more _ _ _ _ _ _ c.loop-from.invariant.calm c.in-Ok.ensures.calm;
-          count = omega (arith, step, c.loop-from.invariant.count);
-          held = c.in-Ok.ensures.held ∙ ap Some page;
-          low = omega (arith, w.from-is, c.loop-from.invariant.low, c.loop-from.invariant.middle);
-          order = omega (arith, w.from-is, w.to-is, inside);
-          high = omega (arith, w.to-is, c.loop-from.invariant.high);
-          middle = omega arith;
-          before_to = λ lt. omega (arith, lt);
-          known = omega (arith, w.passed-is, c.in-Ok.ensures.within);
-          below = omega (arith, w.passed-is, w.if-doc-here.false);
-          within = omega (arith, w.end-is, c.loop-from.invariant.within);
-          most = omega (arith, w.end-is, c.loop-from.invariant.most);
-          told = λ ps b blocks stands lt before last.
-              let old = c.loop-from.invariant.told ps b blocks stands lt before last in
-              let got : c.in-Ok.here ≡ doc_before (64 * (c.loop-from.middle + 1)) ps =
-              last_answer c.args.all b _ _ c.args.skip_at blocks c.loop-from.middle ps (Ok c.in-Ok.here) (same_told _ _ _ _ c.loop-from.invariant.calm) stands (omega (arith, inside, c.loop-from.invariant.high, lt)) c.in-Ok.ensures.told in
-              (rw (w.passed-is, w.from-is) got, rw (w.end-is, w.to-is) old.1);
-        }
+        fits = c.in-Ok.ensures.fits;
+        calm = calm_more _ _ _ _ _ _ c.loop-from.invariant.calm c.in-Ok.ensures.calm;
+        count = omega (arith, step, c.loop-from.invariant.count);
+        held = c.in-Ok.ensures.held ∙ ap Some page;
+        low = omega (arith, w.from-is, c.loop-from.invariant.low, c.loop-from.invariant.middle);
+        order = omega (arith, w.from-is, w.to-is, inside);
+        high = omega (arith, w.to-is, c.loop-from.invariant.high);
+        middle = omega arith;
+        before_to = λ lt. omega (arith, lt);
+        known = omega (arith, w.passed-is, c.in-Ok.ensures.within);
+        below = omega (arith, w.passed-is, w.if-doc-here.false);
+        within = omega (arith, w.end-is, c.loop-from.invariant.within);
+        most = omega (arith, w.end-is, c.loop-from.invariant.most);
+        told = λ ps b blocks stands lt before last.
+            let old = c.loop-from.invariant.told ps b blocks stands lt before last in
+            let got : c.in-Ok.here ≡ doc_before (64 * (c.loop-from.middle + 1)) ps =
+            last_answer c.args.all b _ _ c.args.skip_at blocks c.loop-from.middle ps (Ok c.in-Ok.here) (same_told _ _ _ _ c.loop-from.invariant.calm) stands (omega (arith, inside, c.loop-from.invariant.high, lt)) c.in-Ok.ensures.told in
+            (rw (w.passed-is, w.from-is) got, rw (w.end-is, w.to-is) old.1);
+      }
     ]
 
 pub returns-in-Ok-bits_of-clause-told : goal.returns-in-Ok-bits_of-clause-told
