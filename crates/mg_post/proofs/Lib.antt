@@ -4,3 +4,4 @@ pub mod ReadLaws
 pub mod FindLaws
 pub mod EnterLaws
 pub mod CursorLaws
+pub mod StandLaws

@@ -13,11 +13,16 @@ mod block;
 mod cursor;
 mod enter;
 mod find;
+mod laws;
 mod put;
 mod read;
 mod refusal;
 mod writer;
 
 pub use cursor::Cursor;
+pub use laws::{after_the_last, list_of_a_term_stands, lists_stand};
 pub use mg_defs::Posting;
 pub use writer::ListWriter;
+
+#[cfg(test)]
+mod tests;
