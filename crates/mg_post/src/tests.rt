@@ -354,10 +354,12 @@ fn asked_all_ways(alloc: Global, store: &mut SureStore, count: u32) -> Result<u3
             Step::To(doc * (1 + doc % 2))
         })?;
         let alone = [Step::To(doc), Step::Next, Step::To(doc + 9)];
-        different += told_apart(alloc, store, &info, list.as_slice(), &alone)?;
+        let apart = told_apart(alloc, store, &info, list.as_slice(), &alone)?;
+        different = different.saturating_add(apart);
     }
     for steps in [rising, walk, mixed] {
-        different += told_apart(alloc, store, &info, list.as_slice(), steps.as_slice())?;
+        let apart = told_apart(alloc, store, &info, list.as_slice(), steps.as_slice())?;
+        different = different.saturating_add(apart);
     }
     Ok(different)
 }
