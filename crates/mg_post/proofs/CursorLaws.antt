@@ -1,23 +1,23 @@
 -- Where a cursor stands after it was asked for a document.
-use Rattle.std.proofs.Common.{rules, arith, ◌≡◌, ◌≢◌, ◌+◌, ◌*◌, ◌^◌, ◌≤◌, ◌<◌, ◌-◌, ℕ, Bool, true, false, List, [], ◌∷◌, ◌++◌, length, take, drop, min, max, Option, Some, None, Result, Ok, Err, IsSome, refl, sym, ◌∙◌, ap, subst, ◌⊎◌, inl, inr, append_assoc, append-nil, unwrap_or, get_or}
+use Rattle.std.proofs.Common.{arith, ◌≡◌, ◌≢◌, ◌+◌, ◌*◌, ◌^◌, ◌≤◌, ◌<◌, ◌-◌, ℕ, Bool, true, false, List, [], ◌∷◌, ◌++◌, length, take, drop, min, max, Option, Some, None, Err, IsSome, refl, sym, ◌∙◌, ap, subst, ◌⊎◌, inl, inr, append_assoc, append-nil, unwrap_or, get_or}
 use Rattle.std.proofs.lemmas.List.{take-append-drop, take_all}
 use Rattle.std.specs.Str.{bytes_eq}
 use Rattle.std.proofs.lemmas.Slice.Eq.{bytes_eq-Decides}
-use Rattle.mg_dev.specs.Files.{Files, Reads, written, file_at, bytes_at, no_files}
+use Rattle.mg_dev.specs.Files.{Files, written, bytes_at, no_files}
 use Rattle.mg_dev.specs.Laws.{file_at-written, file_at-other, told-written}
 use Rattle.mg_dev.specs.declared.part.Part.{Part}
 use Rattle.mg_dev.specs.declared.part.Part.TheVariants.{Post, Skip}
 use Rattle.mg_bits.specs.Feed.{Device as Seen, Calm, told_at, raised}
 use Rattle.mg_bits.specs.Pages.{Paging, SameFile, feeding_of}
 use Rattle.mg_defs.specs.declared.Posting.{Posting}
-use Rattle.mg_defs.specs.Lists.{last_doc, Rises, doc_before, bits_before, block_of, block_pages, from_doc}
+use Rattle.mg_defs.specs.Lists.{last_doc, Rises, doc_before, block_of, from_doc}
 use Rattle.mg_defs.proofs.ListLaws.{last_append, rises_left, rises_right, from_past, from_after, from_within, from_here, from_next, from_some, last_above}
 use Rattle.mg_dev.specs.declared.part_err.PartErr.{PartErr}
 use Rattle.mg_post.specs.declared.refusal.Refusal.{Refusal}
 use Rattle.mg_post.specs.declared.refusal.Refusal.TheVariants.{Device, Damaged}
 use Rattle.mg_post.specs.Answers.{IsRefused, OrDevice, AnswersList}
 use Rattle.mg_post.specs.Finding.{IsFoundAt}
-use Rattle.mg_post.specs.Cursor.{Cursoring, Walks, Entered, StandsOn, after, next_doc, head_of, EntersBlock, ReadsBlock, ReadsTwo, post_pages, skip_pages, entered_pages}
+use Rattle.mg_post.specs.Cursor.{Cursoring, Walks, Entered, StandsOn, after, next_doc, head_of, ReadsTwo, post_pages, skip_pages}
 use Rattle.mg_post.proofs.FindLaws.{rises_front}
 use Rattle.mg_post.proofs.EnterLaws.{blocks_next, doc_next, block_rises}
 

@@ -1,10 +1,9 @@
 -- What stands where a skip entry is read.
-use Rattle.std.proofs.Common.{rules, arith, ◌≡◌, ◌+◌, ◌-◌, ◌*◌, ◌/◌, ◌^◌, ◌%◌, ◌≤◌, ◌<◌, ℕ, Bool, List, ◌++◌, length, take, drop, Option, Some, None, Result, Ok, Err, sym, ◌∙◌, ap, subst, length-append, IfOk, ◌⊎◌, inl, inr}
+use Rattle.std.proofs.Common.{arith, ◌≡◌, ◌+◌, ◌-◌, ◌*◌, ◌^◌, ◌%◌, ◌≤◌, ◌<◌, ℕ, List, ◌++◌, length, take, drop, Option, Some, None, Result, Ok, Err, sym, ◌∙◌, ap, subst, length-append, IfOk, ◌⊎◌, inl, inr}
 use Rattle.std.proofs.lemmas.List.{take-append-drop}
 use Rattle.mg_defs.specs.declared.Posting.{Posting}
 use Rattle.mg_defs.specs.Bits.{Bits, Begins, FromPlace, digits}
 use Rattle.mg_defs.specs.Lists.{SkipEntry, bits_after, last_doc, Rises, doc_before, bits_before, entry_of, entry_bits}
-use Rattle.mg_defs.specs.PagesOf.{pages}
 use Rattle.mg_defs.proofs.PageLaws.{pages_some}
 use Rattle.mg_defs.proofs.BitLaws.{length_digits, digits_same}
 use Rattle.mg_defs.proofs.FrontLaws.{begins_length}

@@ -1,14 +1,14 @@
 -- What stands where a posting is read.
-use Rattle.std.proofs.Common.{arith, ◌≡◌, ◌+◌, ◌^◌, ◌≤◌, ◌<◌, ◌-◌, ℕ, Bool, List, [], ◌∷◌, ◌++◌, length, take, drop, Option, Some, None, Result, Ok, Err, refl, sym, ◌∙◌, ap, subst, length-append, append-nil, get_or, drop-cons, add-one}
+use Rattle.std.proofs.Common.{arith, ◌≡◌, ◌+◌, ◌^◌, ◌≤◌, ◌<◌, ◌-◌, ℕ, List, [], ◌∷◌, ◌++◌, length, take, drop, Option, Some, None, Result, Ok, Err, sym, ◌∙◌, ap, subst, length-append, append-nil, get_or, drop-cons, add-one}
 use Rattle.std.proofs.lemmas.List.{take-append-drop, drop-drop, take_more}
 use Rattle.std.proofs.Math.Seq.{take-add}
 use Rattle.mg_defs.specs.declared.Posting.{Posting}
-use Rattle.mg_defs.specs.Bits.{Bits, Begins, FromPlace, bits_of}
+use Rattle.mg_defs.specs.Bits.{Bits, Begins, FromPlace}
 use Rattle.mg_defs.specs.Codes.{gamma, golomb}
-use Rattle.mg_defs.specs.Answers.{UpTo, Answers, CutShort, IsPrefixFree}
+use Rattle.mg_defs.specs.Answers.{UpTo, IsPrefixFree}
 use Rattle.mg_defs.specs.Lists.{posting_bits, bits_after, last_doc, Rises, Follows}
 use Rattle.mg_defs.proofs.CodeLaws.{gamma_free, golomb_free}
-use Rattle.mg_defs.proofs.FrontLaws.{begins_first, begins_second, begins_length, begins_through, one_stands}
+use Rattle.mg_defs.proofs.FrontLaws.{begins_first, begins_second, one_stands}
 use Rattle.mg_defs.proofs.ListLaws.{bits_append, rises_right, last_append}
 use Rattle.mg_bits.specs.CodeAnswers.{AnswersCode, OnlyPagesOf}
 use Rattle.mg_bits.specs.Feed.{Feeding, Device as Seen, Read, ReadsWithin}

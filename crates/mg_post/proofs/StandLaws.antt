@@ -1,5 +1,5 @@
 -- What was written stands.
-use Rattle.std.proofs.Common.{rules, arith, suc, zero, ◌≡◌, ◌≢◌, ◌+◌, ◌*◌, ◌/◌, ◌^◌, ◌≤◌, ◌<◌, ◌-◌, ℕ, true, List, [], ◌∷◌, ◌++◌, length, take, drop, Some, None, refl, sym, ◌∙◌, ap, subst, ◌⊎◌, inl, inr, length-append, append_assoc, map}
+use Rattle.std.proofs.Common.{arith, suc, zero, ◌≡◌, ◌≢◌, ◌+◌, ◌*◌, ◌/◌, ◌^◌, ◌≤◌, ◌<◌, ◌-◌, ℕ, true, List, [], ◌∷◌, ◌++◌, length, take, drop, Some, refl, sym, ◌∙◌, ap, subst, ◌⊎◌, inl, inr, length-append, append_assoc, map}
 use Rattle.std.specs.Prelude.{flat_map, slice_get}
 use Rattle.std.proofs.lemmas.Grind.{flat_map-append}
 use Rattle.std.proofs.lemmas.List.{drop-drop}
@@ -8,12 +8,14 @@ use Rattle.mg_defs.specs.Bits.{Bits, digits, bits_of, filled, Begins, to_byte}
 use Rattle.mg_defs.specs.Codes.{golomb_parameter}
 use Rattle.mg_defs.specs.Split.{documents}
 use Rattle.mg_defs.specs.Terms.{dictionary}
-use Rattle.mg_defs.specs.Lists.{SkipEntry, Rises, bits_after, entry_of, entries_to, entry_bits, entries_of_list, bits_of_list, block_count, lists_bits, lists_entries, postings, inverted, post_bits, skip_bits, list_byte, first_entry}
+use Rattle.mg_defs.specs.Lists.{SkipEntry, Rises, entry_of, entries_to, entry_bits, entries_of_list, bits_of_list, block_count, lists_bits, lists_entries, postings, inverted, post_bits, skip_bits, list_byte, first_entry}
 use Rattle.mg_defs.proofs.FrontLaws.{begins_first, begins_second, begins_self}
 use Rattle.mg_defs.proofs.BitLaws.{length_digits}
 use Rattle.mg_defs.proofs.ListLaws.{list_rises}
 use Rattle.mg_post.specs.Stands.{ListStands}
-use Rattle.mg_post.specs.Cursor.{blocks_of, Cursoring, StandsAt}
+use Rattle.std.specs.declared.option.Option.{Option}
+use Rattle.mg_dev.specs.Files.{Files}
+use Rattle.mg_post.specs.Cursor.{blocks_of, Cursoring, CursorStands, SameList, StandsAt}
 use Rattle.mg_post.proofs.WriterLaws.{lists_whole, length_entries_to}
 use Rattle.mg_post.proofs.CursorLaws.{ended_after}
 
@@ -116,3 +118,6 @@ ended c ps some at = ended_after c.ended ps c.reached c.last c.held (by_case ps 
     by_case : (qs : List Posting) → qs ≢ [] → 1 ≤ length qs
     by_case [] none = absurd (none refl)
     by_case (q ∷ qs) some = omega arith
+
+pub stands_same : (c d : Cursoring) (f g : Option Files) (ps : List Posting) → SameList c d → g ≡ f → CursorStands c f ps → CursorStands d g ps
+stands_same c d f g ps same is stands = record { list = rw (is, same.post, same.skip, same.post_at, same.skip_at, same.docs, same.all, same.parameter) stands.list }

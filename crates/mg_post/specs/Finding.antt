@@ -1,5 +1,5 @@
 -- The block whose range holds a document, and the pages of the skip entries that were read for it.
-use Rattle.std.specs.Prelude.{◌≡◌, ℕ, ◌+◌, ◌-◌, ◌*◌, ◌/◌, ◌<◌, ◌≤◌, List, Option, Some, None, IfSome}
+use Rattle.std.specs.Prelude.{◌≡◌, ℕ, ◌+◌, ◌-◌, ◌*◌, ◌/◌, ◌<◌, ◌≤◌, List, Option, Some, None}
 use Rattle.mg_defs.specs.declared.Posting.{Posting}
 use Rattle.mg_defs.specs.Lists.{InRange, doc_before, bits_before}
 use Rattle.mg_defs.specs.PagesOf.{pages}

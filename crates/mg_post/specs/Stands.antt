@@ -2,7 +2,7 @@
 use Rattle.std.specs.Prelude.{◌≡◌, ℕ, ◌+◌, ◌-◌, ◌*◌, ◌^◌, ◌<◌, ◌≤◌, List, length, drop, Option, Some, None}
 use Rattle.mg_defs.specs.declared.Posting.{Posting}
 use Rattle.mg_defs.specs.Bits.{Bits, bits_of, Begins}
-use Rattle.mg_defs.specs.Lists.{bits_after, Rises, entry_of, entry_bits, InRange, doc_before, bits_before}
+use Rattle.mg_defs.specs.Lists.{bits_after, Rises, entry_of, entry_bits}
 
 -- these bits stand at this place of bytes that are told
 abbrev pub Shows : Option (List ℕ) → ℕ → Bits → Type 0

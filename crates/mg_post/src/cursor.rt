@@ -50,7 +50,7 @@ pub struct Cursor<'a, S> {
 }
 
 impl<'a, S> Model for Cursor<'a, S> {
-    ghost use Rattle.std.specs.Prelude.{◌≡◌, ◌≤◌, ◌<◌, ◌^◌};
+    ghost use Rattle.std.specs.Prelude.{◌≡◌, ◌≤◌, ◌<◌, ◌^◌, true, []};
     ghost use Rattle.mg_dev.specs.declared.part.Part.TheVariants as part;
     ghost use Rattle.mg_post.specs.Cursor.{Cursoring, blocks_of};
 
@@ -58,7 +58,7 @@ impl<'a, S> Model for Cursor<'a, S> {
 
     ghost view = { λ c. record { post = c.post.feed; skip = c.skip.feed; post_at = c.post_at; skip_at = c.skip_at; docs = c.docs; all = c.all; parameter = c.parameter; reached = c.reached; last = c.last; held = c.block; ended = c.ended; passed = c.passed } };
 
-    ghost invariant = { λ c. (1 ≤ c.parameter) × (c.parameter < 2 ^ 48) × (c.last ≤ c.all) × (c.reached ≤ blocks_of c.docs) × (c.post.feed.part ≡ part.Post) × (c.skip.feed.part ≡ part.Skip) × (c.passed < 2 ^ 64) };
+    ghost invariant = { λ c. (1 ≤ c.parameter) × (c.parameter < 2 ^ 48) × (c.last ≤ c.all) × (c.reached ≤ blocks_of c.docs) × (c.post.feed.part ≡ part.Post) × (c.skip.feed.part ≡ part.Skip) × (c.passed < 2 ^ 64) × (c.ended ≡ true → c.block ≡ []) };
 }
 
 /// How many blocks so many postings have.
@@ -146,6 +146,7 @@ impl<'a, S: Store> Cursor<'a, S> {
         ensures third { skip_pages self.new ≤ entries_pages self.new.skip_at (blocks_of self.new.docs) }
         ensures reads { ReadsTwo self.old self.new (S.reads store.old) (S.reads store.new) }
         ensures ended { self.old.ended ≡ true → (result ≡ Ok None) × (self.new ≡ self.old) × (store.new ≡ store.old) }
+        ensures current { IfOk result (λ found. found ≡ head_of self.new.held) }
         ensures kept { OnErr result (SamePlace self.old self.new) }
         ensures files { S.files store.new ≡ S.files store.old }
         ensures memory { result ≢ Err PartErr.Memory }
@@ -214,6 +215,7 @@ impl<'a, S: Store> Cursor<'a, S> {
         ensures third { skip_pages self.new ≤ entries_pages self.new.skip_at (blocks_of self.new.docs) }
         ensures reads { ReadsTwo self.old self.new (S.reads store.old) (S.reads store.new) }
         ensures ended { self.old.ended ≡ true → (result ≡ Ok None) × (self.new ≡ self.old) × (store.new ≡ store.old) }
+        ensures current { IfOk result (λ found. found ≡ head_of self.new.held) }
         ensures kept { OnErr result (SamePlace self.old self.new) }
         ensures files { S.files store.new ≡ S.files store.old }
         ensures memory { result ≢ Err PartErr.Memory }

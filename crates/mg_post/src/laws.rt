@@ -7,7 +7,9 @@ ghost use Rattle.mg_defs.specs.Split.{documents};
 ghost use Rattle.mg_defs.specs.Terms.{dictionary};
 ghost use Rattle.mg_defs.specs.Lists.{Rises, entry_bits, lists_bits, lists_entries, postings, post_bits, skip_bits, list_byte, first_entry};
 ghost use Rattle.mg_post.specs.Stands.{ListStands};
-ghost use Rattle.mg_post.specs.Cursor.{blocks_of, Cursoring, StandsAt};
+ghost use Rattle.std.specs.declared.option.Option.{Option};
+ghost use Rattle.mg_dev.specs.Files.{Files};
+ghost use Rattle.mg_post.specs.Cursor.{blocks_of, Cursoring, CursorStands, SameList, StandsAt};
 
 /// Where two parts hold lists and their skip entries, each list stands where the lists before it
 /// end.
@@ -29,4 +31,9 @@ pub fn list_of_a_term_stands()
 /// Where no posting of a list is left, the cursor has ended, and reads nothing from then on.
 pub fn after_the_last()
     ensures { (c : Cursoring) (ps : List Posting) → ps ≢ [] → StandsAt c ps [] → c.ended ≡ true }
+{}
+
+/// A list that stands for a cursor stands for it after each call that keeps its list and the files.
+pub fn list_still_stands()
+    ensures { (c d : Cursoring) (f g : Option Files) (ps : List Posting) → SameList c d → g ≡ f → CursorStands c f ps → CursorStands d g ps }
 {}

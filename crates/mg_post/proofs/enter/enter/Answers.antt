@@ -1,4 +1,4 @@
-use Rattle.std.proofs.Common.{rules, arith, ◌≡◌, ◌+◌, ◌*◌, ◌≤◌, length, sym, ◌∙◌, ap, Ok, Err}
+use Rattle.std.proofs.Common.{arith, ◌≡◌, ◌+◌, ◌*◌, length, sym, ◌∙◌, ap, Ok, Err}
 use Rattle.mg_defs.specs.Lists.{from_doc, block_of, bits_before}
 use Rattle.mg_post.proofs.FindLaws.{bits_fit}
 use Rattle.mg_post.proofs.ReadLaws.{any_refused}

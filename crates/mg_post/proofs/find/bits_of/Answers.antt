@@ -1,4 +1,4 @@
-use Rattle.std.proofs.Common.{rules, arith, ◌+◌, ap}
+use Rattle.std.proofs.Common.{◌+◌, ap}
 use Rattle.mg_post.proofs.FindLaws.{bits_shown}
 use Rattle.mg_post.proofs.find.bits_of.Goals as goal
 

@@ -1,4 +1,4 @@
-use Rattle.std.proofs.Common.{rules, arith, ◌≡◌, ◌+◌, ◌*◌, ◌<◌, sym, ◌∙◌, ap, subst, Some, Ok, Err}
+use Rattle.std.proofs.Common.{arith, ◌≡◌, ◌+◌, ◌*◌, sym, ◌∙◌, subst, Ok, Err}
 use Rattle.mg_bits.proofs.Ranges.{calm_more}
 use Rattle.mg_bits.proofs.Told.{same_told}
 use Rattle.mg_defs.specs.Lists.{doc_before}

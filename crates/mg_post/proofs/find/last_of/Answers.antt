@@ -1,4 +1,4 @@
-use Rattle.std.proofs.Common.{rules, arith, ◌≡◌, Ok, Err}
+use Rattle.std.proofs.Common.{arith, ◌≡◌}
 use Rattle.mg_post.proofs.FindLaws.{last_shown}
 use Rattle.mg_post.proofs.ReadLaws.{any_refused}
 use Rattle.mg_post.proofs.find.last_of.Goals as goal

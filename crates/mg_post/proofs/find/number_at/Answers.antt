@@ -1,4 +1,4 @@
-use Rattle.std.proofs.Common.{rules, arith, Ok, Err}
+use Rattle.std.proofs.Common.{Ok, Err}
 use Rattle.mg_post.proofs.FindLaws.{told_number, refused_number}
 use Rattle.mg_post.proofs.find.number_at.Goals as goal
 

@@ -1,4 +1,4 @@
-use Rattle.std.proofs.Common.{rules, arith, ◌≡◌, ◌+◌, ◌*◌, ◌<◌, ◌∙◌, ap, Some, Ok, Err}
+use Rattle.std.proofs.Common.{arith, ◌≡◌, ◌+◌, ◌*◌, ◌<◌, ◌∙◌, ap, Some, Ok, Err}
 use Rattle.mg_bits.proofs.Ranges.{calm_more}
 use Rattle.mg_bits.proofs.Told.{same_told}
 use Rattle.mg_defs.specs.Lists.{doc_before, bits_before}

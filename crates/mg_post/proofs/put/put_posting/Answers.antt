@@ -1,4 +1,4 @@
-use Rattle.std.proofs.Common.{rules, arith}
+use Rattle.std.proofs.Common.{arith}
 use Rattle.mg_defs.specs.Lists.{posting_bits}
 use Rattle.mg_bits.proofs.BitsWritten.{bits_more}
 use Rattle.mg_post.proofs.Lengths.{golomb_short, gamma_short}

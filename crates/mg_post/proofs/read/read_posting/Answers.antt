@@ -1,4 +1,4 @@
-use Rattle.std.proofs.Common.{rules, arith, ◌≡◌, ◌+◌, ◌-◌, length, ap, Err, Ok, add_assoc}
+use Rattle.std.proofs.Common.{arith, ◌≡◌, ◌+◌, ◌-◌, length, ap, Err, Ok, add_assoc}
 use Rattle.mg_bits.proofs.Ranges.{read_more}
 use Rattle.mg_bits.proofs.Told.{same_told}
 use Rattle.mg_defs.specs.Codes.{gamma, golomb}

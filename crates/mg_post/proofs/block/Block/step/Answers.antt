@@ -1,4 +1,4 @@
-use Rattle.std.proofs.Common.{rules, arith, ◌≡◌, ◌+◌, ◌<◌, ◌≤◌, ℕ, List, [], ◌∷◌, length, take, drop, refl, sym, ◌∙◌, ap, get_or, add-one, suc, drop-cons, Some}
+use Rattle.std.proofs.Common.{arith, ◌≡◌, ◌+◌, ◌<◌, ◌≤◌, ℕ, List, ◌∷◌, length, take, drop, sym, ◌∙◌, ap, get_or, add-one, suc, drop-cons, Some}
 use Rattle.std.proofs.lemmas.List.{get_or-take, length-take-le, length-drop, drop-drop}
 use Rattle.mg_defs.specs.declared.Posting.{Posting}
 use Rattle.mg_post.specs.Cursor.{head_of}

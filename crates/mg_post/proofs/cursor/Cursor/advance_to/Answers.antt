@@ -1,9 +1,8 @@
-use Rattle.std.proofs.Common.{rules, arith, ◌≡◌, ◌+◌, ◌-◌, ◌*◌, ◌^◌, ◌<◌, ◌≤◌, min, max, refl, sym, ◌∙◌, ap, subst, Some, None}
+use Rattle.std.proofs.Common.{arith, ◌+◌, ◌-◌, ◌*◌, ◌^◌, min, max, refl, sym, ◌∙◌, ap, subst, Some, None}
 use Rattle.mg_bits.specs.Feed.{told_at}
-use Rattle.mg_defs.specs.Lists.{from_doc, bits_after, block_pages}
+use Rattle.mg_defs.specs.Lists.{bits_after, block_pages}
 use Rattle.mg_post.specs.Stands.{Shows, SkipStands}
-use Rattle.mg_post.specs.Finding.{IsFound, IsFoundAt, IsSound}
-use Rattle.mg_post.specs.Cursor.{Entered}
+use Rattle.mg_post.specs.Finding.{IsFound}
 use Rattle.mg_post.proofs.CursorLaws.{ended_stays, walks_of, in_block, at_end, on_block, same_file, refused_answer, raised_by, raised_most, raised_least}
 use Rattle.mg_post.proofs.cursor.Cursor.advance_to.Goals as goal
 

@@ -1,5 +1,4 @@
-use Rattle.std.proofs.Common.{rules, arith, refl, sym, ap, ◌+◌}
-use Rattle.mg_post.specs.Cursor.{Enters, entered_pages}
+use Rattle.std.proofs.Common.{arith, refl}
 use Rattle.mg_post.proofs.CursorLaws.{next_within, next_low, next_beyond}
 use Rattle.mg_post.proofs.cursor.Cursor.next.Goals as goal
 

@@ -1,4 +1,3 @@
-use Rattle.std.proofs.Common.{rules, arith, refl}
 use Rattle.mg_post.proofs.CursorLaws.{starts}
 use Rattle.mg_post.proofs.cursor.Cursor.start.Goals as goal
 

@@ -1,4 +1,3 @@
-use Rattle.std.proofs.Common.{rules, refl}
 use Rattle.mg_post.proofs.WriterLaws.{took_begun}
 use Rattle.mg_post.proofs.writer.ListWriter.begin.Goals as goal
 

@@ -1,5 +1,4 @@
-use Rattle.std.proofs.Common.{rules, refl}
-use Rattle.mg_post.proofs.WriterLaws.{took_ended, skip_ended, begun_at}
+use Rattle.mg_post.proofs.WriterLaws.{took_ended, skip_ended}
 use Rattle.mg_post.proofs.writer.ListWriter.end_list.Goals as goal
 
 pub returns-clause-took : goal.returns-clause-took

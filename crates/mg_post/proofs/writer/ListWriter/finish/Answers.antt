@@ -1,4 +1,3 @@
-use Rattle.std.proofs.Common.{rules, refl}
 use Rattle.mg_post.proofs.WriterLaws.{finished}
 use Rattle.mg_post.proofs.writer.ListWriter.finish.Goals as goal
 

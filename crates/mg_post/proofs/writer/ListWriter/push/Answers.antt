@@ -1,4 +1,4 @@
-use Rattle.std.proofs.Common.{rules, arith, ap, ◌-◌}
+use Rattle.std.proofs.Common.{ap, ◌-◌}
 use Rattle.mg_post.specs.Writing.{posting_of}
 use Rattle.mg_post.proofs.WriterLaws.{took_posting, took_entry}
 use Rattle.mg_post.proofs.writer.ListWriter.push.Goals as goal

@@ -1,6 +1,5 @@
-use Rattle.std.proofs.Common.{rules, arith, refl, sym, ◌∙◌, ◌≡◌, ap}
+use Rattle.std.proofs.Common.{arith, refl, sym, ◌∙◌, ◌≡◌}
 use Rattle.mg_dev.specs.declared.part.Part.TheVariants.{Post, Skip}
-use Rattle.mg_dev.specs.Names.{number}
 use Rattle.mg_dev.specs.Laws.{same_part_of_name}
 use Rattle.mg_post.proofs.WriterLaws.{took_none}
 use Rattle.mg_post.proofs.writer.ListWriter.start.Goals as goal
