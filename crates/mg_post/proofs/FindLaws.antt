@@ -1,0 +1,161 @@
+-- What stands where a skip entry is read.
+use Rattle.std.proofs.Common.{arith, ◌≡◌, ◌+◌, ◌-◌, ◌*◌, ◌^◌, ◌%◌, ◌≤◌, ◌<◌, ℕ, List, ◌++◌, length, take, drop, Option, Some, None, Result, Ok, Err, sym, ◌∙◌, ap, subst, length-append, IfOk, ◌⊎◌, inl, inr}
+use Rattle.std.proofs.lemmas.List.{take-append-drop}
+use Rattle.mg_defs.specs.declared.Posting.{Posting}
+use Rattle.mg_defs.specs.Bits.{Bits, Begins, FromPlace, digits}
+use Rattle.mg_defs.specs.Lists.{SkipEntry, bits_after, last_doc, Rises, doc_before, bits_before, entry_of, entry_bits}
+use Rattle.mg_defs.proofs.PageLaws.{pages_some}
+use Rattle.mg_defs.proofs.BitLaws.{length_digits, digits_same}
+use Rattle.mg_defs.proofs.FrontLaws.{begins_length}
+use Rattle.mg_defs.proofs.ListLaws.{bits_append, rises_left, last_within}
+use Rattle.mg_bits.specs.Feed.{lacks}
+use Rattle.mg_bits.specs.Reader.{AnswersBits}
+use Rattle.mg_bits.proofs.Ranges.{lacks_next}
+use Rattle.mg_bits.specs.declared.bit_err.BitErr.{BitErr}
+use Rattle.mg_bits.specs.declared.bit_err.BitErr.TheVariants as bits
+use Rattle.mg_post.specs.declared.refusal.Refusal.{Refusal}
+use Rattle.mg_post.specs.Stands.{Shows, SkipStands}
+use Rattle.mg_post.specs.Finding.{ReadTo, SkipReads, entry_page, entries_pages}
+use Rattle.mg_post.specs.Answers.{IsNumber, OrDevice, of_bits}
+use Rattle.mg_post.proofs.ReadLaws.{shows_left, shows_right}
+
+number_got : (result : Result ℕ BitErr) (place y : ℕ) (s : Bits) → IfOk result (λ v. v < 2 ^ 64) → y < 2 ^ 64 → Begins (digits 64 y) s → AnswersBits result place 64 s → IsNumber result y
+number_got (Ok v) place y s below small begins answers =
+    let one : take 64 s ≡ digits 64 v = rw length_digits at answers in
+    let two : take 64 s ≡ digits 64 y = rw length_digits at begins in
+    let m : v % 2 ^ 64 ≡ y % 2 ^ 64 = digits_same 64 v y (sym one ∙ two) in
+    omega arith
+number_got (Err bits.Device) place y s below small begins answers = tt
+number_got (Err (bits.End at)) place y s below small begins answers =
+    let short : length s < 64 = answers.0 in
+    absurd (omega (arith, begins_length (digits 64 y) s begins, length_digits 64 y))
+
+pub told_number : (told : Option (List ℕ)) (result : Result ℕ BitErr) (place y : ℕ) → IfOk result (λ v. v < 2 ^ 64) → y < 2 ^ 64 → Shows told place (digits 64 y) →
+    FromPlace told place (AnswersBits result place 64) → IsNumber result y
+told_number None result place y below small shows answers = absurd shows
+told_number (Some bytes) result place y below small shows answers = number_got result place y _ below small shows answers
+
+pub refused_number : {T : Type 0} (refusal : BitErr) (y : ℕ) (fact : T → Type 0) → IsNumber (Err refusal) y → OrDevice {T = T} (Err (of_bits refusal)) fact
+refused_number bits.Device y fact h = tt
+refused_number (bits.End at) y fact h = h
+
+pub last_shown : (told : Option (List ℕ)) (place at : ℕ) (e : SkipEntry) → place ≡ at → Shows told at (entry_bits e) → Shows told place (digits 64 e.last)
+unfolding entry_bits
+last_shown told place at e is shows = subst (λ n. Shows told n (digits 64 e.last)) (sym is) (shows_left told at (digits 64 e.last) (digits 64 e.bits) shows)
+
+pub bits_shown : (told : Option (List ℕ)) (place at : ℕ) (e : SkipEntry) → place ≡ at + 64 → Shows told at (entry_bits e) → Shows told place (digits 64 e.bits)
+unfolding entry_bits
+bits_shown told place at e is shows = shows_right told at place (digits 64 e.last) (digits 64 e.bits) (is ∙ ap (λ n. at + n) (sym (length_digits 64 e.last))) shows
+
+pub bits_fit : (b n : ℕ) (ps : List Posting) → bits_before b n ps ≤ length (bits_after b 0 ps)
+unfolding bits_before
+bits_fit b n ps =
+    let e : bits_after b 0 ps ≡ bits_after b 0 (take n ps) ++ bits_after b (last_doc 0 (take n ps)) (drop n ps) =
+    ap (bits_after b 0) (sym (take-append-drop n ps)) ∙ bits_append b 0 (take n ps) (drop n ps) in
+    omega (arith, ap length e, length-append (bits_after b 0 (take n ps)) (bits_after b (last_doc 0 (take n ps)) (drop n ps)))
+
+pub rises_front : (all n : ℕ) (ps : List Posting) → Rises all 0 ps → Rises all 0 (take n ps)
+rises_front all n ps h = rises_left all 0 (take n ps) (drop n ps) (subst (Rises all 0) (sym (take-append-drop n ps)) h)
+
+pub doc_within : (all n : ℕ) (ps : List Posting) → Rises all 0 ps → doc_before n ps ≤ all
+unfolding doc_before
+doc_within all n ps h = last_within all 0 (take n ps) (omega arith) (rises_front all n ps h)
+
+-- the answer of a read of a block's last document, where the entries stand
+pub last_answer : (all b : ℕ) (told now : Option (List ℕ)) (skip_at blocks k : ℕ) (ps : List Posting) (result : Result ℕ Refusal) → now ≡ told → SkipStands all b told skip_at blocks ps → k < blocks →
+    ((e : SkipEntry) → e.last ≤ all → Shows now (128 * (skip_at + k)) (entry_bits e) → OrDevice result (λ last. last ≡ e.last)) →
+    OrDevice result (λ last. last ≡ doc_before (64 * (k + 1)) ps)
+last_answer all b told now skip_at blocks k ps result same stands lt answers =
+    answers (entry_of b k ps) (doc_within all (64 * (k + 1)) ps stands.rises) (subst (λ t. Shows t (128 * (skip_at + k)) (entry_bits (entry_of b k ps))) (sym same) (stands.entries k lt))
+
+-- and of the bits before it
+pub bits_answer : (all b : ℕ) (told now : Option (List ℕ)) (skip_at blocks k : ℕ) (ps : List Posting) (result : Result ℕ Refusal) → now ≡ told → SkipStands all b told skip_at blocks ps → k < blocks →
+    ((e : SkipEntry) → e.bits < 2 ^ 64 → Shows now (128 * (skip_at + k)) (entry_bits e) → OrDevice result (λ bits. bits ≡ e.bits)) →
+    OrDevice result (λ bits. bits ≡ bits_before b (64 * k) ps)
+bits_answer all b told now skip_at blocks k ps result same stands lt answers =
+    answers (entry_of b k ps) (omega (arith, bits_fit b (64 * k) ps, stands.small)) (subst (λ t. Shows t (128 * (skip_at + k)) (entry_bits (entry_of b k ps))) (sym same) (stands.entries k lt))
+
+-- ---- pages
+
+pub page_rises : (a b : ℕ) → a ≤ b → entry_page a ≤ entry_page b
+page_rises a b le = omega arith
+
+-- a page at or behind the one that is held was read
+pub read_next : (first page p count now : ℕ) (held : Option ℕ) → ReadTo first page held count → first ≤ p → page ≤ p → now ≤ count + lacks held p → now + first ≤ p + 1
+read_next first page p count now None read lo le step = omega (arith, read, step)
+read_next first page p count now (Some h) read lo le step =
+    elim (order h p) [
+      | inl lt ↦ (let l : lacks (Some h) p ≤ 1 = lacks_most h p in omega (arith, read.0, l, step))
+      | inr ge ↦ (
+          let e : h ≡ p = omega (arith, read.1, le) in
+          let l : lacks (Some h) p ≡ 0 = lacks_next h p (omega (arith, e)) (omega (arith, e)) ∙ omega (arith, e) in
+          omega (arith, read.0, l, e, step))
+    ]
+  where
+    order : (a b : ℕ) → (a < b) ⊎ (b ≤ a)
+    order a b = grind arith
+
+    lacks_most : (h p : ℕ) → lacks (Some h) p ≤ 1
+    lacks_most h p = grind arith
+
+-- the page of an entry was read, whatever the read answered
+pub reads_to : (skip_at low k count now : ℕ) (held : Option ℕ) → SkipReads skip_at low held count → low ≤ k → now ≤ count + lacks held (entry_page (skip_at + k)) → now + entry_page skip_at ≤ entry_page (skip_at + k) + 1
+reads_to skip_at low k count now held reads le step =
+    read_next (entry_page skip_at) (entry_page (skip_at + (low - 1))) (entry_page (skip_at + k)) count now held reads.read (page_rises skip_at (skip_at + k) (omega arith)) (page_rises (skip_at + (low - 1)) (skip_at + k) (omega arith)) step
+
+-- the pages of all entries are enough
+pub within_entries : (skip_at k blocks now : ℕ) → k < blocks → now + entry_page skip_at ≤ entry_page (skip_at + k) + 1 → now ≤ entries_pages skip_at blocks
+within_entries skip_at k blocks now lt le =
+    let some : 128 * skip_at < 128 * (skip_at + blocks) = omega arith in
+    omega (arith, pages_some (128 * skip_at) (128 * (skip_at + blocks)) some)
+
+pub reads_within : (skip_at low blocks count : ℕ) (held : Option ℕ) → SkipReads skip_at low held count → low ≤ blocks → count ≤ entries_pages skip_at blocks
+reads_within skip_at low blocks count held reads le =
+    elim (order 0 low) [
+      | inl some ↦ by_held held reads.read some
+      | inr none ↦ omega (arith, reads.none (omega (arith, none)))
+    ]
+  where
+    order : (a b : ℕ) → (a < b) ⊎ (b ≤ a)
+    order a b = grind arith
+
+    by_held : (h : Option ℕ) → ReadTo (entry_page skip_at) (entry_page (skip_at + (low - 1))) h count → 0 < low → count ≤ entries_pages skip_at blocks
+    by_held None read some = omega (arith, read)
+    by_held (Some h) read some = within_entries skip_at (low - 1) blocks count (omega arith) (omega (arith, read.0, read.1))
+
+-- the page of an entry is held, and pages were read up to it
+pub reads_now : (skip_at low k count now : ℕ) (held now_held : Option ℕ) → SkipReads skip_at low held count → low ≤ k → now ≤ count + lacks held (entry_page (skip_at + k)) → now_held ≡ Some (entry_page (skip_at + k)) →
+    SkipReads skip_at (k + 1) now_held now
+reads_now skip_at low k count now held now_held reads le step is =
+    let e : k + 1 - 1 ≡ k = omega arith in
+    let fact : (now + entry_page skip_at ≤ entry_page (skip_at + k) + 1) × (entry_page (skip_at + k) ≤ entry_page (skip_at + k)) = (reads_to skip_at low k count now held reads le step, omega arith) in
+    let at : ReadTo (entry_page skip_at) (entry_page (skip_at + k)) (Some (entry_page (skip_at + k))) now = fact in
+    record {
+      read = subst (λ n. ReadTo (entry_page skip_at) (entry_page (skip_at + n)) now_held now) (sym e) (subst (λ h. ReadTo (entry_page skip_at) (entry_page (skip_at + k)) h now) (sym is) at);
+      none = λ z. absurd (omega (arith, z));
+    }
+
+-- another entry of the page that is held
+pub reads_same : (skip_at k j count now : ℕ) (held now_held : Option ℕ) → SkipReads skip_at (k + 1) held count → held ≡ Some (entry_page (skip_at + k)) → now_held ≡ held → now ≤ count → entry_page (skip_at + k) ≡ entry_page (skip_at + j) → SkipReads skip_at (j + 1) now_held now
+reads_same skip_at k j count now held now_held reads is same le page =
+    let e : k + 1 - 1 ≡ k = omega arith in
+    let f : j + 1 - 1 ≡ j = omega arith in
+    let at : ReadTo (entry_page skip_at) (entry_page (skip_at + k)) (Some (entry_page (skip_at + k))) count =
+    subst (λ h. ReadTo (entry_page skip_at) (entry_page (skip_at + k)) h count) is (subst (λ n. ReadTo (entry_page skip_at) (entry_page (skip_at + n)) held count) e reads.read) in
+    let fact : (now + entry_page skip_at ≤ entry_page (skip_at + k) + 1) × (entry_page (skip_at + k) ≤ entry_page (skip_at + j)) = (omega (arith, at.0, le), omega (arith, page)) in
+    let there : ReadTo (entry_page skip_at) (entry_page (skip_at + j)) (Some (entry_page (skip_at + k))) now = fact in
+    record {
+      read = subst (λ n. ReadTo (entry_page skip_at) (entry_page (skip_at + n)) now_held now) (sym f) (subst (λ h. ReadTo (entry_page skip_at) (entry_page (skip_at + j)) h now) (sym (same ∙ is)) there);
+      none = λ z. absurd (omega (arith, z));
+    }
+
+-- the entries between two of one page lie on that page
+pub page_between : (skip_at low middle high : ℕ) → entry_page (skip_at + low) ≡ entry_page (skip_at + high) → low ≤ middle → middle ≤ high → entry_page (skip_at + middle) ≡ entry_page (skip_at + high)
+page_between skip_at low middle high same le le' = omega (arith, same)
+
+-- nothing is read where the page is held
+pub count_same : (count now h p : ℕ) (held : Option ℕ) → held ≡ Some h → p ≡ h → now ≤ count + lacks held p → now ≤ count
+count_same count now h p held is same step =
+    let there : now ≤ count + lacks (Some h) p = subst (λ x. now ≤ count + lacks x p) is step in
+    let l : lacks (Some h) p ≡ 0 = lacks_next h p (omega (arith, same)) (omega (arith, same)) ∙ omega (arith, same) in
+    omega (arith, there, l)

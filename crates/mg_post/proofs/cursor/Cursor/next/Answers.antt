@@ -1,0 +1,37 @@
+use Rattle.std.proofs.Common.{arith, refl}
+use Rattle.mg_post.proofs.CursorLaws.{next_within, next_low, next_beyond}
+use Rattle.mg_post.proofs.cursor.Cursor.next.Goals as goal
+
+pub returns-in-Some-clause-answer : goal.returns-in-Some-clause-answer
+returns-in-Some-clause-answer g c =
+    let step = c.in-Some.ensures in
+    rw (← c.self.view_is)
+    (λ ps left stands at.
+    let r = next_within c.self.inside.ended ps c.self.inside.reached c.self.inside.last c.self.inside.block left c.step.new.self c.in-Some.posting c.if-self.false step.0 step.1 step.2 at.on in
+    (r.0, record { on = r.1 }))
+
+pub returns-in-Some-clause-entered : goal.returns-in-Some-clause-entered
+returns-in-Some-clause-entered g c =
+    let step = c.in-Some.ensures in
+    rw (← c.self.view_is)
+    (λ ps left stands at.
+    let low = next_low c.self.inside.ended c.self.inside.all ps c.self.inside.reached c.self.inside.last c.self.inside.block left c.if-self.false stands.list.entries.rises step.0 at.on in
+    (λ le. refl, λ lt. absurd (omega (arith, lt, low))))
+
+pub returns-else-last-clause-answer : goal.returns-else-last-clause-answer
+returns-else-last-clause-answer g c =
+    let step = c.in-None.ensures in
+    let answer = rw step.1 at c.advance_to.ensures.answer in
+    rw (← c.self.view_is)
+    (λ ps left stands at.
+    let beyond = next_beyond c.self.inside.ended c.self.inside.all ps c.self.inside.reached c.self.inside.last c.self.inside.block left c.if-self.false stands.list.entries.rises step.0 at.on in
+    rw beyond.1 at (answer ps left stands at))
+
+pub returns-else-last-clause-entered : goal.returns-else-last-clause-entered
+returns-else-last-clause-entered g c =
+    let step = c.in-None.ensures in
+    let entered = rw step.1 at c.advance_to.ensures.entered in
+    rw (← c.self.view_is)
+    (λ ps left stands at.
+    let beyond = next_beyond c.self.inside.ended c.self.inside.all ps c.self.inside.reached c.self.inside.last c.self.inside.block left c.if-self.false stands.list.entries.rises step.0 at.on in
+    rw beyond.0 at (entered ps left stands at))

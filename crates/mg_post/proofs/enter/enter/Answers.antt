@@ -1,0 +1,50 @@
+use Rattle.std.proofs.Common.{arith, ◌≡◌, ◌+◌, ◌*◌, length, sym, ◌∙◌, ap, Ok, Err}
+use Rattle.mg_defs.specs.Lists.{from_doc, block_of, bits_before}
+use Rattle.mg_post.proofs.FindLaws.{bits_fit}
+use Rattle.mg_post.proofs.ReadLaws.{any_refused}
+use Rattle.mg_post.proofs.EnterLaws.{block_answer, head_none, found_some, entered, count_most, refused_pages}
+use Rattle.mg_post.proofs.enter.enter.Goals as goal
+
+pub returns-in_default-clause-told : goal.returns-in_default-clause-told
+returns-in_default-clause-told g c = λ ps blocks rises whole shows small found.
+    let h = c.in_default.ensures in
+    absurd (omega (arith, bits_fit c.args.parameter (64 * c.args.found.block) ps, found.bits, c.in_default.ensures))
+
+pub returns-in-Some-current-clause-told : goal.returns-in-Some-current-clause-told
+returns-in-Some-current-clause-told g c = λ ps blocks rises whole shows small found.
+    let at : c.seek.new.self.place ≡ 8 * c.args.post_at + bits_before c.args.parameter (64 * c.args.found.block) ps = c.seek.ensures.place ∙ (let h = c.in-Some.ensures in omega (arith, found.bits, c.in-Some.ensures)) in
+    let got : c.fill.new.self ≡ block_of c.args.found.block ps =
+    block_answer _ (8 * c.args.post_at) c.args.all c.args.parameter c.seek.new.self.place c.args.found.before _ c.args.docs c.args.found.block ps c.fill.new.self (Ok c.in-Ok.field-0) c.min.ensures whole found.from at rises (rw (← c.seek.ensures.feed) at shows) small c.in-Ok.ensures.told in
+    entered c.args.parameter (8 * c.args.post_at) c.seek.new.self.place c.fill.new.r.place c.args.found.block c.args.doc c.args.found.before _ ps c.fill.new.self c.forward.new.self c.in-Some-current.posting got c.forward.ensures (sym c.in-Some-current.ensures) found.from at c.in-Ok.ensures.place
+    (rw (c.place.ensures, ← c.seek.ensures.place) at c.pages_of-pages.ensures)
+
+pub returns-in-Some-current-clause-most : goal.returns-in-Some-current-clause-most
+returns-in-Some-current-clause-most g c = λ ps blocks rises whole shows small found.
+    let told = returns-in-Some-current-clause-told g c ps blocks rises whole shows small found in
+    let read = rw (← c.in-Ok.ensures.place) at c.in-Ok.ensures.read in
+    let most = count_most _ _ _ _ c.seek.new.self.place c.fill.new.r.place (rw c.seek.ensures.feed c.requires.page) read.pages in
+    rw (← told.pages, c.pages_of-pages.ensures, c.place.ensures, ← c.seek.ensures.place, ← c.seek.ensures.feed) most
+
+pub returns-in-None-clause-told : goal.returns-in-None-clause-told
+returns-in-None-clause-told g c = λ ps blocks rises whole shows small found.
+    let at : c.seek.new.self.place ≡ 8 * c.args.post_at + bits_before c.args.parameter (64 * c.args.found.block) ps = c.seek.ensures.place ∙ (let h = c.in-Some.ensures in omega (arith, found.bits, c.in-Some.ensures)) in
+    let got : c.fill.new.self ≡ block_of c.args.found.block ps =
+    block_answer _ (8 * c.args.post_at) c.args.all c.args.parameter c.seek.new.self.place c.args.found.before _ c.args.docs c.args.found.block ps c.fill.new.self (Ok c.in-Ok.field-0) c.min.ensures whole found.from at rises (rw (← c.seek.ensures.feed) at shows) small c.in-Ok.ensures.told in
+    let none : length c.forward.new.self ≡ 0 = head_none c.forward.new.self (sym c.in-None.ensures) in
+    let same : length c.forward.new.self ≡ length (from_doc c.args.doc (block_of c.args.found.block ps)) = ap length (c.forward.ensures ∙ ap (from_doc c.args.doc) got) in
+    absurd (omega (arith, found_some c.args.all c.args.parameter blocks c.args.doc c.args.found.block c.args.found.before c.args.found.last c.args.found.at ps rises found))
+
+pub returns-in-None-clause-most : goal.returns-in-None-clause-most
+returns-in-None-clause-most g c = λ ps blocks rises whole shows small found. absurd (returns-in-None-clause-told g c ps blocks rises whole shows small found)
+
+pub returns-in-Err-clause-told : goal.returns-in-Err-clause-told
+returns-in-Err-clause-told g c = λ ps blocks rises whole shows small found.
+    let at : c.seek.new.self.place ≡ 8 * c.args.post_at + bits_before c.args.parameter (64 * c.args.found.block) ps = c.seek.ensures.place ∙ (let h = c.in-Some.ensures in omega (arith, found.bits, c.in-Some.ensures)) in
+    any_refused c.in-Err.refusal _ _
+    (block_answer _ (8 * c.args.post_at) c.args.all c.args.parameter c.seek.new.self.place c.args.found.before _ c.args.docs c.args.found.block ps c.fill.new.self (Err c.in-Err.refusal) c.min.ensures whole found.from at rises (rw (← c.seek.ensures.feed) at shows) small c.in-Err.ensures.told)
+
+pub returns-in-Err-clause-most : goal.returns-in-Err-clause-most
+returns-in-Err-clause-most g c = λ ps blocks rises whole shows small found.
+    let at : c.seek.new.self.place ≡ 8 * c.args.post_at + bits_before c.args.parameter (64 * c.args.found.block) ps = c.seek.ensures.place ∙ (let h = c.in-Some.ensures in omega (arith, found.bits, c.in-Some.ensures)) in
+    let most = refused_pages _ _ _ _ _ (8 * c.args.post_at) c.args.all c.args.parameter c.seek.new.self.place c.args.found.before _ c.args.docs c.args.found.block ps (rw c.seek.ensures.feed c.requires.page) c.min.ensures whole found.from at rises (rw (← c.seek.ensures.feed) at shows) small c.in-Err.ensures.pages in
+    rw (← c.seek.ensures.feed) most

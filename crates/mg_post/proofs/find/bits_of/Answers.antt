@@ -1,0 +1,7 @@
+use Rattle.std.proofs.Common.{◌+◌, ap}
+use Rattle.mg_post.proofs.FindLaws.{bits_shown}
+use Rattle.mg_post.proofs.find.bits_of.Goals as goal
+
+pub returns-clause-told : goal.returns-clause-told
+returns-clause-told g c = λ e small shows.
+    c.number_at.ensures.told e.bits small (bits_shown _ _ _ e (ap (λ n. n + 64) c.entry_place-place.ensures.value) shows)

@@ -1,0 +1,17 @@
+use Rattle.std.proofs.Common.{arith, ◌≡◌}
+use Rattle.mg_post.proofs.FindLaws.{last_shown}
+use Rattle.mg_post.proofs.ReadLaws.{any_refused}
+use Rattle.mg_post.proofs.find.last_of.Goals as goal
+
+pub returns-then-last-from-clause-told : goal.returns-then-last-from-clause-told
+returns-then-last-from-clause-told g c = λ e most shows.
+    let got : c.in-Ok.last ≡ e.last = c.in-Ok.ensures.told e.last (omega arith) (last_shown _ _ _ e c.entry_place-place.ensures.value shows) in
+    omega arith
+
+pub returns-else-last-from-clause-told : goal.returns-else-last-from-clause-told
+returns-else-last-from-clause-told g c = λ e most shows.
+    c.in-Ok.ensures.told e.last (omega arith) (last_shown _ _ _ e c.entry_place-place.ensures.value shows)
+
+pub returns-in-Err-clause-told : goal.returns-in-Err-clause-told
+returns-in-Err-clause-told g c = λ e most shows.
+    any_refused c.in-Err.refusal _ _ (c.in-Err.ensures.told e.last (omega arith) (last_shown _ _ _ e c.entry_place-place.ensures.value shows))

@@ -1,0 +1,11 @@
+use Rattle.std.proofs.Common.{Ok, Err}
+use Rattle.mg_post.proofs.FindLaws.{told_number, refused_number}
+use Rattle.mg_post.proofs.find.number_at.Goals as goal
+
+pub returns-in-Ok-clause-told : goal.returns-in-Ok-clause-told
+returns-in-Ok-clause-told g c = λ y small shows.
+    told_number _ (Ok c.in-Ok.number) c.args.place y c.in-Ok.ensures.below small shows (rw (c.seek.ensures.feed, c.seek.ensures.place) at c.in-Ok.ensures.told)
+
+pub returns-in-Err-clause-told : goal.returns-in-Err-clause-told
+returns-in-Err-clause-told g c = λ y small shows.
+    rw c.refused_bits.ensures (refused_number c.in-Err.refusal y _ (told_number _ (Err c.in-Err.refusal) c.args.place y tt small shows (rw (c.seek.ensures.feed, c.seek.ensures.place) at c.in-Err.ensures.told)))

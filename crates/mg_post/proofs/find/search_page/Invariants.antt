@@ -1,0 +1,29 @@
+use Rattle.std.proofs.Common.{◌≡◌, ◌+◌, ◌-◌, ◌*◌, ◌≤◌, ◌<◌, ℕ, List, Some}
+use Rattle.mg_bits.specs.Feed.{Calm}
+use Rattle.mg_defs.specs.declared.Posting.{Posting}
+use Rattle.mg_defs.specs.Lists.{doc_before}
+use Rattle.mg_post.specs.Stands.{SkipStands}
+use Rattle.mg_post.specs.Finding.{entry_page}
+use Rattle.mg_post.proofs.find.search_page.Given as goal
+
+abbrev pub invariant-loop-from : goal.invariant-loop-from
+invariant-loop-from g l = record {
+  fits : g.F.Feed.fits l.r.feed (g.F.Feed.device l.dev).files;
+  calm : Calm (g.F.Feed.feeding l.fn.r.feed) (g.F.Feed.feeding l.r.feed) (g.F.Feed.device l.fn.dev) (g.F.Feed.device l.dev);
+  count : (g.F.Feed.feeding l.r.feed).count ≤ (g.F.Feed.feeding l.fn.r.feed).count;
+  held : (g.F.Feed.feeding l.r.feed).held ≡ Some (entry_page (l.skip_at + l.high));
+  low : l.low ≤ l.from;
+  order : l.from ≤ l.to;
+  high : l.to ≤ l.high;
+  middle : l.from ≤ l.middle;
+  before_to : l.from < l.to → l.middle < l.to;
+  known : l.passed ≤ l.all;
+  below : l.passed < l.doc;
+  within : l.doc ≤ l.end;
+  most : l.end ≤ l.all;
+  told : (ps : List Posting) (b blocks : ℕ) → SkipStands l.all b ((g.F.Feed.feeding l.fn.r.feed).source (g.F.Feed.device l.fn.dev).files) l.skip_at blocks ps → l.high < blocks →
+      l.before ≡ doc_before (64 * l.low) ps → l.last ≡ doc_before (64 * (l.high + 1)) ps → (l.passed ≡ doc_before (64 * l.from) ps) × (l.end ≡ doc_before (64 * (l.to + 1)) ps);
+}
+
+abbrev pub decreases-loop-from : goal.decreases-loop-from
+decreases-loop-from g l = l.to - l.from

@@ -1,0 +1,25 @@
+use Rattle.std.proofs.Common.{arith}
+use Rattle.mg_defs.specs.Lists.{posting_bits}
+use Rattle.mg_bits.proofs.BitsWritten.{bits_more}
+use Rattle.mg_post.proofs.Lengths.{golomb_short, gamma_short}
+use Rattle.mg_post.proofs.put.put_posting.Goals as goal
+
+pub put_gamma-requires-clause-place : goal.put_gamma-requires-clause-place
+put_gamma-requires-clause-place g c =
+    omega (arith, c.in_ok-put_golomb.ensures.bits.place, golomb_short c.args.parameter c.from.result c.requires.parameter c.requires.small (omega (arith, c.from.ensures)), c.from.ensures)
+
+pub returns-clause-bits : goal.returns-clause-bits
+unfolding posting_bits
+returns-clause-bits g c =
+    bits_more _ _ _ _ _ _ _ _ c.in_ok-put_golomb.ensures.wrote.told (rw c.from.ensures at c.in_ok-put_golomb.ensures.bits) (rw c.from-2.ensures at c.in_ok-put_gamma.ensures.bits)
+
+pub returns-clause-short : goal.returns-clause-short
+returns-clause-short g c =
+    omega (
+      arith,
+      c.in_ok-put_golomb.ensures.bits.place,
+      golomb_short c.args.parameter c.from.result c.requires.parameter c.requires.small (omega (arith, c.from.ensures)),
+      c.from.ensures,
+      c.in_ok-put_gamma.ensures.bits.place,
+      gamma_short c.from-2.result (omega (arith, c.from-2.ensures)) (omega (arith, c.from-2.ensures)),
+    )

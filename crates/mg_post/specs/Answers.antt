@@ -1,0 +1,69 @@
+-- What the reading calls answer.
+use Rattle.std.specs.Prelude.{◌≡◌, ℕ, Ok, Err}
+use Rattle.std.specs.declared.result.Result.{Result}
+use Rattle.mg_dev.specs.Causes.{Rose}
+use Rattle.mg_dev.specs.declared.part.Part.{Part}
+use Rattle.mg_dev.specs.declared.bad.Bad as declared
+use Rattle.mg_dev.specs.declared.part_err.PartErr.{PartErr}
+use Rattle.mg_dev.specs.declared.part_err.PartErr.TheVariants as part
+use Rattle.mg_bits.specs.declared.bit_err.BitErr.{BitErr}
+use Rattle.mg_bits.specs.declared.bit_err.BitErr.TheVariants as bits
+use Rattle.mg_bits.specs.declared.code_err.CodeErr.{CodeErr}
+use Rattle.mg_bits.specs.declared.code_err.CodeErr.TheVariants as code
+use Rattle.mg_post.specs.declared.refusal.Refusal.{Refusal}
+use Rattle.mg_post.specs.declared.refusal.Refusal.TheVariants.{Device, Damaged}
+
+abbrev pub of_bits : BitErr → Refusal
+of_bits bits.Device = Device
+of_bits (bits.End at) = Damaged at
+
+abbrev pub of_code : CodeErr → Refusal
+of_code code.Device = Device
+of_code (code.End at) = Damaged at
+of_code (code.Over at limit) = Damaged at
+
+-- the number that stands there, or a device's failure
+abbrev pub IsGot : Result ℕ CodeErr → ℕ → Type 0
+IsGot (Ok x) y = x ≡ y
+IsGot (Err code.Device) y = Unit {0}
+IsGot (Err (code.End at)) y = ⊥
+IsGot (Err (code.Over at limit)) y = ⊥
+
+-- the number that stands there, or a device's failure
+abbrev pub IsNumber : Result ℕ BitErr → ℕ → Type 0
+IsNumber (Ok x) y = x ≡ y
+IsNumber (Err bits.Device) y = Unit {0}
+IsNumber (Err (bits.End at)) y = ⊥
+
+-- this fact on the answer, or a device's failure
+abbrev pub OrDevice : {T : Type 0} → Result T Refusal → (T → Type 0) → Type 0
+OrDevice (Ok value) fact = fact value
+OrDevice (Err Device) fact = Unit {0}
+OrDevice (Err (Damaged at)) fact = ⊥
+
+-- a device's failure has a cause
+abbrev pub RefusalCause : {T : Type 0} → Result T Refusal → ℕ → ℕ → Type 0
+RefusalCause (Ok value) before now = Unit {0}
+RefusalCause (Err Device) before now = Rose before now
+RefusalCause (Err (Damaged at)) before now = Unit {0}
+
+pub record IsBad (bad : declared.Bad) (part : Part) (at : ℕ) : Type 0 where
+  pub part_is : bad.part ≡ part
+  pub at_is : bad.at ≡ at
+  pub low_is : bad.low ≡ 1
+  pub high_is : bad.high ≡ 1
+  pub found_is : bad.found ≡ 0
+
+-- a refusal, told of its part
+abbrev pub IsRefused : Refusal → Part → PartErr → Type 0
+IsRefused Device own e = e ≡ part.Device
+IsRefused (Damaged at) own part.Device = ⊥
+IsRefused (Damaged at) own part.Memory = ⊥
+IsRefused (Damaged at) own (part.Bad bad) = IsBad bad own at
+
+-- where the parts stand: this fact on the answer, or a device's failure, and never that a part is bad
+abbrev pub AnswersList : {T : Type 0} → Result T PartErr → (T → Type 0) → Type 0
+AnswersList (Ok value) fact = fact value
+AnswersList (Err part.Device) fact = Unit {0}
+AnswersList (Err part.Memory) fact = ⊥
+AnswersList (Err (part.Bad bad)) fact = ⊥

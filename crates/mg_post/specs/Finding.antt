@@ -1,0 +1,50 @@
+-- The block whose range holds a document, and the pages of the skip entries that were read for it.
+use Rattle.std.specs.Prelude.{◌≡◌, ℕ, ◌+◌, ◌-◌, ◌*◌, ◌/◌, ◌<◌, ◌≤◌, List, Option, Some, None}
+use Rattle.mg_defs.specs.declared.Posting.{Posting}
+use Rattle.mg_defs.specs.Lists.{InRange, doc_before, bits_before}
+use Rattle.mg_defs.specs.PagesOf.{pages}
+use Rattle.mg_post.specs.declared.find.Found.{Found}
+
+-- what was found of the block whose range holds a document
+pub record IsFoundAt (b : ℕ) (ps : List Posting) (blocks doc block before last at : ℕ) : Type 0 where
+  pub there : block < blocks
+  pub range : InRange block ps doc
+  pub from : before ≡ doc_before (64 * block) ps
+  pub to : last ≡ doc_before (64 * (block + 1)) ps
+  pub bits : at ≡ bits_before b (64 * block) ps
+
+abbrev pub IsFound : ℕ → List Posting → ℕ → ℕ → Option Found → Type 0
+IsFound b ps blocks doc None = doc_before (64 * blocks) ps < doc
+IsFound b ps blocks doc (Some f) = IsFoundAt b ps blocks doc f.block f.before f.last f.at
+
+-- what holds of a block that was found, whatever the entries are
+pub record IsSound (low high all doc : ℕ) (f : Found) : Type 0 where
+  pub from : low ≤ f.block
+  pub there : f.block < high
+  pub known : f.before ≤ all
+  pub below : f.before < doc
+  pub within : doc ≤ f.last
+  pub most : f.last ≤ all
+
+-- the page of Skip on which the entry of a number lies
+abbrev pub entry_page : ℕ → ℕ
+entry_page number = number / 256
+
+-- the pages of Skip on which so many entries lie, from that of a number on
+abbrev pub entries_pages : ℕ → ℕ → ℕ
+entries_pages skip_at blocks = pages (128 * skip_at) (128 * (skip_at + blocks))
+
+-- no more pages were read than there are from the first one to the one that is held
+abbrev pub ReadTo : ℕ → ℕ → Option ℕ → ℕ → Type 0
+ReadTo first page None count = count ≡ 0
+ReadTo first page (Some held) count = (count + first ≤ held + 1) × (held ≤ page)
+
+-- pages were read in rising order, each once, for the entries below a block
+pub record SkipReads (skip_at low : ℕ) (held : Option ℕ) (count : ℕ) : Type 0 where
+  pub read : ReadTo (entry_page skip_at) (entry_page (skip_at + (low - 1))) held count
+  pub none : low ≡ 0 → count ≡ 0
+
+-- how many blocks were passed once the search ended
+abbrev pub blocks_after : ℕ → Option Found → ℕ
+blocks_after blocks None = blocks
+blocks_after blocks (Some f) = f.block + 1

@@ -1,0 +1,5 @@
+pub mod Answers
+pub mod Cursor
+pub mod Finding
+pub mod Stands
+pub mod Writing

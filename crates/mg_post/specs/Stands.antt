@@ -1,0 +1,26 @@
+-- A list stands in Post and Skip.
+use Rattle.std.specs.Prelude.{◌≡◌, ℕ, ◌+◌, ◌-◌, ◌*◌, ◌^◌, ◌<◌, ◌≤◌, List, length, drop, Option, Some, None}
+use Rattle.mg_defs.specs.declared.Posting.{Posting}
+use Rattle.mg_defs.specs.Bits.{Bits, bits_of, Begins}
+use Rattle.mg_defs.specs.Lists.{bits_after, Rises, entry_of, entry_bits}
+
+-- these bits stand at this place of bytes that are told
+abbrev pub Shows : Option (List ℕ) → ℕ → Bits → Type 0
+Shows None place bits = ⊥
+Shows (Some bytes) place bits = Begins bits (drop place (bits_of bytes))
+
+-- the skip entries of so many blocks stand, from the entry of this number on
+pub record SkipStands (all b : ℕ) (skip : Option (List ℕ)) (skip_at blocks : ℕ) (ps : List Posting) : Type 0 where
+  pub rises : Rises all 0 ps
+  pub small : length (bits_after b 0 ps) ≤ 2 ^ 63
+  pub entries : (k : ℕ) → k < blocks → Shows skip (128 * (skip_at + k)) (entry_bits (entry_of b k ps))
+  pub most : 64 * blocks < length ps + 64
+  pub whole : length ps ≤ 64 * blocks
+
+-- a list and its skip entries stand: the list from a bit place of Post on, its entries from the entry of a number on
+pub record ListStands (all b : ℕ) (post skip : Option (List ℕ)) (post_at skip_at docs blocks : ℕ) (ps : List Posting) : Type 0 where
+  pub entries : SkipStands all b skip skip_at blocks ps
+  pub bits : Shows post post_at (bits_after b 0 ps)
+  pub small : post_at + length (bits_after b 0 ps) ≤ 2 ^ 63
+  pub whole : docs ≡ length ps
+  pub few : all < 2 ^ 32 - 1

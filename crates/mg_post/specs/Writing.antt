@@ -1,0 +1,88 @@
+-- A writer of lists: what contracts see of it, and which lists it was handed.
+use Rattle.std.specs.Prelude.{◌≡◌, ◌≢◌, ◌≤◌, ◌<◌, ◌+◌, ◌*◌, ◌^◌, ◌++◌, ℕ, List, length, flat_map}
+use Rattle.std.specs.Option.{IsSome}
+use Rattle.std.specs.declared.option.Option.{Option}
+use Rattle.mg_dev.specs.Files.{Files, bytes_at}
+use Rattle.mg_bits.specs.BitWriting.{BitWriting, Holds, bits_put}
+use Rattle.mg_defs.specs.declared.Posting.{Posting}
+use Rattle.mg_defs.specs.Bits.{bits_of}
+use Rattle.mg_defs.specs.Codes.{golomb_parameter}
+use Rattle.mg_defs.specs.Lists.{SkipEntry, bits_after, bits_before, last_doc, entry_bits, entries_to, lists_bits, lists_entries}
+
+abbrev pub posting_of : ℕ → ℕ → Posting
+posting_of doc freq = record { doc = doc; freq = freq }
+
+abbrev pub skip_entry : ℕ → ℕ → SkipEntry
+skip_entry last bits = record { last = last; bits = bits }
+
+pub record Listing : Type 0 where
+  pub post : BitWriting
+  pub skip : BitWriting
+  -- the number of documents
+  pub all : ℕ
+  -- how many postings the list that was begun has, and its parameter
+  pub docs : ℕ
+  pub parameter : ℕ
+  -- how many of them were pushed, and the last document of these
+  pub pushed : ℕ
+  pub last : ℕ
+  -- how many postings were pushed to all lists
+  pub total : ℕ
+  -- the bit where the list begins, and the number of its first skip entry
+  pub start : ℕ
+  pub first : ℕ
+  -- how many of its blocks are full, and the number of their bits
+  pub full : ℕ
+  pub block_at : ℕ
+
+-- the entries of the lists before and of the full blocks of the list that was begun
+abbrev pub entries_so_far : Listing → List (List Posting) → List Posting → List SkipEntry
+entries_so_far w lists ps = lists_entries w.all lists ++ entries_to w.parameter w.full ps
+
+-- the writer stands for these lists, and these postings of the list that was begun
+pub record Took (w : Listing) (files : Option Files) (lists : List (List Posting)) (ps : List Posting) : Type 0 where
+  pub apart : w.post.name ≢ w.skip.name
+  pub post_holds : Holds w.post files
+  pub skip_holds : Holds w.skip files
+  pub post_bits : IsSome files → bits_put w.post files ≡ lists_bits w.all lists ++ bits_after w.parameter 0 ps
+  pub skip_bits : IsSome files → bits_put w.skip files ≡ flat_map entry_bits (entries_so_far w lists ps)
+  pub start : w.start ≡ length (lists_bits w.all lists)
+  pub place : w.post.place ≡ w.start + length (bits_after w.parameter 0 ps)
+  pub first : w.first ≡ length (lists_entries w.all lists)
+  pub skip_place : w.skip.place ≡ 128 * (w.first + w.full)
+  pub pushed : w.pushed ≡ length ps
+  pub last : w.last ≡ last_doc 0 ps
+  pub full : 64 * w.full ≤ length ps
+  pub rest : length ps < 64 * w.full + 64
+  pub block_at : w.block_at ≡ bits_before w.parameter (64 * w.full) ps
+  pub parameter : w.parameter ≡ golomb_parameter w.all w.docs
+  pub docs : 1 ≤ w.docs
+  pub all : w.all ≤ 2 ^ 24
+  pub bound : w.post.place + 2 ^ 25 * w.pushed ≤ 2 ^ 26 * w.total
+  pub room : w.first + w.pushed ≤ w.total
+  pub total : w.total ≤ 2 ^ 32
+
+-- what every call keeps
+pub record SameFiles (old new : Listing) : Type 0 where
+  pub post : new.post.name ≡ old.post.name
+  pub skip : new.skip.name ≡ old.skip.name
+  pub all : new.all ≡ old.all
+
+-- one posting more was pushed
+pub record Pushed (old new : Listing) (doc : ℕ) : Type 0 where
+  pub docs : new.docs ≡ old.docs
+  pub pushed : new.pushed ≡ old.pushed + 1
+  pub last : new.last ≡ doc
+  pub total : new.total ≡ old.total + 1
+
+-- no posting of a list was pushed
+pub record IsBetween (old new : Listing) (count : ℕ) : Type 0 where
+  pub docs : new.docs ≡ count
+  pub pushed : new.pushed ≡ 0
+  pub last : new.last ≡ 0
+  pub total : new.total ≡ old.total
+
+-- the files hold these lists and their skip entries
+pub record Finished (w : Listing) (files : Option Files) (lists : List (List Posting)) : Type 0 where
+  pub post : bits_of (bytes_at files w.post.name) ≡ lists_bits w.all lists
+  pub skip : bits_of (bytes_at files w.skip.name) ≡ flat_map entry_bits (lists_entries w.all lists)

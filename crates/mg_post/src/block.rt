@@ -1,0 +1,136 @@
+// The postings of one block, from the current one on.
+ghost use Rattle.std.specs.Prelude.{◌≡◌, ◌+◌, ◌-◌, ◌*◌, ◌<◌, ◌≤◌, ◌^◌, ℕ, List, [], ◌++◌, length, take, drop, IfOk, OnOk, OnErr, MatchResult};
+ghost use Rattle.std.specs.Bool.{OnTrue, OnFalse};
+ghost use Rattle.mg_bits.specs.Feed.{Calm, Read, ReadsWithin};
+ghost use Rattle.mg_defs.specs.declared.Posting.{Posting};
+ghost use Rattle.mg_defs.specs.Lists.{bits_after, Rises, from_doc};
+ghost use Rattle.mg_post.specs.Stands.{Shows};
+ghost use Rattle.mg_post.specs.Cursor.{head_of, GoesOn};
+ghost use Rattle.mg_post.specs.Answers.{OrDevice, RefusalCause};
+
+use crate::read::read_block;
+use crate::refusal::Refusal;
+use mg_bits::{BitReader, Feed};
+use mg_defs::Posting;
+use std::alloc::{AllocError, Global};
+use std::marker::Model;
+
+/// The postings of a block, of which those before the current one were passed.
+#[derive(Drop)]
+pub struct Block {
+    postings: Vec<Posting>,
+    len: usize,
+    index: usize,
+}
+
+impl Model for Block {
+    ghost use Rattle.std.specs.Prelude.{◌≡◌, ◌≤◌, take, drop, length, List};
+    ghost use Rattle.mg_defs.specs.declared.Posting.{Posting};
+
+    ghost Value = { List Posting };
+
+    ghost view = { λ b. drop b.index (take b.len b.postings.items) };
+
+    ghost invariant = { λ b. (length b.postings.items ≡ 64) × (b.len ≤ 64) × (b.index ≤ b.len) };
+}
+
+/// The first place, from `from` on, whose document is at least `doc`.
+fn first_from(postings: &Vec<Posting>, len: usize, from: usize, doc: u32) -> usize
+    requires len { len ≤ length postings.now.items }
+    requires from { from ≤ len }
+    ensures within { result ≤ len }
+    ensures left { drop result (take len postings.now.items) ≡ from_doc doc (drop from (take len postings.now.items)) }
+{
+    for i in from..len {
+        if doc <= postings[i].doc {
+            return i;
+        }
+    }
+    len
+}
+
+impl Block {
+    pub fn new(alloc: Global) -> Result<Self, AllocError>
+        ensures { IfOk result (λ b. b ≡ []) }
+    {
+        let postings = vec![in alloc; Posting { doc: 0, freq: 0 }; 64]?;
+        Ok(Block {
+            postings,
+            len: 0,
+            index: 0,
+        })
+    }
+
+    /// The current posting.
+    pub fn current(&self) -> Option<Posting>
+        ensures { result ≡ head_of self.now }
+    {
+        if self.index < self.len {
+            Some(self.postings[self.index])
+        } else {
+            None
+        }
+    }
+
+    /// Leaves no posting.
+    pub fn clear(&mut self)
+        ensures { self.new ≡ [] }
+    {
+        self.index = self.len;
+    }
+
+    /// Goes to the posting after the current one, where the block has one.
+    pub fn step(&mut self) -> Option<Posting>
+        ensures { GoesOn result self.old self.new }
+    {
+        if self.index + 1 < self.len {
+            self.index += 1;
+            Some(self.postings[self.index])
+        } else {
+            None
+        }
+    }
+
+    /// Goes to the first posting whose document is at least `doc`.
+    pub fn forward(&mut self, doc: u32)
+        ensures { self.new ≡ from_doc doc self.old }
+    {
+        self.index = first_from(&self.postings, self.len, self.index, doc);
+    }
+
+    /// Reads so many postings that stand after a document.
+    pub fn fill<F: Feed>(
+        &mut self,
+        r: &mut BitReader<F>,
+        dev: &mut F::Dev,
+        parameter: u64,
+        count: usize,
+        before: u32,
+        all: u32,
+    ) -> Result<(), Refusal>
+        requires fits { F.fits r.old.feed (F.device dev.old).files }
+        requires before { before ≤ all }
+        requires parameter { 1 ≤ parameter }
+        requires limit { parameter < 2 ^ 48 }
+        requires room { count ≤ 64 }
+        ensures fits { F.fits r.new.feed (F.device dev.new).files }
+        ensures calm { Calm (F.feeding r.old.feed) (F.feeding r.new.feed) (F.device dev.old) (F.device dev.new) }
+        ensures read { OnOk result (Read (F.feeding r.old.feed) (F.feeding r.new.feed) (F.device dev.old) (F.device dev.new) r.old.place (r.old.place + length (bits_after parameter before self.new))) }
+        ensures pages { OnErr result ((ps : List Posting) → Rises all before ps → count ≤ length ps → r.old.place + length (bits_after parameter before ps) ≤ 2 ^ 63 →
+            Shows ((F.feeding r.old.feed).source (F.device dev.old).files) r.old.place (bits_after parameter before ps) →
+            ReadsWithin (F.feeding r.old.feed) (F.feeding r.new.feed) (F.device dev.old) (F.device dev.new) r.old.place (r.old.place + length (bits_after parameter before (take count ps)))) }
+        ensures place { MatchResult result (λ _. r.new.place ≡ r.old.place + length (bits_after parameter before self.new)) (λ _. r.new.place ≡ r.old.place) }
+        ensures told { (ps : List Posting) → Rises all before ps → count ≤ length ps → r.old.place + length (bits_after parameter before ps) ≤ 2 ^ 63 →
+            Shows ((F.feeding r.old.feed).source (F.device dev.old).files) r.old.place (bits_after parameter before ps) → OrDevice result (λ _. self.new ≡ take count ps) }
+        ensures cause { RefusalCause result (F.device dev.old).faults (F.device dev.new).faults }
+    {
+        match read_block(r, dev, parameter, count, before, all, &mut self.postings) {
+            Ok(()) => {
+                self.len = count;
+                self.index = 0;
+                Ok(())
+            }
+            Err(refusal) => Err(refusal),
+        }
+    }
+}

@@ -1,0 +1,244 @@
+// A cursor over a list.
+ghost use Rattle.std.specs.Prelude.{◌≡◌, ◌≢◌, ◌+◌, ◌*◌, ◌/◌, ◌<◌, ◌≤◌, ◌^◌, ℕ, List, [], true, Option, None, Ok, Err, IfOk, OnOk, OnErr};
+ghost use Rattle.mg_dev.specs.Files.{Files};
+ghost use Rattle.mg_dev.specs.Names.{full_name};
+ghost use Rattle.mg_dev.specs.PartCauses.{HasPartCause};
+ghost use Rattle.mg_dev.specs.declared.part.Part.TheVariants as part;
+ghost use Rattle.mg_defs.specs.declared.Posting.{Posting};
+ghost use Rattle.mg_defs.specs.Codes.{golomb_parameter};
+ghost use Rattle.mg_defs.specs.Lists.{from_doc};
+ghost use Rattle.mg_post.specs.Answers.{AnswersList};
+ghost use Rattle.mg_post.specs.Finding.{entries_pages};
+ghost use Rattle.mg_post.specs.Cursor.{head_of, after, next_doc, blocks_of, post_pages, entered_pages, skip_pages, CursorFits, CursorStands, SameList, SamePlace, StandsAt, IsOver, ReadsTwo, Enters};
+
+use crate::block::Block;
+use crate::enter::enter;
+use crate::find::find_block;
+use crate::refusal::refused_part;
+use crate::writer::parameter_of;
+use mg_bits::{BitReader, PageFeed};
+use mg_defs::Posting;
+use mg_dev::{Bad, FileRef, Part, PartErr, Store};
+use mg_layout::TermInfo;
+use std::alloc::{AllocError, Global};
+use std::marker::Model;
+use std::mem::swap;
+
+/// Goes over the postings of a list in rising order of their documents, and skips.
+///
+/// It keeps a page of Post and one of Skip, and the postings of the block that it entered last.
+/// Within a block nothing is read. A call that asks for a document beyond the block reads forward
+/// in the skip entries to the block whose range holds the document, and decodes that block alone.
+///
+/// Contracts see three numbers: the pages of Post that were read, the pages of the blocks that were
+/// entered, and the pages of Skip that were read. After a refusal the cursor stands where it stood.
+#[derive(Drop)]
+pub struct Cursor<'a, S> {
+    post: BitReader<PageFeed<'a, S>>,
+    skip: BitReader<PageFeed<'a, S>>,
+    post_at: u64,
+    skip_at: u32,
+    docs: u32,
+    all: u32,
+    parameter: u64,
+    reached: u32,
+    last: u32,
+    block: Block,
+    spare: Block,
+    ended: bool,
+    passed: u64,
+}
+
+impl<'a, S> Model for Cursor<'a, S> {
+    ghost use Rattle.std.specs.Prelude.{◌≡◌, ◌≤◌, ◌<◌, ◌^◌, true, []};
+    ghost use Rattle.mg_dev.specs.declared.part.Part.TheVariants as part;
+    ghost use Rattle.mg_post.specs.Cursor.{Cursoring, blocks_of};
+
+    ghost Value = { Cursoring };
+
+    ghost view = { λ c. record { post = c.post.feed; skip = c.skip.feed; post_at = c.post_at; skip_at = c.skip_at; docs = c.docs; all = c.all; parameter = c.parameter; reached = c.reached; last = c.last; held = c.block; ended = c.ended; passed = c.passed } };
+
+    ghost invariant = { λ c. (1 ≤ c.parameter) × (c.parameter < 2 ^ 48) × (c.last ≤ c.all) × (c.reached ≤ blocks_of c.docs) × (c.post.feed.part ≡ part.Post) × (c.skip.feed.part ≡ part.Skip) × (c.passed < 2 ^ 64) × (c.ended ≡ true → c.block ≡ []) };
+}
+
+/// How many blocks so many postings have.
+fn count_blocks(docs: u32) -> u32
+    ensures { result ≡ blocks_of docs }
+{
+    ((u64::from(docs) + 63) / 64) as u32
+}
+
+/// The parameter of a list of so many postings; any for a list of none.
+fn parameter_for(all: u32, docs: u32) -> u64
+    ensures value { 1 ≤ docs → result ≡ golomb_parameter all docs }
+    ensures some { 1 ≤ result }
+    ensures small { result < 2 ^ 48 }
+{
+    if docs == 0 {
+        return 1;
+    }
+    parameter_of(all, docs)
+}
+
+impl<'a, S: Store> Cursor<'a, S> {
+    /// Stands before the first posting of the list that the lexicon tells of, in a set with so many
+    /// documents. Nothing is read.
+    pub fn start(
+        alloc: Global,
+        base: &'a str,
+        info: &TermInfo,
+        all: u32,
+    ) -> Result<Self, AllocError>
+        ensures over { IfOk result (λ c. IsOver c (full_name base.entry.now part.Post) (full_name base.entry.now part.Skip) info.entry.now.post_at info.entry.now.skip_at info.entry.now.docs all) }
+        ensures parameter { IfOk result (λ c. 1 ≤ info.entry.now.docs → c.parameter ≡ golomb_parameter all info.entry.now.docs) }
+        ensures fits { IfOk result (λ c. (files : Option Files) → CursorFits c files) }
+        ensures at { IfOk result (λ c. (ps : List Posting) → StandsAt c ps ps) }
+        ensures before { IfOk result (λ c. c.held ≡ []) }
+        ensures nothing { IfOk result (λ c. (post_pages c ≡ 0) × (entered_pages c ≡ 0) × (skip_pages c ≡ 0)) }
+    {
+        let post_file = FileRef {
+            base,
+            part: Part::Post,
+        };
+        let skip_file = FileRef {
+            base,
+            part: Part::Skip,
+        };
+        let post = PageFeed::new(alloc, post_file)?;
+        let skip = PageFeed::new(alloc, skip_file)?;
+        let block = Block::new(alloc)?;
+        let spare = Block::new(alloc)?;
+        Ok(Cursor {
+            post: BitReader::new(post, 0),
+            skip: BitReader::new(skip, 0),
+            post_at: info.post_at,
+            skip_at: info.skip_at,
+            docs: info.docs,
+            all,
+            parameter: parameter_for(all, info.docs),
+            reached: 0,
+            last: 0,
+            block,
+            spare,
+            ended: false,
+            passed: 0,
+        })
+    }
+
+    /// The posting that it stands on: none before the first one and after the last.
+    pub fn current(&self) -> Option<Posting>
+        ensures { result ≡ head_of self.now.held }
+    {
+        self.block.current()
+    }
+
+    /// Goes to the first posting, not before the current one, whose document is at least `doc`,
+    /// which is at least 1. None where there is none; from then on nothing is read.
+    pub fn advance_to(&mut self, store: &mut S, doc: u32) -> Result<Option<Posting>, PartErr>
+        requires fits { CursorFits self.old (S.files store.old) }
+        requires some { 1 ≤ doc }
+        ensures fits { OnOk result (CursorFits self.new (S.files store.new)) }
+        ensures same { SameList self.old self.new }
+        ensures answer { (ps left : List Posting) → CursorStands self.old (S.files store.old) ps → StandsAt self.old ps left →
+            AnswersList result (λ found. (found ≡ head_of (from_doc doc left)) × StandsAt self.new ps (from_doc doc left)) }
+        ensures entered { (ps left : List Posting) → CursorStands self.old (S.files store.old) ps → StandsAt self.old ps left → Enters result ps self.old doc (entered_pages self.new) }
+        ensures first { post_pages self.new ≤ entered_pages self.new }
+        ensures third { skip_pages self.new ≤ entries_pages self.new.skip_at (blocks_of self.new.docs) }
+        ensures reads { ReadsTwo self.old self.new (S.reads store.old) (S.reads store.new) }
+        ensures ended { self.old.ended ≡ true → (result ≡ Ok None) × (self.new ≡ self.old) × (store.new ≡ store.old) }
+        ensures current { IfOk result (λ found. found ≡ head_of self.new.held) }
+        ensures kept { OnErr result (SamePlace self.old self.new) }
+        ensures files { S.files store.new ≡ S.files store.old }
+        ensures memory { result ≢ Err PartErr.Memory }
+        ensures cause { HasPartCause (S.faults store.old) (S.faults store.new) result }
+    {
+        if self.ended {
+            return Ok(None);
+        }
+        if doc <= self.last {
+            self.block.forward(doc);
+            return Ok(self.block.current());
+        }
+        let blocks = count_blocks(self.docs);
+        match find_block(
+            &mut self.skip,
+            store,
+            self.skip_at,
+            blocks,
+            self.reached,
+            self.last,
+            self.all,
+            doc,
+        ) {
+            Err(refusal) => Err(refused_part(refusal, Part::Skip)),
+            Ok(None) => {
+                self.block.clear();
+                self.reached = blocks;
+                self.ended = true;
+                Ok(None)
+            }
+            Ok(Some(found)) => {
+                match enter(
+                    &mut self.post,
+                    store,
+                    &mut self.spare,
+                    self.post_at,
+                    self.docs,
+                    self.parameter,
+                    self.all,
+                    found,
+                    doc,
+                ) {
+                    Err(refusal) => Err(refused_part(refusal, Part::Post)),
+                    Ok(inside) => {
+                        swap(&mut self.block, &mut self.spare);
+                        self.reached = found.block + 1;
+                        self.last = found.last;
+                        self.passed = self.passed.saturating_add(inside.pages);
+                        Ok(Some(inside.posting))
+                    }
+                }
+            }
+        }
+    }
+
+    /// Goes to the next posting: the first one before any was asked for. None after the last;
+    /// from then on nothing is read.
+    pub fn next(&mut self, store: &mut S) -> Result<Option<Posting>, PartErr>
+        requires fits { CursorFits self.old (S.files store.old) }
+        ensures fits { OnOk result (CursorFits self.new (S.files store.new)) }
+        ensures same { SameList self.old self.new }
+        ensures answer { (ps left : List Posting) → CursorStands self.old (S.files store.old) ps → StandsAt self.old ps left →
+            AnswersList result (λ found. (found ≡ head_of (after self.old.held left)) × StandsAt self.new ps (after self.old.held left)) }
+        ensures entered { (ps left : List Posting) → CursorStands self.old (S.files store.old) ps → StandsAt self.old ps left → Enters result ps self.old (next_doc self.old.held) (entered_pages self.new) }
+        ensures first { post_pages self.new ≤ entered_pages self.new }
+        ensures third { skip_pages self.new ≤ entries_pages self.new.skip_at (blocks_of self.new.docs) }
+        ensures reads { ReadsTwo self.old self.new (S.reads store.old) (S.reads store.new) }
+        ensures ended { self.old.ended ≡ true → (result ≡ Ok None) × (self.new ≡ self.old) × (store.new ≡ store.old) }
+        ensures current { IfOk result (λ found. found ≡ head_of self.new.held) }
+        ensures kept { OnErr result (SamePlace self.old self.new) }
+        ensures files { S.files store.new ≡ S.files store.old }
+        ensures memory { result ≢ Err PartErr.Memory }
+        ensures cause { HasPartCause (S.faults store.old) (S.faults store.new) result }
+    {
+        if self.ended {
+            return Ok(None);
+        }
+        match self.block.step() {
+            Some(posting) => Ok(Some(posting)),
+            None => {
+                let last = self.last;
+                if last == u32::MAX {
+                    return Err(PartErr::Bad(Bad {
+                        part: Part::Skip,
+                        at: 0,
+                        low: 1,
+                        high: 1,
+                        found: 0,
+                    }));
+                }
+                self.advance_to(store, last + 1)
+            }
+        }
+    }
+}

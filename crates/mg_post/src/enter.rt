@@ -1,0 +1,95 @@
+// Entering a block.
+ghost use Rattle.std.specs.Prelude.{◌≡◌, ◌+◌, ◌-◌, ◌*◌, ◌<◌, ◌≤◌, ◌^◌, ℕ, List, [], ◌++◌, length, IfOk, OnOk, OnErr, Some};
+ghost use Rattle.mg_bits.specs.Feed.{Calm};
+ghost use Rattle.mg_defs.specs.PagesOf.{pages};
+ghost use Rattle.mg_defs.specs.declared.Posting.{Posting};
+ghost use Rattle.mg_defs.specs.Lists.{bits_after, Rises, from_doc, block_pages};
+ghost use Rattle.mg_post.specs.Stands.{Shows};
+ghost use Rattle.mg_post.specs.Finding.{IsFoundAt};
+ghost use Rattle.mg_post.specs.Cursor.{head_of, Entered, IsPlace};
+ghost use Rattle.mg_post.specs.Answers.{OrDevice, RefusalCause};
+
+use crate::block::Block;
+use crate::find::Found;
+use crate::refusal::Refusal;
+use mg_bits::{BitReader, Feed};
+use mg_defs::Posting;
+
+/// The posting where a block was entered, and the pages of the block.
+#[derive(Clone, Copy, Debug, PartialEq, Eq)]
+pub struct Inside {
+    pub posting: Posting,
+    pub pages: u64,
+}
+
+/// How many pages of 4,096 bytes have a bit of a range.
+fn pages_of(from: u64, to: u64) -> u64
+    ensures { result ≡ pages from to }
+{
+    if from < to {
+        (to - 1) / 32768 - from / 32768 + 1
+    } else {
+        0
+    }
+}
+
+/// The place of so many bits behind a byte.
+fn place_of(byte: u64, bits: u64) -> Option<u64>
+    ensures { IsPlace result byte bits }
+{
+    if byte > 1 << 60 {
+        return None;
+    }
+    (8 * byte).checked_add(bits)
+}
+
+/// Reads the block that was found of a list which begins at a byte of the part, and goes to its
+/// first posting whose document is at least `doc`.
+pub fn enter<F: Feed>(
+    r: &mut BitReader<F>,
+    dev: &mut F::Dev,
+    block: &mut Block,
+    post_at: u64,
+    docs: u32,
+    parameter: u64,
+    all: u32,
+    found: Found,
+    doc: u32,
+) -> Result<Inside, Refusal>
+    requires fits { F.fits r.old.feed (F.device dev.old).files }
+    requires page { (F.feeding r.old.feed).page ≡ 4096 }
+    requires before { found.before ≤ all }
+    requires there { 64 * found.block < docs }
+    requires parameter { 1 ≤ parameter }
+    requires limit { parameter < 2 ^ 48 }
+    ensures fits { F.fits r.new.feed (F.device dev.new).files }
+    ensures calm { Calm (F.feeding r.old.feed) (F.feeding r.new.feed) (F.device dev.old) (F.device dev.new) }
+    ensures count { IfOk result (λ i. (F.feeding r.new.feed).count ≤ (F.feeding r.old.feed).count + i.pages) }
+    ensures current { IfOk result (λ i. head_of block.new ≡ Some i.posting) }
+    ensures told { (ps : List Posting) (blocks : ℕ) → Rises all 0 ps → docs ≡ length ps → Shows ((F.feeding r.old.feed).source (F.device dev.old).files) (8 * post_at) (bits_after parameter 0 ps) →
+        8 * post_at + length (bits_after parameter 0 ps) ≤ 2 ^ 63 → IsFoundAt parameter ps blocks doc found.block found.before found.last found.at →
+        OrDevice result (λ i. Entered parameter ps (8 * post_at) found.block doc i.posting block.new i.pages) }
+    ensures most { (ps : List Posting) (blocks : ℕ) → Rises all 0 ps → docs ≡ length ps → Shows ((F.feeding r.old.feed).source (F.device dev.old).files) (8 * post_at) (bits_after parameter 0 ps) →
+        8 * post_at + length (bits_after parameter 0 ps) ≤ 2 ^ 63 → IsFoundAt parameter ps blocks doc found.block found.before found.last found.at →
+        (F.feeding r.new.feed).count ≤ (F.feeding r.old.feed).count + block_pages parameter (8 * post_at) found.block ps }
+    ensures cause { RefusalCause result (F.device dev.old).faults (F.device dev.new).faults }
+{
+    let Some(place) = place_of(post_at, found.at) else {
+        return Err(Refusal::Damaged { at: found.at });
+    };
+    r.seek(place);
+    let left = (docs - 64 * found.block) as usize;
+    match block.fill(r, dev, parameter, left.min(64), found.before, all) {
+        Ok(()) => {
+            block.forward(doc);
+            match block.current() {
+                Some(posting) => {
+                    let pages = pages_of(place, r.place());
+                    Ok(Inside { posting, pages })
+                }
+                None => Err(Refusal::Damaged { at: place }),
+            }
+        }
+        Err(refusal) => Err(refusal),
+    }
+}

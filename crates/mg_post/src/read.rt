@@ -1,0 +1,107 @@
+// Postings from bits.
+ghost use Rattle.std.specs.Prelude.{◌≡◌, ◌+◌, ◌-◌, ◌*◌, ◌<◌, ◌≤◌, ◌^◌, ℕ, List, ◌++◌, length, take, drop, IfOk, OnOk, OnErr, MatchResult};
+ghost use Rattle.mg_bits.specs.Feed.{Calm, Read, ReadsWithin};
+ghost use Rattle.mg_defs.specs.declared.Posting.{Posting};
+ghost use Rattle.mg_defs.specs.Lists.{posting_bits, bits_after, last_doc, Rises, Follows};
+ghost use Rattle.mg_post.specs.Stands.{Shows};
+ghost use Rattle.mg_post.specs.Answers.{OrDevice, RefusalCause};
+
+use crate::refusal::{Refusal, refused_code};
+use mg_bits::{BitReader, Feed};
+use mg_codes::{get_gamma, get_golomb};
+use mg_defs::Posting;
+
+// The last place from which a code is read.
+const LAST: u64 = 1 << 63;
+
+/// The posting that stands after a document, by the list's parameter, among so many documents.
+pub fn read_posting<F: Feed>(
+    r: &mut BitReader<F>,
+    dev: &mut F::Dev,
+    parameter: u64,
+    before: u32,
+    all: u32,
+) -> Result<Posting, Refusal>
+    requires fits { F.fits r.old.feed (F.device dev.old).files }
+    requires before { before ≤ all }
+    requires parameter { 1 ≤ parameter }
+    requires limit { parameter < 2 ^ 48 }
+    ensures fits { F.fits r.new.feed (F.device dev.new).files }
+    ensures calm { Calm (F.feeding r.old.feed) (F.feeding r.new.feed) (F.device dev.old) (F.device dev.new) }
+    ensures read { IfOk result (λ p. Read (F.feeding r.old.feed) (F.feeding r.new.feed) (F.device dev.old) (F.device dev.new) r.old.place (r.old.place + length (posting_bits parameter before p))) }
+    ensures pages { OnErr result ((p : Posting) → Follows all before p → Shows ((F.feeding r.old.feed).source (F.device dev.old).files) r.old.place (posting_bits parameter before p) →
+        ReadsWithin (F.feeding r.old.feed) (F.feeding r.new.feed) (F.device dev.old) (F.device dev.new) r.old.place (r.old.place + length (posting_bits parameter before p))) }
+    ensures place { MatchResult result (λ p. r.new.place ≡ r.old.place + length (posting_bits parameter before p)) (λ _. r.new.place ≡ r.old.place) }
+    ensures follows { IfOk result (Follows all before) }
+    ensures told { (p : Posting) → Follows all before p → r.old.place + length (posting_bits parameter before p) ≤ 2 ^ 63 →
+        Shows ((F.feeding r.old.feed).source (F.device dev.old).files) r.old.place (posting_bits parameter before p) → OrDevice result (λ q. q ≡ p) }
+    ensures cause { RefusalCause result (F.device dev.old).faults (F.device dev.new).faults }
+{
+    let start = r.place();
+    if before >= all || start > LAST {
+        return Err(Refusal::Damaged { at: start });
+    }
+    let gap = match get_golomb(r, dev, parameter, u64::from(all - before)) {
+        Ok(gap) => gap as u32,
+        Err(refusal) => return Err(refused_code(refusal)),
+    };
+    if r.place() > LAST {
+        r.seek(start);
+        return Err(Refusal::Damaged { at: start });
+    }
+    match get_gamma(r, dev, 0xffff_ffff) {
+        Ok(freq) => Ok(Posting {
+            doc: before + gap,
+            freq: freq as u32,
+        }),
+        Err(refusal) => {
+            r.seek(start);
+            Err(refused_code(refusal))
+        }
+    }
+}
+
+/// Reads so many postings after a document to the front of `out`.
+pub fn read_block<F: Feed>(
+    r: &mut BitReader<F>,
+    dev: &mut F::Dev,
+    parameter: u64,
+    count: usize,
+    before: u32,
+    all: u32,
+    out: &mut Vec<Posting>,
+) -> Result<(), Refusal>
+    requires fits { F.fits r.old.feed (F.device dev.old).files }
+    requires before { before ≤ all }
+    requires parameter { 1 ≤ parameter }
+    requires limit { parameter < 2 ^ 48 }
+    requires room { count ≤ length out.old.items }
+    ensures fits { F.fits r.new.feed (F.device dev.new).files }
+    ensures calm { Calm (F.feeding r.old.feed) (F.feeding r.new.feed) (F.device dev.old) (F.device dev.new) }
+    ensures kept { length out.new.items ≡ length out.old.items }
+    ensures read { OnOk result (Read (F.feeding r.old.feed) (F.feeding r.new.feed) (F.device dev.old) (F.device dev.new) r.old.place (r.old.place + length (bits_after parameter before (take count out.new.items)))) }
+    ensures pages { OnErr result ((ps : List Posting) → Rises all before ps → count ≤ length ps → r.old.place + length (bits_after parameter before ps) ≤ 2 ^ 63 →
+        Shows ((F.feeding r.old.feed).source (F.device dev.old).files) r.old.place (bits_after parameter before ps) →
+        ReadsWithin (F.feeding r.old.feed) (F.feeding r.new.feed) (F.device dev.old) (F.device dev.new) r.old.place (r.old.place + length (bits_after parameter before (take count ps)))) }
+    ensures place { MatchResult result (λ _. r.new.place ≡ r.old.place + length (bits_after parameter before (take count out.new.items))) (λ _. r.new.place ≡ r.old.place) }
+    ensures rises { OnOk result (Rises all before (take count out.new.items)) }
+    ensures told { (ps : List Posting) → Rises all before ps → count ≤ length ps → r.old.place + length (bits_after parameter before ps) ≤ 2 ^ 63 →
+        Shows ((F.feeding r.old.feed).source (F.device dev.old).files) r.old.place (bits_after parameter before ps) → OrDevice result (λ _. take count out.new.items ≡ take count ps) }
+    ensures cause { RefusalCause result (F.device dev.old).faults (F.device dev.new).faults }
+{
+    let start = r.place();
+    let mut last = before;
+    for i in 0..count {
+        match read_posting(r, dev, parameter, last, all) {
+            Ok(posting) => {
+                out[i] = posting;
+                last = posting.doc;
+            }
+            Err(refusal) => {
+                r.seek(start);
+                return Err(refusal);
+            }
+        }
+    }
+    Ok(())
+}

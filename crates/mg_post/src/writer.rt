@@ -1,0 +1,241 @@
+// Lists and their skip entries into two parts.
+ghost use Rattle.std.specs.Prelude.{◌≡◌, ◌≢◌, ◌+◌, ◌*◌, ◌/◌, ◌<◌, ◌≤◌, ◌^◌, ◌++◌, ◌∷◌, [], ℕ, List, Ok, length, OnOk, IfOk, IsSome};
+ghost use Rattle.std.specs.Option.{is_some};
+ghost use Rattle.mg_dev.specs.Files.{file_at, bytes_at, SameReads};
+ghost use Rattle.mg_dev.specs.Names.{full_name};
+ghost use Rattle.mg_dev.specs.Causes.{HasPutCause};
+ghost use Rattle.mg_dev.specs.declared.part.Part.TheVariants as part;
+ghost use Rattle.mg_bits.specs.Writer.{WroteTo};
+ghost use Rattle.mg_bits.specs.BitWriting.{Holds, WroteBits};
+ghost use Rattle.mg_defs.specs.declared.Posting.{Posting};
+ghost use Rattle.mg_defs.specs.Codes.{golomb_parameter};
+ghost use Rattle.mg_defs.specs.Lists.{entry_bits, lists_bits, lists_entries};
+ghost use Rattle.mg_post.specs.Writing.{posting_of, skip_entry, Took, SameFiles, Pushed, IsBetween, Finished};
+
+use crate::put::{put_entry, put_posting};
+use mg_bits::BitWriter;
+use mg_dev::{FileRef, Part, PutErr, Store};
+use std::alloc::Global;
+use std::marker::Model;
+
+/// Writes the lists of a set into Post and their skip entries into Skip, list by list.
+///
+/// A list is begun with the number of its postings, on which the parameter of its gaps depends;
+/// then so many postings are pushed, and the list is ended. It holds back up to a page of each part
+/// and keeps nothing of what was pushed but a few numbers.
+#[derive(Drop)]
+pub struct ListWriter<'a> {
+    post: BitWriter<'a>,
+    skip: BitWriter<'a>,
+    all: u32,
+    docs: u32,
+    parameter: u64,
+    pushed: u64,
+    last: u32,
+    total: u64,
+    start: u64,
+    first: u64,
+    full: u64,
+    block_at: u64,
+}
+
+impl<'a> Model for ListWriter<'a> {
+    ghost use Rattle.std.specs.Prelude.{◌≡◌, ◌≤◌, ◌<◌, ◌^◌};
+    ghost use Rattle.mg_post.specs.Writing.{Listing};
+
+    ghost Value = { Listing };
+
+    ghost view = { λ w. record { post = w.post; skip = w.skip; all = w.all; docs = w.docs; parameter = w.parameter; pushed = w.pushed; last = w.last; total = w.total; start = w.start; first = w.first; full = w.full; block_at = w.block_at } };
+
+    ghost invariant = { λ w. (1 ≤ w.parameter) × (w.parameter < 2 ^ 48) };
+}
+
+/// The parameter of the gaps of a list of so many documents among all.
+pub(crate) fn parameter_of(all: u32, docs: u32) -> u64
+    requires { 1 ≤ docs }
+    ensures value { result ≡ golomb_parameter all docs }
+    ensures some { 1 ≤ result }
+    ensures small { result < 2 ^ 48 }
+{
+    (69 * u64::from(all) / (100 * u64::from(docs))).max(1)
+}
+
+/// Writes the entry of the last block, where it isn't full; answers how many blocks there are.
+fn put_last<S: Store>(
+    w: &mut BitWriter<'_>,
+    store: &mut S,
+    pushed: u64,
+    full: u64,
+    last: u32,
+    block_at: u64,
+) -> Result<u64, PutErr>
+    requires holds { Holds w.old (S.files store.old) }
+    requires place { w.old.place ≤ 2 ^ 62 }
+    requires full { 64 * full ≤ pushed }
+    ensures holds { OnOk result (Holds w.new (S.files store.new)) }
+    ensures some { 64 * full < pushed → IfOk result (λ blocks. (blocks ≡ full + 1) × WroteBits w.old w.new (S.files store.old) (S.files store.new) (entry_bits (skip_entry last block_at))) }
+    ensures none { pushed ≤ 64 * full → IfOk result (λ blocks. (blocks ≡ full) × WroteBits w.old w.new (S.files store.old) (S.files store.new) []) }
+    ensures name { w.new.name ≡ w.old.name }
+    ensures wrote { WroteTo w.old.name (S.files store.old) (S.files store.new) (S.reads store.old) (S.reads store.new) }
+    ensures cause { HasPutCause (S.faults store.old) (S.faults store.new) result }
+{
+    if pushed > 64 * full {
+        put_entry(w, store, last, block_at)?;
+        return Ok(full + 1);
+    }
+    Ok(full)
+}
+
+impl<'a> ListWriter<'a> {
+    /// A writer of the lists of a set with so many documents, at most 2^24. It empties both parts.
+    pub fn start<S: Store>(
+        alloc: Global,
+        store: &mut S,
+        base: &'a str,
+        all: u32,
+    ) -> Result<Self, PutErr>
+        requires all { all ≤ 2 ^ 24 }
+        ensures took { IfOk result (λ w. Took w (S.files store.new) [] []) }
+        ensures post { IfOk result (λ w. w.post.name ≡ full_name base.entry.now part.Post) }
+        ensures skip { IfOk result (λ w. w.skip.name ≡ full_name base.entry.now part.Skip) }
+        ensures all { IfOk result (λ w. w.all ≡ all) }
+        ensures nothing { IfOk result (λ w. w.total ≡ 0) }
+        ensures others { (n : List ℕ) → n ≢ full_name base.entry.now part.Post → n ≢ full_name base.entry.now part.Skip → file_at (S.files store.new) n ≡ file_at (S.files store.old) n }
+        ensures told { is_some (S.files store.new) ≡ is_some (S.files store.old) }
+        ensures reads { SameReads (S.reads store.old) (S.reads store.new) }
+        ensures cause { HasPutCause (S.faults store.old) (S.faults store.new) result }
+    {
+        let post_file = FileRef {
+            base,
+            part: Part::Post,
+        };
+        let skip_file = FileRef {
+            base,
+            part: Part::Skip,
+        };
+        let post = match BitWriter::start(alloc, store, post_file) {
+            Ok(writer) => writer,
+            Err(refusal) => return Err(refusal),
+        };
+        let skip = match BitWriter::start(alloc, store, skip_file) {
+            Ok(writer) => writer,
+            Err(refusal) => return Err(refusal),
+        };
+        Ok(ListWriter {
+            post,
+            skip,
+            all,
+            docs: 1,
+            parameter: parameter_of(all, 1),
+            pushed: 0,
+            last: 0,
+            total: 0,
+            start: 0,
+            first: 0,
+            full: 0,
+            block_at: 0,
+        })
+    }
+
+    /// Begins a list of so many postings, from 1 to the number of documents. Nothing is written.
+    pub fn begin<S: Store>(&mut self, _store: &mut S, docs: u32) -> Result<(), PutErr>
+        requires took { (lists : List (List Posting)) × Took self.old (S.files _store.old) lists [] }
+        requires some { 1 ≤ docs }
+        requires within { docs ≤ self.old.all }
+        ensures took { (lists : List (List Posting)) → Took self.old (S.files _store.old) lists [] → Took self.new (S.files _store.new) lists [] }
+        ensures between { IsBetween self.old self.new docs }
+        ensures same { SameFiles self.old self.new }
+        ensures sure { result ≡ Ok tt }
+        ensures store { _store.new ≡ _store.old }
+    {
+        self.parameter = parameter_of(self.all, docs);
+        self.docs = docs;
+        self.pushed = 0;
+        self.last = 0;
+        self.full = 0;
+        self.block_at = 0;
+        Ok(())
+    }
+
+    /// One posting more of the list that was begun. Documents rise, from 1 to the number of them.
+    /// At most 2^32 postings are pushed to one writer, so that the bits stay below 2^63.
+    pub fn push<S: Store>(&mut self, store: &mut S, doc: u32, freq: u32) -> Result<(), PutErr>
+        requires took { (lists : List (List Posting)) × (ps : List Posting) × Took self.old (S.files store.old) lists ps }
+        requires more { self.old.pushed < self.old.docs }
+        requires total { self.old.total < 2 ^ 32 }
+        requires after { self.old.last < doc }
+        requires within { doc ≤ self.old.all }
+        requires some { 1 ≤ freq }
+        ensures took { OnOk result ((lists : List (List Posting)) (ps : List Posting) → Took self.old (S.files store.old) lists ps → Took self.new (S.files store.new) lists (ps ++ posting_of doc freq ∷ [])) }
+        ensures pushed { OnOk result (Pushed self.old self.new doc) }
+        ensures same { SameFiles self.old self.new }
+        ensures others { (n : List ℕ) → n ≢ self.old.post.name → n ≢ self.old.skip.name → file_at (S.files store.new) n ≡ file_at (S.files store.old) n }
+        ensures told { is_some (S.files store.new) ≡ is_some (S.files store.old) }
+        ensures reads { SameReads (S.reads store.old) (S.reads store.new) }
+        ensures cause { HasPutCause (S.faults store.old) (S.faults store.new) result }
+    {
+        put_posting(&mut self.post, store, self.parameter, self.last, doc, freq)?;
+        self.last = doc;
+        self.pushed += 1;
+        self.total += 1;
+        if self.pushed % 64 == 0 {
+            put_entry(&mut self.skip, store, doc, self.block_at)?;
+            self.block_at = self.post.place() - self.start;
+            self.full += 1;
+        }
+        Ok(())
+    }
+
+    /// Ends the list that was begun, of which all postings were pushed. Answers the byte of Post
+    /// where it begins, and the number of its first skip entry.
+    pub fn end_list<S: Store>(&mut self, store: &mut S) -> Result<(u64, u32), PutErr>
+        requires took { (lists : List (List Posting)) × (ps : List Posting) × Took self.old (S.files store.old) lists ps }
+        requires whole { self.old.pushed ≡ self.old.docs }
+        ensures took { OnOk result ((lists : List (List Posting)) (ps : List Posting) → Took self.old (S.files store.old) lists ps → Took self.new (S.files store.new) (lists ++ ps ∷ []) []) }
+        ensures answer { IfOk result (λ at. (lists : List (List Posting)) (ps : List Posting) → Took self.old (S.files store.old) lists ps →
+            (at.0 ≡ length (lists_bits self.old.all lists) / 8) × (at.1 ≡ length (lists_entries self.old.all lists))) }
+        ensures between { OnOk result (IsBetween self.old self.new self.old.docs) }
+        ensures same { SameFiles self.old self.new }
+        ensures others { (n : List ℕ) → n ≢ self.old.post.name → n ≢ self.old.skip.name → file_at (S.files store.new) n ≡ file_at (S.files store.old) n }
+        ensures told { is_some (S.files store.new) ≡ is_some (S.files store.old) }
+        ensures reads { SameReads (S.reads store.old) (S.reads store.new) }
+        ensures cause { HasPutCause (S.faults store.old) (S.faults store.new) result }
+    {
+        let blocks = put_last(
+            &mut self.skip,
+            store,
+            self.pushed,
+            self.full,
+            self.last,
+            self.block_at,
+        )?;
+        self.post.align(store)?;
+        let begun = (self.start / 8, self.first as u32);
+        self.start = self.post.place();
+        self.first += blocks;
+        self.pushed = 0;
+        self.last = 0;
+        self.full = 0;
+        self.block_at = 0;
+        Ok(begun)
+    }
+
+    /// Writes what is held. Then the parts hold the lists and their skip entries. Answers the bytes
+    /// of Post and the number of skip entries.
+    pub fn finish<S: Store>(&mut self, store: &mut S) -> Result<(u64, u64), PutErr>
+        requires took { (lists : List (List Posting)) × Took self.old (S.files store.old) lists [] }
+        ensures finished { OnOk result ((lists : List (List Posting)) → Took self.old (S.files store.old) lists [] → IsSome (S.files store.old) → Finished self.old (S.files store.new) lists) }
+        ensures answer { IfOk result (λ sizes. (lists : List (List Posting)) → Took self.old (S.files store.old) lists [] →
+            (sizes.0 ≡ length (lists_bits self.old.all lists) / 8) × (sizes.1 ≡ length (lists_entries self.old.all lists))) }
+        ensures same { SameFiles self.old self.new }
+        ensures others { (n : List ℕ) → n ≢ self.old.post.name → n ≢ self.old.skip.name → file_at (S.files store.new) n ≡ file_at (S.files store.old) n }
+        ensures told { is_some (S.files store.new) ≡ is_some (S.files store.old) }
+        ensures reads { SameReads (S.reads store.old) (S.reads store.new) }
+        ensures cause { HasPutCause (S.faults store.old) (S.faults store.new) result }
+    {
+        let sizes = (self.start / 8, self.first);
+        self.post.finish(store)?;
+        self.skip.finish(store)?;
+        Ok(sizes)
+    }
+}
