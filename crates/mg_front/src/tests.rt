@@ -418,7 +418,7 @@ fn tells_each<S: Store>(
 #[test]
 fn many_strings_are_found_and_their_neighbours_are_not(rt: HostRuntime) -> Result<(), Fail> {
     let alloc = rt.alloc();
-    let bytes = random_bytes(alloc, 10_000)?;
+    let bytes = random_bytes(alloc, 100_000)?;
     let mut nines: Vec<&[u8]> = Vec::new(alloc);
     let mut items: Vec<(&[u8], &[u8])> = Vec::new(alloc);
     for nine in bytes.chunks_exact(9) {
@@ -427,10 +427,10 @@ fn many_strings_are_found_and_their_neighbours_are_not(rt: HostRuntime) -> Resul
     }
     let mut store = MemStore::new(alloc);
     written(alloc, &mut store, 0, &items)?;
-    let mut reader = FrontReader::load(alloc, &mut store, STRINGS, PLACES, 0, 10_000)?;
+    let mut reader = FrontReader::load(alloc, &mut store, STRINGS, PLACES, 0, 100_000)?;
     assert!(rt; tells_each(&mut reader, &mut store, &nines)?);
-    assert!(rt; store.reads_of(Part::Lex) <= 30_000 * 26);
-    assert!(rt; store.reads_of(Part::LexAt) <= 30_000 * 13);
+    assert!(rt; store.reads_of(Part::Lex) <= 300_000 * 32);
+    assert!(rt; store.reads_of(Part::LexAt) <= 300_000 * 16);
     Ok(())
 }
 

@@ -173,7 +173,7 @@ fn tells_each<S: Store>(
 #[test]
 fn many_terms_are_told_with_few_reads(rt: HostRuntime) -> Result<(), Fail> {
     let alloc = rt.alloc();
-    let bytes = many_bytes(alloc, 10_000)?;
+    let bytes = many_bytes(alloc, 100_000)?;
     let mut lines: Vec<Line<'_>> = Vec::new(alloc);
     let mut number = 0u32;
     for term in bytes.chunks_exact(5) {
@@ -182,10 +182,10 @@ fn many_terms_are_told_with_few_reads(rt: HostRuntime) -> Result<(), Fail> {
     }
     let mut store = MemStore::new(alloc);
     written(alloc, &mut store, &lines)?;
-    let mut lex = Lex::load(alloc, &mut store, "set", &head_of(10_000))?;
+    let mut lex = Lex::load(alloc, &mut store, "set", &head_of(100_000))?;
     assert!(rt; tells_each(&mut lex, &mut store, &lines)?);
-    assert!(rt; store.reads_of(Part::Lex) <= 20_000 * 26);
-    assert!(rt; store.reads_of(Part::LexAt) <= 20_000 * 13);
+    assert!(rt; store.reads_of(Part::Lex) <= 200_000 * 32);
+    assert!(rt; store.reads_of(Part::LexAt) <= 200_000 * 16);
     Ok(())
 }
 
