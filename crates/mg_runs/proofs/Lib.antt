@@ -1,0 +1,5 @@
+pub mod Chunks
+pub mod Like
+pub mod Short
+pub mod Sorting
+pub mod OnRun

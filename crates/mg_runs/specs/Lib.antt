@@ -1,0 +1,4 @@
+pub mod Bytes
+pub mod Pooled
+pub mod Groups
+pub mod OnRun
