@@ -3,3 +3,5 @@ pub mod Like
 pub mod Short
 pub mod Sorting
 pub mod OnRun
+pub mod Parts
+pub mod Feeding

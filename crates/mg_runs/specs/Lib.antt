@@ -2,3 +2,4 @@ pub mod Bytes
 pub mod Pooled
 pub mod Groups
 pub mod OnRun
+pub mod Fed

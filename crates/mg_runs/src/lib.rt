@@ -13,5 +13,7 @@ mod groups;
 mod pool;
 mod posting;
 mod run;
+mod runs;
 
 pub use pool::Pool;
+pub use runs::Runs;
