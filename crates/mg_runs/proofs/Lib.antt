@@ -5,3 +5,4 @@ pub mod Sorting
 pub mod OnRun
 pub mod Parts
 pub mod Feeding
+pub mod Tournaments

@@ -3,3 +3,4 @@ pub mod Pooled
 pub mod Groups
 pub mod OnRun
 pub mod Fed
+pub mod Tournament

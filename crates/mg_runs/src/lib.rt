@@ -14,6 +14,7 @@ mod pool;
 mod posting;
 mod run;
 mod runs;
+mod tournament;
 
 pub use pool::Pool;
 pub use runs::Runs;
