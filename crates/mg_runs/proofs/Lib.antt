@@ -6,3 +6,4 @@ pub mod OnRun
 pub mod Parts
 pub mod Feeding
 pub mod Tournaments
+pub mod Decoding

@@ -4,3 +4,4 @@ pub mod Groups
 pub mod OnRun
 pub mod Fed
 pub mod Tournament
+pub mod Decoding

@@ -8,6 +8,7 @@
 //! (Managing Gigabytes, chapter 5.)
 #![tactic(auto)]
 
+mod decode;
 mod entry;
 mod groups;
 mod pool;

@@ -1,0 +1,58 @@
+use Rattle.std.proofs.Common.{◌≡◌, ◌+◌, ◌-◌, ◌≤◌, ◌∙◌, ℕ, Some, None, ap, arith, length, sym, subst}
+use Rattle.std.specs.declared.option.Option.{Option}
+use Rattle.mg_defs.specs.Bits.{Bits, bits_of}
+use Rattle.mg_defs.specs.Codes.{gamma}
+use Rattle.mg_defs.specs.Postings.{IsBefore}
+use Rattle.mg_defs.specs.RunBits.{posting_bits, doc_gap}
+use Rattle.mg_defs.specs.declared.TermPosting.{TermPosting}
+use Rattle.mg_runs.specs.declared.decode.Number.{Number}
+use Rattle.mg_runs.specs.declared.decode.Decoded.{Decoded}
+use Rattle.mg_runs.specs.Decoding.{IsSmall}
+use Rattle.mg_runs.proofs.Decoding.{Plan, plan, none_or_some, one_some}
+use Rattle.mg_runs.proofs.decode.posting_in.Goals as goal
+
+pub returns-in_err-term_gap : goal.returns-in_err-term_gap
+returns-in_err-term_gap c = record { told = λ x more before small e.
+    let p = plan _ c.args.at c.args.last.now x more before small e in
+    let a = c.number_in.ensures.told (x.term - c.args.last.now.term + 1) p.behind_gap p.gap p.first in
+    absurd (none_or_some _ _ c.in_err-term_gap.was a) }
+
+pub returns-in_err-doc_gap : goal.returns-in_err-doc_gap
+returns-in_err-doc_gap c = record { told = λ x more before small e.
+    let p = plan _ c.args.at c.args.last.now x more before small e in
+    let a = one_some _ _ _ c.in_ok-term_gap.was (c.number_in.ensures.told (x.term - c.args.last.now.term + 1) p.behind_gap p.gap p.first) in
+    let b = rw a at c.number_in-2.ensures.told (doc_gap c.args.last.now x) p.behind_doc p.doc in
+    absurd (none_or_some _ _ c.in_err-doc_gap.was (b p.second)) }
+
+pub returns-in_err-count : goal.returns-in_err-count
+returns-in_err-count c = record { told = λ x more before small e.
+    let p = plan _ c.args.at c.args.last.now x more before small e in
+    let a = one_some _ _ _ c.in_ok-term_gap.was (c.number_in.ensures.told (x.term - c.args.last.now.term + 1) p.behind_gap p.gap p.first) in
+    let b = rw a at c.number_in-2.ensures.told (doc_gap c.args.last.now x) p.behind_doc p.doc in
+    let d = one_some _ _ _ c.in_ok-doc_gap.was (b p.second) in
+    let f = rw d at c.number_in-3.ensures.told x.count more p.count in
+    absurd (none_or_some _ _ c.in_err-count.was (f p.third)) }
+
+pub returns-in_err-term : goal.returns-in_err-term
+returns-in_err-term c = record { told = λ x more before small e.
+    let p = plan _ c.args.at c.args.last.now x more before small e in
+    let a = one_some _ _ _ c.in_ok-term_gap.was (c.number_in.ensures.told (x.term - c.args.last.now.term + 1) p.behind_gap p.gap p.first) in
+    let b = rw a at c.number_in-2.ensures.told (doc_gap c.args.last.now x) p.behind_doc p.doc in
+    let d = one_some _ _ _ c.in_ok-doc_gap.was (b p.second) in
+    absurd (none_or_some _ _ c.in_err-term.was (c.behind.ensures x before small (ap (λ n. n.value) a) (ap (λ n. n.value) d))) }
+
+pub returns : goal.returns
+returns c = record { told = λ x more before small e.
+    let p = plan _ c.args.at c.args.last.now x more before small e in
+    let a = one_some _ _ _ c.in_ok-term_gap.was (c.number_in.ensures.told (x.term - c.args.last.now.term + 1) p.behind_gap p.gap p.first) in
+    let b = rw a at c.number_in-2.ensures.told (doc_gap c.args.last.now x) p.behind_doc p.doc in
+    let d = one_some _ _ _ c.in_ok-doc_gap.was (b p.second) in
+    let f = rw d at c.number_in-3.ensures.told x.count more p.count in
+    let n = one_some _ _ _ c.in_ok-count.was (f p.third) in
+    let h = one_some _ _ _ c.in_ok-term.was (c.behind.ensures x before small (ap (λ k. k.value) a) (ap (λ k. k.value) d)) in
+    let mk : ℕ → ℕ → ℕ → ℕ → Decoded = λ t u v w. record { posting = record { term = t; doc = u; count = v }; next = w } in
+    let next = ap (λ k. k.next) n ∙ p.total in
+    ap (λ k. Some (mk k c.in_ok-term.doc c.in_ok-count.count.value c.in_ok-count.count.next)) (ap (λ k. k.0) h)
+    ∙ ap (λ k. Some (mk x.term k c.in_ok-count.count.value c.in_ok-count.count.next)) (ap (λ k. k.1) h)
+    ∙ ap (λ k. Some (mk x.term x.doc k c.in_ok-count.count.next)) (ap (λ k. k.value) n)
+    ∙ ap (λ k. Some (mk x.term x.doc x.count k)) next }
