@@ -7,3 +7,5 @@ pub mod Parts
 pub mod Feeding
 pub mod Tournaments
 pub mod Decoding
+pub mod SlotLaws
+pub mod CursorLaws

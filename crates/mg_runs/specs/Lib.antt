@@ -5,3 +5,5 @@ pub mod OnRun
 pub mod Fed
 pub mod Tournament
 pub mod Decoding
+pub mod Slots
+pub mod Cursors

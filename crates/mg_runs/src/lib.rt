@@ -8,6 +8,7 @@
 //! (Managing Gigabytes, chapter 5.)
 #![tactic(auto)]
 
+mod cursor;
 mod decode;
 mod entry;
 mod groups;
@@ -15,6 +16,7 @@ mod pool;
 mod posting;
 mod run;
 mod runs;
+mod slot;
 mod tournament;
 
 pub use pool::Pool;
