@@ -90,3 +90,10 @@ pub length-entry_put : (count : ℕ) (xs made : List ℕ) → 12 * count + 12 �
 length-entry_put count xs made room whole =
     let size : 12 * count + 12 - 12 * count ≡ 12 = omega arith in
     ap (λ k. length (put_mid (12 * count) k xs made)) size ∙ length-put (12 * count) 12 xs made room whole
+
+-- where there are no entries, none are counted, and none are found in other bytes
+pub no_entries : (count : ℕ) (bytes : List ℕ) → entries_in count bytes ≡ [] → count ≡ 0
+no_entries count bytes e = sym (length_entries count bytes) ∙ ap (λ t. length t) e
+
+pub still_none : (count : ℕ) (bytes others : List ℕ) → entries_in count bytes ≡ [] → entries_in count others ≡ []
+still_none count bytes others e = ap (λ n. entries_in n others) (no_entries count bytes e)

@@ -1,5 +1,5 @@
 -- Where a cursor stands in a run.
-use Rattle.std.specs.Prelude.{◌≡◌, ◌≤◌, ◌<◌, ◌+◌, ◌*◌, ◌++◌, ◌^◌, ℕ, zero, suc, List, [], ◌∷◌, length, take, drop}
+use Rattle.std.specs.Prelude.{◌≡◌, ◌≤◌, ◌<◌, ◌+◌, ◌*◌, ◌/◌, ◌++◌, ◌^◌, ℕ, zero, suc, List, [], ◌∷◌, length, take, drop}
 use Rattle.std.specs.List.{AllByRecursion}
 use Rattle.std.specs.declared.option.Option.{Option}
 use Rattle.std.specs.declared.result.Result.{Result}
@@ -32,6 +32,11 @@ pub record IsAtPosting (cursor : Cursor) (slot file : List ℕ) (x : TermPosting
   pub after : AllAfter x xs
   pub run : IsRun xs
 
+-- the next bits begin within the first half of the slot
+pub record IsNear (cursor : Cursor) : Type 0 where
+  pub low : cursor.start ≤ cursor.place / 8
+  pub high : cursor.place / 8 ≤ cursor.start + 32
+
 -- the cursor stands for these postings
 abbrev pub IsAt : Cursor → List ℕ → List ℕ → List TermPosting → Type 0
 IsAt cursor slot file [] = cursor.left ≡ 0
@@ -40,7 +45,7 @@ IsAt cursor slot file (x ∷ xs) = IsAtPosting cursor slot file x xs
 -- a run's bits stand at a place
 pub record IsRunAt (file : List ℕ) (place : ℕ) (xs : List TermPosting) : Type 0 where
   pub some : 1 ≤ length xs
-  pub few : length xs < 2 ^ 32
+  pub few : 1 + length xs < 2 ^ 32
   pub run : IsRun xs
   pub more : Bits
   pub bits : drop place (bits_of file) ≡ run_bits xs ++ more

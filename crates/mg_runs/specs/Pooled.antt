@@ -1,5 +1,5 @@
 -- What contracts see of a pool.
-use Rattle.std.specs.Prelude.{◌≤◌, ◌+◌, ◌*◌, ◌^◌, ◌⊎◌, ◌≡◌, ℕ, List, length}
+use Rattle.std.specs.Prelude.{◌≤◌, ◌+◌, ◌*◌, ◌^◌, ◌⊎◌, ◌≡◌, ℕ, List, [], length}
 use Rattle.mg_defs.specs.declared.TermPosting.{TermPosting}
 
 -- the entries, the bytes of the slots in use, the greatest use so far, and the budget
@@ -19,3 +19,9 @@ pub record IsWithin (entries slots peak limit : ℕ) : Type 0 where
   pub in_limit : peak ≤ limit
   pub least : 4096 ≤ limit
   pub most : limit ≤ 2 ^ 30
+
+-- all but what the slots hold is as before
+pub record SamePool (old new : Pooled) : Type 0 where
+  pub entries : old.entries ≡ [] → new.entries ≡ []
+  pub peak : new.peak ≡ old.peak
+  pub limit : new.limit ≡ old.limit

@@ -1,11 +1,4 @@
 // A place in a run.
-ghost use Rattle.std.specs.Prelude.{◌≡◌, ◌≤◌, ◌<◌, ◌+◌, ◌-◌, ◌*◌, ◌/◌, ◌^◌, ℕ, List, [], IfOk, IsSome, length, slice_index_or, slice_set};
-ghost use Rattle.mg_dev.specs.Files.{bytes_at};
-ghost use Rattle.mg_dev.specs.Names.{full_name};
-ghost use Rattle.mg_dev.specs.PartCauses.{HasPartCause};
-ghost use Rattle.mg_bits.specs.Pages.{Looked};
-ghost use Rattle.mg_defs.specs.declared.TermPosting.{TermPosting};
-
 use mg_defs::TermPosting;
 
 /// A place in a run, and the posting before it.
@@ -22,3 +15,4 @@ pub struct Cursor {
     /// How many bytes of the file the slot has.
     pub count: usize,
 }
+

@@ -15,6 +15,9 @@ use mg_defs::TermPosting;
 /// The greatest number of 32 bits: the most that a document, its gap or a count may be.
 const MOST: u64 = 0xffff_ffff;
 
+/// The most postings that a run has.
+pub const MOST_LEFT: u64 = 0xffff_fffe;
+
 /// The most that 1 and the gap of a term may be.
 const MOST_GAP: u64 = 0x1_0000_0000;
 
@@ -40,6 +43,7 @@ pub fn number_in(bytes: &[u8], at: u64, limit: u64) -> Option<Number>
     ensures told { (x : ℕ) (more : Bits) → UpTo limit x → drop at (bits_of bytes.now) ≡ gamma x ++ more → result ≡ Some (record { value = x; next = at + length (gamma x) }) }
     ensures range { IfSome result (λ number. UpTo limit number.value) }
     ensures next { IfSome result (λ number. number.next ≤ at + 66) }
+    ensures onward { IfSome result (λ number. at ≤ number.next) }
 {
     what_was_put_is_got();
     let mut reader = BitReader::new(SliceFeed::new(bytes), at);
@@ -75,6 +79,8 @@ fn behind(last: &TermPosting, term_gap: u64, doc_gap: u64) -> Option<(u32, u32)>
 pub fn posting_in(bytes: &[u8], at: u64, last: &TermPosting) -> Option<Decoded>
     requires place { at ≤ 2 ^ 62 }
     ensures told { (x : TermPosting) (more : Bits) → IsBefore last.now x → IsSmall x → drop at (bits_of bytes.now) ≡ posting_bits last.now x ++ more → result ≡ Some (record { posting = x; next = at + length (posting_bits last.now x) }) }
+    ensures next { IfSome result (λ found. found.next ≤ at + 198) }
+    ensures onward { IfSome result (λ found. at ≤ found.next) }
 {
     let term_gap = number_in(bytes, at, MOST_GAP)?;
     let doc_gap = number_in(bytes, term_gap.next, MOST)?;

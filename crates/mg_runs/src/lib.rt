@@ -18,6 +18,7 @@ mod run;
 mod runs;
 mod slot;
 mod tournament;
+mod walk;
 
 pub use pool::Pool;
 pub use runs::Runs;

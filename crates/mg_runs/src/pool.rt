@@ -1,8 +1,14 @@
 // Memory of fixed size.
-ghost use Rattle.std.specs.Prelude.{◌≡◌, ◌≤◌, ◌<◌, ◌+◌, ◌*◌, ◌/◌, ◌^◌, ◌++◌, ◌↔◌, [], ◌∷◌, IfOk, IsTrue, length, max};
+ghost use Rattle.std.specs.Prelude.{◌≡◌, ◌≤◌, ◌<◌, ◌+◌, ◌*◌, ◌/◌, ◌^◌, ◌++◌, ◌↔◌, [], ◌∷◌, IfOk, IsTrue, length, max, slice_index_or, slice_set};
+ghost use Rattle.mg_dev.specs.Causes.{HasCause};
+ghost use Rattle.mg_dev.specs.Names.{full_name};
+ghost use Rattle.mg_bits.specs.Pages.{Looked};
 ghost use Rattle.mg_runs.specs.Pooled.{used};
+ghost use Rattle.mg_runs.specs.Slots.{IsFilled};
 
 use crate::entry::put_entry;
+use crate::slot::{fill_slot, slot_of};
+use mg_dev::{Failed, FileRef, Store};
 use std::alloc::{AllocError, Global};
 use std::marker::Model;
 
@@ -109,5 +115,46 @@ impl Pool {
         self.entries += 1;
         let now = 12 * self.entries as u64;
         self.peak = self.peak.max(now);
+    }
+
+    /// Takes so many slots into use. The pool holds no entry.
+    pub(crate) fn use_slots(&mut self, count: usize)
+        requires entries { self.old.entries ≡ [] }
+        requires room { count ≤ self.old.limit / 64 }
+        ensures slots { length self.new.slots ≡ count }
+        ensures entries { self.new.entries ≡ [] }
+        ensures peak { self.new.peak ≡ max self.old.peak (used self.new) }
+        ensures limit { self.new.limit ≡ self.old.limit }
+    {
+        self.slots = count;
+        self.peak = self.peak.max(64 * count as u64);
+    }
+
+    /// Reads a file's bytes from a place on into a slot, and answers how many these are.
+    pub(crate) fn fill<S: Store>(
+        &mut self,
+        store: &mut S,
+        file: &FileRef<'_>,
+        at: u64,
+        slot: usize,
+    ) -> Result<usize, Failed>
+        requires { slot < length self.old.slots }
+        ensures slots { self.new.slots ≡ slice_set self.old.slots slot (slice_index_or self.new.slots slot []) }
+        ensures entries { self.old.entries ≡ [] → self.new.entries ≡ [] }
+        ensures peak { self.new.peak ≡ self.old.peak }
+        ensures limit { self.new.limit ≡ self.old.limit }
+        ensures filled { IfOk result (λ count. IsFilled (S.files store.old) (full_name file.now.base.now file.now.part) at count (slice_index_or self.new.slots slot [])) }
+        ensures looked { Looked file.now.part (S.files store.old) (S.files store.new) (S.reads store.old) (S.reads store.new) (S.faults store.old) (S.faults store.new) }
+        ensures cause { HasCause (S.faults store.old) (S.faults store.new) result }
+    {
+        fill_slot(store, file, at, &mut self.bytes, slot)
+    }
+
+    /// The bytes of a slot in use.
+    pub(crate) fn slot(&self, slot: usize) -> &[u8]
+        requires { slot < length self.now.slots }
+        ensures { result.now ≡ slice_index_or self.now.slots slot [] }
+    {
+        slot_of(&self.bytes, slot)
     }
 }
