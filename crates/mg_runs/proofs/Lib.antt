@@ -9,3 +9,4 @@ pub mod Tournaments
 pub mod Decoding
 pub mod SlotLaws
 pub mod CursorLaws
+pub mod Merges

@@ -7,3 +7,4 @@ pub mod Tournament
 pub mod Decoding
 pub mod Slots
 pub mod Cursors
+pub mod Merging

@@ -11,6 +11,7 @@
 mod cursor;
 mod decode;
 mod entry;
+mod group;
 mod groups;
 mod pool;
 mod posting;

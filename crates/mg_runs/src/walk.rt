@@ -16,7 +16,7 @@ use mg_defs::TermPosting;
 use mg_dev::{Bad, FileRef, Part, PartErr, Store};
 
 /// No run has its bits at this place.
-fn damage(part: Part, at: u64) -> PartErr
+pub fn damage(part: Part, at: u64) -> PartErr
     ensures caused { (f g : ℕ) → IsCaused {T = ℕ} f g (Err result) }
     ensures memory { NoMemory {T = ℕ} (Err result) }
 {

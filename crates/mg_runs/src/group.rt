@@ -1,0 +1,82 @@
+// Runs that are merged.
+ghost use Rattle.std.specs.Prelude.{◌≡◌, ◌≤◌, ◌<◌, ◌+◌, ◌-◌, ◌*◌, ◌/◌, ◌^◌, ℕ, List, [], ◌∷◌, Some, IfOk, IfSome, OnOk, IsSome, length, slice_index_or, slice_set, sum_by, drop};
+ghost use Rattle.mg_dev.specs.Files.{bytes_at};
+ghost use Rattle.mg_dev.specs.Names.{full_name};
+ghost use Rattle.mg_dev.specs.PartCauses.{HasPartCause};
+ghost use Rattle.mg_bits.specs.Pages.{Looked};
+ghost use Rattle.mg_defs.specs.declared.TermPosting.{TermPosting};
+ghost use Rattle.mg_runs.specs.Pooled.{SamePool};
+ghost use Rattle.mg_runs.specs.Cursors.{IsAt, NoDamage, NoMemory};
+ghost use Rattle.mg_runs.specs.Merging.{AreLeft, AreRuns, IsHead, IsShaped, IsTaking, StandFor, key_of as key, no_cursor, first as first_of};
+
+use crate::Pool;
+use crate::cursor::Cursor;
+use crate::tournament::Tournament;
+use crate::walk::{advanced, damage, opened};
+use mg_defs::TermPosting;
+use mg_dev::{FileRef, PartErr, Store};
+use std::alloc::{AllocError, Global};
+
+/// Runs of one file that are merged: of each a cursor, a slot of the pool and a key.
+#[derive(Drop)]
+pub struct Group<'a> {
+    pub pool: Pool,
+    pub cursors: Vec<Cursor>,
+    pub tournament: Tournament,
+    pub file: FileRef<'a>,
+}
+
+/// A number that rises with the term and the document of a cursor's posting; the greatest where
+/// the cursor's run has ended.
+fn key_of(cursor: &Cursor) -> u64
+    ensures { result ≡ key cursor.now }
+{
+    if cursor.left == 0 {
+        return u64::MAX;
+    }
+    u64::from(cursor.posting.term) * 0x1_0000_0000 + u64::from(cursor.posting.doc.saturating_sub(1))
+}
+
+impl<'a> Group<'a> {
+    /// The least of the postings at which cursors are, and whose it is.
+    fn head(&self) -> Option<(u32, TermPosting)>
+        requires shape { IsShaped self.now.pool.slots self.now.cursors.items self.now.tournament }
+        ensures told { (file : List ℕ) (lefts : List (List TermPosting)) → StandFor self.now.pool.slots self.now.cursors.items file lefts → IsHead result lefts }
+        ensures within { IfSome result (λ head. head.0 < length self.now.cursors.items) }
+        ensures left { IfSome result (λ head. 1 ≤ (slice_index_or self.now.cursors.items head.0 no_cursor).left) }
+    {
+        let run = self.tournament.least();
+        let cursor = self.cursors[run as usize];
+        if cursor.left == 0 {
+            return None;
+        }
+        Some((run, cursor.posting))
+    }
+
+    /// Moves a cursor to the next posting of its run.
+    fn step<S: Store>(&mut self, store: &mut S, run: u32) -> Result<(), PartErr>
+        requires shape { IsShaped self.old.pool.slots self.old.cursors.items self.old.tournament }
+        requires within { run < length self.old.cursors.items }
+        requires left { 1 ≤ (slice_index_or self.old.cursors.items run no_cursor).left }
+        ensures shape { OnOk result (IsShaped self.new.pool.slots self.new.cursors.items self.new.tournament) }
+        ensures told { IsSome (S.files store.old) → (lefts : List (List TermPosting)) (x : TermPosting) (xs : List TermPosting) → StandFor self.old.pool.slots self.old.cursors.items (bytes_at (S.files store.old) (full_name self.old.file.base.now self.old.file.part)) lefts → slice_index_or lefts run [] ≡ x ∷ xs → OnOk result (StandFor self.new.pool.slots self.new.cursors.items (bytes_at (S.files store.old) (full_name self.old.file.base.now self.old.file.part)) (slice_set lefts run xs)) }
+        ensures undamaged { IsSome (S.files store.old) → (lefts : List (List TermPosting)) (x : TermPosting) (xs : List TermPosting) → StandFor self.old.pool.slots self.old.cursors.items (bytes_at (S.files store.old) (full_name self.old.file.base.now self.old.file.part)) lefts → slice_index_or lefts run [] ≡ x ∷ xs → NoDamage result }
+        ensures total { OnOk result (sum_by (λ c. c.left) self.new.cursors.items + 1 ≡ sum_by (λ c. c.left) self.old.cursors.items) }
+        ensures pool { SamePool self.old.pool self.new.pool }
+        ensures file { self.new.file ≡ self.old.file }
+        ensures looked { Looked self.old.file.part (S.files store.old) (S.files store.new) (S.reads store.old) (S.reads store.new) (S.faults store.old) (S.faults store.new) }
+        ensures cause { HasPartCause (S.faults store.old) (S.faults store.new) result }
+        ensures memory { NoMemory result }
+    {
+        let k = run as usize;
+        let cursor = self.cursors[k];
+        match advanced(&mut self.pool, store, &self.file, k, &cursor) {
+            Ok(next) => {
+                self.cursors[k] = next;
+                self.tournament.set(run, key_of(&next));
+                Ok(())
+            }
+            Err(refusal) => Err(refusal),
+        }
+    }
+}
