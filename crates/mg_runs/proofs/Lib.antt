@@ -10,3 +10,5 @@ pub mod Decoding
 pub mod SlotLaws
 pub mod CursorLaws
 pub mod Merges
+pub mod Heads
+pub mod Steps

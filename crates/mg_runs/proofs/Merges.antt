@@ -14,7 +14,8 @@ use Rattle.mg_defs.specs.PostingOrder.{NoLater}
 use Rattle.mg_defs.proofs.Gathering.{only_one, times-none, times-first, times-joined, Rising-joined, AllCount-joined, AllAfter-added, AllAfter-earlier}
 use Rattle.mg_runs.specs.Decoding.{IsSmall}
 use Rattle.mg_runs.specs.Cursors.{IsRun}
-use Rattle.mg_runs.specs.Merging.{first, AllFrom, AreRuns, times_all, IsTaking}
+use Rattle.mg_runs.specs.Merging.{first, AllFrom, AreRuns, AreLeft, IsMerged, StandFor, times_all, IsTaking}
+use Rattle.mg_runs.specs.declared.cursor.Cursor.{Cursor}
 
 all_count : (xs : List TermPosting) → AllByRecursion (λ x. IsSmall x) xs → AllCount xs
 all_count [] all = tt
@@ -74,7 +75,7 @@ within [] i y ys e = absurd cc
 within (x ∷ xs) zero y ys e = omega arith
 within (x ∷ xs) (suc i) y ys e = let h = within xs i y ys e in omega arith
 
-run_at : (lefts : List (List TermPosting)) (w : ℕ) (y : TermPosting) (ys : List TermPosting) → All (λ l. IsRun l) lefts → get_or lefts w [] ≡ y ∷ ys → IsRun (y ∷ ys)
+pub run_at : (lefts : List (List TermPosting)) (w : ℕ) (y : TermPosting) (ys : List TermPosting) → All (λ l. IsRun l) lefts → get_or lefts w [] ≡ y ∷ ys → IsRun (y ∷ ys)
 run_at lefts w y ys all e = subst (λ l. IsRun l) e (all w [] (within lefts w y ys e))
 
 after_like : (x p : TermPosting) → x.term ≡ p.term → x.doc ≡ p.doc → (xs : List TermPosting) → AllAfter x xs → AllFrom p xs
@@ -170,3 +171,14 @@ all_after_other p h lefts w from is least other k =
     head_from : (p h : TermPosting) (xs : List TermPosting) → first xs ≡ Some h → AllFrom p xs → NoLater p h
     head_from p h [] e all = absurd cc
     head_from p h (x ∷ xs) e all = let same : x ≡ h = cc in subst (λ z. NoLater p z) same all.0
+
+-- what is left, by the postings merged
+pub left_none : (slots : List (List ℕ)) (cursors : List Cursor) (file : List ℕ) (left : List TermPosting) (lefts : List (List TermPosting)) → StandFor slots cursors file lefts → AreRuns lefts → merged lefts ≡ [] → merged lefts ≡ left → (None ≡ first left) × AreLeft slots cursors file (drop 1 left)
+left_none slots cursors file left lefts stand are none same =
+    let e : [] ≡ left = sym none ∙ same in
+    subst (λ l. (None ≡ first l) × AreLeft slots cursors file (drop 1 l)) e (refl, record { lefts = lefts; stand = stand; are = are; same = none })
+
+pub left_some : (slots : List (List ℕ)) (cursors : List Cursor) (file : List ℕ) (left : List TermPosting) (base : List (List TermPosting)) (p : TermPosting) → IsMerged slots cursors file base p → merged base ≡ left → (Some p ≡ first left) × AreLeft slots cursors file (drop 1 left)
+left_some slots cursors file left base p m same =
+    let e : p ∷ merged m.lefts ≡ left = sym m.same ∙ same in
+    subst (λ l. (Some p ≡ first l) × AreLeft slots cursors file (drop 1 l)) e (refl, record { lefts = m.lefts; stand = m.stand; are = m.are; same = refl })

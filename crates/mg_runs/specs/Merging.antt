@@ -3,7 +3,7 @@ use Rattle.std.specs.Prelude.{◌≡◌, ◌≤◌, ◌<◌, ◌+◌, ◌-◌, �
 use Rattle.std.specs.List.{AllByRecursion, All}
 use Rattle.std.specs.declared.option.Option.{Option}
 use Rattle.mg_defs.specs.declared.TermPosting.{TermPosting}
-use Rattle.mg_defs.specs.Postings.{part_at, times, with_count, merged}
+use Rattle.mg_defs.specs.Postings.{AllAfter, part_at, times, with_count, merged}
 use Rattle.mg_defs.specs.PostingOrder.{NoLater}
 use Rattle.mg_defs.specs.RunBits.{before_first}
 use Rattle.mg_runs.specs.Cursors.{IsAt, IsRun}
@@ -62,3 +62,22 @@ pub record AreLeft (slots : List (List ℕ)) (cursors : List Cursor) (file : Lis
   pub stand : StandFor slots cursors file lefts
   pub are : AreRuns lefts
   pub same : merged lefts ≡ left
+
+-- the run whose first posting has the term and document of this one, with its count; None where no run has one
+abbrev pub IsAlike : TermPosting → List (List TermPosting) → Option (ℕ × ℕ) → Type 0
+IsAlike p lefts None = (k : ℕ) → AllAfter p (slice_index_or lefts k [])
+IsAlike p lefts (Some found) = (y : TermPosting) × (first (slice_index_or lefts found.0 []) ≡ Some y) × (y.term ≡ p.term) × (y.doc ≡ p.doc) × (y.count ≡ found.1)
+
+-- this posting comes first of all that was left, and what is left now follows it
+pub record IsMerged (slots : List (List ℕ)) (cursors : List Cursor) (file : List ℕ) (base : List (List TermPosting)) (p : TermPosting) : Type 0 where
+  pub lefts : List (List TermPosting)
+  pub stand : StandFor slots cursors file lefts
+  pub are : AreRuns lefts
+  pub same : merged base ≡ p ∷ merged lefts
+
+-- the posting's count so far, and what is left
+pub record IsGathering (slots : List (List ℕ)) (cursors : List Cursor) (file : List ℕ) (p : TermPosting) (base : List (List TermPosting)) (count : ℕ) : Type 0 where
+  pub lefts : List (List TermPosting)
+  pub stand : StandFor slots cursors file lefts
+  pub taking : IsTaking p base lefts count
+  pub more : p.count ≤ count

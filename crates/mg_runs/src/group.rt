@@ -1,5 +1,5 @@
 // Runs that are merged.
-ghost use Rattle.std.specs.Prelude.{◌≡◌, ◌≤◌, ◌<◌, ◌+◌, ◌-◌, ◌*◌, ◌/◌, ◌^◌, ℕ, List, [], ◌∷◌, Some, IfOk, IfSome, OnOk, IsSome, length, slice_index_or, slice_set, sum_by, drop};
+ghost use Rattle.std.specs.Prelude.{◌≡◌, ◌≤◌, ◌<◌, ◌+◌, ◌-◌, ◌*◌, ◌/◌, ◌^◌, ℕ, List, [], ◌∷◌, Some, IfOk, IfSome, OnOk, OnSome, IsSome, length, slice_index_or, slice_set, sum_by, drop};
 ghost use Rattle.mg_dev.specs.Files.{bytes_at};
 ghost use Rattle.mg_dev.specs.Names.{full_name};
 ghost use Rattle.mg_dev.specs.PartCauses.{HasPartCause};
@@ -7,7 +7,7 @@ ghost use Rattle.mg_bits.specs.Pages.{Looked};
 ghost use Rattle.mg_defs.specs.declared.TermPosting.{TermPosting};
 ghost use Rattle.mg_runs.specs.Pooled.{SamePool};
 ghost use Rattle.mg_runs.specs.Cursors.{IsAt, NoDamage, NoMemory};
-ghost use Rattle.mg_runs.specs.Merging.{AreLeft, AreRuns, IsHead, IsShaped, IsTaking, StandFor, key_of as key, no_cursor, first as first_of};
+ghost use Rattle.mg_runs.specs.Merging.{AllFrom, AreLeft, AreRuns, IsAlike, IsHead, IsMerged, IsShaped, IsTaking, StandFor, key_of as key, no_cursor, first as first_of};
 
 use crate::Pool;
 use crate::cursor::Cursor;
@@ -76,6 +76,78 @@ impl<'a> Group<'a> {
                 self.tournament.set(run, key_of(&next));
                 Ok(())
             }
+            Err(refusal) => Err(refusal),
+        }
+    }
+
+    /// The run whose posting has this term and document, and how much it counts there.
+    fn alike(&self, posting: &TermPosting) -> Option<(u32, u32)>
+        requires shape { IsShaped self.now.pool.slots self.now.cursors.items self.now.tournament }
+        ensures some { (file : List ℕ) (lefts : List (List TermPosting)) → StandFor self.now.pool.slots self.now.cursors.items file lefts → ((k : ℕ) → AllFrom posting.now (slice_index_or lefts k [])) → IsAlike posting.now lefts result }
+        ensures within { IfSome result (λ found. found.0 < length self.now.cursors.items) }
+        ensures left { IfSome result (λ found. 1 ≤ (slice_index_or self.now.cursors.items found.0 no_cursor).left) }
+    {
+        match self.head() {
+            Some((run, head)) if head.term == posting.term && head.doc == posting.doc => {
+                Some((run, head.count))
+            }
+            _ => None,
+        }
+    }
+
+    /// The posting with the counts of all runs, where its first count was taken from one of them.
+    fn gathered<S: Store>(&mut self, store: &mut S, first: &TermPosting) -> Result<TermPosting, PartErr>
+        requires shape { IsShaped self.old.pool.slots self.old.cursors.items self.old.tournament }
+        ensures shape { OnOk result (IsShaped self.new.pool.slots self.new.cursors.items self.new.tournament) }
+        ensures told { IsSome (S.files store.old) → (base lefts : List (List TermPosting)) → StandFor self.old.pool.slots self.old.cursors.items (bytes_at (S.files store.old) (full_name self.old.file.base.now self.old.file.part)) lefts → IsTaking first.now base lefts first.now.count → AreRuns base → 1 ≤ first.now.count → IfOk result (λ p. IsMerged self.new.pool.slots self.new.cursors.items (bytes_at (S.files store.old) (full_name self.old.file.base.now self.old.file.part)) base p) }
+        ensures undamaged { IsSome (S.files store.old) → (base lefts : List (List TermPosting)) → StandFor self.old.pool.slots self.old.cursors.items (bytes_at (S.files store.old) (full_name self.old.file.base.now self.old.file.part)) lefts → IsTaking first.now base lefts first.now.count → AreRuns base → NoDamage result }
+        ensures total { OnOk result (sum_by (λ c. c.left) self.new.cursors.items ≤ sum_by (λ c. c.left) self.old.cursors.items) }
+        ensures pool { SamePool self.old.pool self.new.pool }
+        ensures file { self.new.file ≡ self.old.file }
+        ensures looked { Looked self.old.file.part (S.files store.old) (S.files store.new) (S.reads store.old) (S.reads store.new) (S.faults store.old) (S.faults store.new) }
+        ensures cause { HasPartCause (S.faults store.old) (S.faults store.new) result }
+        ensures memory { NoMemory result }
+    {
+        let mut count = first.count;
+        while let Some((run, more)) = self.alike(first) {
+            match count.checked_add(more) {
+                Some(sum) => count = sum,
+                None => return Err(damage(self.file.part, 0)),
+            }
+            match self.step(store, run) {
+                Ok(()) => {}
+                Err(refusal) => return Err(refusal),
+            }
+        }
+        Ok(TermPosting {
+            term: first.term,
+            doc: first.doc,
+            count,
+        })
+    }
+
+    /// The next posting of all runs, with the counts of those that have its term and document.
+    pub fn next<S: Store>(&mut self, store: &mut S) -> Result<Option<TermPosting>, PartErr>
+        requires shape { IsShaped self.old.pool.slots self.old.cursors.items self.old.tournament }
+        ensures shape { OnOk result (IsShaped self.new.pool.slots self.new.cursors.items self.new.tournament) }
+        ensures told { IsSome (S.files store.old) → (left : List TermPosting) → AreLeft self.old.pool.slots self.old.cursors.items (bytes_at (S.files store.old) (full_name self.old.file.base.now self.old.file.part)) left → IfOk result (λ p. (p ≡ first_of left) × AreLeft self.new.pool.slots self.new.cursors.items (bytes_at (S.files store.old) (full_name self.old.file.base.now self.old.file.part)) (drop 1 left)) }
+        ensures undamaged { IsSome (S.files store.old) → (left : List TermPosting) → AreLeft self.old.pool.slots self.old.cursors.items (bytes_at (S.files store.old) (full_name self.old.file.base.now self.old.file.part)) left → NoDamage result }
+        ensures total { IfOk result (λ p. OnSome p (sum_by (λ c. c.left) self.new.cursors.items < sum_by (λ c. c.left) self.old.cursors.items)) }
+        ensures pool { SamePool self.old.pool self.new.pool }
+        ensures file { self.new.file ≡ self.old.file }
+        ensures looked { Looked self.old.file.part (S.files store.old) (S.files store.new) (S.reads store.old) (S.reads store.new) (S.faults store.old) (S.faults store.new) }
+        ensures cause { HasPartCause (S.faults store.old) (S.faults store.new) result }
+        ensures memory { NoMemory result }
+    {
+        let (run, first) = match self.head() {
+            Some(head) => head,
+            None => return Ok(None),
+        };
+        match self.step(store, run) {
+            Ok(()) => match self.gathered(store, &first) {
+                Ok(posting) => Ok(Some(posting)),
+                Err(refusal) => Err(refusal),
+            },
             Err(refusal) => Err(refusal),
         }
     }
