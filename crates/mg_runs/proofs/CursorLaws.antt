@@ -1,5 +1,5 @@
 -- What a slot has of a file's bits.
-use Rattle.std.proofs.Common.{◌≡◌, ℕ, zero, suc, ◌+◌, ◌-◌, ◌*◌, ◌/◌, ◌%◌, ◌<◌, ◌≤◌, ◌^◌, List, [], ◌∷◌, ◌++◌, length, refl, sym, ap, ◌∙◌, subst, arith, take, drop, min, length-append, append_assoc, length-drop}
+use Rattle.std.proofs.Common.{◌≡◌, ℕ, zero, suc, ◌+◌, ◌-◌, ◌*◌, ◌/◌, ◌%◌, ◌≤◌, List, [], ◌∷◌, ◌++◌, length, refl, sym, ap, ◌∙◌, arith, take, drop, min, length-append, append_assoc, length-drop}
 use Rattle.std.proofs.lemmas.Grind.{common_steps}
 use Rattle.std.proofs.lemmas.List.{drop-drop, drop-take}
 use Rattle.std.proofs.Math.Seq.{drop-append-add, take-append-add}
@@ -14,7 +14,7 @@ use Rattle.mg_runs.specs.Decoding.{IsSmall}
 use Rattle.mg_runs.proofs.Short.{gamma_short}
 use Rattle.mg_runs.proofs.Decoding.{Plan, plan, behind_code}
 use Rattle.mg_defs.specs.RunBits.{postings_bits, run_bits, before_first}
-use Rattle.mg_runs.specs.Cursors.{IsAtPosting, IsRunAt, IsNear, IsRun, NoDamage}
+use Rattle.mg_runs.specs.Cursors.{IsAtPosting, IsRunAt, IsNear, NoDamage}
 use Rattle.mg_runs.specs.declared.cursor.Cursor.{Cursor}
 use Rattle.mg_runs.specs.declared.decode.Decoded.{Decoded}
 use Rattle.std.specs.Prelude.{IsOkAnd, Ok, Err}
@@ -61,7 +61,6 @@ posting_short last x before small =
     let n : Bits = gamma x.count in
     let p : Plan (posting_bits last x ++ []) 0 last x [] = plan (posting_bits last x ++ []) 0 last x [] before small refl in
     omega (arith, length-append g (d ++ n), length-append d n, gamma_short (x.term - last.term + 1) p.gap.0 (omega (arith, p.gap.1)), gamma_short (doc_gap last x) p.doc.0 (omega (arith, p.doc.1)), gamma_short x.count p.count.0 (omega (arith, p.count.1)))
-
 
 -- behind a code that stands whole, the place is still in the file
 pub place_below : (place : ℕ) (bits code rest : Bits) → place ≤ length bits → drop place bits ≡ code ++ rest → place + length code ≤ length bits

@@ -1,13 +1,11 @@
 -- Numbers and postings that stand first are read.
-use Rattle.std.proofs.Common.{◌≡◌, ℕ, zero, suc, ◌+◌, ◌-◌, ◌*◌, ◌<◌, ◌≤◌, ◌^◌, List, [], ◌∷◌, ◌++◌, length, refl, sym, ap, ◌∙◌, subst, arith, drop, Some, None, Ok, Err, append_assoc, length-append, cond, true, false}
-use Rattle.std.specs.Prelude.{◌==◌}
+use Rattle.std.proofs.Common.{◌≡◌, ℕ, ◌+◌, ◌-◌, ◌<◌, ◌≤◌, ◌^◌, List, ◌++◌, length, sym, ap, ◌∙◌, subst, arith, drop, Some, None, Ok, Err, append_assoc, length-append}
 use Rattle.std.specs.declared.option.Option.{Option}
-use Rattle.std.proofs.lemmas.Grind.{common_steps}
 use Rattle.std.proofs.lemmas.Bool.Decides.{nat_tests}
 use Rattle.std.proofs.lemmas.List.{drop-drop}
 use Rattle.std.proofs.Math.Seq.{drop-append-add}
 use Rattle.mg_defs.specs.Answers.{Answer, Answers, UpTo, value, end, over}
-use Rattle.mg_defs.specs.Bits.{Bits, bits_of}
+use Rattle.mg_defs.specs.Bits.{Bits}
 use Rattle.mg_defs.specs.Codes.{gamma}
 use Rattle.mg_defs.specs.Postings.{IsBefore}
 use Rattle.mg_defs.specs.RunBits.{posting_bits, doc_gap}
@@ -17,7 +15,6 @@ use Rattle.mg_bits.specs.CodeAnswers.{AnswersCode, CodeCause}
 use Rattle.mg_bits.specs.declared.code_err.CodeErr.{CodeErr}
 use Rattle.mg_bits.specs.declared.code_err.CodeErr.TheVariants.{Device, End, Over}
 use Rattle.mg_runs.specs.Decoding.{IsSmall}
-
 
 -- what was put is got
 abbrev pub GammaLaw : Type 0

@@ -1,21 +1,19 @@
 -- Occurrences taken one after the other.
-use Rattle.std.proofs.Common.{◌≡◌, ℕ, zero, suc, ◌+◌, ◌-◌, ◌*◌, ◌/◌, ◌%◌, ◌<◌, ◌≤◌, ◌^◌, min, max, List, [], ◌∷◌, ◌++◌, length, refl, sym, ap, ◌∙◌, subst, arith, drop, map, IsSome, is_some, length-append, append_assoc, append-nil}
-use Rattle.std.specs.List.{AllByRecursion, flat_map}
+use Rattle.std.proofs.Common.{◌≡◌, ℕ, zero, suc, ◌+◌, ◌-◌, ◌*◌, ◌/◌, ◌%◌, ◌<◌, ◌≤◌, ◌^◌, min, max, List, [], ◌∷◌, ◌++◌, length, refl, sym, ap, ◌∙◌, subst, arith, drop, map, IsSome, is_some, length-append, append-nil}
 use Rattle.std.specs.declared.option.Option.{Option}
 use Rattle.std.proofs.lemmas.Grind.{common_steps}
 use Rattle.std.proofs.lemmas.Nat.{div_below}
 use Rattle.std.proofs.lemmas.List.Concat.{flat_map-append}
-use Rattle.mg_dev.specs.Files.{Files, bytes_at, file_at}
+use Rattle.mg_dev.specs.Files.{Files}
 use Rattle.mg_dev.specs.Names.{full_name}
 use Rattle.mg_dev.specs.declared.part.Part.TheVariants.{Run}
-use Rattle.mg_defs.specs.Bits.{Bits, filled}
+use Rattle.mg_defs.specs.Bits.{filled}
 use Rattle.mg_defs.specs.declared.TermPosting.{TermPosting}
 use Rattle.mg_defs.specs.Postings.{once, gathered, postings}
 use Rattle.mg_defs.specs.Runs.{first_runs, finished}
 use Rattle.mg_defs.specs.RunBits.{run_bits, runs_bits}
 use Rattle.mg_defs.proofs.Segments.{finished-room, finished-full, finished-low, first_runs-more, first_runs-full, map-end}
-use Rattle.mg_bits.specs.BitWriting.{BitWriting, Holds, WroteBits, bits_put}
-use Rattle.mg_runs.specs.Pooled.{Pooled}
+use Rattle.mg_bits.specs.BitWriting.{Holds, WroteBits, bits_put}
 use Rattle.mg_runs.specs.Bytes.{AreEntries}
 use Rattle.mg_runs.specs.Fed.{Inverting, IsFed, HaveDocs, cap_of, starts}
 
@@ -174,7 +172,7 @@ fed_full r0 r1 f0 f1 fed o is full doc told wrote holds whole below entries slot
     let run_is : gathered r0.pool.entries ≡ run = ap (λ xs. gathered xs) is.entries in
     let runs : first_runs (cap_of r1.pool) (finished (cap_of r1.pool) (length (fed ++ o ∷ []))) (fed ++ o ∷ []) ≡ first_runs cap q fed ++ run ∷ [] = ap (λ k. first_runs k (finished k (length (fed ++ o ∷ []))) (fed ++ o ∷ [])) e0 ∙ ap (λ k. first_runs cap k (fed ++ o ∷ [])) e2 ∙ first_runs-more cap (suc q) fed o fits ∙ first_runs-full cap q fed whole_n in
     let bits : runs_bits (first_runs cap q fed ++ run ∷ []) ≡ runs_bits (first_runs cap q fed) ++ filled (run_bits (gathered r0.pool.entries)) =
-        flat_map-append (λ r. filled (run_bits r)) (first_runs cap q fed) (run ∷ []) ∙ ap (λ t. runs_bits (first_runs cap q fed) ++ t) (append-nil (filled (run_bits run)) ∙ ap (λ xs. filled (run_bits xs)) (sym run_is)) in
+    flat_map-append (λ r. filled (run_bits r)) (first_runs cap q fed) (run ∷ []) ∙ ap (λ t. runs_bits (first_runs cap q fed) ++ t) (append-nil (filled (run_bits run)) ∙ ap (λ xs. filled (run_bits xs)) (sym run_is)) in
     let none : drop (suc q * cap) fed ≡ [] = drop-all fed (suc q * cap) (omega arith) in
     let len1 : length r1.pool.entries ≡ 1 = ap (λ l. length l) entries in
     let no_slots : length r1.pool.slots ≡ 0 = ap (λ l. length l) slots in

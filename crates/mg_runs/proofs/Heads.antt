@@ -1,8 +1,5 @@
 -- The least of the first postings, by keys.
-use Rattle.std.proofs.Common.{◌≡◌, ℕ, zero, suc, ◌+◌, ◌-◌, ◌*◌, ◌<◌, ◌≤◌, ◌^◌, ◌⊎◌, inl, inr, List, [], ◌∷◌, length, refl, sym, ap, ◌∙◌, subst, arith, get_or, Some, None, cond}
-use Rattle.std.specs.Prelude.{◌==◌}
-use Rattle.std.specs.List.{AllByRecursion, All}
-use Rattle.std.specs.declared.option.Option.{Option}
+use Rattle.std.proofs.Common.{◌≡◌, ℕ, ◌+◌, ◌-◌, ◌*◌, ◌<◌, ◌≤◌, ◌^◌, inl, inr, List, [], ◌∷◌, length, sym, ap, ◌∙◌, subst, arith, get_or, Some}
 use Rattle.std.proofs.lemmas.Bool.{cases_lt}
 use Rattle.std.proofs.lemmas.Bool.Decides.{nat_tests}
 use Rattle.std.proofs.lemmas.Grind.{common_steps}
@@ -10,7 +7,7 @@ use Rattle.mg_defs.specs.declared.TermPosting.{TermPosting}
 use Rattle.mg_defs.specs.Postings.{IsBefore, AllAfter}
 use Rattle.mg_defs.specs.PostingOrder.{NoLater}
 use Rattle.mg_runs.specs.Decoding.{IsSmall}
-use Rattle.mg_runs.specs.Cursors.{IsAt, IsAtPosting, IsRun}
+use Rattle.mg_runs.specs.Cursors.{IsAt, IsRun}
 use Rattle.mg_runs.specs.Merging.{first, AllFrom, IsShaped, StandFor, key_of, no_cursor}
 use Rattle.mg_runs.specs.declared.cursor.Cursor.{Cursor}
 
@@ -57,11 +54,13 @@ head_told slots cursors keys file lefts w c shape stand h is more least =
     let run : IsRun (get_or lefts w []) = stand.runs w [] (omega arith) in
     let at : IsAt c (get_or slots w []) file (get_or lefts w []) = subst (λ z. IsAt z (get_or slots w []) file (get_or lefts w [])) (sym is) (stand.at w h) in
     let o = own c (get_or slots w []) file (get_or lefts w []) at run more in
-    let mine : get_or keys w 0 ≡ c.posting.term * 2 ^ 32 + (c.posting.doc - 1) = shape.by_key w h ∙ ap (λ z. key_of z) (sym is) ∙ key_is c more in
-    (o.0, λ k. elim (cases_lt k (length cursors)) [
-      | inl low ↦
-          let le : get_or keys w 0 ≤ get_or keys k 0 = least k (omega arith) in
-          let theirs = shape.by_key k low in
-          from_key c.posting (get_or cursors k no_cursor) (get_or slots k []) file (get_or lefts k []) o.1 (stand.at k low) (stand.runs k [] (omega arith)) (omega arith)
-      | inr high ↦ subst (λ l. AllFrom c.posting l) (sym (past lefts k (omega arith))) tt
-    ])
+    let mine : get_or keys w 0 ≡ c.posting.term * 2 ^ 32 + (c.posting.doc - 1) = shape.by_key w h ∙ ap (λ z. key_of z) (sym is) ∙ key_is c more in (
+      o.0,
+      λ k. elim (cases_lt k (length cursors)) [
+        | inl low ↦
+            let le : get_or keys w 0 ≤ get_or keys k 0 = least k (omega arith) in
+            let theirs = shape.by_key k low in
+            from_key c.posting (get_or cursors k no_cursor) (get_or slots k []) file (get_or lefts k []) o.1 (stand.at k low) (stand.runs k [] (omega arith)) (omega arith)
+        | inr high ↦ subst (λ l. AllFrom c.posting l) (sym (past lefts k (omega arith))) tt
+      ],
+    )

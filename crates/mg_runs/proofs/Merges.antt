@@ -1,17 +1,14 @@
 -- One posting is taken from each run that has it first.
-use Rattle.std.proofs.Common.{◌≡◌, ◌≢◌, ℕ, zero, suc, ◌+◌, ◌-◌, ◌*◌, ◌<◌, ◌≤◌, ◌^◌, ◌⊎◌, inl, inr, List, [], ◌∷◌, length, refl, sym, ap, ◌∙◌, subst, arith, get_or, set, drop, Some, None, cond, true, false}
-use Rattle.std.specs.Prelude.{sum_by, ◌==◌}
+use Rattle.std.proofs.Common.{◌≡◌, ℕ, zero, suc, ◌+◌, ◌<◌, ◌≤◌, ◌^◌, inl, inr, List, [], ◌∷◌, length, refl, sym, ap, ◌∙◌, subst, arith, get_or, set, drop, Some, None}
 use Rattle.std.specs.List.{AllByRecursion, All}
-use Rattle.std.specs.declared.option.Option.{Option}
-use Rattle.std.proofs.lemmas.Grind.{common_steps}
-use Rattle.std.proofs.lemmas.Bool.{cases_lt, cases_eq}
+use Rattle.std.proofs.lemmas.Bool.{cases_eq}
 use Rattle.std.proofs.lemmas.Bool.Decides.{nat_tests}
 use Rattle.std.proofs.lemmas.List.{get_or-set_same, get_or-set_other}
-use Rattle.std.proofs.lemmas.List.Sums.{sum_by-set, sum_by-cons, get_or-le-sum_by}
+use Rattle.std.proofs.lemmas.List.Sums.{sum_by-set, sum_by-cons}
 use Rattle.mg_defs.specs.declared.TermPosting.{TermPosting}
 use Rattle.mg_defs.specs.Postings.{IsBefore, AllAfter, Rising, AllCount, part_at, times, with_count, joined, merged}
 use Rattle.mg_defs.specs.PostingOrder.{NoLater}
-use Rattle.mg_defs.proofs.Gathering.{only_one, times-none, times-first, times-joined, Rising-joined, AllCount-joined, AllAfter-added, AllAfter-earlier}
+use Rattle.mg_defs.proofs.Gathering.{only_one, times-joined, Rising-joined, AllCount-joined, AllAfter-added}
 use Rattle.mg_runs.specs.Decoding.{IsSmall}
 use Rattle.mg_runs.specs.Cursors.{IsRun}
 use Rattle.mg_runs.specs.Merging.{first, AllFrom, AreRuns, AreLeft, IsMerged, StandFor, times_all, IsTaking}
@@ -130,10 +127,11 @@ count_fits p base now count t are =
 pub taking_end : (p : TermPosting) (base now : List (List TermPosting)) (count : ℕ) → IsTaking p base now count → AreRuns base → 1 ≤ count → ((k : ℕ) → AllAfter p (get_or now k [])) → (merged base ≡ with_count p count ∷ merged now) × AreRuns now
 taking_end p base now count t are some all =
     let after : AllAfter p (merged now) = AllAfter-merged p now (λ k h. all k) in
-    let q : TermPosting = with_count p count in
-    (only_one (merged base) (q ∷ merged now) (Rising-merged base are.runs) (AllAfter-count p count (merged now) after, Rising-merged now t.runs) (AllCount-merged base are.runs) (some, AllCount-merged now t.runs)
-        (λ u d. omega (arith, times-merged u d base, times-merged u d now, t.counted u d)),
-     record { runs = t.runs; fits = λ u d. omega (arith, are.fits u d, t.counted u d) })
+    let q : TermPosting = with_count p count in (
+      only_one (merged base) (q ∷ merged now) (Rising-merged base are.runs) (AllAfter-count p count (merged now) after, Rising-merged now t.runs) (AllCount-merged base are.runs) (some, AllCount-merged now t.runs)
+          (λ u d. omega (arith, times-merged u d base, times-merged u d now, t.counted u d)),
+      record { runs = t.runs; fits = λ u d. omega (arith, are.fits u d, t.counted u d) },
+    )
 
 pub merged_none : (lefts : List (List TermPosting)) → ((k : ℕ) → get_or lefts k [] ≡ []) → merged lefts ≡ []
 merged_none [] h = refl
@@ -151,15 +149,17 @@ strictly_from p h le other [] all = tt
 strictly_from p h le other (x ∷ xs) all =
     let k : NoLater h x = all.0 in
     let a = le.term in
-    let b = k.term in
-    (record {
-      term = omega arith;
-      doc = λ e.
-          let s : p.term ≡ h.term = omega arith in
-          let u : p.doc ≤ h.doc = le.doc s in
-          let v : h.doc ≤ x.doc = k.doc (omega arith) in
-          lt_or p.doc x.doc h.doc u v (λ same. other (sym s) same);
-    }, strictly_from p h le other xs all.1)
+    let b = k.term in (
+      record {
+        term = omega arith;
+        doc = λ e.
+            let s : p.term ≡ h.term = omega arith in
+            let u : p.doc ≤ h.doc = le.doc s in
+            let v : h.doc ≤ x.doc = k.doc (omega arith) in
+            lt_or p.doc x.doc h.doc u v (λ same. other (sym s) same);
+      },
+      strictly_from p h le other xs all.1,
+    )
   where
     lt_or : (a c b : ℕ) → a ≤ b → b ≤ c → (b ≡ a → ⊥) → a < c
     lt_or a c b u v other = omega arith

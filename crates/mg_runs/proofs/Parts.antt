@@ -1,14 +1,13 @@
 -- The parts of one base.
-use Rattle.std.proofs.Common.{◌≡◌, ◌≢◌, ℕ, Bool, true, false, List, [], Some, refl, sym, ap, ◌∙◌, is_some, IsSome, Ok, Err, ◌⊎◌, inl, inr, ◌∷◌, ◌++◌, ◌+◌, ◌*◌, length, length-append, arith}
+use Rattle.std.proofs.Common.{◌≡◌, ◌≢◌, ℕ, List, [], Some, refl, ap, ◌∙◌, IsSome, Ok, Err, ◌∷◌, ◌++◌, length, length-append, arith}
 use Rattle.mg_defs.specs.Bits.{Bits, bits_of}
 use Rattle.mg_defs.proofs.BitLaws.{length_bits_of}
-use Rattle.std.specs.Option.{option_map}
 use Rattle.std.specs.Prelude.{OnOk}
 use Rattle.std.specs.declared.option.Option.{Option}
 use Rattle.std.specs.declared.result.Result.{Result}
 use Rattle.mg_dev.specs.declared.part.Part.{Part}
-use Rattle.mg_dev.specs.Names.{full_name, same_part, number}
-use Rattle.mg_dev.specs.Files.{Files, Reads, SameReads, AfterReset, file_at, written}
+use Rattle.mg_dev.specs.Names.{full_name, number}
+use Rattle.mg_dev.specs.Files.{Files, Reads, SameReads, AfterReset, file_at}
 use Rattle.mg_dev.specs.Laws.{same_part_of_name, reset-others, reset-told, file_at-written}
 use Rattle.mg_bits.specs.Writer.{WroteTo}
 

@@ -1,5 +1,5 @@
 -- Gamma codes of small numbers are short.
-use Rattle.std.proofs.Common.{◌≡◌, ℕ, suc, ◌-◌, ◌+◌, ◌*◌, ◌<◌, ◌≤◌, ◌^◌, length, arith, lit<, lit≤}
+use Rattle.std.proofs.Common.{ℕ, ◌-◌, ◌<◌, ◌≤◌, ◌^◌, length, arith, lit<, lit≤}
 use Rattle.mg_defs.specs.Codes.{gamma, log2}
 use Rattle.mg_defs.proofs.FixedLaws.{IsLog, is_log, log_rises}
 use Rattle.mg_defs.proofs.CodeLaws.{length_gamma}

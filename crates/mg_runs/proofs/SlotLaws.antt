@@ -1,5 +1,5 @@
 -- A slot that is filled, among others.
-use Rattle.std.proofs.Common.{◌≡◌, ℕ, zero, suc, ◌+◌, ◌-◌, ◌*◌, ◌<◌, ◌≤◌, List, [], ◌∷◌, ◌++◌, length, refl, sym, ap, ◌∙◌, subst, arith, take, drop, set, get_or, ◌⊎◌, inl, inr}
+use Rattle.std.proofs.Common.{◌≡◌, ℕ, zero, suc, ◌+◌, ◌*◌, ◌<◌, ◌≤◌, List, [], ◌∷◌, length, refl, sym, ap, ◌∙◌, subst, arith, take, drop, set, get_or, inl, inr}
 use Rattle.std.specs.Simd.{first_chunks}
 use Rattle.std.specs.declared.option.Option.{Option}
 use Rattle.std.proofs.lemmas.Grind.{common_steps}
@@ -10,7 +10,6 @@ use Rattle.std.proofs.lemmas.Slice.{take-put_mid_below, drop-put_mid}
 use borrow.Rule.Slice.PartMut.{put_mid}
 use Rattle.mg_dev.specs.declared.part.Part.{Part}
 use Rattle.mg_dev.specs.Files.{Files, Reads, OneRead}
-use Rattle.mg_dev.specs.Names.{same_part}
 use Rattle.mg_dev.specs.Laws.{with_read-other, with_read-later}
 use Rattle.mg_bits.specs.Pages.{Looked}
 

@@ -1,7 +1,7 @@
 -- Tournaments, one node after the other.
-use Rattle.std.proofs.Common.{◌≡◌, ◌≢◌, ℕ, zero, suc, ◌+◌, ◌-◌, ◌*◌, ◌/◌, ◌<◌, ◌≤◌, ◌⊎◌, inl, inr, List, [], ◌∷◌, length, refl, sym, ap, ◌∙◌, subst, arith, get_or, set, drop, ◌^◌, length-set}
+use Rattle.std.proofs.Common.{◌≡◌, ◌≢◌, ℕ, zero, suc, ◌+◌, ◌-◌, ◌*◌, ◌/◌, ◌<◌, ◌≤◌, inl, inr, List, [], ◌∷◌, length, refl, sym, ap, ◌∙◌, subst, arith, get_or, set, drop, length-set}
 use Rattle.std.proofs.lemmas.Bool.{cases_lt, cases_eq}
-use Rattle.std.proofs.lemmas.List.{get_or-drop, get_or-set_same, get_or-set_other}
+use Rattle.std.proofs.lemmas.List.{get_or-drop, get_or-set_other}
 use Rattle.std.proofs.lemmas.Grind.{common_steps}
 use Rattle.mg_runs.specs.Tournament.{IsNode, IsPlayedBut, IsPlayedFrom, IsTournament}
 
@@ -115,12 +115,14 @@ down zero count i ks ws t enough low high = absurd (omega arith)
 down (suc fuel) count i ks ws t enough low high = elim (cases_lt i count) [
   | inr leaf ↦
       let e : count + (i - count) ≡ i = omega arith in
-      let within : i - count < count = omega arith in
-      (i - count, record {
-        within = within;
-        key = ap (λ k. get_or ks k 0) (sym e);
-        who = ap (λ k. get_or ws k 0) (sym e) ∙ t.leaves (i - count) within;
-      })
+      let within : i - count < count = omega arith in (
+        i - count,
+        record {
+          within = within;
+          key = ap (λ k. get_or ks k 0) (sym e);
+          who = ap (λ k. get_or ws k 0) (sym e) ∙ t.leaves (i - count) within;
+        },
+      )
   | inl inner ↦ elim ((t.nodes i low inner (λ e. omega arith)).from) [
     | inl both ↦
         let below = down fuel count (2 * i) ks ws t (omega arith) (omega arith) (omega arith) in

@@ -1,5 +1,5 @@
 -- Postings that are read from bits.
-use Rattle.std.specs.Prelude.{◌≤◌, ◌<◌, ◌^◌, ℕ}
+use Rattle.std.specs.Prelude.{◌≤◌, ◌<◌, ◌^◌}
 use Rattle.mg_defs.specs.declared.TermPosting.{TermPosting}
 
 -- each number fits in 32 bits, and document and count are at least 1

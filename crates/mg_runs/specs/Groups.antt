@@ -1,5 +1,5 @@
 -- A group of like entries.
-use Rattle.std.specs.Prelude.{◌≡◌, ◌-◌, ◌+◌, ◌<◌, ◌≤◌, ℕ, List, [], ◌∷◌, map, length, drop, slice_index_or}
+use Rattle.std.specs.Prelude.{◌≡◌, ◌-◌, ◌<◌, ◌≤◌, ℕ, List, [], ◌∷◌, map, length, drop, slice_index_or}
 use Rattle.mg_defs.specs.declared.TermPosting.{TermPosting}
 use Rattle.mg_defs.specs.Postings.{gathered, with_count}
 use Rattle.mg_defs.specs.PostingOrder.{added_times}

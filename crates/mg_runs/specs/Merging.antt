@@ -6,7 +6,7 @@ use Rattle.mg_defs.specs.declared.TermPosting.{TermPosting}
 use Rattle.mg_defs.specs.Postings.{AllAfter, part_at, times, with_count, merged}
 use Rattle.mg_defs.specs.PostingOrder.{NoLater}
 use Rattle.mg_defs.specs.RunBits.{before_first}
-use Rattle.mg_runs.specs.Cursors.{IsAt, IsRun}
+use Rattle.mg_runs.specs.Cursors.{IsAt, IsRun, IsRunAt}
 use Rattle.mg_runs.specs.declared.cursor.Cursor.{Cursor}
 
 abbrev pub first : List TermPosting → Option TermPosting
@@ -81,3 +81,12 @@ pub record IsGathering (slots : List (List ℕ)) (cursors : List Cursor) (file :
   pub stand : StandFor slots cursors file lefts
   pub taking : IsTaking p base lefts count
   pub more : p.count ≤ count
+
+-- each of these runs begins at its place
+pub record AreRunsAt (file places : List ℕ) (runs : List (List TermPosting)) : Type 0 where
+  pub size : length runs ≡ length places
+  pub at : (k : ℕ) → k < length places → IsRunAt file (slice_index places k) (slice_index_or runs k [])
+
+-- the first so many cursors are at the first postings of their runs
+pub record AreOpen (slots : List (List ℕ)) (cursors : List Cursor) (file : List ℕ) (runs : List (List TermPosting)) (seen : ℕ) : Type 0 where
+  pub at : (k : ℕ) → k < seen → IsAt (slice_index_or cursors k no_cursor) (slice_index_or slots k []) file (slice_index_or runs k [])

@@ -1,5 +1,5 @@
 -- What contracts see of a pool.
-use Rattle.std.specs.Prelude.{◌≤◌, ◌+◌, ◌*◌, ◌^◌, ◌⊎◌, ◌≡◌, ℕ, List, [], length}
+use Rattle.std.specs.Prelude.{◌≤◌, ◌+◌, ◌*◌, ◌^◌, ◌≡◌, ℕ, List, [], length}
 use Rattle.mg_defs.specs.declared.TermPosting.{TermPosting}
 
 -- the entries, the bytes of the slots in use, the greatest use so far, and the budget

@@ -15,4 +15,3 @@ pub struct Cursor {
     /// How many bytes of the file the slot has.
     pub count: usize,
 }
-

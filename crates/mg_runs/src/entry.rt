@@ -16,7 +16,12 @@ pub fn number_at(bytes: &[u8; 12], from: usize) -> u32
     requires { from ≤ 8 }
     ensures { result ≡ number_in from bytes.now }
 {
-    u32::from_be_bytes([bytes[from], bytes[from + 1], bytes[from + 2], bytes[from + 3]])
+    u32::from_be_bytes([
+        bytes[from],
+        bytes[from + 1],
+        bytes[from + 2],
+        bytes[from + 3],
+    ])
 }
 
 /// Sets the entry after the first so many.

@@ -23,3 +23,6 @@ mod walk;
 
 pub use pool::Pool;
 pub use runs::Runs;
+
+#[cfg(test)]
+mod tests;

@@ -51,7 +51,7 @@ pub fn reset_part<S: Store>(store: &mut S, base: &str, part: Part) -> Result<(),
 }
 
 /// Writes the pool's entries as a run, and empties it.
-fn spill<S: Store>(pool: &mut Pool, w: &mut BitWriter<'_>, store: &mut S) -> Result<(), PutErr>
+pub fn spill<S: Store>(pool: &mut Pool, w: &mut BitWriter<'_>, store: &mut S) -> Result<(), PutErr>
     requires holds { Holds w.old (S.files store.old) }
     requires place { w.old.place ≤ 2 ^ 62 }
     requires whole { w.old.place % 8 ≡ 0 }

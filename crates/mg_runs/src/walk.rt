@@ -65,12 +65,7 @@ fn refreshed<S: Store>(
 }
 
 /// The cursor at the next posting, whose bytes its slot has.
-fn read_behind(
-    pool: &Pool,
-    part: Part,
-    slot: usize,
-    cursor: &Cursor,
-) -> Result<Cursor, PartErr>
+fn read_behind(pool: &Pool, part: Part, slot: usize, cursor: &Cursor) -> Result<Cursor, PartErr>
     requires slot { slot < length pool.now.slots }
     requires near { IsNear cursor.now }
     requires left { 1 ≤ cursor.now.left }

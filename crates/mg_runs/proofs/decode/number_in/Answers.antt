@@ -1,4 +1,4 @@
-use Rattle.std.proofs.Common.{◌≡◌, ◌+◌, ◌≤◌, ◌∙◌, ℕ, Some, ap, arith, length, sym}
+use Rattle.std.proofs.Common.{◌≡◌, ◌+◌, ◌∙◌, ℕ, Some, ap, arith, length}
 use Rattle.mg_defs.specs.Codes.{gamma}
 use Rattle.mg_runs.specs.declared.decode.Number.{Number}
 use Rattle.mg_runs.proofs.Short.{gamma_short}

@@ -1,14 +1,7 @@
-use Rattle.std.proofs.Common.{◌≡◌, ◌+◌, ◌-◌, ◌≤◌, ◌∙◌, ℕ, Some, None, ap, arith, length, sym, subst}
-use Rattle.std.specs.declared.option.Option.{Option}
-use Rattle.mg_defs.specs.Bits.{Bits, bits_of}
-use Rattle.mg_defs.specs.Codes.{gamma}
-use Rattle.mg_defs.specs.Postings.{IsBefore}
-use Rattle.mg_defs.specs.RunBits.{posting_bits, doc_gap}
-use Rattle.mg_defs.specs.declared.TermPosting.{TermPosting}
-use Rattle.mg_runs.specs.declared.decode.Number.{Number}
+use Rattle.std.proofs.Common.{◌+◌, ◌-◌, ◌∙◌, ℕ, Some, ap}
+use Rattle.mg_defs.specs.RunBits.{doc_gap}
 use Rattle.mg_runs.specs.declared.decode.Decoded.{Decoded}
-use Rattle.mg_runs.specs.Decoding.{IsSmall}
-use Rattle.mg_runs.proofs.Decoding.{Plan, plan, none_or_some, one_some}
+use Rattle.mg_runs.proofs.Decoding.{plan, none_or_some, one_some}
 use Rattle.mg_runs.proofs.decode.posting_in.Goals as goal
 
 pub returns-in_err-term_gap-clause-told : goal.returns-in_err-term_gap-clause-told

@@ -1,4 +1,4 @@
-use Rattle.std.proofs.Common.{rules, refl}
+use Rattle.std.proofs.Common.{refl}
 use Rattle.mg_runs.specs.Bytes.{bytes_of}
 use Rattle.mg_runs.proofs.entry.entry_bytes.Goals as goal
 

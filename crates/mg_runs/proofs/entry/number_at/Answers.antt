@@ -1,4 +1,3 @@
-use Rattle.std.proofs.Common.{rules}
 use Rattle.mg_runs.specs.Bytes.{number_in}
 use Rattle.mg_runs.proofs.entry.number_at.Goals as goal
 

@@ -1,4 +1,4 @@
-use Rattle.std.proofs.Common.{rules, ◌∙◌, ap, ◌++◌, ◌∷◌, [], length, ◌≡◌, List, ℕ, arith, lit<}
+use Rattle.std.proofs.Common.{◌∙◌, ap, ◌++◌, ◌∷◌, [], length, ◌≡◌, List, ℕ, lit<}
 use Rattle.mg_runs.specs.Bytes.{entries_in, entry_in, bytes_of}
 use Rattle.mg_runs.proofs.Chunks.{entries-put, entry-of-bytes, length-bytes_of}
 use Rattle.mg_runs.proofs.entry.set_entry.Goals as goal

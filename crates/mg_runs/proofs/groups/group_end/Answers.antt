@@ -1,5 +1,4 @@
-use Rattle.std.proofs.Common.{rules, ◌≡◌, ◌≤◌, ◌<◌, length, ℕ, [], sym, ◌∙◌, inl, inr, arith}
-use Rattle.mg_runs.specs.Groups.{IsGroup}
+use Rattle.std.proofs.Common.{[], sym, ◌∙◌, inl, inr}
 use Rattle.mg_runs.proofs.Like.{like-more, like-end}
 use Rattle.mg_runs.proofs.groups.group_end.Goals as goal
 

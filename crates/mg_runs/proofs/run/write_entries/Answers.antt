@@ -1,16 +1,15 @@
-use Rattle.std.proofs.Common.{rules, ◌≡◌, ◌*◌, ◌++◌, length, map, take, ◌/◌, ◌-◌, ◌+◌, ◌%◌, ◌<◌, ◌≤◌, Bool, IsPermutation, List, ℕ, arith, ap, sym, ◌∙◌, subst, refl}
-use Rattle.std.proofs.lemmas.Grind.{common_steps}
+use Rattle.std.proofs.Common.{◌≡◌, ◌*◌, length, take, ◌/◌, ◌-◌, ◌+◌, ◌%◌, ◌<◌, ◌≤◌, Bool, IsPermutation, List, ℕ, arith, ap, ◌∙◌, subst, refl}
 use Rattle.std.specs.Simd.{first_chunks}
 use Rattle.std.proofs.lemmas.List.Sorted.{length_permutation}
 use Rattle.mg_runs.proofs.Chunks.{length-chunks}
-use Rattle.mg_defs.specs.Bits.{digits, filled}
+use Rattle.mg_defs.specs.Bits.{filled}
 use Rattle.mg_defs.specs.RunBits.{run_bits}
 use Rattle.mg_bits.specs.BitWriting.{to_byte}
 use Rattle.mg_bits.proofs.BitsWritten.{bits_more}
 use Rattle.mg_defs.proofs.BitLaws.{length_digits}
 use Rattle.mg_defs.specs.Postings.{gathered}
-use Rattle.mg_runs.specs.Bytes.{entry_in, entries_in, AreEntries}
-use Rattle.mg_runs.proofs.Sorting.{front_chunks, are_sorted, AreSorted}
+use Rattle.mg_runs.specs.Bytes.{entries_in}
+use Rattle.mg_runs.proofs.Sorting.{front_chunks, are_sorted}
 use Rattle.mg_runs.proofs.run.write_entries.Goals as goal
 
 to_byte_same : (p n : ℕ) → p % 8 ≡ 0 → to_byte (p + n) ≡ to_byte n

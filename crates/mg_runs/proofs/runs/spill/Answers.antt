@@ -1,4 +1,3 @@
-use Rattle.std.proofs.Common.{arith}
 use Rattle.mg_runs.proofs.Chunks.{length_entries}
 use Rattle.mg_runs.proofs.runs.spill.Goals as goal
 

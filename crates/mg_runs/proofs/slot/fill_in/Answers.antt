@@ -1,4 +1,4 @@
-use Rattle.std.proofs.Common.{arith, refl, ◌*◌, ◌+◌, ◌-◌, ◌≡◌, length, sym, subst}
+use Rattle.std.proofs.Common.{arith, refl, ◌*◌, ◌+◌, ◌-◌}
 use Rattle.std.proofs.lemmas.Grind.{common_steps}
 use Rattle.mg_runs.proofs.SlotLaws.{slots_put, slot_put}
 use Rattle.mg_runs.proofs.slot.fill_in.Goals as goal

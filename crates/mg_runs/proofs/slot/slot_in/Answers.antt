@@ -1,4 +1,4 @@
-use Rattle.std.proofs.Common.{arith, refl, ◌*◌, ◌+◌, ◌-◌, ◌≡◌}
+use Rattle.std.proofs.Common.{arith, refl, ◌*◌, ◌+◌, ◌-◌}
 use Rattle.mg_runs.proofs.SlotLaws.{slot_is}
 use Rattle.mg_runs.proofs.slot.slot_in.Goals as goal
 

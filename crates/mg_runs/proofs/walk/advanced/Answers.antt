@@ -1,7 +1,3 @@
-use Rattle.std.proofs.Common.{◌≡◌, ◌≤◌, ◌+◌, ℕ, List, [], ◌∷◌, arith, length}
-use Rattle.mg_defs.specs.declared.TermPosting.{TermPosting}
-use Rattle.mg_runs.specs.Cursors.{IsAtPosting, NoDamage}
-use Rattle.mg_runs.specs.declared.cursor.Cursor.{Cursor}
 use Rattle.mg_runs.proofs.CursorLaws.{ok_undamaged, more_left}
 use Rattle.mg_runs.proofs.walk.advanced.Goals as goal
 

@@ -1,4 +1,4 @@
-use Rattle.std.proofs.Common.{◌≡◌, ◌≤◌, ℕ, List, [], ◌∙◌, ap, sym, subst, get_or, set}
+use Rattle.std.proofs.Common.{[], ◌∙◌, ap, get_or, set}
 use Rattle.std.proofs.lemmas.List.{set-set}
 use Rattle.mg_defs.specs.RunBits.{before_first}
 use Rattle.mg_runs.proofs.walk.opened.Goals as goal

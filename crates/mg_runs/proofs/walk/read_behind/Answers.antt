@@ -1,4 +1,4 @@
-use Rattle.std.proofs.Common.{◌≡◌, ◌+◌, ◌-◌, ◌*◌, ℕ, List, [], ◌∷◌, ap, refl, sym, ◌∙◌, subst, length, take, min, get_or, arith}
+use Rattle.std.proofs.Common.{ℕ, List, [], ap, refl, get_or}
 use Rattle.mg_runs.proofs.CursorLaws.{stands, moved, first_bytes}
 use Rattle.mg_runs.proofs.Decoding.{none_or_some, one_some}
 use Rattle.mg_runs.proofs.walk.read_behind.Goals as goal

@@ -1,4 +1,4 @@
-use Rattle.std.proofs.Common.{◌≡◌, ℕ, refl, sym, ◌∙◌}
+use Rattle.std.proofs.Common.{refl}
 use Rattle.mg_runs.proofs.Merges.{all_after_other, all_after_none}
 use Rattle.mg_runs.proofs.group.Group.alike.Goals as goal
 

@@ -1,6 +1,6 @@
-use Rattle.std.proofs.Common.{◌≡◌, ◌≤◌, ◌<◌, ◌+◌, ◌^◌, ℕ, List, [], ◌∷◌, ap, refl, sym, ◌∙◌, arith, subst, get_or, set}
+use Rattle.std.proofs.Common.{◌≡◌, ◌+◌, ℕ, ap, sym, ◌∙◌, arith, subst, set}
 use Rattle.mg_defs.specs.declared.TermPosting.{TermPosting}
-use Rattle.mg_runs.specs.Merging.{IsTaking, IsGathering, IsMerged}
+use Rattle.mg_runs.specs.Merging.{IsTaking}
 use Rattle.mg_runs.proofs.Merges.{taking_more, taking_end, count_fits}
 use Rattle.mg_runs.proofs.Steps.{looked_more, pool_more, caused_as, undamaged_as, split_first}
 use Rattle.mg_runs.proofs.group.Group.gathered.Goals as goal

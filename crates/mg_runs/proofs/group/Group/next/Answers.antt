@@ -1,6 +1,5 @@
-use Rattle.std.proofs.Common.{◌≡◌, ◌≤◌, ℕ, List, [], ◌∷◌, ap, refl, sym, ◌∙◌, subst, get_or, set, drop, Some, None}
+use Rattle.std.proofs.Common.{ℕ}
 use Rattle.mg_defs.specs.declared.TermPosting.{TermPosting}
-use Rattle.mg_defs.specs.Postings.{merged}
 use Rattle.std.specs.declared.option.Option.{Option}
 use Rattle.mg_runs.proofs.Merges.{taking_first, merged_none, left_none, left_some, run_at}
 use Rattle.mg_runs.proofs.Steps.{undamaged_as, split_first}

@@ -1,4 +1,4 @@
-use Rattle.std.proofs.Common.{◌≡◌, ◌<◌, ◌≤◌, ◌*◌, arith, length}
+use Rattle.std.proofs.Common.{arith}
 use Rattle.mg_runs.proofs.Chunks.{length-chunks, still_none}
 use Rattle.mg_runs.proofs.pool.Pool.fill.Goals as goal
 

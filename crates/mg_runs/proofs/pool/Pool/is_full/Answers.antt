@@ -1,6 +1,4 @@
-use Rattle.std.proofs.Common.{rules, arith}
-use Rattle.std.proofs.lemmas.Grind.{common_steps}
-use Rattle.std.proofs.lemmas.Bool.Decides.{nat_tests}
+use Rattle.std.proofs.Common.{rules}
 use Rattle.mg_runs.proofs.Chunks.{length_entries}
 use Rattle.mg_runs.proofs.pool.Pool.is_full.Goals as goal
 

@@ -1,4 +1,4 @@
-use Rattle.std.proofs.Common.{◌≡◌, ◌<◌, ◌≤◌, ◌*◌, arith, length}
+use Rattle.std.proofs.Common.{arith}
 use Rattle.mg_runs.proofs.Chunks.{length-chunks}
 use Rattle.mg_runs.proofs.pool.Pool.slot.Goals as goal
 

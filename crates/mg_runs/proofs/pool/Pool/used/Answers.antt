@@ -1,4 +1,4 @@
-use Rattle.std.proofs.Common.{rules, arith}
+use Rattle.std.proofs.Common.{arith}
 use Rattle.mg_runs.proofs.Chunks.{length_entries, length-chunks}
 use Rattle.mg_runs.proofs.pool.Pool.used.Goals as goal
 

@@ -1,6 +1,4 @@
-use Rattle.std.proofs.Common.{rules, arith, ◌≡◌, ◌≤◌, ◌<◌, ◌/◌, ◌+◌, ◌*◌, ◌++◌, ◌∷◌, [], ℕ, List, length, ap, sym, ◌∙◌, subst, refl}
-use Rattle.mg_defs.specs.Postings.{once}
-use Rattle.mg_runs.specs.Fed.{IsFed}
+use Rattle.std.proofs.Common.{rules, arith, ◌≡◌, ◌≤◌, ◌<◌, ◌/◌, ◌++◌, ◌∷◌, [], ℕ, length, ap, ◌∙◌, refl}
 use Rattle.mg_runs.proofs.Feeding.{fed_most, fed_entries, fed_room, fed_full}
 use Rattle.mg_runs.proofs.runs.Runs.add.Goals as goal
 use Rattle.mg_runs.proofs.runs.Runs.add.Goals.{then-is_full+in_ok-push+in_ok-spill, else-is_full}

@@ -1,4 +1,4 @@
-use Rattle.std.proofs.Common.{◌≡◌, arith, refl, ap, sym, ◌∙◌}
+use Rattle.std.proofs.Common.{arith, sym, ◌∙◌}
 use Rattle.mg_dev.specs.declared.part.Part.TheVariants.{Run, MergeA, MergeB}
 use Rattle.mg_runs.proofs.Feeding.{fed_start}
 use Rattle.mg_runs.proofs.Parts.{apart, no_bytes}

@@ -1,4 +1,4 @@
-use Rattle.std.proofs.Common.{◌≡◌, ◌<◌, ◌≤◌, ◌+◌, ℕ, length, get_or, set}
+use Rattle.std.proofs.Common.{◌≡◌, ◌<◌, ◌≤◌, ℕ, length, get_or}
 use Rattle.mg_runs.specs.Tournament.{IsPlayedBut}
 use Rattle.mg_runs.proofs.tournament.Tournament.set.Given as goal
 
