@@ -15,7 +15,7 @@ use Rattle.mg_defs.specs.RunBits.{run_bits, runs_bits}
 use Rattle.mg_defs.proofs.Segments.{finished-room, finished-full, finished-low, first_runs-more, first_runs-full, map-end}
 use Rattle.mg_bits.specs.BitWriting.{Holds, WroteBits, bits_put}
 use Rattle.mg_runs.specs.Bytes.{AreEntries}
-use Rattle.mg_runs.specs.Fed.{Inverting, IsFed, HaveDocs, cap_of, starts}
+use Rattle.mg_runs.specs.Fed.{Inverting, IsFed, IsOccurrence, AreOccurrences, cap_of, starts}
 
 finished-none : (cap : ℕ) → 1 ≤ cap → finished cap 0 ≡ 0
 finished-none cap some = let h : 0 / cap < 1 = div_below 0 cap 1 some (omega arith) in omega arith
@@ -42,7 +42,8 @@ fed_start runs files least most entries slots peak name holds empty place places
       whole = omega arith;
       below = omega arith;
       places = places ∙ ap (λ xs. starts 0 xs) (sym rs);
-      docs = tt;
+      occurrences = tt;
+      few = omega arith;
     }
 
 -- ---- one occurrence more
@@ -63,22 +64,22 @@ drop-end s k o h = grind (arith, common_steps)
 drop-all : (s : List (ℕ × ℕ)) (k : ℕ) → length s ≤ k → drop k s ≡ []
 drop-all s k h = grind (arith, common_steps)
 
-docs-end : (s : List (ℕ × ℕ)) (o : ℕ × ℕ) → HaveDocs s → 1 ≤ o.1 → HaveDocs (s ++ o ∷ [])
+docs-end : (s : List (ℕ × ℕ)) (o : ℕ × ℕ) → AreOccurrences s → IsOccurrence o → AreOccurrences (s ++ o ∷ [])
 docs-end [] o all h = (h, tt)
 docs-end (x ∷ s) o all h = (all.0, docs-end s o all.1 h)
 
-docs-drop : (k : ℕ) (s : List (ℕ × ℕ)) → HaveDocs s → HaveDocs (drop k s)
+docs-drop : (k : ℕ) (s : List (ℕ × ℕ)) → AreOccurrences s → AreOccurrences (drop k s)
 docs-drop zero s all = all
 docs-drop (suc k) [] all = tt
 docs-drop (suc k) (x ∷ s) all = docs-drop k s all.1
 
-entries_of : (s : List (ℕ × ℕ)) → HaveDocs s → AreEntries (map once s)
+entries_of : (s : List (ℕ × ℕ)) → AreOccurrences s → AreEntries (map once s)
 entries_of [] all = tt
-entries_of (o ∷ s) all = ((refl, all.0), entries_of s all.1)
+entries_of (o ∷ s) all = ((refl, all.0.some), entries_of s all.1)
 
 pub fed_entries : (runs : Inverting) (files : Option Files) (fed : List (ℕ × ℕ)) → IsFed runs files fed → AreEntries runs.pool.entries
 fed_entries runs files fed is =
-    subst (λ xs. AreEntries xs) (sym is.entries) (entries_of _ (docs-drop (finished (cap_of runs.pool) (length fed) * cap_of runs.pool) fed is.docs))
+    subst (λ xs. AreEntries xs) (sym is.entries) (entries_of _ (docs-drop (finished (cap_of runs.pool) (length fed) * cap_of runs.pool) fed is.occurrences))
 
 pub fed_length : (runs : Inverting) (files : Option Files) (fed : List (ℕ × ℕ)) → IsFed runs files fed → length runs.pool.entries ≡ length fed - finished (cap_of runs.pool) (length fed) * cap_of runs.pool
 fed_length runs files fed is =
@@ -114,8 +115,8 @@ starts-end at (first ∷ runs) run =
     let size : at + length (filled (run_bits first)) + length (runs_bits runs) ≡ at + length (runs_bits (first ∷ runs)) = omega (arith, length-append (filled (run_bits first)) (runs_bits runs)) in
     ap (λ l. at ∷ l) (starts-end (at + length (filled (run_bits first))) runs run ∙ ap (λ n. starts (at + length (filled (run_bits first))) runs ++ n ∷ []) size)
 
-pub fed_room : (r0 r1 : Inverting) (f : Option Files) (fed : List (ℕ × ℕ)) (o : ℕ × ℕ) → IsFed r0 f fed → length r0.pool.entries < cap_of r0.pool → 1 ≤ o.1 → r1.pool.entries ≡ r0.pool.entries ++ once o ∷ [] → r1.pool.slots ≡ [] → r1.pool.peak ≡ max r0.pool.peak (12 * length r1.pool.entries + 64 * length r1.pool.slots) → r1.pool.limit ≡ r0.pool.limit → r1.writer ≡ r0.writer → r1.places ≡ r0.places → r1.base ≡ r0.base → IsFed r1 f (fed ++ o ∷ [])
-fed_room r0 r1 f fed o is room doc entries slots peak limit writer places base =
+pub fed_room : (r0 r1 : Inverting) (f : Option Files) (fed : List (ℕ × ℕ)) (o : ℕ × ℕ) → IsFed r0 f fed → length r0.pool.entries < cap_of r0.pool → IsOccurrence o → length fed < 2 ^ 32 - 1 → r1.pool.entries ≡ r0.pool.entries ++ once o ∷ [] → r1.pool.slots ≡ [] → r1.pool.peak ≡ max r0.pool.peak (12 * length r1.pool.entries + 64 * length r1.pool.slots) → r1.pool.limit ≡ r0.pool.limit → r1.writer ≡ r0.writer → r1.places ≡ r0.places → r1.base ≡ r0.base → IsFed r1 f (fed ++ o ∷ [])
+fed_room r0 r1 f fed o is room doc room_left entries slots peak limit writer places base =
     let n : ℕ = length fed in
     let cap : ℕ = cap_of r0.pool in
     let q : ℕ = finished cap n in
@@ -144,7 +145,8 @@ fed_room r0 r1 f fed o is room doc entries slots peak limit writer places base =
       whole = ap (λ w. w.place % 8) writer ∙ is.whole;
       below = subst (λ k. r1.writer.place ≤ 512 * k) (sym at) (subst (λ w. w.place ≤ 512 * (q * cap)) (sym writer) is.below);
       places = places ∙ is.places ∙ ap (λ rs. starts 0 rs) (sym runs);
-      docs = docs-end fed o is.docs doc;
+      occurrences = docs-end fed o is.occurrences doc;
+      few = omega (arith, e1, room_left);
     }
 
 place-step : (q cap p0 p1 at : ℕ) → at ≡ suc q * cap → 1 ≤ cap → p0 ≤ 512 * (q * cap) → p1 ≤ p0 + 128 + 256 * cap → p1 ≤ 512 * at
@@ -152,8 +154,8 @@ place-step q cap p0 p1 at e some a b =
     let f : suc q * cap ≡ cap + q * cap = omega arith in
     omega arith
 
-pub fed_full : (r0 r1 : Inverting) (f0 f1 : Option Files) (fed : List (ℕ × ℕ)) (o : ℕ × ℕ) → IsFed r0 f0 fed → length r0.pool.entries ≡ cap_of r0.pool → 1 ≤ o.1 → is_some f1 ≡ is_some f0 → WroteBits r0.writer r1.writer f0 f1 (filled (run_bits (gathered r0.pool.entries))) → Holds r1.writer f1 → r1.writer.place % 8 ≡ 0 → r1.writer.place ≤ r0.writer.place + 128 + 256 * length r0.pool.entries → r1.pool.entries ≡ once o ∷ [] → r1.pool.slots ≡ [] → r1.pool.peak ≡ max r0.pool.peak (12 * length r1.pool.entries + 64 * length r1.pool.slots) → r1.pool.limit ≡ r0.pool.limit → r1.places ≡ r0.places ++ r0.writer.place ∷ [] → r1.base ≡ r0.base → IsFed r1 f1 (fed ++ o ∷ [])
-fed_full r0 r1 f0 f1 fed o is full doc told wrote holds whole below entries slots peak limit places base =
+pub fed_full : (r0 r1 : Inverting) (f0 f1 : Option Files) (fed : List (ℕ × ℕ)) (o : ℕ × ℕ) → IsFed r0 f0 fed → length r0.pool.entries ≡ cap_of r0.pool → IsOccurrence o → length fed < 2 ^ 32 - 1 → is_some f1 ≡ is_some f0 → WroteBits r0.writer r1.writer f0 f1 (filled (run_bits (gathered r0.pool.entries))) → Holds r1.writer f1 → r1.writer.place % 8 ≡ 0 → r1.writer.place ≤ r0.writer.place + 128 + 256 * length r0.pool.entries → r1.pool.entries ≡ once o ∷ [] → r1.pool.slots ≡ [] → r1.pool.peak ≡ max r0.pool.peak (12 * length r1.pool.entries + 64 * length r1.pool.slots) → r1.pool.limit ≡ r0.pool.limit → r1.places ≡ r0.places ++ r0.writer.place ∷ [] → r1.base ≡ r0.base → IsFed r1 f1 (fed ++ o ∷ [])
+fed_full r0 r1 f0 f1 fed o is full doc room_left told wrote holds whole below entries slots peak limit places base =
     let n : ℕ = length fed in
     let cap : ℕ = cap_of r0.pool in
     let q : ℕ = finished cap n in
@@ -191,7 +193,8 @@ fed_full r0 r1 f0 f1 fed o is full doc told wrote holds whole below entries slot
       whole = whole;
       below = place-step q cap r0.writer.place r1.writer.place _ at some is.below (subst (λ k. r1.writer.place ≤ r0.writer.place + 128 + 256 * k) full below);
       places = places ∙ ap (λ l. l ++ r0.writer.place ∷ []) is.places ∙ ap (λ k. starts 0 (first_runs cap q fed) ++ k ∷ []) (is.place ∙ zeroth (length (runs_bits (first_runs cap q fed)))) ∙ sym (starts-end 0 (first_runs cap q fed) run) ∙ ap (λ rs. starts 0 rs) (sym runs);
-      docs = docs-end fed o is.docs doc;
+      occurrences = docs-end fed o is.occurrences doc;
+      few = omega (arith, e1, room_left);
     }
   where
     zeroth : (k : ℕ) → k ≡ 0 + k

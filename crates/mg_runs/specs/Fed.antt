@@ -1,5 +1,5 @@
 -- What the runs so far, the pool and the file stand for.
-use Rattle.std.specs.Prelude.{◌≡◌, ◌≤◌, ◌+◌, ◌*◌, ◌/◌, ◌%◌, ◌^◌, ℕ, min, List, [], ◌∷◌, length, map, drop}
+use Rattle.std.specs.Prelude.{◌≡◌, ◌≤◌, ◌<◌, ◌+◌, ◌*◌, ◌/◌, ◌%◌, ◌^◌, ℕ, min, List, [], ◌∷◌, length, map, drop}
 use Rattle.std.specs.Option.{IsSome}
 use Rattle.std.specs.List.{AllByRecursion}
 use Rattle.std.specs.declared.option.Option.{Option}
@@ -30,9 +30,14 @@ abbrev pub starts : ℕ → List (List TermPosting) → List ℕ
 starts at [] = []
 starts at (run ∷ runs) = at ∷ starts (at + length (filled (run_bits run))) runs
 
--- each has a document
-abbrev pub HaveDocs : List (ℕ × ℕ) → Type 0
-HaveDocs fed = AllByRecursion (λ (o : ℕ × ℕ). 1 ≤ o.1) fed
+-- a term and a document, from 1, that fit in 32 bits
+pub record IsOccurrence (o : ℕ × ℕ) : Type 0 where
+  pub term : o.0 < 2 ^ 32
+  pub some : 1 ≤ o.1
+  pub doc : o.1 < 2 ^ 32
+
+abbrev pub AreOccurrences : List (ℕ × ℕ) → Type 0
+AreOccurrences fed = AllByRecursion (λ (o : ℕ × ℕ). IsOccurrence o) fed
 
 -- These occurrences were taken: the finished runs are written, and the pool has the rest.
 pub record IsFed (runs : Inverting) (files : Option Files) (fed : List (ℕ × ℕ)) : Type 0 where
@@ -48,4 +53,5 @@ pub record IsFed (runs : Inverting) (files : Option Files) (fed : List (ℕ × �
   pub whole : runs.writer.place % 8 ≡ 0
   pub below : runs.writer.place ≤ 512 * (finished (cap_of runs.pool) (length fed) * cap_of runs.pool)
   pub places : runs.places ≡ starts 0 (first_runs (cap_of runs.pool) (finished (cap_of runs.pool) (length fed)) fed)
-  pub docs : HaveDocs fed
+  pub occurrences : AreOccurrences fed
+  pub few : length fed < 2 ^ 32
