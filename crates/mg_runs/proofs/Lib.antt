@@ -1,0 +1,14 @@
+pub mod Chunks
+pub mod Like
+pub mod Short
+pub mod Sorting
+pub mod OnRun
+pub mod Parts
+pub mod Feeding
+pub mod Tournaments
+pub mod Decoding
+pub mod SlotLaws
+pub mod CursorLaws
+pub mod Merges
+pub mod Heads
+pub mod Steps

@@ -1,0 +1,86 @@
+-- A run, one posting after the other.
+use Rattle.std.proofs.Common.{◌≡◌, ℕ, suc, ◌+◌, ◌-◌, ◌*◌, ◌<◌, ◌≤◌, List, [], ◌∷◌, ◌++◌, length, refl, sym, ap, ◌∙◌, subst, arith, drop, map, get_or, append_assoc}
+use Rattle.std.specs.List.{All}
+use Rattle.std.specs.declared.option.Option.{Option}
+use Rattle.std.proofs.lemmas.Grind.{common_steps}
+use Rattle.mg_dev.specs.Files.{Files, Reads}
+use Rattle.mg_defs.specs.Codes.{gamma}
+use Rattle.mg_defs.specs.declared.TermPosting.{TermPosting}
+use Rattle.mg_defs.specs.Postings.{IsBefore, AllAfter, Rising, with_count, added, gathered}
+use Rattle.mg_defs.specs.RunBits.{before_first, posting_bits, postings_bits, run_bits}
+use Rattle.mg_defs.proofs.Gathering.{Rising-gathered, added-cases}
+use Rattle.mg_defs.proofs.PostingGroups.{AllAfter-gathered}
+use Rattle.mg_bits.specs.Writer.{WroteTo}
+use Rattle.mg_bits.specs.BitWriting.{BitWriting, Holds, WroteBits}
+use Rattle.mg_bits.proofs.BitsWritten.{bits_more, to_more}
+use Rattle.mg_runs.specs.Bytes.{entry_in, number_in}
+use Rattle.mg_runs.specs.Groups.{IsGroup}
+use Rattle.mg_runs.specs.OnRun.{IsOnRun}
+
+after_start : (entries : List (List ℕ)) → All (λ e. 1 ≤ number_in 4 e) entries → AllAfter before_first (map entry_in entries)
+after_start [] all = tt
+after_start (e ∷ es) all =
+    let d : 1 ≤ number_in 4 e = all 0 e (omega arith) in
+    (record { term = omega arith; doc = λ q. omega arith }, after_start es (λ k d h. all (suc k) d (omega arith)))
+
+pub on_run_start : (f0 f1 : Option Files) (r0 r1 : Reads) (w0 w1 : BitWriting) (entries : List (List ℕ)) (count : ℕ) → count ≡ length (gathered (map entry_in entries)) → All (λ e. 1 ≤ number_in 4 e) entries → WroteBits w0 w1 f0 f1 (gamma count) → Holds w1 f1 → w1.place ≤ w0.place + 66 → WroteTo w0.name f0 f1 r0 r1 → IsOnRun f0 f1 r0 r1 w0 w1 entries 0 before_first
+unfolding run_bits
+on_run_start f0 f1 r0 r1 w0 w1 entries count e docs bits holds place wrote = record {
+  within = omega arith;
+  done = gamma count;
+  bits = bits;
+  rest = ap (λ n. gamma n ++ postings_bits before_first (gathered (map entry_in entries))) e;
+  before = AllAfter-gathered before_first (map entry_in entries) (after_start entries docs);
+  place = omega arith;
+  holds = holds;
+  wrote = wrote;
+}
+
+same_posting : (x y : TermPosting) → x.term ≡ y.term → x.doc ≡ y.doc → x.count ≡ y.count → x ≡ y
+same_posting x y p q r =
+    let mk : ℕ → ℕ → ℕ → TermPosting = λ t d n. record { term = t; doc = d; count = n } in
+    ap (λ t. mk t x.doc x.count) p ∙ ap (λ d. mk y.term d x.count) q ∙ ap (λ n. mk y.term y.doc n) r
+
+-- the posting of a group comes first of what is left
+pub group_first : (entries : List (List ℕ)) (from next : ℕ) (p : TermPosting) → IsGroup entries from next → p.term ≡ number_in 0 (get_or entries from []) → p.doc ≡ number_in 4 (get_or entries from []) → p.count ≡ next - from → gathered (map entry_in (drop from entries)) ≡ p ∷ gathered (map entry_in (drop next entries))
+group_first entries from next p group a b d =
+    let e : with_count group.head (next - from) ≡ p = same_posting (with_count group.head (next - from)) p (group.term ∙ sym a) (group.doc ∙ sym b) (sym d) in
+    group.one ∙ ap (λ x. x ∷ gathered (map entry_in (drop next entries))) e
+
+pub on_run_before : (f0 f1 : Option Files) (r0 r1 : Reads) (w0 w1 : BitWriting) (entries : List (List ℕ)) (from next : ℕ) (last p : TermPosting) → IsOnRun f0 f1 r0 r1 w0 w1 entries from last → gathered (map entry_in (drop from entries)) ≡ p ∷ gathered (map entry_in (drop next entries)) → IsBefore last p
+on_run_before f0 f1 r0 r1 w0 w1 entries from next last p run e = (subst (λ xs. AllAfter last xs) e run.before).0
+
+pub on_run_step : (f0 f1 f2 : Option Files) (r0 r1 r2 : Reads) (w0 w1 w2 : BitWriting) (entries : List (List ℕ)) (from next : ℕ) (last p : TermPosting) → IsOnRun f0 f1 r0 r1 w0 w1 entries from last → gathered (map entry_in (drop from entries)) ≡ p ∷ gathered (map entry_in (drop next entries)) → from < next → next ≤ length entries → WroteBits w1 w2 f1 f2 (posting_bits last p) → Holds w2 f2 → w2.place ≤ w1.place + 256 → WroteTo w1.name f1 f2 r1 r2 → IsOnRun f0 f2 r0 r2 w0 w2 entries next p
+on_run_step f0 f1 f2 r0 r1 r2 w0 w1 w2 entries from next last p run e after within bits holds place wrote =
+    let left : List TermPosting = gathered (map entry_in (drop next entries)) in
+    let old : w1.place ≤ w0.place + 66 + 256 * from = run.place in
+    record {
+      within = within;
+      done = run.done ++ posting_bits last p;
+      bits = bits_more f0 f1 f2 w0 w1 w2 run.done (posting_bits last p) run.wrote.told run.bits bits;
+      rest = append_assoc run.done (posting_bits last p) (postings_bits p left) ∙ ap (λ xs. run.done ++ postings_bits last xs) (sym e) ∙ run.rest;
+      before = (subst (λ xs. Rising xs) e (Rising-gathered (map entry_in (drop from entries)))).0;
+      place = omega arith;
+      holds = holds;
+      wrote = to_more w0.name f0 f1 f2 r0 r1 r2 run.wrote (subst (λ n. WroteTo n f1 f2 r1 r2) run.bits.name wrote);
+    }
+
+pub on_run_end : (f0 f1 : Option Files) (r0 r1 : Reads) (w0 w1 : BitWriting) (entries : List (List ℕ)) (from : ℕ) (last : TermPosting) → IsOnRun f0 f1 r0 r1 w0 w1 entries from last → length entries ≤ from → WroteBits w0 w1 f0 f1 (run_bits (gathered (map entry_in entries)))
+on_run_end f0 f1 r0 r1 w0 w1 entries from last run h =
+    let none : drop from entries ≡ [] = grind (arith, common_steps) in
+    let e : run.done ++ [] ≡ run_bits (gathered (map entry_in entries)) = ap (λ es. run.done ++ postings_bits last (gathered (map entry_in es))) (sym none) ∙ run.rest in
+    let f : run.done ≡ run.done ++ [] = grind (arith, common_steps) in
+    subst (λ bits. WroteBits w0 w1 f0 f1 bits) (f ∙ e) run.bits
+
+added_some : (x : TermPosting) (xs : List TermPosting) → added x xs ≡ [] → ⊥
+added_some x [] e = cc
+added_some x (y ∷ xs) e = added-cases x y xs (λ t. t ≡ [] → ⊥) (λ _ q. cc) (λ _ q. cc) (λ _ _ q. cc) e
+
+-- a list that has an entry has a posting
+pub some_posting : (entries : List (List ℕ)) → 1 ≤ length entries → 1 ≤ length (gathered (map entry_in entries))
+some_posting entries h = some_of (gathered (map entry_in entries)) entries refl h
+  where
+    some_of : (g : List TermPosting) (entries : List (List ℕ)) → gathered (map entry_in entries) ≡ g → 1 ≤ length entries → 1 ≤ length g
+    some_of (x ∷ g) entries e h = omega arith
+    some_of [] [] e h = absurd (omega arith)
+    some_of [] (x ∷ es) e h = absurd (added_some (entry_in x) (gathered (map entry_in es)) e)

@@ -1,0 +1,35 @@
+-- The parts of one base.
+use Rattle.std.proofs.Common.{◌≡◌, ◌≢◌, ℕ, List, [], Some, refl, ap, ◌∙◌, IsSome, Ok, Err, ◌∷◌, ◌++◌, length, length-append, arith}
+use Rattle.mg_defs.specs.Bits.{Bits, bits_of}
+use Rattle.mg_defs.proofs.BitLaws.{length_bits_of}
+use Rattle.std.specs.Prelude.{OnOk}
+use Rattle.std.specs.declared.option.Option.{Option}
+use Rattle.std.specs.declared.result.Result.{Result}
+use Rattle.mg_dev.specs.declared.part.Part.{Part}
+use Rattle.mg_dev.specs.Names.{full_name, number}
+use Rattle.mg_dev.specs.Files.{Files, Reads, SameReads, AfterReset, file_at}
+use Rattle.mg_dev.specs.Laws.{same_part_of_name, reset-others, reset-told, file_at-written}
+use Rattle.mg_bits.specs.Writer.{WroteTo}
+
+-- parts of different numbers have different names
+pub apart : (base : List ℕ) (p q : Part) → (number p ≡ number q → ⊥) → full_name base p ≢ full_name base q
+apart base p q different e = different (ap number (same_part_of_name base p q e))
+
+-- a reset writes to its part alone
+pub reset_wrote : {E : Type 0} (name : List ℕ) (old new : Option Files) (reads now : Reads) (r : Result (Unit {0}) E) → AfterReset old new name r → SameReads reads now → WroteTo name old new reads now
+reset_wrote name old new reads now r after same = record {
+  told = reset-told old new name r after;
+  others = λ n away. reset-others old new name n r after away;
+  reads = same;
+}
+
+pub reset_empty : {E : Type 0} (name : List ℕ) (old new : Option Files) (r : Result (Unit {0}) E) → AfterReset old new name r → IsSome old → OnOk r (file_at new name ≡ Some [])
+reset_empty name old new (Ok u) after told = ap (λ f. file_at f name) after ∙ file_at-written old name [] told
+reset_empty name old new (Err e) after told = tt
+
+-- a file without bits has no bytes
+pub no_bytes : (bytes : List ℕ) (more : Bits) → bits_of bytes ++ more ≡ [] → bytes ≡ []
+no_bytes [] more e = refl
+no_bytes (byte ∷ bytes) more e =
+    let n : length (bits_of (byte ∷ bytes) ++ more) ≡ 0 = ap (λ l. length l) e in
+    absurd (omega (arith, n, length-append (bits_of (byte ∷ bytes)) more, length_bits_of (byte ∷ bytes)))

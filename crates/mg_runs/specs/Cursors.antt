@@ -1,0 +1,66 @@
+-- Where a cursor stands in a run.
+use Rattle.std.specs.Prelude.{◌≡◌, ◌≤◌, ◌<◌, ◌+◌, ◌*◌, ◌/◌, ◌++◌, ◌^◌, ℕ, List, [], ◌∷◌, length, take, drop}
+use Rattle.std.specs.List.{AllByRecursion}
+use Rattle.std.specs.declared.result.Result.{Result}
+use Rattle.std.specs.Prelude.{Ok, Err}
+use Rattle.mg_dev.specs.declared.part_err.PartErr.{PartErr}
+use Rattle.mg_dev.specs.declared.part_err.PartErr.TheVariants.{Device, Memory, Bad}
+use Rattle.mg_defs.specs.Bits.{Bits, bits_of}
+use Rattle.mg_defs.specs.Postings.{AllAfter, Rising}
+use Rattle.mg_defs.specs.RunBits.{postings_bits, run_bits}
+use Rattle.mg_defs.specs.declared.TermPosting.{TermPosting}
+use Rattle.mg_runs.specs.Decoding.{IsSmall}
+use Rattle.mg_runs.specs.declared.cursor.Cursor.{Cursor}
+
+-- postings as a run has them
+pub record IsRun (xs : List TermPosting) : Type 0 where
+  pub rising : Rising xs
+  pub small : AllByRecursion (λ x. IsSmall x) xs
+
+-- The cursor is at a posting, behind whose bits the others' follow. Its slot has the bytes of the file from its start on.
+pub record IsAtPosting (cursor : Cursor) (slot file : List ℕ) (x : TermPosting) (xs : List TermPosting) : Type 0 where
+  pub posting : cursor.posting ≡ x
+  pub left : cursor.left ≡ 1 + length xs
+  pub more : Bits
+  pub bits : drop cursor.place (bits_of file) ≡ postings_bits x xs ++ more
+  pub below : cursor.place ≤ length (bits_of file)
+  pub short : length (bits_of file) ≤ 2 ^ 61
+  pub near : 8 * cursor.start ≤ cursor.place
+  pub within : cursor.count ≤ 64
+  pub window : take cursor.count slot ≡ take 64 (drop cursor.start file)
+  pub after : AllAfter x xs
+  pub run : IsRun xs
+
+-- the next bits begin within the first half of the slot
+pub record IsNear (cursor : Cursor) : Type 0 where
+  pub low : cursor.start ≤ cursor.place / 8
+  pub high : cursor.place / 8 ≤ cursor.start + 32
+
+-- the cursor stands for these postings
+abbrev pub IsAt : Cursor → List ℕ → List ℕ → List TermPosting → Type 0
+IsAt cursor slot file [] = cursor.left ≡ 0
+IsAt cursor slot file (x ∷ xs) = IsAtPosting cursor slot file x xs
+
+-- a run's bits stand at a place
+pub record IsRunAt (file : List ℕ) (place : ℕ) (xs : List TermPosting) : Type 0 where
+  pub some : 1 ≤ length xs
+  pub few : 1 + length xs < 2 ^ 32
+  pub run : IsRun xs
+  pub more : Bits
+  pub bits : drop place (bits_of file) ≡ run_bits xs ++ more
+  pub below : place ≤ length (bits_of file)
+  pub short : length (bits_of file) ≤ 2 ^ 61
+
+-- it is no lack of memory
+abbrev pub NoMemory : {T : Type 0} → Result T PartErr → Type 0
+NoMemory (Ok value) = Unit {0}
+NoMemory (Err Device) = Unit {0}
+NoMemory (Err Memory) = ⊥
+NoMemory (Err (Bad bad)) = Unit {0}
+
+-- it is no damage
+abbrev pub NoDamage : {T : Type 0} → Result T PartErr → Type 0
+NoDamage (Ok value) = Unit {0}
+NoDamage (Err Device) = Unit {0}
+NoDamage (Err Memory) = Unit {0}
+NoDamage (Err (Bad bad)) = ⊥

@@ -1,0 +1,10 @@
+pub mod Bytes
+pub mod Pooled
+pub mod Groups
+pub mod OnRun
+pub mod Fed
+pub mod Tournament
+pub mod Decoding
+pub mod Slots
+pub mod Cursors
+pub mod Merging

@@ -1,0 +1,97 @@
+// Numbers and postings from bits in memory.
+ghost use Rattle.std.specs.Prelude.{◌≡◌, ◌+◌, ◌-◌, ◌≤◌, ◌<◌, ◌^◌, ◌++◌, ℕ, Some, IfSome, drop, length};
+ghost use Rattle.mg_defs.specs.Answers.{UpTo};
+ghost use Rattle.mg_defs.specs.Bits.{Bits, bits_of};
+ghost use Rattle.mg_defs.specs.Codes.{gamma};
+ghost use Rattle.mg_defs.specs.Postings.{IsBefore};
+ghost use Rattle.mg_defs.specs.RunBits.{posting_bits, doc_gap as gap_of};
+ghost use Rattle.mg_defs.specs.declared.TermPosting.{TermPosting};
+ghost use Rattle.mg_runs.specs.Decoding.{IsSmall};
+
+use mg_bits::{BitReader, NoDev, SliceFeed};
+use mg_codes::{get_gamma, what_was_put_is_got};
+use mg_defs::TermPosting;
+
+/// The greatest number of 32 bits: the most that a document, its gap or a count may be.
+const MOST: u64 = 0xffff_ffff;
+
+/// The most postings that a run has.
+pub const MOST_LEFT: u64 = 0xffff_fffe;
+
+/// The most that 1 and the gap of a term may be.
+const MOST_GAP: u64 = 0x1_0000_0000;
+
+/// A number that was read, and the bit place behind it.
+#[derive(Clone, Copy)]
+pub struct Number {
+    pub value: u64,
+    pub next: u64,
+}
+
+/// A posting that was read, and the bit place behind it.
+#[derive(Clone, Copy)]
+pub struct Decoded {
+    pub posting: TermPosting,
+    pub next: u64,
+}
+
+/// The number whose gamma code stands at a bit place, from 1 to `limit`.
+pub fn number_in(bytes: &[u8], at: u64, limit: u64) -> Option<Number>
+    requires place { at ≤ 2 ^ 63 }
+    requires some { 1 ≤ limit }
+    requires limit { limit ≤ 2 ^ 32 }
+    ensures told { (x : ℕ) (more : Bits) → UpTo limit x → drop at (bits_of bytes.now) ≡ gamma x ++ more → result ≡ Some (record { value = x; next = at + length (gamma x) }) }
+    ensures range { IfSome result (λ number. UpTo limit number.value) }
+    ensures next { IfSome result (λ number. number.next ≤ at + 66) }
+    ensures onward { IfSome result (λ number. at ≤ number.next) }
+{
+    what_was_put_is_got();
+    let mut reader = BitReader::new(SliceFeed::new(bytes), at);
+    match get_gamma(&mut reader, &mut NoDev, limit) {
+        Ok(value) => Some(Number {
+            value,
+            next: reader.place(),
+        }),
+        Err(_) => None,
+    }
+}
+
+/// The term and the document that stand by gaps behind a posting, where they fit in 32 bits.
+fn behind(last: &TermPosting, term_gap: u64, doc_gap: u64) -> Option<(u32, u32)>
+    requires term_some { 1 ≤ term_gap }
+    requires term { term_gap ≤ 2 ^ 32 }
+    requires doc { doc_gap ≤ 2 ^ 32 }
+    ensures { (x : TermPosting) → IsBefore last.now x → IsSmall x → term_gap ≡ x.term - last.now.term + 1 → doc_gap ≡ gap_of last.now x → result ≡ Some (x.term, x.doc) }
+{
+    let term = u64::from(last.term) + (term_gap - 1);
+    let doc = if term_gap == 1 {
+        u64::from(last.doc) + doc_gap
+    } else {
+        doc_gap
+    };
+    if term > MOST || doc > MOST {
+        return None;
+    }
+    Some((term as u32, doc as u32))
+}
+
+/// The posting whose bits stand at a bit place, behind another posting.
+pub fn posting_in(bytes: &[u8], at: u64, last: &TermPosting) -> Option<Decoded>
+    requires place { at ≤ 2 ^ 62 }
+    ensures told { (x : TermPosting) (more : Bits) → IsBefore last.now x → IsSmall x → drop at (bits_of bytes.now) ≡ posting_bits last.now x ++ more → result ≡ Some (record { posting = x; next = at + length (posting_bits last.now x) }) }
+    ensures next { IfSome result (λ found. found.next ≤ at + 198) }
+    ensures onward { IfSome result (λ found. at ≤ found.next) }
+{
+    let term_gap = number_in(bytes, at, MOST_GAP)?;
+    let doc_gap = number_in(bytes, term_gap.next, MOST)?;
+    let count = number_in(bytes, doc_gap.next, MOST)?;
+    let (term, doc) = behind(last, term_gap.value, doc_gap.value)?;
+    Some(Decoded {
+        posting: TermPosting {
+            term,
+            doc,
+            count: count.value as u32,
+        },
+        next: count.next,
+    })
+}

@@ -1,0 +1,44 @@
+// Entries as bytes.
+ghost use Rattle.std.specs.Prelude.{◌≡◌, ◌≤◌, ◌<◌, ◌+◌, ◌*◌, ◌++◌, [], ◌∷◌, length};
+ghost use Rattle.mg_runs.specs.Bytes.{entries_in, entry_in, bytes_of, number_in};
+
+/// The 12 bytes of an entry that counts one.
+fn entry_bytes(term: u32, doc: u32) -> [u8; 12]
+    ensures { result ≡ bytes_of term doc 1 }
+{
+    let [a, b, c, d] = term.to_be_bytes();
+    let [e, f, g, h] = doc.to_be_bytes();
+    [a, b, c, d, e, f, g, h, 0, 0, 0, 1]
+}
+
+/// The number at this place of an entry.
+pub fn number_at(bytes: &[u8; 12], from: usize) -> u32
+    requires { from ≤ 8 }
+    ensures { result ≡ number_in from bytes.now }
+{
+    u32::from_be_bytes([
+        bytes[from],
+        bytes[from + 1],
+        bytes[from + 2],
+        bytes[from + 3],
+    ])
+}
+
+/// Sets the entry after the first so many.
+fn set_entry(bytes: &mut [u8], count: usize, term: u32, doc: u32)
+    requires { 12 * count + 12 ≤ length bytes.old }
+    ensures { entries_in (count + 1) bytes.new ≡ entries_in count bytes.old ++ (record { term = term; doc = doc; count = 1 }) ∷ [] }
+{
+    let made = entry_bytes(term, doc);
+    let at = 12 * count;
+    bytes[at..at + 12].copy_from_slice(&made);
+}
+
+/// The same in a `Vec`.
+pub fn put_entry(bytes: &mut Vec<u8>, count: usize, term: u32, doc: u32)
+    requires { 12 * count + 12 ≤ length bytes.old.items }
+    ensures more { entries_in (count + 1) bytes.new.items ≡ entries_in count bytes.old.items ++ (record { term = term; doc = doc; count = 1 }) ∷ [] }
+    ensures len { length bytes.new.items ≡ length bytes.old.items }
+{
+    set_entry(bytes, count, term, doc);
+}

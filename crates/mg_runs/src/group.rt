@@ -1,0 +1,244 @@
+// Runs that are merged.
+ghost use Rattle.std.specs.Prelude.{◌≡◌, ◌≤◌, ◌<◌, ◌+◌, ◌-◌, ◌*◌, ◌/◌, ◌^◌, ℕ, List, [], ◌∷◌, Some, IfOk, IfSome, OnOk, OnSome, IsSome, length, max, slice_index, slice_index_or, slice_set, sum_by, drop};
+ghost use Rattle.mg_dev.specs.Files.{bytes_at};
+ghost use Rattle.mg_dev.specs.Names.{full_name};
+ghost use Rattle.mg_dev.specs.PartCauses.{HasPartCause};
+ghost use Rattle.mg_bits.specs.Pages.{Looked};
+ghost use Rattle.mg_defs.specs.declared.TermPosting.{TermPosting};
+ghost use Rattle.mg_runs.specs.Pooled.{SamePool};
+ghost use Rattle.mg_runs.specs.Cursors.{IsAt, NoDamage, NoMemory};
+ghost use Rattle.mg_runs.specs.Merging.{AllFrom, AreLeft, AreRuns, IsAlike, IsHead, IsMerged, IsShaped, AreOpen, AreRunsAt, IsTaking, StandFor, key_of as key, no_cursor, first as first_of};
+
+use crate::Pool;
+use crate::cursor::Cursor;
+use crate::tournament::Tournament;
+use crate::walk::{advanced, damage, opened};
+use mg_defs::TermPosting;
+use mg_dev::{FileRef, PartErr, Store};
+use std::alloc::{AllocError, Global};
+
+/// Runs of one file that are merged: of each a cursor, a slot of the pool and a key.
+#[derive(Drop)]
+pub struct Group<'a> {
+    pub pool: Pool,
+    pub cursors: Vec<Cursor>,
+    pub tournament: Tournament,
+    pub file: FileRef<'a>,
+}
+
+/// A number that rises with the term and the document of a cursor's posting; the greatest where
+/// the cursor's run has ended.
+fn key_of(cursor: &Cursor) -> u64
+    ensures { result ≡ key cursor.now }
+{
+    if cursor.left == 0 {
+        return u64::MAX;
+    }
+    u64::from(cursor.posting.term) * 0x1_0000_0000 + u64::from(cursor.posting.doc.saturating_sub(1))
+}
+
+/// Cursors at the first postings of the runs that begin at these bit places.
+fn open_all<S: Store>(
+    alloc: Global,
+    store: &mut S,
+    pool: &mut Pool,
+    file: &FileRef<'_>,
+    places: &[u64],
+) -> Result<Vec<Cursor>, PartErr>
+    requires slots { length pool.old.slots ≡ length places.now }
+    ensures len { IfOk result (λ cursors. length cursors.items ≡ length places.now) }
+    ensures slots { length pool.new.slots ≡ length places.now }
+    ensures told { IsSome (S.files store.old) → (runs : List (List TermPosting)) → AreRunsAt (bytes_at (S.files store.old) (full_name file.now.base.now file.now.part)) places.now runs → IfOk result (λ cursors. AreOpen pool.new.slots cursors.items (bytes_at (S.files store.old) (full_name file.now.base.now file.now.part)) runs (length places.now)) }
+    ensures undamaged { IsSome (S.files store.old) → (runs : List (List TermPosting)) → AreRunsAt (bytes_at (S.files store.old) (full_name file.now.base.now file.now.part)) places.now runs → NoDamage result }
+    ensures pool { SamePool pool.old pool.new }
+    ensures looked { Looked file.now.part (S.files store.old) (S.files store.new) (S.reads store.old) (S.reads store.new) (S.faults store.old) (S.faults store.new) }
+    ensures cause { HasPartCause (S.faults store.old) (S.faults store.new) result }
+{
+    let mut cursors = match Vec::with_capacity(alloc, places.len()) {
+        Ok(made) => made,
+        Err(_) => return Err(PartErr::Memory),
+    };
+    for k in 0..places.len() {
+        match opened(pool, store, file, k, places[k]) {
+            Ok(cursor) => match cursors.push(cursor) {
+                Ok(()) => {}
+                Err(_) => return Err(PartErr::Memory),
+            },
+            Err(refusal) => return Err(refusal),
+        }
+    }
+    Ok(cursors)
+}
+
+/// The tournament of the cursors.
+fn ranked(alloc: Global, cursors: &Vec<Cursor>) -> Result<Tournament, AllocError>
+    requires some { 1 ≤ length cursors.now.items }
+    requires few { length cursors.now.items < 2 ^ 31 }
+    ensures len { IfOk result (λ t. length t ≡ length cursors.now.items) }
+    ensures keys { IfOk result (λ t. (k : ℕ) → k < length cursors.now.items → slice_index t k ≡ key (slice_index_or cursors.now.items k no_cursor)) }
+{
+    let mut tournament = Tournament::new(alloc, cursors.len() as u32)?;
+    for k in 0..cursors.len() {
+        let cursor = cursors[k];
+        tournament.set(k as u32, key_of(&cursor));
+    }
+    Ok(tournament)
+}
+
+impl<'a> Group<'a> {
+    /// The runs that begin at these bit places of a file, each at its first posting. The pool holds
+    /// no entry, and has a slot for each run.
+    pub fn load<S: Store>(
+        alloc: Global,
+        store: &mut S,
+        mut pool: Pool,
+        file: FileRef<'a>,
+        places: &[u64],
+    ) -> Result<Self, PartErr>
+        requires some { 1 ≤ length places.now }
+        requires room { length places.now ≤ pool.limit / 64 }
+        requires limit { pool.limit ≤ 2 ^ 30 }
+        requires entries { pool.entries ≡ [] }
+        ensures shape { IfOk result (λ g. IsShaped g.pool.slots g.cursors.items g.tournament) }
+        ensures told { IsSome (S.files store.old) → (runs : List (List TermPosting)) → AreRunsAt (bytes_at (S.files store.old) (full_name file.entry.base.now file.entry.part)) places.now runs → IfOk result (λ g. StandFor g.pool.slots g.cursors.items (bytes_at (S.files store.old) (full_name file.entry.base.now file.entry.part)) runs) }
+        ensures undamaged { IsSome (S.files store.old) → (runs : List (List TermPosting)) → AreRunsAt (bytes_at (S.files store.old) (full_name file.entry.base.now file.entry.part)) places.now runs → NoDamage result }
+        ensures entries { IfOk result (λ g. g.pool.entries ≡ []) }
+        ensures limit { IfOk result (λ g. g.pool.limit ≡ pool.limit) }
+        ensures peak { IfOk result (λ g. g.pool.peak ≡ max pool.peak (64 * length places.now)) }
+        ensures file { IfOk result (λ g. g.file ≡ file.entry) }
+        ensures looked { Looked file.entry.part (S.files store.old) (S.files store.new) (S.reads store.old) (S.reads store.new) (S.faults store.old) (S.faults store.new) }
+        ensures cause { HasPartCause (S.faults store.old) (S.faults store.new) result }
+    {
+        pool.use_slots(places.len());
+        match open_all(alloc, store, &mut pool, &file, places) {
+            Ok(cursors) => match ranked(alloc, &cursors) {
+                Ok(tournament) => Ok(Group {
+                    pool,
+                    cursors,
+                    tournament,
+                    file,
+                }),
+                Err(_) => Err(PartErr::Memory),
+            },
+            Err(refusal) => Err(refusal),
+        }
+    }
+
+    /// The least of the postings at which cursors are, and whose it is.
+    fn head(&self) -> Option<(u32, TermPosting)>
+        requires shape { IsShaped self.now.pool.slots self.now.cursors.items self.now.tournament }
+        ensures told { (file : List ℕ) (lefts : List (List TermPosting)) → StandFor self.now.pool.slots self.now.cursors.items file lefts → IsHead result lefts }
+        ensures within { IfSome result (λ head. head.0 < length self.now.cursors.items) }
+        ensures left { IfSome result (λ head. 1 ≤ (slice_index_or self.now.cursors.items head.0 no_cursor).left) }
+    {
+        let run = self.tournament.least();
+        let cursor = self.cursors[run as usize];
+        if cursor.left == 0 {
+            return None;
+        }
+        Some((run, cursor.posting))
+    }
+
+    /// Moves a cursor to the next posting of its run.
+    fn step<S: Store>(&mut self, store: &mut S, run: u32) -> Result<(), PartErr>
+        requires shape { IsShaped self.old.pool.slots self.old.cursors.items self.old.tournament }
+        requires within { run < length self.old.cursors.items }
+        requires left { 1 ≤ (slice_index_or self.old.cursors.items run no_cursor).left }
+        ensures shape { OnOk result (IsShaped self.new.pool.slots self.new.cursors.items self.new.tournament) }
+        ensures told { IsSome (S.files store.old) → (lefts : List (List TermPosting)) (x : TermPosting) (xs : List TermPosting) → StandFor self.old.pool.slots self.old.cursors.items (bytes_at (S.files store.old) (full_name self.old.file.base.now self.old.file.part)) lefts → slice_index_or lefts run [] ≡ x ∷ xs → OnOk result (StandFor self.new.pool.slots self.new.cursors.items (bytes_at (S.files store.old) (full_name self.old.file.base.now self.old.file.part)) (slice_set lefts run xs)) }
+        ensures undamaged { IsSome (S.files store.old) → (lefts : List (List TermPosting)) (x : TermPosting) (xs : List TermPosting) → StandFor self.old.pool.slots self.old.cursors.items (bytes_at (S.files store.old) (full_name self.old.file.base.now self.old.file.part)) lefts → slice_index_or lefts run [] ≡ x ∷ xs → NoDamage result }
+        ensures total { OnOk result (sum_by (λ c. c.left) self.new.cursors.items + 1 ≡ sum_by (λ c. c.left) self.old.cursors.items) }
+        ensures pool { SamePool self.old.pool self.new.pool }
+        ensures file { self.new.file ≡ self.old.file }
+        ensures looked { Looked self.old.file.part (S.files store.old) (S.files store.new) (S.reads store.old) (S.reads store.new) (S.faults store.old) (S.faults store.new) }
+        ensures cause { HasPartCause (S.faults store.old) (S.faults store.new) result }
+        ensures memory { NoMemory result }
+    {
+        let k = run as usize;
+        let cursor = self.cursors[k];
+        match advanced(&mut self.pool, store, &self.file, k, &cursor) {
+            Ok(next) => {
+                self.cursors[k] = next;
+                self.tournament.set(run, key_of(&next));
+                Ok(())
+            }
+            Err(refusal) => Err(refusal),
+        }
+    }
+
+    /// The run whose posting has this term and document, and how much it counts there.
+    fn alike(&self, posting: &TermPosting) -> Option<(u32, u32)>
+        requires shape { IsShaped self.now.pool.slots self.now.cursors.items self.now.tournament }
+        ensures some { (file : List ℕ) (lefts : List (List TermPosting)) → StandFor self.now.pool.slots self.now.cursors.items file lefts → ((k : ℕ) → AllFrom posting.now (slice_index_or lefts k [])) → IsAlike posting.now lefts result }
+        ensures within { IfSome result (λ found. found.0 < length self.now.cursors.items) }
+        ensures left { IfSome result (λ found. 1 ≤ (slice_index_or self.now.cursors.items found.0 no_cursor).left) }
+    {
+        match self.head() {
+            Some((run, head)) if head.term == posting.term && head.doc == posting.doc => {
+                Some((run, head.count))
+            }
+            _ => None,
+        }
+    }
+
+    /// The posting with the counts of all runs, where its first count was taken from one of them.
+    fn gathered<S: Store>(
+        &mut self,
+        store: &mut S,
+        first: &TermPosting,
+    ) -> Result<TermPosting, PartErr>
+        requires shape { IsShaped self.old.pool.slots self.old.cursors.items self.old.tournament }
+        ensures shape { OnOk result (IsShaped self.new.pool.slots self.new.cursors.items self.new.tournament) }
+        ensures told { IsSome (S.files store.old) → (base lefts : List (List TermPosting)) → StandFor self.old.pool.slots self.old.cursors.items (bytes_at (S.files store.old) (full_name self.old.file.base.now self.old.file.part)) lefts → IsTaking first.now base lefts first.now.count → AreRuns base → 1 ≤ first.now.count → IfOk result (λ p. IsMerged self.new.pool.slots self.new.cursors.items (bytes_at (S.files store.old) (full_name self.old.file.base.now self.old.file.part)) base p) }
+        ensures undamaged { IsSome (S.files store.old) → (base lefts : List (List TermPosting)) → StandFor self.old.pool.slots self.old.cursors.items (bytes_at (S.files store.old) (full_name self.old.file.base.now self.old.file.part)) lefts → IsTaking first.now base lefts first.now.count → AreRuns base → NoDamage result }
+        ensures total { OnOk result (sum_by (λ c. c.left) self.new.cursors.items ≤ sum_by (λ c. c.left) self.old.cursors.items) }
+        ensures pool { SamePool self.old.pool self.new.pool }
+        ensures file { self.new.file ≡ self.old.file }
+        ensures looked { Looked self.old.file.part (S.files store.old) (S.files store.new) (S.reads store.old) (S.reads store.new) (S.faults store.old) (S.faults store.new) }
+        ensures cause { HasPartCause (S.faults store.old) (S.faults store.new) result }
+        ensures memory { NoMemory result }
+    {
+        let mut count = first.count;
+        while let Some((run, more)) = self.alike(first) {
+            match count.checked_add(more) {
+                Some(sum) => count = sum,
+                None => return Err(damage(self.file.part, 0)),
+            }
+            match self.step(store, run) {
+                Ok(()) => {}
+                Err(refusal) => return Err(refusal),
+            }
+        }
+        Ok(TermPosting {
+            term: first.term,
+            doc: first.doc,
+            count,
+        })
+    }
+
+    /// The next posting of all runs, with the counts of those that have its term and document.
+    pub fn next<S: Store>(&mut self, store: &mut S) -> Result<Option<TermPosting>, PartErr>
+        requires shape { IsShaped self.old.pool.slots self.old.cursors.items self.old.tournament }
+        ensures shape { OnOk result (IsShaped self.new.pool.slots self.new.cursors.items self.new.tournament) }
+        ensures told { IsSome (S.files store.old) → (left : List TermPosting) → AreLeft self.old.pool.slots self.old.cursors.items (bytes_at (S.files store.old) (full_name self.old.file.base.now self.old.file.part)) left → IfOk result (λ p. (p ≡ first_of left) × AreLeft self.new.pool.slots self.new.cursors.items (bytes_at (S.files store.old) (full_name self.old.file.base.now self.old.file.part)) (drop 1 left)) }
+        ensures undamaged { IsSome (S.files store.old) → (left : List TermPosting) → AreLeft self.old.pool.slots self.old.cursors.items (bytes_at (S.files store.old) (full_name self.old.file.base.now self.old.file.part)) left → NoDamage result }
+        ensures total { IfOk result (λ p. OnSome p (sum_by (λ c. c.left) self.new.cursors.items < sum_by (λ c. c.left) self.old.cursors.items)) }
+        ensures pool { SamePool self.old.pool self.new.pool }
+        ensures file { self.new.file ≡ self.old.file }
+        ensures looked { Looked self.old.file.part (S.files store.old) (S.files store.new) (S.reads store.old) (S.reads store.new) (S.faults store.old) (S.faults store.new) }
+        ensures cause { HasPartCause (S.faults store.old) (S.faults store.new) result }
+        ensures memory { NoMemory result }
+    {
+        let (run, first) = match self.head() {
+            Some(head) => head,
+            None => return Ok(None),
+        };
+        match self.step(store, run) {
+            Ok(()) => match self.gathered(store, &first) {
+                Ok(posting) => Ok(Some(posting)),
+                Err(refusal) => Err(refusal),
+            },
+            Err(refusal) => Err(refusal),
+        }
+    }
+}

@@ -1,0 +1,28 @@
+//! Inversion in a pool of fixed size: occurrences of terms go into the pool, a full pool goes to a
+//! file as a run of sorted postings, and the runs are merged from the file.
+//!
+//! What stands in memory doesn't grow with the collection. The pool is reserved once and serves
+//! twice: while occurrences come in it holds them as entries of 12 bytes, and while runs are merged
+//! it holds a slot of 64 bytes of each run in use. Beside it stand only buffers of 4,096 bytes with
+//! coded bits, a cursor with one posting for each run in use, and 8 bytes a run for its place.
+//! (Managing Gigabytes, chapter 5.)
+#![tactic(auto)]
+
+mod cursor;
+mod decode;
+mod entry;
+mod group;
+mod groups;
+mod pool;
+mod posting;
+mod run;
+mod runs;
+mod slot;
+mod tournament;
+mod walk;
+
+pub use pool::Pool;
+pub use runs::Runs;
+
+#[cfg(test)]
+mod tests;

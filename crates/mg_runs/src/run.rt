@@ -1,0 +1,107 @@
+// The entries of a pool as a run.
+ghost use Rattle.std.specs.Prelude.{◌≡◌, ◌+◌, ◌*◌, ◌%◌, ◌≤◌, ◌<◌, ◌^◌, OnOk, length, map};
+ghost use Rattle.std.specs.List.{All};
+ghost use Rattle.mg_dev.specs.Causes.{HasPutCause};
+ghost use Rattle.mg_defs.specs.Bits.{filled};
+ghost use Rattle.mg_defs.specs.Postings.{gathered};
+ghost use Rattle.mg_defs.specs.PostingOrder.{NotFalling};
+ghost use Rattle.mg_defs.specs.RunBits.{run_bits};
+ghost use Rattle.mg_bits.specs.Writer.{WroteTo};
+ghost use Rattle.mg_bits.specs.BitWriting.{Holds, WroteBits};
+ghost use Rattle.mg_runs.specs.Bytes.{entry_in, entries_in, number_in, AreEntries};
+
+use crate::entry::number_at;
+use crate::groups::{group_end, sort_entries};
+use crate::posting::{put_number, put_posting};
+use mg_bits::BitWriter;
+use mg_defs::TermPosting;
+use mg_dev::{PutErr, Store};
+
+/// How many postings sorted entries have.
+fn distinct(entries: &[[u8; 12]]) -> u32
+    requires few { length entries.now < 2 ^ 27 }
+    requires order { NotFalling (map entry_in entries.now) }
+    requires ones { All (λ e. number_in 8 e ≡ 1) entries.now }
+    ensures value { result ≡ length (gathered (map entry_in entries.now)) }
+    ensures few { result < 2 ^ 27 }
+{
+    let mut count = 0u32;
+    let mut from = 0;
+    while from < entries.len() {
+        from = group_end(entries, from);
+        count += 1;
+    }
+    count
+}
+
+/// Writes the postings of sorted entries, without the last zero-bits.
+fn put_list<S: Store>(
+    w: &mut BitWriter<'_>,
+    store: &mut S,
+    entries: &[[u8; 12]],
+) -> Result<(), PutErr>
+    requires holds { Holds w.old (S.files store.old) }
+    requires place { w.old.place + 256 * length entries.now + 1024 ≤ 2 ^ 63 }
+    requires few { length entries.now < 2 ^ 27 }
+    requires some { 1 ≤ length entries.now }
+    requires order { NotFalling (map entry_in entries.now) }
+    requires ones { All (λ e. number_in 8 e ≡ 1) entries.now }
+    requires docs { All (λ e. 1 ≤ number_in 4 e) entries.now }
+    ensures holds { OnOk result (Holds w.new (S.files store.new)) }
+    ensures bits { OnOk result (WroteBits w.old w.new (S.files store.old) (S.files store.new) (run_bits (gathered (map entry_in entries.now)))) }
+    ensures place { OnOk result (w.new.place ≤ w.old.place + 66 + 256 * length entries.now) }
+    ensures name { w.new.name ≡ w.old.name }
+    ensures wrote { WroteTo w.old.name (S.files store.old) (S.files store.new) (S.reads store.old) (S.reads store.new) }
+    ensures cause { HasPutCause (S.faults store.old) (S.faults store.new) result }
+{
+    let count = distinct(entries);
+    put_number(w, store, u64::from(count))?;
+    let mut last = TermPosting {
+        term: 0,
+        doc: 0,
+        count: 0,
+    };
+    let mut from = 0;
+    while from < entries.len() {
+        let next = group_end(entries, from);
+        let posting = TermPosting {
+            term: number_at(&entries[from], 0),
+            doc: number_at(&entries[from], 4),
+            count: (next - from) as u32,
+        };
+        put_posting(w, store, &last, &posting)?;
+        last = posting;
+        from = next;
+    }
+    Ok(())
+}
+
+/// Sorts the first entries in their place and writes them as a run, which ends at a byte.
+pub fn write_entries<S: Store>(
+    w: &mut BitWriter<'_>,
+    store: &mut S,
+    bytes: &mut [u8],
+    count: usize,
+) -> Result<(), PutErr>
+    requires holds { Holds w.old (S.files store.old) }
+    requires place { w.old.place + 256 * count + 2048 ≤ 2 ^ 63 }
+    requires whole { w.old.place % 8 ≡ 0 }
+    requires some { 1 ≤ count }
+    requires few { count < 2 ^ 27 }
+    requires room { 12 * count ≤ length bytes.old }
+    requires entries { AreEntries (entries_in count bytes.old) }
+    ensures holds { OnOk result (Holds w.new (S.files store.new)) }
+    ensures bits { OnOk result (WroteBits w.old w.new (S.files store.old) (S.files store.new) (filled (run_bits (gathered (entries_in count bytes.old))))) }
+    ensures place { OnOk result (w.new.place ≤ w.old.place + 128 + 256 * count) }
+    ensures whole { OnOk result (w.new.place % 8 ≡ 0) }
+    ensures name { w.new.name ≡ w.old.name }
+    ensures wrote { WroteTo w.old.name (S.files store.old) (S.files store.new) (S.reads store.old) (S.reads store.new) }
+    ensures cause { HasPutCause (S.faults store.old) (S.faults store.new) result }
+{
+    let front = &mut bytes[..12 * count];
+    let (entries, _) = front.as_chunks_mut::<12>();
+    sort_entries(entries);
+    put_list(w, store, entries)?;
+    w.align(store)?;
+    Ok(())
+}
