@@ -1,0 +1,5 @@
+pub mod Lists
+pub mod Counting
+pub mod Order
+pub mod Cutting
+pub mod Seeking
