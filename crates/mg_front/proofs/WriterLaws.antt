@@ -5,7 +5,7 @@ use Rattle.mg_dev.specs.Files.{Files, Reads, bytes_at, file_at}
 use Rattle.mg_bits.specs.Writer.{Writing, put_to, WroteTo, Wrote}
 use Rattle.mg_defs.specs.Numbers.{four}
 use Rattle.mg_defs.specs.Front.{Entry, IsEntry, AreEntries, entry_bytes, front, whole_at, last_string, front_from, places_from}
-use Rattle.std.specs.Option.{ForSome}
+use Rattle.std.specs.Option.{ForSome, option_map}
 use Rattle.mg_dev.specs.Files.{SameReads}
 use Rattle.mg_front.specs.Fronting.{Fronting, Took, PlacesTook, PlaceWrote, WroteToPlaces, StartedPlaces, WroteToAsked, IsNotAsked, Finished, PlacesHold, HoldsNothing}
 use Rattle.mg_defs.proofs.EntryLaws.{front_more, whole_more, entries_more, last_append}
@@ -110,3 +110,10 @@ finished w strings places f mid now r s t es took told wrote nothing others plac
     places_hold (Some p) (Some q) put hold take =
         sym (append-nil (bytes_at now p.name)) ∙ ap (λ t. bytes_at now p.name ++ t) (sym hold) ∙ ap (λ n. bytes_at now n ++ q.buffered) (sym put.name) ∙ put.bytes (subst (λ b. b ≡ true) (sym others.told) told) ∙ append-nil (put_to p mid)
         ∙ ap (λ t. t ++ p.buffered) (same_bytes f mid p.name (others.others p.name take.0)) ∙ take.1 told
+
+-- writing a place keeps the file
+pub places_keep : (p q : Option Writing) (f g : Option Files) (bytes : List ℕ) → PlaceWrote p q f g bytes → option_map (λ (w : Writing). w.name) q ≡ option_map (λ (w : Writing). w.name) p
+places_keep None None f g bytes wrote = refl
+places_keep None (Some q) f g bytes wrote = absurd wrote
+places_keep (Some p) None f g bytes wrote = absurd wrote
+places_keep (Some p) (Some q) f g bytes wrote = ap Some wrote.name

@@ -132,6 +132,7 @@ impl<'a> FrontWriter<'a> {
         ensures count { OnOk result (self.new.count ≡ self.old.count + 1) }
         ensures last { OnOk result (self.new.last ≡ string.now) }
         ensures name { OnOk result (self.new.strings.name ≡ self.old.strings.name) }
+        ensures places { OnOk result (option_map (λ places. places.name) self.new.places ≡ option_map (λ places. places.name) self.old.places) }
         ensures width { self.new.width ≡ self.old.width }
         ensures others { (n : List ℕ) → IsOther n self.old.strings.name self.old.places → file_at (S.files store.new) n ≡ file_at (S.files store.old) n }
         ensures told { is_some (S.files store.new) ≡ is_some (S.files store.old) }
@@ -153,11 +154,13 @@ impl<'a> FrontWriter<'a> {
         self.count += 1;
         Ok(())
     }
+
     /// Writes what is held. Then the files hold the entries that were pushed, and the places of the
     /// whole ones.
     pub fn finish<S: Store>(&mut self, store: &mut S) -> Result<(), PutErr>
         requires took { (es : List Entry) × Took self.old (S.files store.old) es }
         ensures finished { OnOk result ((es : List Entry) → Took self.old (S.files store.old) es → IsSome (S.files store.old) → Finished self.old (S.files store.new) es) }
+        ensures width { self.new.width ≡ self.old.width }
         ensures others { (n : List ℕ) → IsOther n self.old.strings.name self.old.places → file_at (S.files store.new) n ≡ file_at (S.files store.old) n }
         ensures told { is_some (S.files store.new) ≡ is_some (S.files store.old) }
         ensures reads { SameReads (S.reads store.old) (S.reads store.new) }

@@ -1,5 +1,6 @@
 -- Pieces one after another in one list of bytes.
-use Rattle.std.proofs.Common.{◌≡◌, ℕ, zero, suc, ◌+◌, ◌-◌, ◌*◌, ◌^◌, ◌<◌, ◌≤◌, ◌==◌, Bool, true, false, cond, List, [], ◌∷◌, ◌++◌, length, take, drop, get_or, slice_get, Some, None, refl, sym, ap, subst, ◌∙◌, arith, length-append, add-zero, append-nil}
+use Rattle.std.proofs.Common.{◌≡◌, ℕ, zero, suc, ◌+◌, ◌-◌, ◌*◌, ◌^◌, ◌<◌, ◌≤◌, ◌==◌, Bool, true, false, cond, List, [], ◌∷◌, ◌++◌, length, take, drop, get_or, slice_get, Some, None, refl, sym, ap, subst, ◌∙◌, arith, length-append, length-take, min, add-zero, append-nil}
+use Rattle.std.specs.List.{AllByRecursion}
 use Rattle.std.proofs.lemmas.Bool.Decides.{nat_tests}
 use Rattle.std.proofs.lemmas.Grind.{common_steps}
 use Rattle.mg_model.specs.Blocks.{cut, AreEnds, IsBlock, start_of}
@@ -101,3 +102,20 @@ at-lent ends bytes lent lent_bytes place start end h l e f s t =
     let from : start ≡ start_of ends place = s ∙ ap (λ x. start_of x place) e in
     let to : end ≡ get_or ends place 0 = t ∙ ap (λ x. get_or x place 0) e in
     (omega (arith, here.rises, from, to), omega (arith, here.within, to, ap length f), here.piece ∙ ap (λ n. Some (take (n - start_of ends place) (drop (start_of ends place) bytes))) (sym to) ∙ ap (λ n. Some (take (end - n) (drop n bytes))) (sym from) ∙ ap (λ x. Some (take (end - start) (drop start x))) (sym f))
+
+pub short-cut : (from : ℕ) (ends : List ℕ) (to : ℕ) (bytes : List ℕ) → AreEnds from ends to → AllByRecursion (λ (p : List ℕ). length p ≤ 255) (cut from ends bytes)
+short-cut from [] to bytes h = tt
+short-cut from (end ∷ ends) to bytes h = (omega (arith, length-take (end - from) (drop from bytes), h.1), short-cut end ends to bytes h.2)
+
+piece-short : (from : ℕ) (ends : List ℕ) (to place : ℕ) → AreEnds from ends to → place < length ends → get_or ends place 0 - start_from from ends place ≤ 255
+piece-short from [] to place h l = absurd (omega arith)
+piece-short from (end ∷ ends) to zero h l = h.1
+piece-short from (end ∷ ends) to (suc zero) h l = piece-short end ends to zero h.2 (omega arith)
+piece-short from (end ∷ ends) to (suc (suc place)) h l = piece-short end ends to (suc place) h.2 (omega arith)
+
+pub short-part : (ends bytes lent lent_bytes : List ℕ) (place start end : ℕ) → AreEnds 0 ends (length bytes) → place < length ends → lent ≡ ends → start ≡ start_of lent place → end ≡ get_or lent place 0 →
+    (piece : List ℕ) → piece ≡ take (end - start) (drop start lent_bytes) → length piece ≤ 255
+short-part ends bytes lent lent_bytes place start end h l e s t piece is =
+    let from : start ≡ start_from 0 ends place = s ∙ ap (λ x. start_of x place) e ∙ sym (start-is ends place) in
+    let to : end ≡ get_or ends place 0 = t ∙ ap (λ x. get_or x place 0) e in
+    omega (arith, piece-short 0 ends (length bytes) place h l, from, to, ap length is, length-take (end - start) (drop start lent_bytes))

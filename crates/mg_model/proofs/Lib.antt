@@ -3,3 +3,6 @@ pub mod Counting
 pub mod Order
 pub mod Cutting
 pub mod Seeking
+pub mod Entries
+pub mod Damages
+pub mod Walking

@@ -104,3 +104,35 @@ found-not xs s low high b met =
     either : (k : ℕ) → k < length xs → (k < low) ⊎ (low ≤ k) → bytes_eq s (get_or xs k []) ≡ false
     either k l (inl before) = not-same-back s (get_or xs k []) (b.below k before)
     either k l (inr after) = not-same s (get_or xs k []) (b.above k (omega arith) l)
+
+all-above : (a b : List ℕ) (xs : List (List ℕ)) → order a b ≡ Less → AllByRecursion (λ u. order b u ≡ Less) xs → AllByRecursion (λ u. order a u ≡ Less) xs
+all-above a b [] l h = tt
+all-above a b (x ∷ xs) l h = (nat_list_cmp_total.trans a b x l h.0, all-above a b xs l h.1)
+
+-- each of the first strings is below the next one
+pub record RiseTo (xs : List (List ℕ)) (n : ℕ) : Type 0 where
+  pub next : (k : ℕ) → k + 1 < n → order (get_or xs k []) (get_or xs (k + 1) []) ≡ Less
+
+pub rise-start : (xs : List (List ℕ)) → RiseTo xs 1
+rise-start xs = record { next = λ k h. absurd (omega arith) }
+
+pub rise-more : (xs : List (List ℕ)) (i : ℕ) (x y : List ℕ) → RiseTo xs i → 1 ≤ i → slice_get xs (i - 1) ≡ Some x → slice_get xs i ≡ Some y → order x y ≡ Less → RiseTo xs (i + 1)
+rise-more xs i x y before one h g less = record { next = λ k within. by k (split k (i - 1) (omega arith)) }
+  where
+    by : (k : ℕ) → (k ≡ i - 1) ⊎ (k < i - 1) → order (get_or xs k []) (get_or xs (k + 1) []) ≡ Less
+    by k (inr early) = before.next k (omega arith)
+    by k (inl last) =
+        let n : k + 1 ≡ i = omega arith in
+        ap (λ m. order (get_or xs m []) (get_or xs (k + 1) [])) last ∙ ap (λ m. order (get_or xs (i - 1) []) (get_or xs m [])) n ∙ ap (λ z. order z (get_or xs i [])) (there-or xs (i - 1) x [] h) ∙ ap (order x) (there-or xs i y [] g) ∙ less
+
+rise-from : (ys : List (List ℕ)) → ((k : ℕ) → k + 1 < length ys → order (get_or ys k []) (get_or ys (k + 1) []) ≡ Less) → IsStrictlySortedBy (slice_cmp nat_cmp) ys
+unfolding IsStrictlySortedBy
+rise-from [] up = tt
+rise-from (y ∷ []) up = (tt, tt)
+rise-from (y ∷ z ∷ ys) up =
+    let rest = rise-from (z ∷ ys) (λ k within. let n : suc k + 1 ≡ suc (k + 1) = omega arith in subst (λ m. order (get_or (z ∷ ys) k []) (get_or (y ∷ z ∷ ys) m []) ≡ Less) n (up (suc k) (omega (arith, within)))) in
+    let next : order y z ≡ Less = up 0 (omega arith) in
+    ((next, all-above y z ys next rest.0), rest)
+
+pub rise-all : (xs : List (List ℕ)) (n : ℕ) → RiseTo xs n → length xs ≤ n → IsStrictlySortedBy (slice_cmp nat_cmp) xs
+rise-all xs n h l = rise-from xs (λ k within. h.next k (omega arith))

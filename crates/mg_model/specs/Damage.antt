@@ -1,5 +1,5 @@
 -- What loading a model answers: the pieces and their lengths, or the first damage of their part.
-use Rattle.std.specs.Prelude.{◌≡◌, ℕ, ◌+◌, ◌-◌, ◌*◌, ◌^◌, ◌<◌, ◌≤◌, ◌⊎◌, min, List, [], length, map, take, drop, slice_index, Result, Ok, Err}
+use Rattle.std.specs.Prelude.{◌≡◌, ℕ, ◌+◌, ◌-◌, ◌*◌, ◌^◌, ◌<◌, ◌≤◌, ◌⊎◌, ◌++◌, min, List, [], length, map, take, drop, slice_index, Result, Ok, Err}
 use Rattle.mg_dev.specs.declared.part.Part.{Part}
 use Rattle.mg_dev.specs.declared.part.Part.TheVariants as part
 use Rattle.mg_dev.specs.declared.bad.Bad as declared
@@ -81,13 +81,6 @@ AnswersRoom part count bytes (Ok value) = 2 * count ≤ length bytes
 AnswersRoom part count bytes (Err Device) = Unit {0}
 AnswersRoom part count bytes (Err Memory) = ⊥
 AnswersRoom part count bytes (Err (Bad bad)) = IsTooShort part count bytes bad
-
--- what reading the entries answers
-abbrev pub AnswersEntries : Part → ℕ → List ℕ → Result StreamCode PartErr → Type 0
-AnswersEntries part count bytes (Ok code) = IsPart count bytes code
-AnswersEntries part count bytes (Err Device) = Unit {0}
-AnswersEntries part count bytes (Err Memory) = Unit {0}
-AnswersEntries part count bytes (Err (Bad bad)) = IsWalkDamage part count bytes bad
 
 -- what loading the code of one stream answers
 abbrev pub AnswersStream : Part → ℕ → List ℕ → Result StreamCode PartErr → Type 0

@@ -1,5 +1,6 @@
 //! Pieces one after another in one block of bytes.
-ghost use Rattle.std.specs.Prelude.{◌≡◌, ◌+◌, ◌<◌, ◌≤◌, ◌^◌, ◌++◌, ◌∷◌, ◌-◌, [], length, take, drop, position, slice_get, slice_index, Some, IfOk, OnOk};
+ghost use Rattle.std.specs.Prelude.{◌≡◌, ℕ, List, ◌+◌, ◌<◌, ◌≤◌, ◌^◌, ◌++◌, ◌∷◌, ◌-◌, [], length, take, drop, position, slice_get, slice_index, Some, IfOk, OnOk};
+ghost use Rattle.std.specs.List.{AllByRecursion};
 ghost use Rattle.std.specs.List.Sorted.{IsStrictlySortedBy};
 ghost use Rattle.std.specs.Ordering.{nat_cmp};
 ghost use Rattle.std.specs.Cmp.Lexicographic.{slice_cmp};
@@ -70,6 +71,7 @@ impl PieceBlock {
     pub fn len(&self) -> u32
         ensures len { result ≡ length self.now }
         ensures few { length self.now ≤ 2 ^ 22 }
+        ensures short { AllByRecursion (λ (p : List ℕ). length p ≤ 255) self.now }
     {
         self.ends.len() as u32
     }
@@ -97,7 +99,8 @@ impl PieceBlock {
     /// The piece at a place.
     pub fn piece(&self, place: u32) -> &[u8]
         requires { place < length self.now }
-        ensures { slice_get self.now place ≡ Some result.now }
+        ensures piece { slice_get self.now place ≡ Some result.now }
+        ensures short { length result.now ≤ 255 }
     {
         let place = place as usize;
         let start = start_of(&self.ends, place);

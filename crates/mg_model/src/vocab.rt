@@ -93,7 +93,8 @@ impl Vocab {
 
     /// The counts, in the order of the entries.
     pub(crate) fn counts(&self) -> Result<Vec<u64>, AllocError>
-        ensures { IfOk result (λ counts. counts.items ≡ numbers_of self.now) }
+        ensures counts { IfOk result (λ counts. counts.items ≡ numbers_of self.now) }
+        ensures keeps { IsVocabulary self.now }
     {
         let mut counts = Vec::with_capacity(self.alloc, self.pieces.len())?;
         for place in 0..self.pieces.len() {
