@@ -6,3 +6,5 @@ pub mod Seeking
 pub mod Entries
 pub mod Damages
 pub mod Walking
+pub mod Writing
+pub mod Codes

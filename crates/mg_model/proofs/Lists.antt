@@ -8,3 +8,9 @@ take-there (y ∷ ys) zero x h = let same : y ≡ x = cc in ap (λ z. z ∷ []) 
 take-there (y ∷ ys) (suc i) x h =
     let n : suc i + 1 ≡ suc (i + 1) = omega arith in
     ap (λ m. take m (y ∷ ys)) n ∙ ap (λ t. y ∷ t) (take-there ys i x h)
+
+pub take-all : {X : Type 0} (xs : List X) (n : ℕ) → length xs ≤ n → take n xs ≡ xs
+take-all [] zero h = refl
+take-all [] (suc n) h = refl
+take-all (x ∷ xs) zero h = absurd (omega arith)
+take-all (x ∷ xs) (suc n) h = ap (λ t. x ∷ t) (take-all xs n (omega arith))

@@ -2,7 +2,7 @@
 use Rattle.std.proofs.Common.{◌≡◌, ◌≢◌, ℕ, zero, suc, ◌+◌, ◌-◌, ◌<◌, ◌≤◌, ◌⊎◌, Bool, true, false, cond, List, [], ◌∷◌, length, get_or, slice_get, position, Some, None, refl, sym, ap, subst, ◌∙◌, arith, inl, inr, ltb}
 use Rattle.std.specs.List.{AllByRecursion, position_or_len}
 use Rattle.std.specs.List.Sorted.{IsStrictlySortedBy}
-use Rattle.std.specs.Ordering.{nat_cmp, is_eq, ordering_reverse}
+use Rattle.std.specs.Ordering.{nat_cmp, is_eq, ordering_reverse, is_lt}
 use Rattle.std.specs.declared.cmp.Ordering.{Ordering}
 use Rattle.std.specs.declared.cmp.Ordering.TheVariants.{Less, Equal, Greater}
 use Rattle.std.specs.Cmp.Lexicographic.{slice_cmp}
@@ -113,19 +113,24 @@ all-above a b (x ∷ xs) l h = (nat_list_cmp_total.trans a b x l h.0, all-above 
 pub record RiseTo (xs : List (List ℕ)) (n : ℕ) : Type 0 where
   pub next : (k : ℕ) → k + 1 < n → order (get_or xs k []) (get_or xs (k + 1) []) ≡ Less
 
+less-of : (o : Ordering) → is_lt o ≡ true → o ≡ Less
+less-of Less h = refl
+less-of Equal h = absurd cc
+less-of Greater h = absurd cc
+
 pub rise-start : (xs : List (List ℕ)) → RiseTo xs 1
 rise-start xs = record { next = λ k h. absurd (omega arith) }
 
-pub rise-more : (xs : List (List ℕ)) (i : ℕ) (x y : List ℕ) → RiseTo xs i → 1 ≤ i → slice_get xs (i - 1) ≡ Some x → slice_get xs i ≡ Some y → order x y ≡ Less → RiseTo xs (i + 1)
-rise-more xs i x y before one h g less = record { next = λ k within. by k (split k (i - 1) (omega arith)) }
+pub rise-more : (xs : List (List ℕ)) (i : ℕ) (x y : List ℕ) → RiseTo xs i → 1 ≤ i → slice_get xs (i - 1) ≡ Some x → slice_get xs i ≡ Some y → is_lt (order x y) ≡ true → RiseTo xs (i + 1)
+rise-more xs i x y before one h g below = record { next = λ k within. by k (split k (i - 1) (omega arith)) }
   where
     by : (k : ℕ) → (k ≡ i - 1) ⊎ (k < i - 1) → order (get_or xs k []) (get_or xs (k + 1) []) ≡ Less
     by k (inr early) = before.next k (omega arith)
     by k (inl last) =
         let n : k + 1 ≡ i = omega arith in
-        ap (λ m. order (get_or xs m []) (get_or xs (k + 1) [])) last ∙ ap (λ m. order (get_or xs (i - 1) []) (get_or xs m [])) n ∙ ap (λ z. order z (get_or xs i [])) (there-or xs (i - 1) x [] h) ∙ ap (order x) (there-or xs i y [] g) ∙ less
+        ap (λ m. order (get_or xs m []) (get_or xs (k + 1) [])) last ∙ ap (λ m. order (get_or xs (i - 1) []) (get_or xs m [])) n ∙ ap (λ z. order z (get_or xs i [])) (there-or xs (i - 1) x [] h) ∙ ap (order x) (there-or xs i y [] g) ∙ less-of (order x y) below
 
-rise-from : (ys : List (List ℕ)) → ((k : ℕ) → k + 1 < length ys → order (get_or ys k []) (get_or ys (k + 1) []) ≡ Less) → IsStrictlySortedBy (slice_cmp nat_cmp) ys
+pub rise-from : (ys : List (List ℕ)) → ((k : ℕ) → k + 1 < length ys → order (get_or ys k []) (get_or ys (k + 1) []) ≡ Less) → IsStrictlySortedBy (slice_cmp nat_cmp) ys
 unfolding IsStrictlySortedBy
 rise-from [] up = tt
 rise-from (y ∷ []) up = (tt, tt)
@@ -136,3 +141,12 @@ rise-from (y ∷ z ∷ ys) up =
 
 pub rise-all : (xs : List (List ℕ)) (n : ℕ) → RiseTo xs n → length xs ≤ n → IsStrictlySortedBy (slice_cmp nat_cmp) xs
 rise-all xs n h l = rise-from xs (λ k within. h.next k (omega arith))
+
+-- where a string is not below the next one, the strings do not rise
+pub rise-not : (xs : List (List ℕ)) (i : ℕ) (x y : List ℕ) → 1 ≤ i → i < length xs → slice_get xs (i - 1) ≡ Some x → slice_get xs i ≡ Some y → is_lt (order x y) ≡ false → IsStrictlySortedBy (slice_cmp nat_cmp) xs → ⊥
+rise-not xs i x y one within h g not rising =
+    let less : order x y ≡ Less = ap (λ z. order z y) (sym (there-or xs (i - 1) x [] h)) ∙ ap (order (get_or xs (i - 1) [])) (sym (there-or xs i y [] g)) ∙ rising-at xs (i - 1) i [] rising (omega arith) within in
+    false_is_not_true (sym not ∙ ap is_lt less)
+  where
+    false_is_not_true : false ≡ true → ⊥
+    false_is_not_true e = cc

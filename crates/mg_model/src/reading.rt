@@ -1,12 +1,12 @@
 //! The pieces of a part, and the damages that they may have.
-ghost use Rattle.std.specs.Bool.{OnTrue};
+ghost use Rattle.std.specs.Bool.{OnTrue, OnFalse};
 ghost use Rattle.std.specs.Prelude.{◌≡◌, ◌≢◌, ◌+◌, ◌-◌, ◌*◌, ◌^◌, ◌≤◌, ◌<◌, ◌++◌, ◌∷◌, [], ℕ, List, IsSome, length, min, take, get_or, Err, IfOk, OnOk};
 ghost use Rattle.mg_dev.specs.Files.{SameReads, bytes_at};
 ghost use Rattle.mg_dev.specs.Names.{full_name};
 ghost use Rattle.mg_dev.specs.PartCauses.{HasPartCause};
 ghost use Rattle.mg_bits.specs.Pages.{Looked};
 ghost use Rattle.mg_canon.specs.Refusals.{most_bits};
-ghost use Rattle.mg_defs.specs.Front.{shared, front, entry_bytes};
+ghost use Rattle.mg_defs.specs.Front.{is_below, shared};
 ghost use Rattle.mg_defs.specs.CodedText.{piece_entries};
 ghost use Rattle.std.specs.List.{AllByRecursion};
 ghost use Rattle.std.specs.List.Sorted.{IsStrictlySortedBy};
@@ -23,7 +23,6 @@ use mg_canon::{Canon, CanonErr};
 use mg_dev::{Bad, FileRef, Part, PartErr, Store};
 use mg_front::{FrontEntry, FrontWalk};
 use std::alloc::{AllocError, Global};
-use std::cmp::Ordering;
 
 /// The pieces of a part in their order, each with the length of its codeword.
 #[derive(Drop)]
@@ -55,6 +54,13 @@ pub fn expect_room<S: Store>(store: &mut S, file: &FileRef<'_>, count: u32) -> R
         }));
     }
     Ok(())
+}
+
+/// Whether a piece comes before another by its bytes.
+fn is_below(before: &[u8], piece: &[u8]) -> bool
+    ensures { result ≡ is_below before.now piece.now }
+{
+    before.cmp(piece).is_lt()
 }
 
 /// The piece of an entry.
@@ -89,12 +95,14 @@ impl ReadPieces {
     /// Whether each piece is below the next one.
     pub fn rises(&self) -> bool
         ensures rising { OnTrue result (IsStrictlySortedBy (slice_cmp nat_cmp) self.now.pieces) }
+        ensures falls { OnFalse result (¬ IsStrictlySortedBy (slice_cmp nat_cmp) self.now.pieces) }
         ensures few { length self.now.pieces ≤ 2 ^ 22 }
         ensures short { AllByRecursion (λ (p : List ℕ). length p ≤ 255) self.now.pieces }
     {
         for place in 1..self.pieces.len() {
             let before = self.pieces.piece(place - 1);
-            if before.cmp(self.pieces.piece(place)) != Ordering::Less {
+            let piece = self.pieces.piece(place);
+            if !is_below(before, piece) {
                 return false;
             }
         }

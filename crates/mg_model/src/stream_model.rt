@@ -96,7 +96,10 @@ impl StreamModel {
                 Err(refusal) => return Err(refusal),
             }
         }
-        writer.finish(store)
+        match writer.finish(store) {
+            Ok(()) => Ok(()),
+            Err(refusal) => Err(refusal),
+        }
     }
 
     /// Reads the model of so many pieces from a part. That the pieces rise is tested again, for the

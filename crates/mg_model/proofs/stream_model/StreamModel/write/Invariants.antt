@@ -1,4 +1,4 @@
-use Rattle.std.proofs.Common.{◌≡◌, take, is_some, Option, None, ℕ, List}
+use Rattle.std.proofs.Common.{◌≡◌, ◌≤◌, take, is_some, Option, None, ℕ, List}
 use Rattle.std.specs.Option.{option_map}
 use Rattle.mg_dev.specs.Causes.{HasPutCause}
 use Rattle.mg_dev.specs.Names.{full_name}
@@ -13,5 +13,6 @@ invariant-loop-symbol g l = record {
   name : l.writer.strings.name ≡ full_name l.fn.file.base.now l.fn.file.part;
   alone : option_map (λ places. places.name) l.writer.places ≡ None;
   width : l.writer.width ≡ 1;
+  later : g.S.Store.faults l.fn.store ≤ g.S.Store.faults l.store;
   wrote : WroteTo (full_name l.fn.file.base.now l.fn.file.part) (g.S.Store.files l.fn.store) (g.S.Store.files l.store) (g.S.Store.reads l.fn.store) (g.S.Store.reads l.store);
 }
