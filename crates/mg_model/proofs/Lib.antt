@@ -8,3 +8,4 @@ pub mod Damages
 pub mod Walking
 pub mod Writing
 pub mod Codes
+pub mod Standing
