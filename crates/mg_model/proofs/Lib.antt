@@ -9,3 +9,4 @@ pub mod Walking
 pub mod Writing
 pub mod Codes
 pub mod Standing
+pub mod Numbering
