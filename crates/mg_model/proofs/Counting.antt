@@ -1,14 +1,12 @@
 -- A map's entries, seen as pieces with their counts, and what counting a piece does to them.
-use Rattle.std.proofs.Common.{◌≡◌, ℕ, ◌+◌, ◌-◌, ◌*◌, ◌^◌, ◌<◌, ◌≤◌, Bool, true, false, cond, List, [], ◌∷◌, Option, None, Some, is_some, nat_eq, map, length, refl, sym, ap, subst, ◌∙◌, arith, if◌then◌else◌, ◌||◌}
+use Rattle.std.proofs.Common.{◌≡◌, ℕ, ◌+◌, ◌-◌, ◌^◌, ◌<◌, ◌≤◌, Bool, true, false, cond, List, [], ◌∷◌, None, Some, is_some, map, length, refl, sym, subst, arith, if◌then◌else◌, ◌||◌}
 use Rattle.std.specs.List.{AllByRecursion}
 use Rattle.std.specs.Str.{bytes_eq}
-use Rattle.std.specs.Cmp.Lexicographic.{pointwise}
 use Rattle.std.specs.Map.{lookup, set_value}
 use Rattle.std.proofs.lemmas.List.{length-map}
 use Rattle.std.proofs.lemmas.List.Sums.{sum_by-cons}
 use Rattle.indexmap.specs.IndexMap.{insert_entry}
 use Rattle.mg_defs.specs.Vocabulary.{has_piece, counted, total}
-use Rattle.mg_defs.proofs.SortedLaws.{same-is}
 use Rattle.mg_model.specs.Vocabularies.{IsVocabulary}
 
 module _ {K : Type 0} (items : K → List ℕ) (piece : List ℕ) where

@@ -1,7 +1,7 @@
 -- Damages of lengths: what is found lies outside of what is wanted.
-use Rattle.std.proofs.Common.{◌≡◌, ◌≢◌, ℕ, ◌+◌, ◌-◌, ◌*◌, ◌^◌, ◌<◌, ◌≤◌, ◌⊎◌, List, [], ◌∷◌, ◌++◌, length, min, refl, sym, ap, subst, ◌∙◌, arith, inl, inr}
+use Rattle.std.proofs.Common.{◌≡◌, ◌≢◌, ℕ, ◌-◌, ◌^◌, ◌<◌, ◌≤◌, List, length, min, subst, arith, inl, inr}
 use Rattle.std.proofs.lemmas.Bool.{cases_lt}
-use Rattle.mg_canon.specs.Refusals.{IsFirstBad, IsUnfilled, IsLength, most_bits}
+use Rattle.mg_canon.specs.Refusals.{IsFirstBad, IsUnfilled, most_bits}
 
 pub outside-length : (lengths : List ℕ) (symbol bits high found : ℕ) → IsFirstBad lengths symbol bits → high ≡ most_bits (length lengths) → found ≡ bits → 1 ≤ found → high < found
 outside-length lengths symbol bits high found first e f some =

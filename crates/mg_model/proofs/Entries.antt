@@ -1,19 +1,12 @@
 -- Pieces and their lengths as entries of a part.
-use Rattle.std.proofs.Common.{◌≡◌, ◌≢◌, ℕ, zero, suc, ◌+◌, ◌-◌, ◌*◌, ◌%◌, ◌<◌, ◌≤◌, ◌==◌, ◌||◌, Bool, true, false, cond, List, [], ◌∷◌, ◌++◌, length, take, drop, get_or, slice_get, Some, None, refl, sym, ap, subst, ◌∙◌, arith, length-append, length-take, length-drop, add-zero, append-nil, min, map, add-one}
-use Rattle.std.specs.List.{AllByRecursion, zip}
-use Rattle.std.specs.List.Sorted.{IsStrictlySortedBy}
-use Rattle.std.specs.Ordering.{nat_cmp, is_lt}
-use Rattle.std.specs.declared.cmp.Ordering.{Ordering}
-use Rattle.std.specs.declared.cmp.Ordering.TheVariants.{Less, Equal, Greater}
-use Rattle.std.specs.Cmp.Lexicographic.{slice_cmp}
+use Rattle.std.proofs.Common.{◌≡◌, ◌≢◌, ℕ, zero, suc, ◌+◌, ◌-◌, ◌%◌, ◌<◌, ◌≤◌, ◌==◌, Bool, true, false, cond, List, [], ◌∷◌, ◌++◌, length, take, drop, get_or, slice_get, Some, refl, sym, ap, ◌∙◌, arith, length-append, length-take, length-drop, add-one}
 use Rattle.std.proofs.lemmas.Bool.Decides.{nat_tests}
 use Rattle.mg_defs.specs.CodedText.{StreamCode, piece_entries}
-use Rattle.mg_defs.specs.Front.{Entry, IsEntry, AreEntries, IsFront, entry_bytes, front, front_from, last_string, is_below, shared}
-use Rattle.mg_defs.proofs.EntryLaws.{front_more, shared_within}
+use Rattle.mg_defs.specs.Front.{Entry, entry_bytes, front, front_from, last_string, shared}
+use Rattle.mg_defs.proofs.EntryLaws.{front_more}
 use Rattle.mg_defs.proofs.FrontParts.{last_taken}
 use Rattle.mg_model.specs.Sizes.{entry_size, first_sizes}
 use Rattle.mg_model.proofs.Lists.{take-there}
-use Rattle.mg_model.proofs.Seeking.{there-or}
 
 abbrev pub code : List (List ℕ) → List ℕ → StreamCode
 code pieces lengths = record { pieces = pieces; lengths = lengths }

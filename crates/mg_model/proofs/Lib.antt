@@ -10,3 +10,4 @@ pub mod Writing
 pub mod Codes
 pub mod Standing
 pub mod Numbering
+pub mod Collections

@@ -1,9 +1,9 @@
 -- Terms of words, counted and numbered one word at a time.
-use Rattle.std.proofs.Common.{◌≡◌, ℕ, zero, suc, ◌+◌, ◌-◌, ◌^◌, ◌<◌, ◌≤◌, Bool, true, false, not, ◌||◌, cond, List, [], ◌∷◌, ◌++◌, length, take, map, filter, slice_get, position, Some, None, Option, refl, sym, ap, subst, ◌∙◌, arith, ltb, inl, inr, append-nil, length-append}
+use Rattle.std.proofs.Common.{◌≡◌, ℕ, zero, suc, ◌+◌, ◌<◌, ◌≤◌, true, not, cond, List, [], ◌∷◌, ◌++◌, length, take, map, filter, slice_get, Some, None, Option, refl, sym, ap, subst, ◌∙◌, arith, ltb, append-nil}
 use Rattle.std.specs.Option.{option_map}
 use Rattle.std.specs.List.{AllByRecursion, list_any}
 use Rattle.std.specs.Str.{bytes_eq}
-use Rattle.std.proofs.lemmas.Bool.{cases_Bool, false≢true, or_left, or_right}
+use Rattle.std.proofs.lemmas.Bool.{or_left, or_right}
 use Rattle.std.proofs.lemmas.Bool.Decides.{nat_tests}
 use Rattle.std.proofs.lemmas.List.{map-append, length-map}
 use Rattle.std.proofs.lemmas.List.Elements.{filter-append, recursion_from_All}
@@ -11,10 +11,10 @@ use Rattle.std.proofs.lemmas.List.Sums.{sum_by-cons}
 use Rattle.std.proofs.lemmas.Option.{slice_get-map}
 use Rattle.mg_defs.specs.Sorted.{sorted_distinct, number_of}
 use Rattle.mg_defs.specs.Terms.{folded, is_empty, terms_of_words}
-use Rattle.mg_defs.specs.Vocabulary.{vocabulary, counted, total, sorted_of}
+use Rattle.mg_defs.specs.Vocabulary.{vocabulary, total, sorted_of}
 use Rattle.mg_defs.proofs.SortedLaws.{same-refl, has-sorted, number-found}
 use Rattle.mg_defs.proofs.VocabularyLaws.{vocabulary-push, total-of_vocabulary, counts-positive, sorted-of_vocabulary}
-use Rattle.mg_model.specs.Terms.{counted_term, place_in, term_in, terms_and_numbers}
+use Rattle.mg_model.specs.Terms.{counted_term, place_in, term_in}
 use Rattle.mg_model.specs.Vocabularies.{pieces_of}
 use Rattle.mg_model.proofs.Lists.{take-there, take-all}
 

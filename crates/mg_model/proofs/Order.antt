@@ -1,5 +1,5 @@
 -- A vocabulary that is sorted by its pieces: the pieces are the sorted distinct ones, and each count stands at its piece.
-use Rattle.std.proofs.Common.{◌≡◌, ℕ, zero, suc, ◌+◌, ◌^◌, ◌<◌, ◌≤◌, Bool, true, false, not, cond, List, [], ◌∷◌, map, length, refl, sym, ap, subst, ◌∙◌, arith, get_or, sum_by, inl, inr, add-zero, zero-add, slice_get, position, Some, None, Option, ltb}
+use Rattle.std.proofs.Common.{◌≡◌, ℕ, zero, suc, ◌+◌, ◌≤◌, true, false, not, cond, List, [], ◌∷◌, map, length, refl, sym, ap, subst, ◌∙◌, arith, get_or, sum_by, inl, inr, add-zero, zero-add, slice_get, position, Some, None, ltb}
 use Rattle.std.specs.List.{AllByRecursion, IsDistinct, list_any, position_or_len}
 use Rattle.std.specs.List.Sorted.{IsPermutation, IsSorted, IsStrictlySortedBy}
 use Rattle.std.specs.Map.{keys_of}
@@ -8,7 +8,7 @@ use Rattle.std.specs.declared.cmp.Ordering.{Ordering}
 use Rattle.std.specs.declared.cmp.Ordering.TheVariants.{Less, Equal, Greater}
 use Rattle.std.specs.Cmp.Lexicographic.{slice_cmp}
 use Rattle.std.specs.Str.{bytes_eq}
-use Rattle.std.proofs.lemmas.Bool.{cases_Bool, false≢true, true≢false}
+use Rattle.std.proofs.lemmas.Bool.{cases_Bool, false≢true}
 use Rattle.std.proofs.lemmas.Cmp.{nat_list_cmp_total, nat_list_eq_equiv}
 use Rattle.std.proofs.lemmas.List.Elements.{All-from_recursion, recursion_from_All}
 use Rattle.std.proofs.lemmas.List.Sorted.{IsPermutation-map, IsPermutation-sym, length_permutation, sum_by-IsPermutation, All-permutation, list_any-IsPermutation}
@@ -16,7 +16,7 @@ use Rattle.std.proofs.lemmas.List.Sums.{sum_by-cons}
 use Rattle.std.proofs.lemmas.Map.Keys.{IsDistinct-IsPermutation}
 use Rattle.std.proofs.lemmas.Map.Text.{is_eq-slice_cmp}
 use Rattle.mg_defs.specs.Sorted.{sorted_distinct}
-use Rattle.mg_defs.specs.Vocabulary.{entry_count, sorted_of, counts_of, total}
+use Rattle.mg_defs.specs.Vocabulary.{entry_count, sorted_of, counts_of}
 use Rattle.mg_defs.proofs.SortedLaws.{same-refl, sorted-rising, rising-unique, has-sorted}
 use Rattle.mg_model.specs.Vocabularies.{IsVocabulary, pieces_of, numbers_of}
 

@@ -1,6 +1,5 @@
 -- Where parts stand, they have no damage, and are those of one code.
-use Rattle.std.proofs.Common.{◌≡◌, ◌≢◌, ℕ, zero, suc, ◌+◌, ◌-◌, ◌*◌, ◌%◌, ◌^◌, ◌<◌, ◌≤◌, ◌⊎◌, ◌==◌, Bool, true, false, cond, List, [], ◌∷◌, ◌++◌, length, take, drop, get_or, slice_index, refl, sym, ap, subst, ◌∙◌, arith, inl, inr, Ok, Err, Result, length-append, append-nil, zero-add, IsSome, Option}
-use Rattle.std.specs.List.{AllByRecursion}
+use Rattle.std.proofs.Common.{◌≡◌, ◌≢◌, ℕ, zero, suc, ◌+◌, ◌-◌, ◌*◌, ◌%◌, ◌<◌, ◌≤◌, ◌==◌, Bool, true, false, cond, List, [], ◌∷◌, ◌++◌, length, drop, get_or, slice_index, refl, sym, ap, subst, ◌∙◌, arith, inl, inr, Ok, Err, Result, length-append, append-nil, zero-add, Option}
 use Rattle.std.proofs.lemmas.Bool.Decides.{nat_tests}
 use Rattle.mg_dev.specs.declared.bad.Bad as declared
 use Rattle.mg_dev.specs.declared.part.Part.{Part}
@@ -11,13 +10,13 @@ use Rattle.mg_dev.specs.Files.{Files, bytes_at}
 use Rattle.mg_dev.specs.Names.{full_name}
 use Rattle.mg_dev.specs.Laws.{same_part_of_name}
 use Rattle.mg_canon.specs.Refusals.{IsFirstBad, IsUnfilled, IsLength, most_bits}
-use Rattle.mg_defs.specs.Canon.{AreGood, AreWithin, kraft}
+use Rattle.mg_defs.specs.Canon.{AreGood, AreWithin}
 use Rattle.mg_defs.specs.CodedText.{StreamCode, TextCode, piece_entries, pieces_part}
-use Rattle.mg_defs.specs.Front.{Entry, IsEntry, AreEntries, IsFront, NoEntry, entry_bytes, front, front_from, last_string, shared}
+use Rattle.mg_defs.specs.Front.{Entry, IsEntry, AreEntries, entry_bytes, front, front_from, last_string, shared}
 use Rattle.mg_defs.proofs.FrontParts.{one_front, prefix_of}
 use Rattle.mg_defs.proofs.EntryLaws.{entries_rest}
-use Rattle.mg_model.specs.Models.{IsStreamCode, IsModel, PartsStand}
-use Rattle.mg_model.specs.Damage.{IsTooShort, StandFirst, IsBroken, HasMore, IsPart, HasBadLength, IsUnfilledPart, IsDamage, IsWalkDamage, IsLengthDamage, AnswersLoad, AnswersStanding, AnswersStream}
+use Rattle.mg_model.specs.Models.{IsStreamCode, PartsStand}
+use Rattle.mg_model.specs.Damage.{StandFirst, IsBroken, HasMore, IsPart, IsDamage, AnswersLoad, AnswersStanding, AnswersStream}
 use Rattle.mg_model.proofs.Entries.{code, entry, entries-long}
 use Rattle.mg_model.proofs.Writing.{entries-are}
 

@@ -1,14 +1,13 @@
 -- What a walk over the entries of a part tells of it.
-use Rattle.std.proofs.Common.{◌≡◌, ◌≢◌, ℕ, ◌+◌, ◌-◌, ◌*◌, ◌^◌, ◌<◌, ◌≤◌, ◌⊎◌, Bool, true, false, List, [], ◌∷◌, ◌++◌, length, drop, refl, sym, ap, subst, ◌∙◌, arith, inl, inr, Ok, Err, Result, append-nil, IsSome, Option}
+use Rattle.std.proofs.Common.{◌≡◌, ℕ, ◌<◌, Bool, false, List, [], ◌++◌, length, drop, sym, ap, subst, ◌∙◌, arith, inl, inr, Ok, Err, append-nil}
 use Rattle.mg_dev.specs.declared.bad.Bad as declared
 use Rattle.mg_dev.specs.declared.part.Part.{Part}
-use Rattle.mg_dev.specs.declared.part_err.PartErr.{PartErr}
-use Rattle.mg_dev.specs.declared.part_err.PartErr.TheVariants.{Device, Memory, Bad}
-use Rattle.mg_defs.specs.CodedText.{StreamCode, piece_entries}
-use Rattle.mg_defs.specs.Front.{Entry, AreEntries, IsFront, NoEntry, front, last_string}
-use Rattle.mg_front.specs.Walk.{Walking, Given, IsBad, AnswersNext}
+use Rattle.mg_dev.specs.declared.part_err.PartErr.TheVariants.{Bad}
+use Rattle.mg_defs.specs.CodedText.{piece_entries}
+use Rattle.mg_defs.specs.Front.{Entry, AreEntries, NoEntry, front, last_string}
+use Rattle.mg_front.specs.Walk.{Walking, Given, AnswersNext}
 use Rattle.mg_front.specs.declared.entry.FrontEntry.{FrontEntry}
-use Rattle.mg_model.specs.Damage.{IsPart, IsBroken, HasMore, IsWalkDamage, StandFirst}
+use Rattle.mg_model.specs.Damage.{IsPart, IsWalkDamage, StandFirst}
 use Rattle.mg_model.proofs.Entries.{code, entries-long}
 
 -- a walk that has given all entries has read a part

@@ -1,5 +1,5 @@
 -- The entries of a stream's pieces, as they are written and as they rise.
-use Rattle.std.proofs.Common.{◌≡◌, ◌≢◌, ℕ, zero, suc, ◌+◌, ◌-◌, ◌*◌, ◌%◌, ◌^◌, ◌<◌, ◌≤◌, ◌⊎◌, ◌==◌, ◌||◌, Bool, true, false, cond, List, [], ◌∷◌, ◌++◌, length, take, drop, get_or, slice_get, Some, None, Option, refl, sym, ap, subst, ◌∙◌, arith, min, Ok, Err, Result, IsErrOf, length-append, zero-add, inl, inr}
+use Rattle.std.proofs.Common.{◌≡◌, ◌≢◌, ℕ, ◌+◌, ◌*◌, ◌<◌, ◌≤◌, ◌==◌, ◌||◌, Bool, true, false, List, [], ◌∷◌, length, take, get_or, slice_get, Some, None, Option, refl, sym, ap, subst, ◌∙◌, arith, Err, Result, zero-add, inr}
 use Rattle.std.specs.Option.{option_map}
 use Rattle.std.specs.List.{AllByRecursion}
 use Rattle.std.specs.List.Sorted.{IsStrictlySortedBy}
@@ -9,14 +9,13 @@ use Rattle.std.specs.declared.cmp.Ordering.TheVariants.{Less, Equal, Greater}
 use Rattle.std.specs.Cmp.Lexicographic.{slice_cmp}
 use Rattle.std.proofs.lemmas.List.{get_or_default}
 use Rattle.mg_dev.specs.Causes.{HasPutCause, Rose}
-use Rattle.mg_dev.specs.Files.{Files, Reads, file_at}
 use Rattle.mg_dev.specs.declared.device.PutErr.{PutErr}
 use Rattle.mg_dev.specs.declared.part.Part.{Part}
 use Rattle.mg_dev.specs.declared.part_err.PartErr.{PartErr}
 use Rattle.mg_dev.specs.declared.part_err.PartErr.TheVariants.{Device, Memory, Bad}
-use Rattle.mg_bits.specs.Writer.{Writing, WroteTo}
+use Rattle.mg_bits.specs.Writer.{Writing}
 use Rattle.mg_defs.specs.CodedText.{StreamCode, piece_entries}
-use Rattle.mg_defs.specs.Front.{Entry, IsEntry, AreEntries, IsFront, is_below, last_string}
+use Rattle.mg_defs.specs.Front.{Entry, IsEntry, AreEntries, is_below, last_string}
 use Rattle.mg_defs.proofs.EntryLaws.{entries_rest}
 use Rattle.mg_defs.proofs.FrontOrder.{rising}
 use Rattle.mg_defs.proofs.FrontParts.{some_cons}
@@ -58,9 +57,9 @@ less-of Greater h = absurd cc
 
 pub entries-rise : (pieces : List (List ℕ)) (lengths : List ℕ) → length lengths ≡ length pieces → AreEntries 1 0 [] (piece_entries (code pieces lengths)) → IsStrictlySortedBy (slice_cmp nat_cmp) pieces
 entries-rise pieces lengths e are = rise-from pieces (λ k within.
-  less-of (order (get_or pieces k []) (get_or pieces (k + 1) []))
-  (rising 1 0 [] (piece_entries (code pieces lengths)) k (k + 1) (entry (get_or pieces k []) (get_or lengths k 0)) (entry (get_or pieces (k + 1) []) (get_or lengths (k + 1) 0)) are (omega arith)
-  (entry-there pieces lengths k e (omega arith)) (entry-there pieces lengths (k + 1) e within)))
+    less-of (order (get_or pieces k []) (get_or pieces (k + 1) []))
+    (rising 1 0 [] (piece_entries (code pieces lengths)) k (k + 1) (entry (get_or pieces k []) (get_or lengths k 0)) (entry (get_or pieces (k + 1) []) (get_or lengths (k + 1) 0)) are (omega arith)
+    (entry-there pieces lengths k e (omega arith)) (entry-there pieces lengths (k + 1) e within)))
 
 -- ---- the next entry of a writer
 

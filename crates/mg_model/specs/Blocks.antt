@@ -1,5 +1,5 @@
 -- Pieces one after another in one list of bytes.
-use Rattle.std.specs.Prelude.{◌≡◌, ℕ, ◌-◌, ◌*◌, ◌^◌, ◌≤◌, ◌==◌, if◌then◌else◌, List, [], ◌∷◌, length, take, drop, slice_index}
+use Rattle.std.specs.Prelude.{◌≡◌, ℕ, ◌-◌, ◌^◌, ◌≤◌, ◌==◌, if◌then◌else◌, List, [], ◌∷◌, length, take, drop, slice_index}
 
 -- the pieces that end at these places, the first from a place on
 abbrev pub cut : ℕ → List ℕ → List ℕ → List (List ℕ)

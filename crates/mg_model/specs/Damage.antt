@@ -1,11 +1,11 @@
 -- What loading a model answers: the pieces and their lengths, or the first damage of their part.
-use Rattle.std.specs.Prelude.{◌≡◌, ℕ, ◌+◌, ◌-◌, ◌*◌, ◌^◌, ◌<◌, ◌≤◌, ◌⊎◌, ◌++◌, min, List, [], length, map, take, drop, slice_index, Result, Ok, Err}
+use Rattle.std.specs.Prelude.{◌≡◌, ℕ, ◌+◌, ◌-◌, ◌*◌, ◌^◌, ◌<◌, ◌≤◌, ◌⊎◌, ◌++◌, min, List, [], length, take, drop, Result, Ok, Err}
 use Rattle.mg_dev.specs.declared.part.Part.{Part}
 use Rattle.mg_dev.specs.declared.part.Part.TheVariants as part
 use Rattle.mg_dev.specs.declared.bad.Bad as declared
 use Rattle.mg_dev.specs.declared.part_err.PartErr.{PartErr}
 use Rattle.mg_dev.specs.declared.part_err.PartErr.TheVariants.{Device, Memory, Bad}
-use Rattle.mg_defs.specs.CodedText.{StreamCode, TextCode, pieces_part, piece_entries}
+use Rattle.mg_defs.specs.CodedText.{StreamCode, TextCode, piece_entries}
 use Rattle.mg_defs.specs.Front.{Entry, AreEntries, IsFront, NoEntry, front, last_string}
 use Rattle.mg_front.specs.Walk.{IsBad}
 use Rattle.mg_canon.specs.Refusals.{IsFirstBad, IsUnfilled, most_bits}

@@ -13,6 +13,7 @@
 #![tactic(auto)]
 
 mod block;
+mod laws;
 mod pieces;
 mod reading;
 mod stream_model;
@@ -21,11 +22,9 @@ mod text_model;
 mod vocab;
 mod vocab_err;
 
+pub use laws::{collections_have_models, symbol_and_piece, terms_are_the_dictionary};
 pub use mg_defs::Stream;
 pub use term_table::TermTable;
 pub use text_model::TextModel;
 pub use vocab::Vocab;
 pub use vocab_err::VocabErr;
-
-#[cfg(test)]
-mod tests;

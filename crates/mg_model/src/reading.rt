@@ -155,13 +155,7 @@ fn shared(before: &[u8], string: &[u8]) -> usize
         [] => 0,
         [y, ys @ ..] => match before {
             [] => 0,
-            [x, xs @ ..] => {
-                if x == y {
-                    shared(xs, ys) + 1
-                } else {
-                    0
-                }
-            }
+            [x, xs @ ..] => { if x == y { shared(xs, ys) + 1 } else { 0 } }
         },
     }
 }

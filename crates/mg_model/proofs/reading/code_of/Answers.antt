@@ -1,4 +1,4 @@
-use Rattle.std.proofs.Common.{rules, arith, refl, ◌≡◌, ◌≤◌, ◌<◌, ◌-◌, ◌+◌, ◌∙◌, sym, ap, subst, length, inl, inr, Err}
+use Rattle.std.proofs.Common.{arith, refl, ◌≡◌, ◌-◌, ◌+◌, ◌∙◌, ap, subst, length, inl, inr, Err}
 use Rattle.mg_canon.specs.Refusals.{IsFirstBad, IsUnfilled, most_bits}
 use Rattle.mg_model.proofs.Entries.{sizes-are}
 use Rattle.mg_model.proofs.Damages.{outside-length, outside-sum}

@@ -1,11 +1,10 @@
-use Rattle.std.proofs.Common.{rules, arith, refl, ◌≡◌, ◌≤◌, ◌<◌, ◌-◌, ◌+◌, ◌∙◌, [], sym, ap, subst, length, List, IsSome, Option}
+use Rattle.std.proofs.Common.{arith, ◌≡◌, ◌∙◌, [], sym, ap, subst, length, IsSome}
 use Rattle.mg_dev.specs.Files.{bytes_at}
 use Rattle.mg_dev.specs.Names.{full_name}
-use Rattle.mg_bits.specs.Pages.{Looked}
 use Rattle.mg_front.specs.Walk.{Gave}
 use Rattle.mg_defs.specs.CodedText.{piece_entries}
 use Rattle.mg_model.proofs.Entries.{code}
-use Rattle.mg_model.proofs.Walking.{all-read, walk-damage}
+use Rattle.mg_model.proofs.Walking.{all-read}
 use Rattle.mg_model.proofs.reading.read_pieces.Goals as goal
 
 pub loop-walk-init : goal.loop-walk-init

@@ -1,4 +1,4 @@
-use Rattle.std.proofs.Common.{rules, arith, ◌≤◌, ◌≡◌, sym, ap, length}
+use Rattle.std.proofs.Common.{arith, ap, length}
 use Rattle.mg_model.proofs.Numbering.{counted-more, few-counted, sorted-all}
 use Rattle.mg_model.proofs.term_table.sorted_terms.Goals as goal
 

@@ -1,4 +1,4 @@
-use Rattle.std.proofs.Common.{rules, arith, ◌≤◌, ◌≡◌, sym, ap, length}
+use Rattle.std.proofs.Common.{arith, ap, length}
 use Rattle.mg_model.specs.Vocabularies.{pieces_of}
 use Rattle.mg_model.proofs.Numbering.{numbers-more, numbers-all}
 use Rattle.mg_model.proofs.term_table.term_numbers.Goals as goal

@@ -1,4 +1,4 @@
-use Rattle.std.proofs.Common.{rules, arith, ◌∙◌, ℕ, List, ◌≤◌, sym, ap, subst, length}
+use Rattle.std.proofs.Common.{arith, ℕ, List, ◌≤◌, ap, subst, length}
 use Rattle.std.specs.List.{AllByRecursion}
 use Rattle.mg_model.proofs.Cutting.{length-cut, short-cut}
 use Rattle.mg_model.proofs.block.PieceBlock.len.Goals as goal

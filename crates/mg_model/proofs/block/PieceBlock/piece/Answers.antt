@@ -1,4 +1,4 @@
-use Rattle.std.proofs.Common.{rules, arith, ◌∙◌, ◌<◌, ◌≡◌, ◌≤◌, sym, ap, length, slice_get, get_or, Some}
+use Rattle.std.proofs.Common.{arith, ◌∙◌, ◌<◌, sym, ap, length, slice_get, get_or, Some}
 use Rattle.mg_model.proofs.Cutting.{length-cut, at-lent, short-part}
 use Rattle.mg_model.proofs.block.PieceBlock.piece.Goals as goal
 

@@ -1,4 +1,4 @@
-use Rattle.std.proofs.Common.{rules, arith, ◌∙◌, ◌+◌, ◌-◌, ◌/◌, sym, ap, length}
+use Rattle.std.proofs.Common.{arith, ◌∙◌, ◌+◌, ◌-◌, ◌/◌, sym}
 use Rattle.mg_model.proofs.Seeking.{between-all, between-lower, between-higher, found-at, found-not}
 use Rattle.mg_model.proofs.block.PieceBlock.place_of.Goals as goal
 

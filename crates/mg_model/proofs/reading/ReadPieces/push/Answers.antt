@@ -1,6 +1,6 @@
-use Rattle.std.proofs.Common.{rules, arith, ◌≡◌, ◌≤◌, ◌∙◌, ◌++◌, ◌∷◌, [], sym, ap, length, take}
+use Rattle.std.proofs.Common.{◌∙◌, ◌++◌, ◌∷◌, [], sym, ap, take}
 use Rattle.mg_defs.specs.CodedText.{piece_entries}
-use Rattle.mg_model.proofs.Entries.{entries-push, code, entry}
+use Rattle.mg_model.proofs.Entries.{entries-push, code}
 use Rattle.mg_model.proofs.reading.ReadPieces.push.Goals as goal
 
 pub returns-clause-entries : goal.returns-clause-entries

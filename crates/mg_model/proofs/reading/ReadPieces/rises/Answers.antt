@@ -1,5 +1,5 @@
-use Rattle.std.proofs.Common.{rules, arith, sym, ◌∙◌}
-use Rattle.mg_model.proofs.Seeking.{rise-all, rise-start, rise-more, rise-not}
+use Rattle.std.proofs.Common.{arith, sym, ◌∙◌}
+use Rattle.mg_model.proofs.Seeking.{rise-all, rise-more, rise-not}
 use Rattle.mg_model.proofs.reading.ReadPieces.rises.Goals as goal
 
 pub returns-clause-rising : goal.returns-clause-rising

@@ -1,4 +1,4 @@
-use Rattle.std.proofs.Common.{rules, arith, ◌≡◌, ◌≤◌, ◌*◌, ◌∙◌, sym, ap, subst, length, IsSome}
+use Rattle.std.proofs.Common.{sym, subst, IsSome}
 use Rattle.mg_dev.specs.Files.{bytes_at}
 use Rattle.mg_dev.specs.Names.{full_name}
 use Rattle.mg_model.specs.Damage.{IsPart}

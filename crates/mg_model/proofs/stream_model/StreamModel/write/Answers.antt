@@ -1,13 +1,11 @@
-use Rattle.std.proofs.Common.{rules, arith, refl, ◌≡◌, ◌≢◌, ◌≤◌, ◌<◌, ◌+◌, ◌++◌, ◌∷◌, [], ◌∙◌, sym, ap, subst, length, take, slice_get, Some, IsSome, is_some, ℕ, List}
+use Rattle.std.proofs.Common.{arith, ◌≡◌, ◌<◌, ◌∙◌, sym, ap, subst, length, take, slice_get, Some, IsSome}
 use Rattle.mg_dev.specs.Files.{bytes_at}
-use Rattle.mg_dev.specs.Names.{full_name}
-use Rattle.mg_bits.specs.Writer.{WroteTo}
 use Rattle.mg_front.specs.Fronting.{Took}
 use Rattle.mg_defs.specs.CodedText.{piece_entries}
 use Rattle.mg_defs.specs.Front.{front}
 use Rattle.mg_model.specs.Models.{IsStreamCode}
 use Rattle.mg_model.proofs.Lists.{take-there, take-all}
-use Rattle.mg_model.proofs.Entries.{code, entry, entries-long}
+use Rattle.mg_model.proofs.Entries.{entry, entries-long}
 use Rattle.mg_model.proofs.Writing.{entries-are, piece-entry, entry-of-writer, is-other, put-later}
 use Rattle.mg_model.proofs.stream_model.StreamModel.write.Goals as goal
 

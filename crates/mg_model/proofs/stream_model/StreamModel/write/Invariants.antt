@@ -1,6 +1,5 @@
-use Rattle.std.proofs.Common.{◌≡◌, ◌≤◌, take, is_some, Option, None, ℕ, List}
+use Rattle.std.proofs.Common.{◌≡◌, ◌≤◌, take, None}
 use Rattle.std.specs.Option.{option_map}
-use Rattle.mg_dev.specs.Causes.{HasPutCause}
 use Rattle.mg_dev.specs.Names.{full_name}
 use Rattle.mg_bits.specs.Writer.{WroteTo}
 use Rattle.mg_front.specs.Fronting.{Took}

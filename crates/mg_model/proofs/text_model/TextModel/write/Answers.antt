@@ -1,8 +1,6 @@
-use Rattle.std.proofs.Common.{◌≡◌, ◌≢◌, ◌∙◌, sym, ap, subst, IsSome, unwrap_or, []}
-use Rattle.mg_dev.specs.Laws.{same_part_of_name}
+use Rattle.std.proofs.Common.{◌∙◌, ap, IsSome, unwrap_or, []}
 use Rattle.mg_dev.specs.Names.{full_name}
-use Rattle.mg_dev.specs.declared.part.Part.{Part}
-use Rattle.mg_dev.specs.declared.part.Part.TheVariants.{Words, Nonwords}
+use Rattle.mg_dev.specs.declared.part.Part.TheVariants.{Words}
 use Rattle.mg_defs.specs.CodedText.{pieces_part}
 use Rattle.mg_model.proofs.Standing.{names-apart}
 use Rattle.mg_model.proofs.text_model.TextModel.write.Goals as goal

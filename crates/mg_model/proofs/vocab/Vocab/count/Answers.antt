@@ -1,9 +1,8 @@
-use Rattle.std.proofs.Common.{rules, ◌≡◌, ◌+◌, ◌<◌, ◌≤◌, ◌^◌, ◌∙◌, [], length, true, false, cond, List, ◌∷◌, ℕ, sym, ap, subst, arith, Some, None, is_some}
+use Rattle.std.proofs.Common.{rules, ◌≡◌, ◌+◌, ◌≤◌, ◌^◌, ◌∙◌, length, true, false, cond, sym, ap, subst, arith, is_some}
 use Rattle.std.specs.Str.{bytes_eq}
 use Rattle.std.specs.Box.{boxed_slice_items}
 use Rattle.indexmap.specs.IndexMap.{insert_entry}
 use Rattle.mg_defs.specs.Vocabulary.{has_piece, counted, total}
-use Rattle.mg_model.specs.Vocabularies.{IsVocabulary}
 use Rattle.mg_model.proofs.Counting.{counted_there, there, counted_new, fits, shown, length_shown, total-counted, still}
 use Rattle.mg_model.proofs.vocab.Vocab.count.Goals as goal
 

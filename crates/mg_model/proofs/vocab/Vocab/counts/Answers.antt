@@ -1,4 +1,4 @@
-use Rattle.std.proofs.Common.{rules, ◌∙◌, ◌++◌, ◌∷◌, [], sym, ap, take}
+use Rattle.std.proofs.Common.{◌∙◌, ◌++◌, ◌∷◌, [], sym, ap, take}
 use Rattle.mg_model.specs.Vocabularies.{numbers_of}
 use Rattle.mg_model.proofs.Lists.{take-there}
 use Rattle.mg_model.proofs.vocab.Vocab.counts.Goals as goal

@@ -1,4 +1,4 @@
-use Rattle.std.proofs.Common.{rules, ◌∙◌, sym, ap, position}
+use Rattle.std.proofs.Common.{◌∙◌, ap, position}
 use Rattle.std.specs.Str.{bytes_eq}
 use Rattle.std.specs.Box.{boxed_slice_items}
 use Rattle.mg_model.specs.Vocabularies.{pieces_of}
