@@ -1,0 +1,13 @@
+pub mod Lists
+pub mod Counting
+pub mod Order
+pub mod Cutting
+pub mod Seeking
+pub mod Entries
+pub mod Damages
+pub mod Walking
+pub mod Writing
+pub mod Codes
+pub mod Standing
+pub mod Numbering
+pub mod Collections

@@ -1,0 +1,16 @@
+-- Lists of any elements.
+use Rattle.std.proofs.Common.{◌≡◌, ℕ, zero, suc, ◌+◌, ◌≤◌, List, [], ◌∷◌, ◌++◌, length, take, slice_get, Some, refl, ap, ◌∙◌, arith}
+
+-- one element more at the front
+pub take-there : {X : Type 0} (xs : List X) (i : ℕ) (x : X) → slice_get xs i ≡ Some x → take (i + 1) xs ≡ take i xs ++ x ∷ []
+take-there [] i x h = absurd cc
+take-there (y ∷ ys) zero x h = let same : y ≡ x = cc in ap (λ z. z ∷ []) same
+take-there (y ∷ ys) (suc i) x h =
+    let n : suc i + 1 ≡ suc (i + 1) = omega arith in
+    ap (λ m. take m (y ∷ ys)) n ∙ ap (λ t. y ∷ t) (take-there ys i x h)
+
+pub take-all : {X : Type 0} (xs : List X) (n : ℕ) → length xs ≤ n → take n xs ≡ xs
+take-all [] zero h = refl
+take-all [] (suc n) h = refl
+take-all (x ∷ xs) zero h = absurd (omega arith)
+take-all (x ∷ xs) (suc n) h = ap (λ t. x ∷ t) (take-all xs n (omega arith))

@@ -1,0 +1,27 @@
+-- The numbers of the terms of words.
+use Rattle.std.specs.Prelude.{ℕ, List, Option, None, Some, map, position, if◌then◌else◌}
+use Rattle.std.specs.Str.{bytes_eq}
+use Rattle.mg_defs.specs.Sorted.{number_of, sorted_distinct}
+use Rattle.mg_defs.specs.Terms.{folded, is_empty, terms_of_words}
+use Rattle.mg_defs.specs.Vocabulary.{counted}
+
+-- the terms in the order of their bytes, and the number of each word's term
+pub record TermNumbers : Type 0 where
+  pub terms : List (List ℕ)
+  pub numbers : List (Option ℕ)
+
+-- the number of the term of a word; the empty word has none
+abbrev pub term_in : List (List ℕ) → List ℕ → Option ℕ
+term_in terms word = if is_empty word then None else Some (number_of terms (folded word))
+
+-- the terms of these words, and the number of each word's term
+abbrev pub terms_and_numbers : List (List ℕ) → TermNumbers
+terms_and_numbers words = record { terms = sorted_distinct (terms_of_words words); numbers = map (term_in (sorted_distinct (terms_of_words words))) words }
+
+-- the place of the term of a word; the empty word has none
+abbrev pub place_in : List (List ℕ) → List ℕ → Option ℕ
+place_in terms word = if is_empty word then None else position (bytes_eq (folded word)) terms
+
+-- the terms with their counts after one word more
+abbrev pub counted_term : List ℕ → List (List ℕ × ℕ) → List (List ℕ × ℕ)
+counted_term word entries = if is_empty word then entries else counted (folded word) entries

@@ -1,0 +1,33 @@
+// Laws of symbols, of models of a collection and of its terms.
+ghost use Rattle.std.specs.Prelude.{◌≡◌, ◌<◌, ◌≤◌, ◌↔◌, ◌^◌, ℕ, List, [], length, position, slice_get, None, Some};
+ghost use Rattle.std.specs.Str.{bytes_eq};
+ghost use Rattle.mg_defs.specs.CodedText.{IsCodeOf, StreamCode};
+ghost use Rattle.mg_defs.specs.Sorted.{number_of};
+ghost use Rattle.mg_defs.specs.Terms.{dictionary};
+ghost use Rattle.mg_defs.specs.Vocabulary.{sorted_pieces};
+ghost use Rattle.mg_defs.specs.declared.Stream.{Stream};
+ghost use Rattle.mg_defs.specs.declared.Stream.TheVariants.{Words};
+ghost use Rattle.mg_model.specs.Models.{IsStreamCode};
+ghost use Rattle.mg_model.specs.Terms.{term_in, terms_and_numbers};
+
+/// The piece of a symbol has that symbol, and the symbol of a piece has that piece.
+pub fn symbol_and_piece()
+    ensures symbol { (it : StreamCode) (symbol : ℕ) (piece : List ℕ) → IsStreamCode it → slice_get it.pieces symbol ≡ Some piece →
+        position (bytes_eq piece) it.pieces ≡ Some symbol }
+    ensures piece { (it : StreamCode) (symbol : ℕ) (piece : List ℕ) → position (bytes_eq piece) it.pieces ≡ Some symbol →
+        slice_get it.pieces symbol ≡ Some piece }
+    ensures number { (it : StreamCode) (symbol : ℕ) (piece : List ℕ) → position (bytes_eq piece) it.pieces ≡ Some symbol →
+        number_of it.pieces piece ≡ symbol }
+{}
+
+/// The code of a collection's stream is that of a model where it has at most 2^22 pieces.
+pub fn collections_have_models()
+    ensures { (kind : Stream) (collection : List ℕ) (it : StreamCode) → IsCodeOf kind collection it → length it.pieces ≤ 2 ^ 22 →
+        IsStreamCode it }
+{}
+
+/// The terms of a collection's words are its dictionary; only the empty word has no term.
+pub fn terms_are_the_dictionary()
+    ensures terms { (collection : List ℕ) → (terms_and_numbers (sorted_pieces Words collection)).terms ≡ dictionary collection }
+    ensures none { (terms : List (List ℕ)) (word : List ℕ) → (term_in terms word ≡ None) ↔ (word ≡ []) }
+{}

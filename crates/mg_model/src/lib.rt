@@ -1,0 +1,30 @@
+//! Vocabularies, text models and term numbers.
+//!
+//! A collection is read twice. The first pass counts the distinct pieces of each stream in a
+//! [`Vocab`]; then each stream's pieces are numbered by the order of their bytes and given the
+//! lengths of a Huffman code, and are a [`TextModel`]. Its counting map is kept: it is sorted in
+//! place, so that the place of a piece in it is the piece's symbol, and the second pass looks a
+//! symbol up with one hash. A model that is loaded from its two parts has no map. It keeps its
+//! pieces in one block of bytes, for it only turns symbols into pieces. A [`TermTable`] numbers the
+//! words once they are folded.
+//!
+//! The models are the semi-static ones of Witten, Moffat and Bell, *Managing Gigabytes*, chapter 2;
+//! the parts are described in docs/FORMAT.md.
+#![tactic(auto)]
+
+mod block;
+mod laws;
+mod pieces;
+mod reading;
+mod stream_model;
+mod term_table;
+mod text_model;
+mod vocab;
+mod vocab_err;
+
+pub use laws::{collections_have_models, symbol_and_piece, terms_are_the_dictionary};
+pub use mg_defs::Stream;
+pub use term_table::TermTable;
+pub use text_model::TextModel;
+pub use vocab::Vocab;
+pub use vocab_err::VocabErr;

@@ -1,0 +1,175 @@
+//! The pieces of one stream and their code.
+ghost use Rattle.std.specs.Prelude.{◌≡◌, ◌+◌, ◌<◌, ◌≤◌, ◌^◌, ◌∷◌, [], IsSome, length, map, position, slice_get, Some, IfOk, OnOk};
+ghost use Rattle.std.specs.Str.{bytes_eq};
+ghost use Rattle.mg_dev.specs.Causes.{HasPutCause};
+ghost use Rattle.mg_dev.specs.Files.{bytes_at};
+ghost use Rattle.mg_dev.specs.Names.{full_name};
+ghost use Rattle.mg_dev.specs.PartCauses.{HasPartCause};
+ghost use Rattle.mg_bits.specs.Pages.{Looked};
+ghost use Rattle.mg_bits.specs.Writer.{WroteTo};
+ghost use Rattle.mg_defs.specs.Canon.{AreGood};
+ghost use Rattle.mg_defs.specs.CodedText.{IsHuffman, pieces_part, piece_entries};
+ghost use Rattle.mg_defs.specs.Vocabulary.{sorted_of, counts_of};
+ghost use Rattle.mg_model.specs.Damage.{AnswersStream};
+ghost use Rattle.mg_model.specs.Models.{IsStreamCode};
+
+use crate::Vocab;
+use crate::pieces::Pieces;
+use crate::reading::{ReadPieces, code_of, expect_room, read_pieces};
+use mg_canon::Canon;
+use mg_dev::{Bad, FileRef, PartErr, PutErr, Store};
+use mg_front::FrontWriter;
+use std::alloc::{AllocError, Global};
+use std::marker::Model;
+
+/// The pieces of one stream in the order of their bytes, and the code of their numbers.
+#[derive(Drop)]
+pub struct StreamModel {
+    pieces: Pieces,
+    lengths: Vec<u8>,
+    canon: Canon,
+}
+
+impl Model for StreamModel {
+    ghost use Rattle.mg_defs.specs.CodedText.{StreamCode};
+
+    ghost Value = { StreamCode };
+
+    ghost use Rattle.std.specs.Prelude.{◌≡◌};
+    ghost use Rattle.mg_model.specs.Models.{IsStreamCode};
+    ghost use Rattle.mg_model.specs.Pieces.{pieces_in};
+
+    ghost view = { λ m. record { pieces = pieces_in m.pieces; lengths = m.lengths.items } };
+
+    ghost invariant = { λ m. IsStreamCode (record { pieces = pieces_in m.pieces; lengths = m.lengths.items }) × (m.canon ≡ m.lengths.items) };
+}
+
+/// The code of good lengths.
+fn canon_of(alloc: Global, lengths: &[u8]) -> Result<Canon, AllocError>
+    requires few { length lengths.now ≤ 2 ^ 22 }
+    requires good { AreGood lengths.now }
+    ensures { IfOk result (λ canon. canon ≡ lengths.now) }
+{
+    match Canon::new(alloc, lengths) {
+        Ok(canon) => Ok(canon),
+        Err(_) => Err(AllocError),
+    }
+}
+
+impl StreamModel {
+    /// The model of counted pieces.
+    pub fn of(alloc: Global, mut vocab: Vocab) -> Result<Self, AllocError>
+        ensures pieces { IfOk result (λ model. model.pieces ≡ sorted_of vocab) }
+        ensures lengths { IfOk result (λ model. IsHuffman (counts_of vocab) model.lengths) }
+    {
+        vocab.sort()?;
+        let counts = vocab.counts()?;
+        let mut lengths = Vec::new(alloc);
+        mg_huff::lengths(alloc, &counts, &mut lengths)?;
+        let canon = canon_of(alloc, &lengths)?;
+        Ok(StreamModel {
+            pieces: Pieces::Counted(vocab),
+            lengths,
+            canon,
+        })
+    }
+
+    /// Writes the pieces and their lengths into a part.
+    pub fn write<S: Store>(
+        &self,
+        alloc: Global,
+        store: &mut S,
+        file: FileRef<'_>,
+    ) -> Result<(), PutErr>
+        ensures bytes { OnOk result (IsSome (S.files store.old) → bytes_at (S.files store.new) (full_name file.entry.base.now file.entry.part) ≡ pieces_part self.now) }
+        ensures wrote { WroteTo (full_name file.entry.base.now file.entry.part) (S.files store.old) (S.files store.new) (S.reads store.old) (S.reads store.new) }
+        ensures cause { HasPutCause (S.faults store.old) (S.faults store.new) result }
+    {
+        let mut writer = match FrontWriter::start(alloc, store, file, None, 1) {
+            Ok(writer) => writer,
+            Err(refusal) => return Err(refusal),
+        };
+        for symbol in 0..self.lengths.len() {
+            let piece = self.pieces.piece(symbol as u32);
+            match writer.push(store, piece, &[self.lengths[symbol]]) {
+                Ok(()) => {}
+                Err(refusal) => return Err(refusal),
+            }
+        }
+        match writer.finish(store) {
+            Ok(()) => Ok(()),
+            Err(refusal) => Err(refusal),
+        }
+    }
+
+    /// Reads the model of so many pieces from a part. That the pieces rise is tested again, for the
+    /// walk promises it only over a store that tells its files.
+    pub fn load<S: Store>(
+        alloc: Global,
+        store: &mut S,
+        file: FileRef<'_>,
+        count: u32,
+    ) -> Result<Self, PartErr>
+        requires { count ≤ 2 ^ 22 }
+        ensures answer { IsSome (S.files store.old) → AnswersStream file.entry.part count (bytes_at (S.files store.old) (full_name file.entry.base.now file.entry.part)) result }
+        ensures looked { Looked file.entry.part (S.files store.old) (S.files store.new) (S.reads store.old) (S.reads store.new) (S.faults store.old) (S.faults store.new) }
+        ensures cause { HasPartCause (S.faults store.old) (S.faults store.new) result }
+    {
+        match expect_room(store, &file, count) {
+            Ok(()) => {}
+            Err(refusal) => return Err(refusal),
+        }
+        let read = match read_pieces(alloc, store, file, count) {
+            Ok(read) => read,
+            Err(refusal) => return Err(refusal),
+        };
+        if !read.rises() {
+            return Err(PartErr::Bad(Bad {
+                part: file.part,
+                at: 0,
+                low: 1,
+                high: 1,
+                found: 0,
+            }));
+        }
+        let canon = match code_of(alloc, file.part, &read) {
+            Ok(canon) => canon,
+            Err(refusal) => return Err(refusal),
+        };
+        let ReadPieces {
+            mut pieces,
+            lengths,
+        } = read;
+        pieces.shrink();
+        Ok(StreamModel {
+            pieces: Pieces::Loaded(pieces),
+            lengths,
+            canon,
+        })
+    }
+
+    /// The symbol of a piece.
+    pub fn symbol(&self, piece: &[u8]) -> Option<u32>
+        ensures { result ≡ position (bytes_eq piece.now) self.now.pieces }
+    {
+        let _ = &self.lengths;
+        self.pieces.symbol(piece)
+    }
+
+    /// The piece of a symbol.
+    pub fn piece(&self, symbol: u32) -> &[u8]
+        requires { symbol < length self.now.pieces }
+        ensures piece { slice_get self.now.pieces symbol ≡ Some result.now }
+        ensures short { length result.now ≤ 255 }
+    {
+        self.pieces.piece(symbol)
+    }
+
+    /// The code of the symbols.
+    pub fn canon(&self) -> &Canon
+        ensures lengths { result.now ≡ self.now.lengths }
+        ensures keeps { IsStreamCode self.now }
+    {
+        &self.canon
+    }
+}

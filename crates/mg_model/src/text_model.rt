@@ -1,0 +1,167 @@
+//! The codes of both streams.
+ghost use Rattle.std.specs.Prelude.{◌≡◌, ◌≢◌, ◌<◌, ◌≤◌, ◌^◌, ℕ, List, IsSome, is_some, length, position, slice_get, Some, IfOk, OnOk};
+ghost use Rattle.std.specs.Str.{bytes_eq};
+ghost use Rattle.mg_dev.specs.Causes.{HasPutCause};
+ghost use Rattle.mg_dev.specs.Files.{SameReads, bytes_at, file_at};
+ghost use Rattle.mg_dev.specs.Names.{full_name};
+ghost use Rattle.mg_dev.specs.PartCauses.{HasPartCause};
+ghost use Rattle.mg_defs.specs.CodedText.{IsHuffman, TextCode};
+ghost use Rattle.mg_defs.specs.Vocabulary.{sorted_of, counts_of};
+ghost use Rattle.mg_front.specs.Reading.{LookedAt};
+ghost use Rattle.mg_model.specs.Damage.{AnswersLoad, AnswersStanding};
+ghost use Rattle.mg_model.specs.Models.{IsStreamCode, PartsHold, PartsStand, code_of};
+
+use crate::stream_model::StreamModel;
+use crate::{Stream, Vocab};
+use mg_canon::Canon;
+use mg_dev::{FileRef, Part, PartErr, PutErr, Store};
+use std::alloc::{AllocError, Global};
+use std::marker::Model;
+
+/// The distinct pieces of each stream in the order of their bytes, and the codes of their numbers:
+/// a piece's symbol is its number, from 0.
+///
+/// A model that was made of vocabularies keeps their maps, sorted; one that was loaded keeps its
+/// pieces in two blocks of bytes, with 14 bytes a piece beside them.
+#[derive(Drop)]
+pub struct TextModel {
+    words: StreamModel,
+    others: StreamModel,
+}
+
+impl Model for TextModel {
+    ghost use Rattle.mg_defs.specs.CodedText.{TextCode};
+
+    ghost Value = { TextCode };
+
+    ghost view = { λ m. record { words = m.words; others = m.others } };
+}
+
+impl TextModel {
+    /// The model of counted pieces. Each stream's pieces have the lengths of a Huffman code of their
+    /// counts; which one it is where counts tie is not promised.
+    pub fn of(alloc: Global, words: Vocab, others: Vocab) -> Result<Self, AllocError>
+        ensures words { IfOk result (λ model. model.words.pieces ≡ sorted_of words) }
+        ensures others { IfOk result (λ model. model.others.pieces ≡ sorted_of others) }
+        ensures word_lengths { IfOk result (λ model. IsHuffman (counts_of words) model.words.lengths) }
+        ensures other_lengths { IfOk result (λ model. IsHuffman (counts_of others) model.others.lengths) }
+    {
+        let words = StreamModel::of(alloc, words)?;
+        let others = StreamModel::of(alloc, others)?;
+        Ok(TextModel { words, others })
+    }
+
+    /// Writes the parts Words and Nonwords (docs/FORMAT.md).
+    pub fn write<S: Store>(&self, alloc: Global, store: &mut S, base: &str) -> Result<(), PutErr>
+        ensures hold { OnOk result (IsSome (S.files store.old) → PartsHold (S.files store.new) base.now self.now) }
+        ensures others { (n : List ℕ) → n ≢ full_name base.now Part.Words → n ≢ full_name base.now Part.Nonwords → file_at (S.files store.new) n ≡ file_at (S.files store.old) n }
+        ensures told { is_some (S.files store.new) ≡ is_some (S.files store.old) }
+        ensures reads { SameReads (S.reads store.old) (S.reads store.new) }
+        ensures cause { HasPutCause (S.faults store.old) (S.faults store.new) result }
+    {
+        let words = FileRef {
+            base,
+            part: Part::Words,
+        };
+        let others = FileRef {
+            base,
+            part: Part::Nonwords,
+        };
+        match self.words.write(alloc, store, words) {
+            Ok(()) => {}
+            Err(refusal) => return Err(refusal),
+        }
+        match self.others.write(alloc, store, others) {
+            Ok(()) => Ok(()),
+            Err(refusal) => Err(refusal),
+        }
+    }
+
+    /// Reads the parts Words and Nonwords, in this order, each once. `words` and `others` are the
+    /// numbers of pieces, at most 2^22 each. It compares a part's size with twice that number before
+    /// it reserves anything, walks the entries, and then tests the lengths; the first test that
+    /// fails is told.
+    pub fn load<S: Store>(
+        alloc: Global,
+        store: &mut S,
+        base: &str,
+        words: u32,
+        others: u32,
+    ) -> Result<Self, PartErr>
+        requires words { words ≤ 2 ^ 22 }
+        requires others { others ≤ 2 ^ 22 }
+        ensures answer { IsSome (S.files store.old) → AnswersLoad words others (bytes_at (S.files store.old) (full_name base.now Part.Words)) (bytes_at (S.files store.old) (full_name base.now Part.Nonwords)) result }
+        ensures standing { (code : TextCode) → PartsStand (S.files store.old) base.now code words others → AnswersStanding result code }
+        ensures looked { LookedAt Part.Words Part.Nonwords (S.files store.old) (S.files store.new) (S.reads store.old) (S.reads store.new) (S.faults store.old) (S.faults store.new) }
+        ensures cause { HasPartCause (S.faults store.old) (S.faults store.new) result }
+    {
+        Self::load_parts(alloc, store, base, words, others)
+    }
+
+    // The same, over any bytes.
+    fn load_parts<S: Store>(
+        alloc: Global,
+        store: &mut S,
+        base: &str,
+        words: u32,
+        others: u32,
+    ) -> Result<Self, PartErr>
+        requires words { words ≤ 2 ^ 22 }
+        requires others { others ≤ 2 ^ 22 }
+        ensures answer { IsSome (S.files store.old) → AnswersLoad words others (bytes_at (S.files store.old) (full_name base.now Part.Words)) (bytes_at (S.files store.old) (full_name base.now Part.Nonwords)) result }
+        ensures looked { LookedAt Part.Words Part.Nonwords (S.files store.old) (S.files store.new) (S.reads store.old) (S.reads store.new) (S.faults store.old) (S.faults store.new) }
+        ensures cause { HasPartCause (S.faults store.old) (S.faults store.new) result }
+    {
+        let word_part = FileRef {
+            base,
+            part: Part::Words,
+        };
+        let other_part = FileRef {
+            base,
+            part: Part::Nonwords,
+        };
+        let words = match StreamModel::load(alloc, store, word_part, words) {
+            Ok(words) => words,
+            Err(refusal) => return Err(refusal),
+        };
+        let others = match StreamModel::load(alloc, store, other_part, others) {
+            Ok(others) => others,
+            Err(refusal) => return Err(refusal),
+        };
+        Ok(TextModel { words, others })
+    }
+
+    fn stream(&self, stream: Stream) -> &StreamModel
+        ensures { result.now ≡ code_of stream self.now }
+    {
+        match stream {
+            Stream::Words => &self.words,
+            Stream::Others => &self.others,
+        }
+    }
+
+    /// The symbol of a piece of the stream; None exactly where the piece is none of them. A model
+    /// that was made looks it up with one hash; one that was loaded seeks it by halving.
+    pub fn symbol(&self, stream: Stream, piece: &[u8]) -> Option<u32>
+        ensures { result ≡ position (bytes_eq piece.now) (code_of stream self.now).pieces }
+    {
+        self.stream(stream).symbol(piece)
+    }
+
+    /// The piece of a symbol, which is below the number of the stream's pieces.
+    pub fn piece(&self, stream: Stream, symbol: u32) -> &[u8]
+        requires { symbol < length (code_of stream self.now).pieces }
+        ensures piece { slice_get (code_of stream self.now).pieces symbol ≡ Some result.now }
+        ensures short { length result.now ≤ 255 }
+    {
+        self.stream(stream).piece(symbol)
+    }
+
+    /// The code of the stream's symbols.
+    pub fn canon(&self, stream: Stream) -> &Canon
+        ensures lengths { result.now ≡ (code_of stream self.now).lengths }
+        ensures keeps { IsStreamCode (code_of stream self.now) }
+    {
+        self.stream(stream).canon()
+    }
+}
