@@ -28,3 +28,6 @@ pub use term_table::TermTable;
 pub use text_model::TextModel;
 pub use vocab::Vocab;
 pub use vocab_err::VocabErr;
+
+#[cfg(test)]
+mod tests;
