@@ -1,4 +1,6 @@
 // Boolean lines over small collections.
+ghost use Rattle.std.specs.Prelude.{None};
+
 use crate::PlainText;
 use mg_defs::{Mode, Settings};
 use mg_dev::{
@@ -89,11 +91,13 @@ fn refusals_have_their_cause(rt: HostRuntime) -> Result<(), Fail> {
 }
 
 /// A store that claims a size of each of its files, and tells none of them.
+#[derive(Drop)]
 struct Claims {
     size: u64,
     held: SureStore,
 }
 
+#[tactic(auto, unfolding(mg_dev::specs::Files::written))]
 impl Store for Claims {
     ghost files = { λ _. None };
 
@@ -110,11 +114,17 @@ impl Store for Claims {
     }
 
     fn reset(&mut self, file: &FileRef<'_>) -> Result<(), PutErr> {
-        self.held.reset(file)
+        match self.held.reset(file) {
+            Ok(()) => Ok(()),
+            Err(refusal) => Err(refusal),
+        }
     }
 
     fn append(&mut self, file: &FileRef<'_>, piece: &[u8]) -> Result<(), PutErr> {
-        self.held.append(file, piece)
+        match self.held.append(file, piece) {
+            Ok(()) => Ok(()),
+            Err(refusal) => Err(refusal),
+        }
     }
 }
 
