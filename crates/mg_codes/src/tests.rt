@@ -206,7 +206,7 @@ fn a_number_at_the_limit_is_read_and_one_above_it_is_not(rt: HostRuntime) -> Res
         let mut whole = BitReader::new(PageFeed::new(alloc, TEXT)?, 0);
         let answer = get_one(&mut whole, &mut store, kind, number);
         assert_eq!(rt; answer, Some(Ok(number)));
-        let limit = number - 1;
+        let limit = number.saturating_sub(1);
         let mut less = BitReader::new(PageFeed::new(alloc, TEXT)?, 0);
         let answer = get_one(&mut less, &mut store, kind, limit);
         assert_eq!(rt; answer, Some(Err(CodeErr::Over { at: 0, limit })));
