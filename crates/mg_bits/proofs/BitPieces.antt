@@ -1,5 +1,5 @@
 -- The bits of a piece of a byte, and the numbers that join pieces.
-use Rattle.std.proofs.Common.{rules, arith, suc, zero, ◌≡◌, ◌+◌, ◌*◌, ◌≤◌, ◌<◌, ◌-◌, ◌/◌, ◌%◌, ◌^◌, ℕ, List, [], ◌∷◌, ◌++◌, length, take, drop, Some, None, refl, sym, ◌∙◌, ap, IfSome, slice_get, Fits, w64, one-mul}
+use Rattle.std.proofs.Common.{arith, ◌≡◌, ◌+◌, ◌*◌, ◌≤◌, ◌<◌, ◌-◌, ◌/◌, ◌%◌, ◌^◌, ℕ, List, [], drop, Some, None, refl, sym, IfSome, slice_get, Fits, w64, one-mul}
 use Rattle.std.specs.declared.option.Option.{Option}
 use Rattle.std.proofs.Math.Pow.{pow_mono, pow-lt}
 use Rattle.std.proofs.Math.Nat.{mod-eq_of_lt}

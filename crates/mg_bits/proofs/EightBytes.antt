@@ -1,5 +1,5 @@
 -- Eight bytes of a page as bits.
-use Rattle.std.proofs.Common.{arith, suc, zero, ◌≡◌, ◌+◌, ◌*◌, ◌≤◌, ◌<◌, ◌-◌, ◌/◌, ◌%◌, ◌^◌, ℕ, Bool, List, [], ◌∷◌, ◌++◌, length, take, drop, None, Some, IfSome, IsSome, refl, sym, ◌∙◌, ap, subst, zero-add, slice_index, length-take, length-drop}
+use Rattle.std.proofs.Common.{arith, suc, zero, ◌≡◌, ◌+◌, ◌*◌, ◌≤◌, ◌<◌, ◌-◌, ◌/◌, ◌%◌, ◌^◌, ℕ, Bool, List, [], ◌∷◌, ◌++◌, length, take, drop, None, Some, IfSome, IsSome, refl, sym, ◌∙◌, ap, subst, zero-add, slice_index}
 use Rattle.std.specs.declared.option.Option.{Option}
 use Rattle.std.specs.List.{slice_range}
 use Rattle.std.specs.Int.{bytes_high_first, byte_at, from_be_bytes, w64}
@@ -12,7 +12,7 @@ use Rattle.mg_dev.specs.Files.{Files, bytes_at}
 use Rattle.mg_defs.specs.Bits.{Bits, Begins, FromPlace, bits_of, digits}
 use Rattle.mg_defs.proofs.BitLaws.{bits_of_append, digits_mod, length_digits}
 use Rattle.mg_defs.proofs.FrontLaws.{begins_append, begins_first, begins_second, begins_through}
-use Rattle.mg_bits.specs.Feed.{Feeding, Device, HoldsBits, Read, held_after, lacks, page_of, to_read, told_at}
+use Rattle.mg_bits.specs.Feed.{Feeding, Device, HoldsBits, Read, page_of, to_read, told_at}
 use Rattle.mg_bits.specs.Pages.{IsPageIn, IsWordIn}
 use Rattle.mg_bits.proofs.Places.{lacks_held, page_of_byte, page_of_place}
 use Rattle.mg_bits.proofs.Ranges.{calm_none, held_after_some, page_mono, to_read_some}

@@ -1,9 +1,9 @@
 -- Bytes that are read one after the other into a buffer.
-use Rattle.std.proofs.Common.{rules, arith, ◌≡◌, ◌+◌, ◌*◌, ◌/◌, ◌%◌, ◌≤◌, ◌<◌, ℕ, List, [], ◌∷◌, ◌++◌, length, take, drop, set, Some, None, slice_get, refl, sym, ◌∙◌, ap, subst, IsSome}
+use Rattle.std.proofs.Common.{arith, ◌≡◌, ◌+◌, ◌*◌, ◌/◌, ◌<◌, ℕ, List, [], ◌∷◌, ◌++◌, length, take, drop, set, Some, slice_get, sym, ◌∙◌, ap, subst}
 use Rattle.std.specs.declared.option.Option.{Option}
 use Rattle.std.proofs.lemmas.List.{take_more, take_more_set}
 use Rattle.std.proofs.lemmas.Option.{slice_get_within, get_or_from_slice_get}
-use Rattle.mg_bits.specs.Feed.{Feeding, Device, Calm, Read, ReadPart, ReadsWithin, held_after, page_of}
+use Rattle.mg_bits.specs.Feed.{Feeding, Device, Calm, Read, ReadPart, ReadsWithin, page_of}
 use Rattle.mg_dev.specs.declared.part.Part.{Part}
 use Rattle.mg_dev.specs.Files.{Files, Reads}
 use Rattle.mg_bits.specs.Pages.{Looked}

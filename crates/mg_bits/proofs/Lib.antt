@@ -5,5 +5,6 @@ pub mod Told
 pub mod WriterLaws
 pub mod BitsWritten
 pub mod Fills
+pub mod Kept
 pub mod Walks
 pub mod EightBytes

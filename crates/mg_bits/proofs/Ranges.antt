@@ -1,12 +1,11 @@
 -- Reading one range of bits after another.
-use Rattle.std.proofs.Common.{rules, arith, suc, zero, ◌≡◌, ◌+◌, ◌*◌, ◌≤◌, ◌<◌, ◌-◌, ◌/◌, ◌%◌, ◌^◌, ℕ, Some, None, refl, sym, ◌∙◌, ap, subst, nat_lt, nat_le, Bool, true, false, ◌⊎◌, inl, inr, zero-add, add-zero}
+use Rattle.std.proofs.Common.{arith, suc, ◌≡◌, ◌+◌, ◌*◌, ◌≤◌, ◌<◌, ◌-◌, ◌/◌, ◌%◌, ℕ, Some, refl, sym, ◌∙◌, ap, ◌⊎◌, inl, inr, zero-add, add-zero}
 use Rattle.std.specs.declared.option.Option.{Option}
 use Rattle.std.proofs.lemmas.Grind.{common_steps}
 use Rattle.std.proofs.Math.Nat.{lt-div-mul-add, div-mul-le_self, div-div-eq-div-mul}
 use Rattle.mg_bits.proofs.Places.{to_read_place, to_read_here}
 use Rattle.std.proofs.lemmas.Nat.{le-div, div_below}
-use Rattle.mg_bits.specs.Feed.{page_of, lacks, to_read, held_after, raised, ReadsOwn, Counted, Calm, ReadsWithin, Read, ReadPart, Feeding, Device}
-use Rattle.mg_dev.specs.declared.part.Part.{Part}
+use Rattle.mg_bits.specs.Feed.{page_of, lacks, to_read, held_after, raised, Calm, ReadsWithin, Read, ReadPart, Feeding, Device}
 
 -- the page of the next place is the same or the next one
 pub next_page : (width place : ℕ) → 0 < width → suc place / width ≤ place / width + 1

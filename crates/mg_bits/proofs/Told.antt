@@ -1,13 +1,10 @@
 -- What is told of bits that were read in pieces.
-use Rattle.std.proofs.Common.{rules, arith, suc, zero, ◌≡◌, ◌+◌, ◌*◌, ◌≤◌, ◌<◌, ◌-◌, ◌/◌, ◌%◌, ◌^◌, ℕ, Bool, true, false, List, [], ◌∷◌, ◌++◌, length, take, drop, Some, None, Ok, Err, refl, sym, ◌∙◌, ap, subst, IfSome, length-drop, nat_eq}
+use Rattle.std.proofs.Common.{arith, suc, zero, ◌≡◌, ◌+◌, ◌*◌, ◌≤◌, ◌<◌, ◌-◌, ◌^◌, ℕ, Bool, List, [], ◌∷◌, length, drop, Some, None, Ok, Err, refl, sym, ◌∙◌, ap, subst, length-drop, nat_eq}
 use Rattle.std.specs.declared.option.Option.{Option}
-use Rattle.std.specs.declared.result.Result.{Result}
-use Rattle.std.proofs.lemmas.Grind.{common_steps}
 use Rattle.std.proofs.lemmas.List.{drop-drop}
-use Rattle.std.proofs.Math.ListN.{drop_of_length-le}
-use Rattle.mg_defs.specs.Bits.{digits, bits_of, is_odd, Begins, FromPlace}
-use Rattle.mg_bits.specs.Feed.{Feeding, Device as Seen, Calm, Read}
-use Rattle.mg_bits.specs.Reader.{AnswersBit, AnswersBits, AnswersPiece, EndHolds, at_place}
+use Rattle.mg_defs.specs.Bits.{digits, bits_of, Begins, FromPlace}
+use Rattle.mg_bits.specs.Feed.{Feeding, Device as Seen, Calm}
+use Rattle.mg_bits.specs.Reader.{AnswersBits, AnswersPiece, EndHolds, at_place}
 use Rattle.mg_bits.specs.declared.bit_err.BitErr.{BitErr}
 use Rattle.mg_bits.specs.declared.bit_err.BitErr.TheVariants.{Device, End}
 use Rattle.mg_defs.proofs.BitLaws.{length_digits}

@@ -1,11 +1,11 @@
 -- What is told after some bits of a code were read.
-use Rattle.std.proofs.Common.{rules, arith, suc, zero, ◌≡◌, ◌+◌, ◌≤◌, ◌<◌, ◌-◌, ℕ, List, [], ◌∷◌, ◌++◌, length, drop, Some, None, Ok, Err, refl, sym, ◌∙◌, ap, subst}
+use Rattle.std.proofs.Common.{arith, ◌≡◌, ◌+◌, ◌<◌, ℕ, List, [], ◌++◌, length, drop, Some, None, Ok, Err, refl, sym, subst}
 use Rattle.std.specs.declared.option.Option.{Option}
 use Rattle.std.proofs.lemmas.List.{drop-drop}
 use Rattle.mg_defs.specs.Bits.{Bits, Begins, FromPlace, bits_of}
 use Rattle.mg_defs.specs.Answers.{CutShort, IsNone, IsPrefixFree}
 use Rattle.mg_defs.proofs.FrontLaws.{none_more, open_longer, all_read, begins_both, ends}
-use Rattle.mg_bits.specs.Feed.{Feeding, Device as Seen, Read, ReadPart, ReadsWithin}
+use Rattle.mg_bits.specs.Feed.{Feeding, Device as Seen, ReadPart}
 use Rattle.mg_bits.specs.Reader.{AnswersBit}
 use Rattle.mg_bits.specs.CodeAnswers.{AnswersCode, OnlyPagesOf, of_bit}
 use Rattle.mg_bits.specs.declared.bit_err.BitErr.{BitErr}

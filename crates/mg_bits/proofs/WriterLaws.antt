@@ -1,5 +1,5 @@
 -- What writes do to what was written.
-use Rattle.std.proofs.Common.{rules, arith, ◌≡◌, ◌≢◌, ◌+◌, ◌≤◌, ◌<◌, ◌++◌, ◌⊎◌, inl, inr, ℕ, List, [], ◌∷◌, length, take, set, Some, refl, sym, ◌∙◌, ap, subst, true, Ok, Err, OnOk, unwrap_or, IsSome, is_some, append_assoc, append-nil, length-set}
+use Rattle.std.proofs.Common.{arith, ◌≡◌, ◌+◌, ◌≤◌, ◌<◌, ◌++◌, ◌⊎◌, inl, inr, ℕ, List, [], ◌∷◌, length, take, set, sym, ◌∙◌, ap, subst, true, Ok, Err, OnOk, unwrap_or, IsSome, is_some, append_assoc, append-nil, length-set}
 use Rattle.std.specs.declared.option.Option.{Option}
 use Rattle.std.specs.declared.result.Result.{Result}
 use Rattle.std.proofs.lemmas.List.{take_more_set, take_all}

@@ -1,5 +1,5 @@
 -- The three answers of a reader of a code, and its refusals.
-use Rattle.std.specs.Prelude.{◌≡◌, ◌≤◌, ◌<◌, ◌+◌, ℕ, length, Ok, Err}
+use Rattle.std.specs.Prelude.{◌≡◌, ◌+◌, ℕ, length, Ok, Err}
 use Rattle.std.specs.declared.result.Result.{Result}
 use Rattle.mg_dev.specs.Causes.{Rose}
 use Rattle.mg_defs.specs.Bits.{Bits, Begins}

@@ -1,5 +1,5 @@
 -- What contracts see of a device and of a feed, and what a reading call does to both.
-use Rattle.std.specs.Prelude.{◌≡◌, ◌≢◌, ◌≤◌, ◌<◌, ◌+◌, ◌-◌, ◌*◌, ◌/◌, ◌%◌, ◌^◌, ◌==◌, ℕ, List, min, max, Some, None, if◌then◌else◌, nat_lt}
+use Rattle.std.specs.Prelude.{◌≡◌, ◌≢◌, ◌≤◌, ◌<◌, ◌+◌, ◌-◌, ◌*◌, ◌/◌, ◌%◌, ◌^◌, ◌==◌, ℕ, List, length, min, max, Some, None, if◌then◌else◌, nat_lt}
 use Rattle.std.specs.declared.option.Option.{Option}
 use Rattle.mg_dev.specs.declared.part.Part.{Part}
 use Rattle.mg_dev.specs.Files.{Files, Reads, bytes_at}
@@ -79,6 +79,13 @@ pub record ReadsWithin (old new : Feeding) (before now : Device) (from to : ℕ)
 pub record HoldsBits (feed : Feeding) (place count : ℕ) : Type 0 where
   pub first : feed.held ≡ Some (page_of feed.page place)
   pub last : page_of feed.page (place + count - 1) ≡ page_of feed.page place
+
+-- the page that is held has all bits of a range of the bytes that are told
+pub record HasBits (feed : Feeding) (files : Option Files) (place count : ℕ) : Type 0 where
+  pub holds : HoldsBits feed place count
+  pub bytes : List ℕ
+  pub told : feed.source files ≡ Some bytes
+  pub within : place + count ≤ 8 * length bytes
 
 -- a range of bits was read
 pub record Read (old new : Feeding) (before now : Device) (from to : ℕ) : Type 0 where

@@ -25,6 +25,10 @@ abbrev pub IsPageIn : ℕ → Option ℕ → List ℕ → List ℕ → Type 0
 IsPageIn bytes None page file = Unit {0}
 IsPageIn bytes (Some number) page file = page ≡ take bytes (drop (bytes * number) file)
 
+-- a kept page of so many bytes begins at this place; where none is kept there are no bytes
+abbrev pub IsFirst : Option ℕ → ℕ → ℕ → ℕ → Type 0
+IsFirst held bytes first count = (held ≡ None → count ≡ 0) × ((number : ℕ) → held ≡ Some number → first ≡ bytes * number)
+
 -- a held page is that of the bytes
 abbrev pub IsPageOf : Option ℕ → List ℕ → List ℕ → Type 0
 IsPageOf held page file = IsPageIn 4096 held page file

@@ -1,7 +1,7 @@
 // Bits of a feed.
-ghost use Rattle.std.specs.Prelude.{◌≡◌, ◌+◌, ◌-◌, ◌*◌, ◌/◌, ◌≤◌, ◌<◌, ◌^◌, IfOk, ◌%◌, OnOk, OnErr, MatchResult, Option, Some, IfSome};
+ghost use Rattle.std.specs.Prelude.{◌≡◌, ◌+◌, ◌-◌, ◌*◌, ◌/◌, ◌≤◌, ◌<◌, ◌^◌, IfOk, ◌%◌, OnOk, OnErr, MatchResult, Option, Some, IfSome, IsSome};
 ghost use Rattle.mg_dev.specs.Files.{Files};
-ghost use Rattle.mg_bits.specs.Feed.{HoldsBits, Read, ReadPart, page_of};
+ghost use Rattle.mg_bits.specs.Feed.{HasBits, HoldsBits, Read, ReadPart, page_of};
 ghost use Rattle.mg_defs.specs.Bits.{Begins, FromPlace, digits};
 ghost use Rattle.mg_bits.specs.Reader.{AnswersBit, AnswersBits, AnswersPiece, DeviceCause, EndHolds, at_place};
 
@@ -35,13 +35,15 @@ impl<F: Feed> BitReader<F> {
         self.place = place;
     }
 
-    /// The next 57 bits as a number, if the page that is held has them all: eight bytes hold as
-    /// many behind any place in the first of them. The device is not asked.
+    /// The next 57 bits as a number, where the page that is held has the eight bytes from the next
+    /// bit's on, and None elsewhere: eight bytes hold as many behind any place in the first of them.
+    /// The device is not asked.
     #[inline]
     pub fn peek(&self) -> Option<u64>
         ensures below { IfSome result (λ next. next < 2 ^ 57) }
         ensures told { (files : Option Files) → F.fits self.now.feed files → IfSome result (λ next. FromPlace ((F.feeding self.now.feed).source files) self.now.place (Begins (digits 57 next))) }
         ensures held { IfSome result (λ next. HoldsBits (F.feeding self.now.feed) self.now.place 57) }
+        ensures some { (files : Option Files) → F.fits self.now.feed files → HasBits (F.feeding self.now.feed) files (8 * (self.now.place / 8)) 64 → IsSome result }
     {
         match self.feed.word(self.place / 8) {
             Some(word) => Some(middle(word, (self.place % 8) as u32)),
@@ -142,6 +144,26 @@ impl<F: Feed> BitReader<F> {
     /// The next bit.
     #[inline]
     pub fn bit(&mut self, dev: &mut F::Dev) -> Result<bool, BitErr>
+        requires fits { F.fits self.old.feed (F.device dev.old).files }
+        requires place { self.old.place + 1 < 2 ^ 64 }
+        ensures fits { F.fits self.new.feed (F.device dev.new).files }
+        ensures read { OnOk result (Read (F.feeding self.old.feed) (F.feeding self.new.feed) (F.device dev.old) (F.device dev.new) self.old.place (self.old.place + 1)) }
+        ensures part { OnErr result (ReadPart (F.feeding self.old.feed) (F.feeding self.new.feed) (F.device dev.old) (F.device dev.new) self.old.place (self.old.place + 1)) }
+        ensures place { MatchResult result (λ _. self.new.place ≡ self.old.place + 1) (λ _. self.new.place ≡ self.old.place) }
+        ensures told { FromPlace ((F.feeding self.old.feed).source (F.device dev.old).files) self.old.place (AnswersBit result self.old.place) }
+        ensures cause { DeviceCause result (F.device dev.old).faults (F.device dev.new).faults }
+    {
+        if let Some(next) = self.peek() {
+            self.place += 1;
+            return Ok(first_of(next, 1) == 1);
+        }
+        self.bit_of_byte(dev)
+    }
+
+    /// The next bit, from a byte that the feed is asked for. It stands apart so that `bit` is short
+    /// where the page is held.
+    #[inline(never)]
+    fn bit_of_byte(&mut self, dev: &mut F::Dev) -> Result<bool, BitErr>
         requires fits { F.fits self.old.feed (F.device dev.old).files }
         requires place { self.old.place + 1 < 2 ^ 64 }
         ensures fits { F.fits self.new.feed (F.device dev.new).files }

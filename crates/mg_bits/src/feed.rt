@@ -1,9 +1,9 @@
 // Bytes of a file, through pages.
-ghost use Rattle.std.specs.Prelude.{◌≡◌, ◌+◌, ◌*◌, ℕ, Option, IfOk, IfSome, OnSome, slice_get};
+ghost use Rattle.std.specs.Prelude.{◌≡◌, ◌+◌, ◌*◌, ℕ, Option, IfOk, IfSome, IsSome, OnSome, slice_get};
 ghost use Rattle.mg_dev.specs.Files.{Files};
 ghost use Rattle.mg_dev.specs.Causes.{HasCause};
 ghost use Rattle.mg_defs.specs.Bits.{Begins, FromPlace, digits};
-ghost use Rattle.mg_bits.specs.Feed.{Device, Feeding, IsPageLength, Calm, HoldsBits, ReadsWithin, page_of};
+ghost use Rattle.mg_bits.specs.Feed.{Device, Feeding, IsPageLength, Calm, HasBits, HoldsBits, ReadsWithin, page_of};
 
 use mg_dev::Failed;
 
@@ -33,11 +33,12 @@ pub trait Feed {
         ensures keeps { (feeding self.old).held ≡ Some (page_of (feeding self.old).page (8 * at)) → (feeding self.new).held ≡ (feeding self.old).held }
         ensures cause { HasCause (device dev.old).faults (device dev.new).faults result };
 
-    /// The eight bytes from a place on as a number, the first of them highest, if the page that is
-    /// held has them all. The device is not asked.
+    /// The eight bytes from a place on as a number, the first of them highest, where the page that
+    /// is held has them all, and None elsewhere. The device is not asked.
     fn word(&self, at: u64) -> Option<u64>
         ensures told { (files : Option Files) → fits self.now files → IfSome result (λ word. FromPlace ((feeding self.now).source files) (8 * at) (Begins (digits 64 word))) }
-        ensures held { IfSome result (λ word. HoldsBits (feeding self.now) (8 * at) 64) };
+        ensures held { IfSome result (λ word. HoldsBits (feeding self.now) (8 * at) 64) }
+        ensures some { (files : Option Files) → fits self.now files → HasBits (feeding self.now) files (8 * at) 64 → IsSome result };
 
     /// A page is a number of times 64 bytes.
     ghost whole_pages: { (feed : Self) → IsPageLength (feeding feed).page };

@@ -5,12 +5,12 @@ ghost use Rattle.mg_dev.specs.Files.{Files, bytes_at};
 ghost use Rattle.mg_dev.specs.Names.{full_name};
 ghost use Rattle.mg_dev.specs.Causes.{HasCause};
 ghost use Rattle.mg_defs.specs.Bits.{Begins, FromPlace, digits};
-ghost use Rattle.mg_bits.specs.Feed.{Calm, HoldsBits, ReadPart, ReadsWithin, of_store, held_after, page_of};
+ghost use Rattle.mg_bits.specs.Feed.{Calm, HasBits, HoldsBits, ReadPart, ReadsWithin, of_store, held_after, page_of};
 ghost use Rattle.mg_bits.specs.FeedLaws.{same_page};
 ghost use Rattle.mg_bits.specs.Pages.{Fits, SameFile, Looked, IsFilled, feeding_of};
 
 use crate::Feed;
-use crate::window::{Window, byte_in, is_held, window_byte, word_in};
+use crate::window::{Window, byte_in, window_byte, word_in};
 use mg_dev::{Failed, FileRef, Part, Store};
 use std::alloc::{AllocError, Global};
 use std::marker::{Model, PhantomData};
@@ -32,13 +32,13 @@ pub struct PageFeed<'a, S> {
 impl<'a, S> Model for PageFeed<'a, S> {
     ghost use Rattle.std.specs.Prelude.{◌≡◌, ◌≤◌, take, length};
     ghost use Rattle.mg_dev.specs.Names.{full_name};
-    ghost use Rattle.mg_bits.specs.Pages.{Paging};
+    ghost use Rattle.mg_bits.specs.Pages.{IsFirst, Paging};
 
     ghost Value = { Paging };
 
     ghost view = { λ f. record { name = full_name f.file.base.now f.file.part; part = f.file.part; held = f.window.held; page = take f.window.count f.page.items; count = f.window.reads } };
 
-    ghost invariant = { λ f. (length f.page.items ≡ 4096) × (f.window.count ≤ 4096) };
+    ghost invariant = { λ f. (length f.page.items ≡ 4096) × (f.window.count ≤ 4096) × IsFirst f.window.held 4096 f.window.first f.window.count };
 }
 
 impl<'a, S: Store> PageFeed<'a, S> {
@@ -53,11 +53,7 @@ impl<'a, S: Store> PageFeed<'a, S> {
         Ok(PageFeed {
             file,
             page: vec![in alloc; 0; PAGE]?,
-            window: Window {
-                held: None,
-                count: 0,
-                reads: 0,
-            },
+            window: Window::empty(),
             of: PhantomData,
         })
     }
@@ -76,8 +72,9 @@ impl<'a, S: Store> PageFeed<'a, S> {
         ensures keeps { self.old.held ≡ Some (page_of 4096 (8 * at)) → self.new.held ≡ self.old.held }
         ensures cause { HasCause (S.faults store.old) (S.faults store.new) result }
     {
-        if is_held(self.window.held, at / 4096) {
-            let byte = byte_in(&self.page[..self.window.count], (at % 4096) as usize);
+        if self.window.has(at) {
+            let index = (at - self.window.first) as usize;
+            let byte = byte_in(&self.page[..self.window.count], index);
             return Ok(byte);
         }
         self.turn(store, at)
@@ -118,11 +115,13 @@ impl<'a, S: Store> PageFeed<'a, S> {
     fn held_word(&self, at: u64) -> Option<u64>
         ensures told { (files : Option Files) → Fits self.now files → IfSome result (λ word. FromPlace ((feeding_of 4096 self.now).source files) (8 * at) (Begins (digits 64 word))) }
         ensures held { IfSome result (λ word. HoldsBits (feeding_of 4096 self.now) (8 * at) 64) }
+        ensures some { (files : Option Files) → Fits self.now files → HasBits (feeding_of 4096 self.now) files (8 * at) 64 → IsSome result }
     {
-        if !is_held(self.window.held, at / 4096) {
+        if !self.window.has(at) {
             return None;
         }
-        word_in(&self.page[..self.window.count], (at % 4096) as usize)
+        let index = (at - self.window.first) as usize;
+        word_in(&self.page[..self.window.count], index)
     }
 
     /// The number of bytes of the file; a missing one has none.

@@ -5,10 +5,10 @@ ghost use Rattle.mg_dev.specs.Files.{Files, bytes_at};
 ghost use Rattle.mg_dev.specs.Names.{full_name};
 ghost use Rattle.mg_bits.specs.Feed.{over_file, of_store};
 ghost use Rattle.mg_bits.specs.FeedLaws.{same_page};
-ghost use Rattle.mg_bits.specs.Pages.{IsPageIn};
+ghost use Rattle.mg_bits.specs.Pages.{IsFirst, IsPageIn};
 
 use crate::Feed;
-use crate::window::{Window, is_held, window_byte, word_in};
+use crate::window::{Window, window_byte, word_in};
 use mg_dev::{Failed, FileRef, Store};
 use std::marker::PhantomData;
 
@@ -21,6 +21,7 @@ pub struct SmallFeed<'a, 'b, S> {
     window: Window,
     of: PhantomData<S>,
     ghost within: { window.count ≤ 64 },
+    ghost first: { IsFirst window.held 64 window.first window.count },
 }
 
 impl<'a, 'b, S: Store> SmallFeed<'a, 'b, S> {
@@ -32,11 +33,7 @@ impl<'a, 'b, S: Store> SmallFeed<'a, 'b, S> {
         SmallFeed {
             file,
             slot,
-            window: Window {
-                held: None,
-                count: 0,
-                reads: 0,
-            },
+            window: Window::empty(),
             of: PhantomData,
         }
     }
@@ -71,10 +68,11 @@ impl<'a, 'b, S: Store> Feed for SmallFeed<'a, 'b, S> {
 
     #[inline]
     fn word(&self, at: u64) -> Option<u64> {
-        if !is_held(self.window.held, at / 64) {
+        if !self.window.has(at) {
             return None;
         }
-        word_in(&self.slot[..self.window.count], (at % 64) as usize)
+        let index = (at - self.window.first) as usize;
+        word_in(&self.slot[..self.window.count], index)
     }
 
     ghost whole_pages = { λ s. Prim.search rules };

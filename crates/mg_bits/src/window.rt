@@ -1,12 +1,12 @@
 // One page of a file, kept in a buffer.
-ghost use Rattle.std.specs.Prelude.{◌≡◌, ◌+◌, ◌*◌, ◌/◌, ◌%◌, ◌≤◌, ◌<◌, ◌^◌, ℕ, Option, Some, IfOk, IfSome, OnOk, OnSome, slice_get, length, take, IsSome};
+ghost use Rattle.std.specs.Prelude.{◌≡◌, ◌+◌, ◌-◌, ◌*◌, ◌/◌, ◌%◌, ◌≤◌, ◌<◌, ◌^◌, ℕ, Option, Some, None, IfOk, IfSome, OnOk, OnSome, slice_get, length, take, IsSome};
 ghost use Rattle.std.specs.Bool.{OnTrue, OnFalse};
 ghost use Rattle.mg_dev.specs.Files.{Files, bytes_at};
 ghost use Rattle.mg_dev.specs.Names.{full_name};
 ghost use Rattle.mg_dev.specs.Causes.{HasCause};
 ghost use Rattle.mg_bits.specs.Feed.{Calm, ReadsWithin, lacks, over_file, of_store, page_of, told_at};
 ghost use Rattle.mg_defs.specs.Bits.{bits_of, digits};
-ghost use Rattle.mg_bits.specs.Pages.{IsPageIn, IsWordIn};
+ghost use Rattle.mg_bits.specs.Pages.{IsFirst, IsPageIn, IsWordIn};
 
 use mg_dev::{Failed, FileRef, Store};
 
@@ -15,10 +15,40 @@ use mg_dev::{Failed, FileRef, Store};
 pub struct Window {
     /// The number of the page, if one is kept.
     pub held: Option<u64>,
-    /// The bytes of that page: fewer than the buffer takes only where the file ends.
+    /// The place of that page's first byte.
+    pub first: u64,
+    /// The bytes of that page: fewer than the buffer takes only where the file ends, and none where
+    /// no page is kept.
     pub count: usize,
     /// How often a page was read, up to the number's end.
     pub reads: u64,
+}
+
+impl Window {
+    /// No page is kept.
+    pub fn empty() -> Self
+        ensures held { result.held ≡ None }
+        ensures count { result.count ≡ 0 }
+        ensures reads { result.reads ≡ 0 }
+    {
+        Window {
+            held: None,
+            first: 0,
+            count: 0,
+            reads: 0,
+        }
+    }
+
+    /// Whether the byte at a place is kept. No page's number is needed for it, so that a byte of the
+    /// page costs one comparison.
+    #[inline]
+    pub fn has(&self, at: u64) -> bool
+        ensures low { OnTrue result (self.now.first ≤ at) }
+        ensures high { OnTrue result (at - self.now.first < self.now.count) }
+        ensures no { OnFalse result (self.now.first ≤ at → self.now.count ≤ at - self.now.first) }
+    {
+        at >= self.first && at - self.first < self.count as u64
+    }
 }
 
 /// Whether the page of this number is held.
@@ -43,8 +73,10 @@ fn load<S: Store>(
 ) -> Result<(), Failed>
     requires fits { length page.old * number < 2 ^ 64 }
     requires within { window.old.count ≤ length page.old }
+    requires first { IsFirst window.old.held (length page.old) window.old.first window.old.count }
     requires agrees { IsSome (S.files store.old) → IsPageIn (length page.old) window.old.held (take window.old.count page.old) (bytes_at (S.files store.old) (full_name file.now.base.now file.now.part)) }
     ensures within { window.new.count ≤ length page.new }
+    ensures first { IsFirst window.new.held (length page.new) window.new.first window.new.count }
     ensures agrees { IsSome (S.files store.new) → IsPageIn (length page.new) window.new.held (take window.new.count page.new) (bytes_at (S.files store.new) (full_name file.now.base.now file.now.part)) }
     ensures calm { Calm (over_file (full_name file.now.base.now file.now.part) file.now.part (length page.old) window.old.held window.old.reads)
         (over_file (full_name file.now.base.now file.now.part) file.now.part (length page.old) window.new.held window.new.reads)
@@ -59,10 +91,12 @@ fn load<S: Store>(
     if is_held(window.held, number) {
         return Ok(());
     }
+    let first = page.len() as u64 * number;
     window.held = None;
     window.reads = window.reads.saturating_add(1);
-    match store.read_at(file, page.len() as u64 * number, page) {
+    match store.read_at(file, first, page) {
         Ok(count) => {
+            window.first = first;
             window.count = count;
             window.held = Some(number);
             Ok(())
@@ -85,7 +119,8 @@ pub fn byte_in(bytes: &[u8], index: usize) -> Option<u8>
 /// The eight bytes from an index on as a number, if there are so many.
 #[inline]
 pub fn word_in(bytes: &[u8], index: usize) -> Option<u64>
-    ensures { IfSome result (λ word. IsWordIn bytes.now index word) }
+    ensures told { IfSome result (λ word. IsWordIn bytes.now index word) }
+    ensures some { index + 8 ≤ length bytes.now → IsSome result }
 {
     if bytes.len() < 8 || index > bytes.len() - 8 {
         return None;
@@ -119,8 +154,10 @@ pub fn window_byte<S: Store>(
     requires offset { offset ≡ at % length page.old }
     requires some { 0 < length page.old }
     requires within { window.old.count ≤ length page.old }
+    requires first { IsFirst window.old.held (length page.old) window.old.first window.old.count }
     requires agrees { IsSome (S.files store.old) → IsPageIn (length page.old) window.old.held (take window.old.count page.old) (bytes_at (S.files store.old) (full_name file.now.base.now file.now.part)) }
     ensures within { window.new.count ≤ length page.new }
+    ensures first { IsFirst window.new.held (length page.new) window.new.first window.new.count }
     ensures agrees { IsSome (S.files store.new) → IsPageIn (length page.new) window.new.held (take window.new.count page.new) (bytes_at (S.files store.new) (full_name file.now.base.now file.now.part)) }
     ensures told { IsSome (S.files store.old) → IfOk result (λ byte. byte ≡ slice_get (bytes_at (S.files store.old) (full_name file.now.base.now file.now.part)) at) }
     ensures calm { Calm (over_file (full_name file.now.base.now file.now.part) file.now.part (length page.old) window.old.held window.old.reads)

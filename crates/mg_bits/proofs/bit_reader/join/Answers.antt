@@ -1,6 +1,5 @@
-use Rattle.std.proofs.Common.{rules, arith, ◌≡◌, ◌≤◌, ◌<◌, ◌+◌, ◌*◌, ◌%◌, ◌^◌, add-zero}
+use Rattle.std.proofs.Common.{arith, add-zero}
 use Rattle.mg_bits.proofs.BitPieces.{small_power, within_word}
-use Rattle.mg_defs.proofs.BitLaws.{high_below}
 use Rattle.mg_bits.proofs.bit_reader.join.Goals as goal
 
 pub overflow_mul-result : goal.overflow_mul-result

@@ -1,4 +1,4 @@
-use Rattle.std.proofs.Common.{rules, arith, ◌≡◌, ◌<◌, ◌+◌, ◌/◌, ◌^◌}
+use Rattle.std.proofs.Common.{arith, ◌<◌, ◌/◌, ◌^◌}
 use Rattle.std.proofs.lemmas.Nat.{shr_below}
 use Rattle.mg_bits.proofs.bit_writer.high.Goals as goal
 

@@ -1,4 +1,3 @@
-use Rattle.std.proofs.Common.{rules, arith, ◌≡◌, ◌<◌, ◌+◌, ◌/◌, ◌^◌}
 use Rattle.mg_bits.proofs.BitPieces.{small_power}
 use Rattle.mg_defs.proofs.BitLaws.{high_below}
 use Rattle.mg_bits.proofs.bit_writer.join.Goals as goal

@@ -1,4 +1,4 @@
-use Rattle.std.proofs.Common.{rules, arith}
+use Rattle.std.proofs.Common.{arith}
 use Rattle.mg_bits.proofs.Places.{calm_once, one_read}
 use Rattle.mg_bits.proofs.window.load.Goals as goal
 

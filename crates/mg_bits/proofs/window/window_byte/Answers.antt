@@ -1,5 +1,4 @@
-use Rattle.std.proofs.Common.{rules, arith, ◌≡◌, ◌≤◌, ◌<◌, ℕ, Some, None, refl, ap, ◌∙◌, sym, IfSome, IsSome, ◌/◌, length, take, slice_get}
-use Rattle.std.specs.declared.option.Option.{Option}
+use Rattle.std.proofs.Common.{arith, ◌≡◌, Some, ap, ◌∙◌, ◌/◌, length, take, slice_get}
 use Rattle.std.proofs.lemmas.Grind.{common_steps}
 use Rattle.mg_bits.proofs.Places.{within_byte, paged_byte, page_of_byte}
 use Rattle.mg_bits.proofs.window.window_byte.Goals as goal

@@ -1,6 +1,4 @@
-use Rattle.std.proofs.Common.{rules, arith, ◌≡◌, ◌≤◌, ◌<◌, ◌+◌, ◌-◌, ◌*◌, ◌^◌, ℕ, Option, Some, None, List, ◌∙◌, sym, ap, subst, add_assoc, add-zero}
-use Rattle.mg_defs.specs.Bits.{FromPlace, Begins, digits}
-use Rattle.mg_bits.specs.Feed.{Read, ReadPart}
+use Rattle.std.proofs.Common.{arith, add-zero}
 use Rattle.mg_bits.proofs.Ranges.{read_none, read_step, part_step}
 use Rattle.mg_defs.proofs.BitLaws.{high_below}
 use Rattle.mg_bits.proofs.Told.{same_told, told_more, told_refused, told_nothing, told_end, told_end_ok}

@@ -1,4 +1,4 @@
-use Rattle.std.proofs.Common.{◌≡◌, ◌+◌, ◌-◌, ◌≤◌, ◌<◌, ◌^◌, ℕ}
+use Rattle.std.proofs.Common.{◌≡◌, ◌+◌, ◌-◌, ◌≤◌, ◌<◌, ◌^◌}
 use Rattle.mg_bits.specs.Feed.{Read}
 use Rattle.mg_defs.specs.Bits.{FromPlace, Begins, digits}
 use Rattle.mg_bits.proofs.bit_reader.BitReader.bits_by_bytes.Given as goal

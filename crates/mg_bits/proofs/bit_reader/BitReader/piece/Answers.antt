@@ -1,4 +1,4 @@
-use Rattle.std.proofs.Common.{rules, arith, ◌≡◌, ◌≤◌, ◌+◌, ◌-◌, ℕ, Option, Some, None, ◌∙◌, sym}
+use Rattle.std.proofs.Common.{arith, ◌∙◌, sym}
 use Rattle.mg_bits.proofs.Places.{page_of_place}
 use Rattle.mg_bits.proofs.Ranges.{within_piece, held_piece}
 use Rattle.mg_bits.proofs.BitPieces.{told_no_bit}

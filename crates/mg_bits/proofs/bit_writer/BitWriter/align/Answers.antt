@@ -1,4 +1,4 @@
-use Rattle.std.proofs.Common.{rules, arith, ◌≡◌, ◌+◌, ◌-◌, ◌%◌, length, ap, ℕ, ◌∙◌}
+use Rattle.std.proofs.Common.{arith, ◌≡◌, ◌+◌, ◌-◌, ◌%◌, length, ap, ℕ}
 use Rattle.mg_defs.specs.Bits.{digits}
 use Rattle.mg_defs.proofs.BitLaws.{length_digits}
 use Rattle.mg_bits.proofs.bit_writer.BitWriter.align.Goals as goal

@@ -1,4 +1,4 @@
-use Rattle.std.proofs.Common.{rules, arith, ◌≡◌, ◌%◌, ℕ, sym, ◌∙◌, refl, List, [], ◌++◌, Bool}
+use Rattle.std.proofs.Common.{◌≡◌, ◌%◌, ℕ, sym, ◌∙◌, refl, List, [], ◌++◌}
 use Rattle.mg_defs.specs.Bits.{digits, bits_of}
 use Rattle.mg_bits.proofs.BitsWritten.{flushed}
 use Rattle.mg_bits.proofs.bit_writer.BitWriter.flush.Goals as goal

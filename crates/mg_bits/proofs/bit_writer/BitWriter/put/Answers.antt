@@ -1,4 +1,4 @@
-use Rattle.std.proofs.Common.{rules, arith, ◌≡◌, ◌≤◌, ◌<◌, ◌+◌, ◌-◌, ◌/◌, ◌^◌, ℕ, length, sym, ◌∙◌, ap, subst, refl, Bool, List, []}
+use Rattle.std.proofs.Common.{arith, ◌≡◌, ◌-◌, ◌/◌, ◌^◌, ℕ, refl, []}
 use Rattle.mg_defs.specs.Bits.{digits}
 use Rattle.mg_defs.proofs.BitLaws.{length_digits}
 use Rattle.mg_bits.proofs.BitsWritten.{bits_none, bits_more, to_none, to_more, digits_next}

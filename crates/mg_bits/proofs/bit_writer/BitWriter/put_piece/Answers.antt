@@ -1,4 +1,4 @@
-use Rattle.std.proofs.Common.{rules, arith, ◌≡◌, ◌<◌, ◌+◌, ◌-◌, length, take}
+use Rattle.std.proofs.Common.{arith, ◌+◌, ◌-◌}
 use Rattle.mg_bits.proofs.BitsWritten.{wrote_kept, wrote_sent}
 use Rattle.mg_bits.proofs.bit_writer.BitWriter.put_piece.Goals as goal
 

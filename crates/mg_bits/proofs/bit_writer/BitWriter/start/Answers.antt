@@ -1,7 +1,7 @@
-use Rattle.std.proofs.Common.{rules, arith, ◌≡◌, refl, List, [], ◌++◌, ap, ◌∙◌, ℕ, Bool, IsSome, length, sym, is_some}
+use Rattle.std.proofs.Common.{◌≡◌, [], ◌++◌, ap, ◌∙◌, length, sym}
 use Rattle.std.specs.declared.option.Option.{Option}
 use Rattle.mg_dev.specs.Files.{Files}
-use Rattle.mg_defs.specs.Bits.{Bits, digits, bits_of}
+use Rattle.mg_defs.specs.Bits.{digits, bits_of}
 use Rattle.mg_bits.specs.Writer.{Writing, put_to}
 use Rattle.mg_bits.specs.BitWriting.{bits_put}
 use Rattle.mg_bits.proofs.BitsWritten.{as_bits}

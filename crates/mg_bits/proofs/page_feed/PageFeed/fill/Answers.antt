@@ -1,4 +1,4 @@
-use Rattle.std.proofs.Common.{rules, arith, ◌≡◌, ◌+◌, ◌∙◌, refl}
+use Rattle.std.proofs.Common.{arith, ◌∙◌, refl}
 use Rattle.mg_bits.proofs.Fills.{filled_more, byte_read, byte_part, looked_twice}
 use Rattle.mg_bits.proofs.page_feed.PageFeed.fill.Goals as goal
 

@@ -1,4 +1,4 @@
-use Rattle.std.proofs.Common.{rules, refl, arith, ◌≤◌, ◌+◌}
+use Rattle.std.proofs.Common.{refl, arith}
 use Rattle.mg_bits.proofs.WriterLaws.{full_page}
 use Rattle.mg_bits.proofs.page_writer.PageWriter.put.Goals as goal
 

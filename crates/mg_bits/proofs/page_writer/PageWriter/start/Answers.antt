@@ -1,4 +1,3 @@
-use Rattle.std.proofs.Common.{rules}
 use Rattle.mg_bits.proofs.WriterLaws.{wrote_written, wrote_reset}
 use Rattle.mg_bits.proofs.page_writer.PageWriter.start.Goals as goal
 
