@@ -1,9 +1,10 @@
 -- Codes that stand whole on the page that is held.
-use Rattle.std.proofs.Common.{arith, suc, zero, ◌≡◌, ◌+◌, ◌*◌, ◌/◌, ◌%◌, ◌^◌, ◌≤◌, ◌<◌, ◌-◌, ◌⊎◌, inl, inr, ℕ, List, length, sym, ◌∙◌, ap, subst, pow_pos}
+use Rattle.std.proofs.Common.{arith, suc, zero, ◌≡◌, ◌+◌, ◌*◌, ◌/◌, ◌^◌, ◌≤◌, ◌<◌, ◌-◌, ◌⊎◌, inl, inr, ℕ, List, length, sym, ◌∙◌, ap, subst, pow_pos}
 use Rattle.std.proofs.lemmas.Bool.{cases_lt}
 use Rattle.std.specs.declared.option.Option.{Option}
-use Rattle.std.proofs.lemmas.Nat.{div-mul-add, pow-add, shr-shr}
-use Rattle.mg_defs.specs.Bits.{Begins, FromPlace, digits}
+use Rattle.std.proofs.lemmas.Nat.{div-mul-add, div_below, pow-add, shr-shr}
+use Rattle.std.proofs.Math.Nat.{two-pow-succ}
+use Rattle.mg_defs.specs.Bits.{Begins, Bits, FromPlace, digits}
 use Rattle.mg_defs.specs.Codes.{unary, short}
 use Rattle.mg_defs.proofs.CodeLaws.{length_unary, unary_next}
 use Rattle.mg_bits.proofs.EightBytes.{told_first}
@@ -72,6 +73,20 @@ short_high_first b size few next is small above =
     let back : next / 2 ^ (57 - size) - few + few ≡ next / 2 ^ (57 - size) = omega arith in
     high_code b size few (next / 2 ^ (57 - size) - few) is (omega arith) ∙ ap (digits size) back
 
-pub told_short : (told : Option (List ℕ)) (place next b value size : ℕ) → size ≤ 57 → short b value ≡ digits size (next / 2 ^ (57 - size)) → FromPlace told place (Begins (digits 57 next)) → FromPlace told place (Begins (short b value))
-told_short told place next b value size small code begins =
-    subst (λ d. FromPlace told place (Begins d)) (sym code) (told_first told place 57 size (57 - size) next (omega arith) begins)
+pub few_is_below : (b size few high : ℕ) → IsShort b size few → 1 ≤ size → high < few → high < b
+few_is_below b size few high is some lt =
+    let e : suc (size - 1) ≡ size = omega arith in
+    let same : 2 ^ size ≡ 2 ^ suc (size - 1) = ap (λ n. 2 ^ n) (sym e) in
+    omega (arith, is.sum, is.low some, same, two-pow-succ (size - 1), lt)
+
+pub rest_is_below : (b size few next : ℕ) → IsShort b size few → 1 ≤ b → next < 2 ^ 57 → size ≤ 57 → next / 2 ^ (57 - size) - few < b
+rest_is_below b size few next is some small within =
+    let all : size + (57 - size) ≡ 57 = omega arith in
+    let wide : 2 ^ 57 ≡ 2 ^ size * 2 ^ (57 - size) = ap (λ n. 2 ^ n) (sym all) ∙ pow-add 2 size (57 - size) in
+    let high : next / 2 ^ (57 - size) < 2 ^ size = div_below next (2 ^ (57 - size)) (2 ^ size) (pow_pos (57 - size)) (omega (arith, small, wide)) in
+    omega (arith, is.sum, high, some)
+
+-- a code that 57 bits begin with
+pub told_code : (told : Option (List ℕ)) (place next size : ℕ) (code : Bits) → size ≤ 57 → code ≡ digits size (next / 2 ^ (57 - size)) → FromPlace told place (Begins (digits 57 next)) → FromPlace told place (Begins code)
+told_code told place next size code small is begins =
+    subst (λ d. FromPlace told place (Begins d)) (sym is) (told_first told place 57 size (57 - size) next (omega arith) begins)

@@ -1,18 +1,18 @@
 -- The gamma and Golomb codes as codes of two parts.
-use Rattle.std.proofs.Common.{rules, arith, suc, zero, ◌≡◌, ◌+◌, ◌*◌, ◌/◌, ◌%◌, ◌^◌, ◌≤◌, ◌<◌, ◌-◌, ℕ, List, [], ◌∷◌, ◌++◌, length, refl, sym, ◌∙◌, ap, subst, ◌⊎◌, inl, inr}
+use Rattle.std.proofs.Common.{arith, suc, zero, ◌≡◌, ◌+◌, ◌*◌, ◌/◌, ◌%◌, ◌^◌, ◌≤◌, ◌<◌, ◌-◌, ℕ, refl, sym, ◌∙◌, ap, subst, inl, inr}
 use Rattle.std.proofs.lemmas.Bool.{cases_lt}
 use Rattle.std.proofs.lemmas.Nat.{pow_pos, mod_low, div-mul-add, mod-mul-add}
 use Rattle.std.proofs.Math.Nat.{two-pow-succ, div-add-mod, mul-le-mul_right}
 use Rattle.std.proofs.Math.Pow.{pow_mono}
 use lib.Ieee.Nearest.{div_mono}
 use Rattle.mg_defs.specs.Bits.{Bits, digits}
-use Rattle.mg_defs.specs.Codes.{unary, gamma, short, shorter, golomb, log2, ceil_log2}
-use Rattle.mg_defs.specs.Answers.{UpTo, Below}
+use Rattle.mg_defs.specs.Codes.{gamma, short, shorter, golomb, log2, ceil_log2}
+use Rattle.mg_defs.specs.Answers.{UpTo}
 use Rattle.mg_defs.proofs.FixedLaws.{IsLog, is_log, one_log, log_rises}
 use Rattle.mg_defs.proofs.BitLaws.{digits_mod}
 use Rattle.mg_defs.proofs.CodeLaws.{IsCeil, is_ceil, one_ceil, short_high, gamma_is}
 use Rattle.mg_codes.specs.Remainders.{IsBound}
-use Rattle.mg_codes.proofs.TwoParts.{Reaches, TwoParts, Back, Second}
+use Rattle.mg_codes.proofs.TwoParts.{TwoParts, Second}
 
 -- ---- golomb
 

@@ -4,3 +4,4 @@ pub mod TwoParts
 pub mod Instances
 pub mod Written
 pub mod HeldCodes
+pub mod FirstCodes

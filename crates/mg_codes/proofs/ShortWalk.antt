@@ -1,16 +1,15 @@
 -- Short codes that are read bit by bit.
-use Rattle.std.proofs.Common.{rules, arith, suc, zero, ◌≡◌, ◌+◌, ◌*◌, ◌/◌, ◌%◌, ◌^◌, ◌≤◌, ◌<◌, ◌-◌, ℕ, Bool, true, false, List, [], ◌∷◌, ◌++◌, length, take, Some, None, refl, sym, ◌∙◌, ap, subst, nat_eq, nat_lt, ◌⊎◌, inl, inr, append-nil, add-zero, one-mul, if◌then◌else◌}
+use Rattle.std.proofs.Common.{arith, suc, zero, ◌≡◌, ◌+◌, ◌*◌, ◌/◌, ◌%◌, ◌^◌, ◌≤◌, ◌<◌, ◌-◌, ℕ, Bool, true, false, List, [], ◌∷◌, ◌++◌, length, take, refl, sym, ◌∙◌, ap, subst, nat_eq, inl, inr, append-nil, add-zero, one-mul, if◌then◌else◌}
 use Rattle.std.specs.declared.option.Option.{Option}
-use Rattle.std.proofs.lemmas.Grind.{common_steps}
 use Rattle.std.proofs.lemmas.Bool.{cases_lt, cond-true, cond-false, lt-ltb, le-ltb, eq-eqb, eqb-true}
 use Rattle.std.proofs.Math.Pow.{pow_mono}
 use Rattle.std.proofs.lemmas.Nat.{pow_pos, pow-add, shr_below}
 use Rattle.std.proofs.Math.Nat.{two-pow-succ, div-mul-le_self, mod-eq_of_lt, mul-le-mul_right}
-use Rattle.mg_defs.specs.Bits.{Bits, Begins, FromPlace, digits}
+use Rattle.mg_defs.specs.Bits.{Begins, FromPlace, digits}
 use Rattle.mg_defs.specs.Codes.{short, shorter, ceil_log2}
 use Rattle.mg_defs.specs.Answers.{Below, CutShort, IsNone, IsPrefixFree}
 use Rattle.mg_defs.proofs.BitLaws.{length_digits, digits_append, take_digits}
-use Rattle.mg_defs.proofs.FrontLaws.{begins_append, begins_length, begins_self, begins_whole}
+use Rattle.mg_defs.proofs.FrontLaws.{begins_append, begins_self, begins_whole}
 use Rattle.mg_defs.proofs.CodeLaws.{IsCeil, is_ceil, one_ceil, short_low, short_high, length_short, short_free, small_digits}
 use Rattle.mg_bits.proofs.Walks.{walk_bit}
 use Rattle.mg_codes.specs.Remainders.{IsWholeAt, IsOpenAt, least_from, least_of}

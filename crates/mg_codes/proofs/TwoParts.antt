@@ -1,10 +1,10 @@
 -- Codes of two parts: a number in unary, and then a code that this number picks.
-use Rattle.std.proofs.Common.{rules, arith, suc, zero, ◌≡◌, ◌+◌, ◌≤◌, ◌<◌, ◌-◌, ℕ, List, [], ◌∷◌, ◌++◌, length, drop, Some, None, Ok, Err, refl, sym, ◌∙◌, ap, subst, ◌⊎◌, inl, inr, length-append}
+use Rattle.std.proofs.Common.{arith, ◌≡◌, ◌+◌, ◌≤◌, ◌<◌, ◌-◌, ℕ, List, ◌++◌, length, drop, Some, None, Ok, Err, refl, sym, ◌∙◌, ap, subst, inl, inr, length-append}
 use Rattle.std.specs.declared.option.Option.{Option}
 use Rattle.std.proofs.lemmas.List.{drop-drop}
 use Rattle.mg_defs.specs.Bits.{Bits, Begins, FromPlace, bits_of}
 use Rattle.mg_defs.specs.Codes.{unary}
-use Rattle.mg_defs.specs.Answers.{UpTo, Below, CutShort, Ends, IsNone, IsPrefixFree}
+use Rattle.mg_defs.specs.Answers.{UpTo, Below, CutShort, IsNone, IsPrefixFree}
 use Rattle.mg_defs.proofs.FrontLaws.{begins_append, begins_length, begins_through, begins_rest, begins_both, begins_behind, shorter_first, in_order, ends}
 use Rattle.mg_defs.proofs.CodeLaws.{unaries_meet}
 use Rattle.mg_bits.specs.Feed.{Feeding, Device as Seen, Read, ReadsWithin}

@@ -1,6 +1,5 @@
 -- The unary code, read bit by bit.
-use Rattle.std.proofs.Common.{rules, arith, ◌≡◌, ◌+◌, ◌≤◌, ◌<◌, ◌-◌, ℕ, true, false, List, [], ◌∷◌, ◌++◌, length, refl}
-use Rattle.mg_defs.specs.Bits.{Begins}
+use Rattle.std.proofs.Common.{arith, ◌+◌, ◌<◌, ◌-◌, ℕ, false, [], ◌∷◌}
 use Rattle.mg_defs.specs.Codes.{ones, unary}
 use Rattle.mg_defs.specs.Answers.{UpTo, CutShort, IsNone}
 use Rattle.mg_defs.proofs.CodeLaws.{length_ones, length_unary, unary_next, ones_begin, ones_begin_long, ones_have_no_zero}

@@ -1,11 +1,10 @@
 -- The codes as bits that are written in pieces.
-use Rattle.std.proofs.Common.{rules, arith, suc, zero, ◌≡◌, ◌+◌, ◌*◌, ◌/◌, ◌%◌, ◌^◌, ◌≤◌, ◌<◌, ◌-◌, ℕ, true, false, List, [], ◌∷◌, ◌++◌, length, refl, sym, ◌∙◌, ap, append_assoc, add-zero}
+use Rattle.std.proofs.Common.{arith, suc, zero, ◌≡◌, ◌+◌, ◌*◌, ◌/◌, ◌%◌, ◌^◌, ◌≤◌, ◌<◌, ◌-◌, ℕ, true, false, [], ◌∷◌, ◌++◌, refl, sym, ◌∙◌, ap, append_assoc, add-zero}
 use Rattle.std.proofs.lemmas.Nat.{pow_pos, mod_low, shr_high}
 use Rattle.std.proofs.Math.Nat.{two-pow-succ}
-use Rattle.mg_defs.specs.Bits.{Bits, digits, is_odd}
+use Rattle.mg_defs.specs.Bits.{digits}
 use Rattle.mg_defs.specs.Codes.{ones, unary, gamma}
-use Rattle.mg_defs.proofs.FixedLaws.{IsLog}
-use Rattle.mg_defs.proofs.BitLaws.{length_digits, digits_mod, digits_append}
+use Rattle.mg_defs.proofs.BitLaws.{digits_mod, digits_append}
 use Rattle.mg_defs.proofs.CodeLaws.{unary_after, unary_next, gamma_is}
 
 pub ones_digits : (n : ℕ) → digits n (2 ^ n - 1) ≡ ones n

@@ -9,6 +9,7 @@ ghost use Rattle.mg_dev.specs.Causes.{HasPutCause};
 ghost use Rattle.mg_bits.specs.Writer.{WroteTo};
 ghost use Rattle.mg_bits.specs.BitWriting.{Holds, WroteBits};
 
+use crate::held::golomb_here;
 use crate::refusals::refused_whole;
 use crate::remainder::{bound_of, get_below};
 use crate::short::put_short;
@@ -51,6 +52,38 @@ pub fn put_golomb<S: Store>(
 
 /// Reads a number in the Golomb code with parameter `b`, of at most `limit`.
 pub fn get_golomb<F: Feed>(
+    r: &mut BitReader<F>,
+    dev: &mut F::Dev,
+    b: u64,
+    limit: u64,
+) -> Result<u64, CodeErr>
+    requires fits { F.fits r.old.feed (F.device dev.old).files }
+    requires place { r.old.place ≤ 2 ^ 63 }
+    requires parameter { 1 ≤ b }
+    requires small { b < 2 ^ 48 }
+    requires some { 1 ≤ limit }
+    requires limit { limit < 2 ^ 48 }
+    ensures fits { F.fits r.new.feed (F.device dev.new).files }
+    ensures calm { Calm (F.feeding r.old.feed) (F.feeding r.new.feed) (F.device dev.old) (F.device dev.new) }
+    ensures read { IfOk result (λ x. Read (F.feeding r.old.feed) (F.feeding r.new.feed) (F.device dev.old) (F.device dev.new) r.old.place (r.old.place + length (golomb b x))) }
+    ensures pages { OnErr result (FromPlace ((F.feeding r.old.feed).source (F.device dev.old).files) r.old.place
+        (OnlyPagesOf (UpTo limit) (golomb b) (F.feeding r.old.feed) (F.feeding r.new.feed) (F.device dev.old) (F.device dev.new) r.old.place)) }
+    ensures place { MatchResult result (λ x. r.new.place ≡ r.old.place + length (golomb b x)) (λ _. r.new.place ≡ r.old.place) }
+    ensures told { FromPlace ((F.feeding r.old.feed).source (F.device dev.old).files) r.old.place (AnswersCode result (UpTo limit) (golomb b) limit r.old.place) }
+    ensures range { IfOk result (λ x. UpTo limit x) }
+    ensures cause { CodeCause result (F.device dev.old).faults (F.device dev.new).faults }
+{
+    if let Some(code) = golomb_here(r, b, limit) {
+        r.seek(r.place() + u64::from(code.size));
+        return Ok(code.value);
+    }
+    golomb_by_parts(r, dev, b, limit)
+}
+
+/// The same, one part of the code after the other. It stands apart so that what is read from the
+/// held page at once is short.
+#[inline(never)]
+fn golomb_by_parts<F: Feed>(
     r: &mut BitReader<F>,
     dev: &mut F::Dev,
     b: u64,

@@ -9,6 +9,7 @@
 
 mod gamma;
 mod golomb;
+mod held;
 mod refusals;
 mod remainder;
 mod round_trip;

@@ -9,6 +9,7 @@ ghost use Rattle.mg_bits.specs.CodeAnswers.{AnswersCode, CodeCause, OnlyPagesOf}
 ghost use Rattle.mg_codes.specs.Remainders.{IsBound, IsWholeAt, IsOpenAt, least_of};
 ghost use Rattle.mg_codes.specs.Refusals.{OverBelow};
 
+use crate::held::HeldCode;
 use crate::refusals::refused;
 use mg_bits::{BitReader, CodeErr, Feed};
 
@@ -113,17 +114,10 @@ pub fn get_below<F: Feed>(
     below_by_bits(r, dev, b, bound)
 }
 
-/// A remainder and the number of bits of its short code.
-#[derive(Clone, Copy)]
-struct ShortCode {
-    value: u64,
-    size: u32,
-}
-
 /// The remainder below a bound whose short code begins the bits at the place, if the page that is
 /// held has the 57 bits from there on.
 #[inline]
-fn short_here<F: Feed>(r: &BitReader<F>, b: u64, bound: u64) -> Option<ShortCode>
+fn short_here<F: Feed>(r: &BitReader<F>, b: u64, bound: u64) -> Option<HeldCode>
     requires place { r.now.place ≤ 2 ^ 63 + 2 ^ 49 }
     requires some { 1 ≤ b }
     requires small { b < 2 ^ 48 }
@@ -149,7 +143,7 @@ fn short_here<F: Feed>(r: &BitReader<F>, b: u64, bound: u64) -> Option<ShortCode
 
 /// The remainder whose short code 57 bits begin with.
 #[inline]
-fn first_short(next: u64, b: u64, size: u32, few: u64) -> ShortCode
+pub fn first_short(next: u64, b: u64, size: u32, few: u64) -> HeldCode
     requires next { next < 2 ^ 57 }
     requires parameter { 1 ≤ b }
     requires small { b < 2 ^ 48 }
@@ -158,17 +152,18 @@ fn first_short(next: u64, b: u64, size: u32, few: u64) -> ShortCode
     requires some { 1 ≤ size }
     requires most { size ≤ 48 }
     ensures code { short b result.value ≡ digits result.size (next / 2 ^ (57 - result.size)) }
+    ensures below { result.value < b }
     ensures least { 1 ≤ result.size }
     ensures most { result.size ≤ 48 }
 {
     let high = next >> (58 - size);
     if high < few {
-        return ShortCode {
+        return HeldCode {
             value: high,
             size: size - 1,
         };
     }
-    ShortCode {
+    HeldCode {
         value: (next >> (57 - size)) - few,
         size,
     }

@@ -93,7 +93,7 @@ fn unary_here<F: Feed>(r: &BitReader<F>, limit: u64) -> Option<u64>
 
 /// How many of 57 bits are one-bits before the first zero-bit, if there is one.
 #[inline]
-fn ones_before_zero(next: u64) -> Option<u64>
+pub fn ones_before_zero(next: u64) -> Option<u64>
     requires { next < 2 ^ 57 }
     ensures { IfSome result (λ ones. IsOnesBeforeZero next ones) }
 {

@@ -1,4 +1,4 @@
-use Rattle.std.proofs.Common.{rules, arith, ◌<◌, ◌^◌}
+use Rattle.std.proofs.Common.{arith}
 use Rattle.std.proofs.Math.Pow.{pow-lt}
 use Rattle.mg_codes.proofs.ShortWalk.{one_shifted}
 use Rattle.mg_codes.proofs.gamma.power_of.Goals as goal

@@ -1,5 +1,4 @@
-use Rattle.std.proofs.Common.{rules, arith, ◌≡◌, ◌+◌, ◌-◌, ◌*◌, ◌^◌}
-use Rattle.mg_defs.specs.Bits.{digits}
+use Rattle.std.proofs.Common.{arith, ◌+◌}
 use Rattle.mg_defs.proofs.BitLaws.{length_digits}
 use Rattle.mg_bits.proofs.BitsWritten.{bits_more}
 use Rattle.mg_codes.proofs.Written.{gamma_written}

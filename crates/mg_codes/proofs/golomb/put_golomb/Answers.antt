@@ -1,4 +1,4 @@
-use Rattle.std.proofs.Common.{rules, arith, ◌≡◌, ◌+◌, ◌-◌, ◌/◌}
+use Rattle.std.proofs.Common.{arith, ◌-◌, ◌/◌}
 use Rattle.std.proofs.Math.Nat.{div-le_self}
 use Rattle.mg_defs.specs.Codes.{golomb}
 use Rattle.mg_defs.proofs.CodeLaws.{length_unary_after}

@@ -1,8 +1,8 @@
-use Rattle.std.proofs.Common.{◌≡◌, ◌+◌, ◌-◌, ◌≤◌, ◌<◌, ℕ}
+use Rattle.std.proofs.Common.{◌≡◌, ◌+◌, ◌-◌, ◌<◌}
 use Rattle.mg_bits.specs.Feed.{Read}
 use Rattle.mg_defs.specs.Bits.{FromPlace, Begins, digits}
 use Rattle.mg_codes.specs.Remainders.{least_of}
-use Rattle.mg_codes.proofs.ShortWalk.{IsShort, Walked}
+use Rattle.mg_codes.proofs.ShortWalk.{Walked}
 use Rattle.mg_codes.proofs.remainder.below_by_bits.Given as goal
 
 abbrev pub invariant-loop-value : goal.invariant-loop-value

@@ -1,4 +1,4 @@
-use Rattle.std.proofs.Common.{rules, arith, ◌≡◌, ◌<◌, ◌≤◌}
+use Rattle.std.proofs.Common.{arith}
 use Rattle.mg_codes.proofs.ShortWalk.{ceil_of_one, ceil_of_more, small_ceil}
 use Rattle.mg_codes.proofs.remainder.code_size.Goals as goal
 

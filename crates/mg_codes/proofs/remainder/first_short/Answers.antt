@@ -1,5 +1,5 @@
-use Rattle.std.proofs.Common.{arith, refl, ◌≡◌, ◌-◌}
-use Rattle.mg_codes.proofs.HeldCodes.{few_below, low_is_long, short_high_first, short_low_first}
+use Rattle.std.proofs.Common.{arith, refl, ◌-◌, ◌/◌, ◌^◌}
+use Rattle.mg_codes.proofs.HeldCodes.{few_below, low_is_long, few_is_below, rest_is_below, short_high_first, short_low_first}
 use Rattle.mg_codes.proofs.ShortWalk.{shape}
 use Rattle.mg_codes.proofs.remainder.first_short.Goals as goal
 
@@ -15,3 +15,11 @@ overflow_sub-result-3 c = omega (arith, few_below c.args.size c.args.few c.args.
 
 pub returns-clause-code : goal.returns-clause-code
 returns-clause-code c = short_high_first c.args.b c.args.size c.args.few c.args.next (shape _ _ _ c.requires.parameter c.requires.small c.requires.size c.requires.few) (omega arith) (omega arith)
+
+pub returns-then-high-few-clause-below : goal.returns-then-high-few-clause-below
+returns-then-high-few-clause-below c =
+    few_is_below c.args.b c.args.size c.args.few (c.args.next / 2 ^ (58 - c.args.size)) (shape _ _ _ c.requires.parameter c.requires.small c.requires.size c.requires.few) c.requires.some c.if-high-few.true
+
+pub returns-clause-below : goal.returns-clause-below
+returns-clause-below c =
+    rest_is_below c.args.b c.args.size c.args.few c.args.next (shape _ _ _ c.requires.parameter c.requires.small c.requires.size c.requires.few) c.requires.parameter c.requires.next (omega arith)

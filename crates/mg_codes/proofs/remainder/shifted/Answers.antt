@@ -1,4 +1,4 @@
-use Rattle.std.proofs.Common.{rules, arith, ◌≡◌, ◌<◌, ◌≤◌, ◌*◌, ◌%◌, ◌^◌}
+use Rattle.std.proofs.Common.{arith}
 use Rattle.std.proofs.Math.Nat.{mod-eq_of_lt}
 use Rattle.mg_codes.proofs.ShortWalk.{shifted_small}
 use Rattle.mg_codes.proofs.remainder.shifted.Goals as goal

@@ -1,4 +1,4 @@
-use Rattle.std.proofs.Common.{rules, arith, ◌≡◌, ◌<◌, ◌≤◌, ◌+◌, ◌-◌, ◌^◌, ◌∙◌, ap}
+use Rattle.std.proofs.Common.{arith}
 use Rattle.mg_codes.proofs.ShortWalk.{power_of_size, shorter_is, one_shifted, small_ceil}
 use Rattle.mg_codes.proofs.remainder.shorter_codes.Goals as goal
 

@@ -1,4 +1,4 @@
-use Rattle.std.proofs.Common.{rules, arith, ◌++◌, ◌≤◌, ◌<◌}
+use Rattle.std.proofs.Common.{arith, ◌++◌}
 use Rattle.mg_defs.specs.Codes.{unary, gamma, short, golomb}
 use Rattle.mg_defs.specs.Answers.{UpTo, Below, value}
 use Rattle.mg_defs.proofs.FrontLaws.{one_answer, begins_append}

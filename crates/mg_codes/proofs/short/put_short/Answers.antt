@@ -1,4 +1,4 @@
-use Rattle.std.proofs.Common.{rules, arith, ◌≡◌, ◌≤◌, ◌<◌}
+use Rattle.std.proofs.Common.{arith}
 use Rattle.mg_codes.proofs.ShortWalk.{IsShort, shape, low_code, high_code, some_bits}
 use Rattle.mg_codes.proofs.short.put_short.Goals as goal
 

@@ -1,4 +1,4 @@
-use Rattle.std.proofs.Common.{arith, refl, ◌<◌, ◌≤◌, ◌^◌}
+use Rattle.std.proofs.Common.{arith, refl, ◌<◌}
 use Rattle.mg_codes.proofs.HeldCodes.{ones_end}
 use Rattle.mg_codes.proofs.Instances.{below_power}
 use Rattle.mg_codes.proofs.unary.ones_before_zero.Goals as goal

@@ -1,4 +1,4 @@
-use Rattle.std.proofs.Common.{rules, arith, ◌≡◌, ◌≤◌, ◌+◌, ◌-◌, ◌*◌, ◌^◌, ℕ}
+use Rattle.std.proofs.Common.{arith, ◌-◌}
 use Rattle.mg_defs.proofs.CodeLaws.{length_ones}
 use Rattle.mg_bits.proofs.BitsWritten.{bits_none, bits_more, to_none, to_more}
 use Rattle.mg_codes.proofs.Written.{ones_none, ones_next, unary_written}

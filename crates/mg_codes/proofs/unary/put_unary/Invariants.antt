@@ -1,4 +1,4 @@
-use Rattle.std.proofs.Common.{◌≡◌, ◌+◌, ◌-◌, ◌≤◌, ℕ}
+use Rattle.std.proofs.Common.{◌-◌, ◌≤◌}
 use Rattle.mg_defs.specs.Codes.{ones}
 use Rattle.mg_bits.specs.Writer.{WroteTo}
 use Rattle.mg_bits.specs.BitWriting.{Holds, WroteBits}

@@ -1,8 +1,7 @@
-use Rattle.std.proofs.Common.{rules, arith, ◌≡◌, ◌≤◌, ◌<◌, ◌+◌, ◌-◌, ℕ, List, [], ◌∷◌, ◌++◌, true, false, ◌∙◌, sym, ap, add-zero, length, refl}
+use Rattle.std.proofs.Common.{arith, ◌≡◌, ◌+◌, [], ◌∷◌, ◌++◌, true, false, ◌∙◌, sym, ap, add-zero, length}
 use Rattle.mg_defs.specs.Codes.{ones, unary}
 use Rattle.mg_defs.specs.Answers.{UpTo}
 use Rattle.mg_defs.proofs.CodeLaws.{length_ones, length_unary, unary_next, ones_more, unary_free}
-use Rattle.mg_bits.specs.Feed.{Read, ReadPart}
 use Rattle.mg_bits.proofs.Ranges.{read_none, read_step, part_step}
 use Rattle.mg_bits.proofs.Told.{same_told}
 use Rattle.mg_bits.proofs.Walks.{walk_begun, walk_bit, walk_none, walk_whole, walk_refused, walk_pages, no_pages}

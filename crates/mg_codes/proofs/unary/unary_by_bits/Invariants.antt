@@ -1,4 +1,4 @@
-use Rattle.std.proofs.Common.{◌≡◌, ◌+◌, ◌-◌, ◌≤◌, ◌<◌, ℕ}
+use Rattle.std.proofs.Common.{◌≡◌, ◌+◌, ◌-◌, ◌≤◌}
 use Rattle.mg_bits.specs.Feed.{Read}
 use Rattle.mg_defs.specs.Bits.{FromPlace, Begins}
 use Rattle.mg_defs.specs.Codes.{ones}
