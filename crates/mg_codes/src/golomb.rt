@@ -25,6 +25,24 @@ fn joined(quotient: u64, b: u64, low: u64) -> u64
     quotient * b + low + 1
 }
 
+/// The quotient and the remainder of a number. The quotient is counted, since it is written bit by
+/// bit anyway and mostly 0 or 1, and a division takes longer.
+#[inline]
+fn parted(number: u64, b: u64) -> (u64, u64)
+    requires { 1 ≤ b }
+    ensures whole { number ≡ result.0 * b + result.1 }
+    ensures below { result.1 < b }
+    ensures most { result.0 ≤ number }
+{
+    let mut quotient = 0;
+    let mut rest = number;
+    while rest >= b {
+        rest -= b;
+        quotient += 1;
+    }
+    (quotient, rest)
+}
+
 /// Writes a number, of at least 1, in the Golomb code with parameter `b`.
 pub fn put_golomb<S: Store>(
     w: &mut BitWriter<'_>,
@@ -44,9 +62,9 @@ pub fn put_golomb<S: Store>(
     ensures wrote { WroteTo w.old.name (S.files store.old) (S.files store.new) (S.reads store.old) (S.reads store.new) }
     ensures cause { HasPutCause (S.faults store.old) (S.faults store.new) result }
 {
-    let quotient = (x - 1) / b;
+    let (quotient, rest) = parted(x - 1, b);
     put_unary(w, store, 1 + quotient)?;
-    put_short(w, store, b, (x - 1) % b)?;
+    put_short(w, store, b, rest)?;
     Ok(())
 }
 
