@@ -1,5 +1,5 @@
 -- How many pages the steps of a reading call read.
-use Rattle.std.proofs.Common.{rules, arith, suc, zero, ◌≡◌, ◌+◌, ◌-◌, ◌*◌, ◌/◌, ◌^◌, ◌≤◌, ◌<◌, ◌==◌, ◌⊎◌, inl, inr, ℕ, Bool, true, false, Some, None, refl, sym, ◌∙◌, ap, subst, lit<}
+use Rattle.std.proofs.Common.{rules, arith, suc, zero, ◌≡◌, ◌+◌, ◌-◌, ◌*◌, ◌/◌, ◌%◌, ◌^◌, ◌≤◌, ◌<◌, ◌==◌, ◌⊎◌, inl, inr, ℕ, Bool, true, false, Some, None, refl, sym, ◌∙◌, ap, subst, lit<}
 use Rattle.std.proofs.Math.Nat.{two-pow-succ}
 use Rattle.std.specs.declared.option.Option.{Option}
 use Rattle.std.specs.Option.{IfSome, OnSome}
@@ -12,6 +12,7 @@ use Rattle.mg_dev.specs.Files.{Files, Reads}
 use Rattle.mg_dev.specs.Names.{same_part}
 use Rattle.mg_bits.specs.Feed.{Device, ReadsWithin, held_after, lacks, page_of, to_read, of_store}
 use Rattle.mg_bits.specs.Pages.{Paging, Looked, feeding_of}
+use Rattle.mg_bits.proofs.Ranges.{held_after_more, held_after_none, held_after_some}
 use Rattle.mg_defs.specs.Codes.{ceil_log2}
 use Rattle.mg_defs.proofs.CodeLaws.{is_ceil}
 use Rattle.mg_front.specs.Looks.{ReadOn, ReadTo, ReadLooks, halvings}
@@ -19,6 +20,9 @@ use Rattle.mg_front.specs.Looks.{ReadOn, ReadTo, ReadLooks, halvings}
 lacks_most : (held : Option ℕ) (page : ℕ) → lacks held page ≤ 1
 lacks_most None page = omega arith
 lacks_most (Some h) page = grind (arith, nat_tests)
+
+lacks_other : (h page : ℕ) → h < page → lacks (Some h) page ≡ 1
+lacks_other h page e = grind (arith, nat_tests)
 
 lacks_none : (h page : ℕ) → h ≡ page → lacks (Some h) page ≡ 0
 lacks_none h page e = grind (arith, nat_tests)
@@ -35,6 +39,15 @@ bytes_some held at n some =
     let first : 8 * at / 32768 ≡ at / 4096 = omega arith in
     let last : (8 * (at + n) - 1) / 32768 ≡ (at + n - 1) / 4096 = omega arith in
     range_some held (8 * at) (8 * (at + n)) (omega arith) ∙ ap (λ (p : ℕ). p - 8 * at / 32768 + lacks held (8 * at / 32768)) last ∙ ap (λ (p : ℕ). (at + n - 1) / 4096 - p + lacks held p) first
+
+-- the page that is held once bytes were read
+held_one : (held : Option ℕ) (at : ℕ) → held_after 4096 held (8 * at) (8 * (at + 1)) ≡ Some (page_of 4096 (8 * at))
+held_one held at =
+    let same : (8 * (at + 1) - 1) / 32768 ≡ 8 * at / 32768 = omega arith in
+    held_after_some 4096 held (8 * at) (8 * (at + 1)) (omega arith) ∙ ap Some same
+
+held_more : (held : Option ℕ) (p q u : ℕ) → p ≤ q → q ≤ u → held_after 4096 (held_after 4096 held (8 * p) (8 * q)) (8 * q) (8 * u) ≡ held_after 4096 held (8 * p) (8 * u)
+held_more held p q u pq qu = held_after_more 4096 held (8 * p) (8 * q) (8 * u) (omega arith) (omega arith)
 
 -- ---- what the feed's calls read
 
@@ -55,7 +68,7 @@ module _ {files files_now : Option Files} {faults faults_now : ℕ} (old new : P
   byte_to at within = record { pages = omega (arith, byte_count at within) }
 
   byte_on : (at : ℕ) → new.held ≡ Some (page_of 4096 (8 * at)) → ReadsWithin (feeding_of 4096 old) (feeding_of 4096 new) (of_store files faults before) (of_store files_now faults_now now) (8 * at) (8 * at + 1) → ReadOn old new before now at (at + 1)
-  byte_on at held within = record { pages = omega (arith, byte_count at within, at_next (cases_lt (at / 4096) ((at + 1) / 4096))) }
+  byte_on at held within = record { pages = omega (arith, byte_count at within, at_next (cases_lt (at / 4096) ((at + 1) / 4096))); order = omega arith; held = held ∙ sym (held_one old.held at) }
     where
       at_next : (at / 4096 < (at + 1) / 4096) ⊎ ((at + 1) / 4096 ≤ at / 4096) → lacks new.held ((at + 1) / 4096) + at / 4096 ≤ (at + 1) / 4096
       at_next (inl other) = omega (arith, lacks_most new.held ((at + 1) / 4096))
@@ -76,11 +89,11 @@ module _ {files files_now : Option Files} {faults faults_now : ℕ} (old new : P
   bytes_on at zero within held =
       let same : new.held ≡ old.held = held ∙ held_same old.held at in
       let here : lacks new.held ((at + 0) / 4096) ≡ lacks old.held (at / 4096) = ap (λ (h : Option ℕ). lacks h ((at + 0) / 4096)) same ∙ ap (λ (p : ℕ). lacks old.held (p / 4096)) (omega arith) in
-      record { pages = omega (arith, here, range_none old.held at, within_count (8 * at) (8 * (at + 0)) within) }
+      record { pages = omega (arith, here, range_none old.held at, within_count (8 * at) (8 * (at + 0)) within); order = omega arith; held = held }
     where
       held_same : (held : Option ℕ) (at : ℕ) → held_after 4096 held (8 * at) (8 * (at + 0)) ≡ held
       held_same held at = grind (arith, common_steps)
-  bytes_on at (suc n) within held = record { pages = omega (arith, at_next (cases_lt ((at + suc n - 1) / 4096) ((at + suc n) / 4096)), bytes_some old.held at (suc n) (omega arith), within_count (8 * at) (8 * (at + suc n)) within) }
+  bytes_on at (suc n) within held = record { pages = omega (arith, at_next (cases_lt ((at + suc n - 1) / 4096) ((at + suc n) / 4096)), bytes_some old.held at (suc n) (omega arith), within_count (8 * at) (8 * (at + suc n)) within); order = omega arith; held = held }
     where
       held_last : (held : Option ℕ) (a b : ℕ) → a < b → held_after 4096 held a b ≡ Some ((b - 1) / 32768)
       held_last held a b lt = grind (arith, common_steps)
@@ -106,13 +119,17 @@ module _ {files files_now : Option Files} {faults faults_now : ℕ} (old new : P
 -- ---- one call after another
 
 pub on_same : (old : Paging) (before : Reads) (at : ℕ) → ReadOn old old before before at at
-on_same old before at = record { pages = omega arith }
+on_same old before at = record { pages = omega arith; order = omega arith; held = sym (held_after_none 4096 old.held (8 * at)) }
 
 pub on_more : (a b c : Paging) (r s t : Reads) (p q u : ℕ) → b.part ≡ a.part → ReadOn a b r s p q → ReadOn b c s t q u → ReadOn a c r t p u
 on_more a b c r s t p q u part one two =
     let s_is : s b.part ≡ s a.part = ap s part in
     let t_is : t b.part ≡ t a.part = ap t part in
-    record { pages = omega (arith, one.pages, two.pages) }
+    record {
+      pages = omega (arith, one.pages, two.pages);
+      order = omega (arith, one.order, two.order);
+      held = two.held ∙ ap (λ (h : Option ℕ). held_after 4096 h (8 * q) (8 * u)) one.held ∙ held_more a.held p q u one.order two.order;
+    }
 
 pub to_more : (a b : Paging) (r s t : Reads) (p q u : ℕ) → b.part ≡ a.part → ReadOn a b r s p q → ReadTo b s t q u → ReadTo a r t p u
 to_more a b r s t p q u part one two =
@@ -138,6 +155,35 @@ some_on byte n P is fact = subst (λ b. OnSome b P) is fact
 
 pub some_of : (size : Option ℕ) (n : ℕ) (P : ℕ → Type 0) → size ≡ Some n → IfSome size P → P n
 some_of size n P is fact = subst (λ s. IfSome s P) is fact
+
+-- ---- a part that is read from its first byte on
+
+-- so many bytes, each page once
+pub read_first : (a b : Paging) (r s : Reads) (size : ℕ) → a.held ≡ None → ReadOn a b r s 0 size → s a.part ≤ r a.part + div_ceil size 4096
+read_first a b r s size none read = omega (arith, from_none, at_end (cases_lt 0 (size % 4096)))
+  where
+    from_none : s a.part + lacks b.held (size / 4096) ≤ r a.part + 1 + size / 4096
+    from_none = omega (arith, read.pages, ap (λ (h : Option ℕ). lacks h (0 / 4096)) none)
+
+    at_end : (0 < size % 4096) ⊎ (size % 4096 ≤ 0) → 1 + size / 4096 ≤ div_ceil size 4096 + lacks b.held (size / 4096)
+    at_end (inl some) = omega arith
+    at_end (inr whole) = omega (arith, at_start (cases_lt 0 size))
+      where
+        at_start : (0 < size) ⊎ (size ≤ 0) → lacks b.held (size / 4096) ≡ 1
+        at_start (inl later) =
+            let held : b.held ≡ Some ((8 * size - 1) / 32768) = read.held ∙ held_after_some 4096 a.held (8 * 0) (8 * size) (omega arith) in
+            ap (λ (h : Option ℕ). lacks h (size / 4096)) held ∙ lacks_other ((8 * size - 1) / 32768) (size / 4096) (omega arith)
+        at_start (inr first) =
+            let size_is : size ≡ 0 = omega arith in
+            let held : b.held ≡ None = read.held ∙ ap (λ (n : ℕ). held_after 4096 a.held (8 * 0) (8 * n)) size_is ∙ held_after_none 4096 a.held 0 ∙ none in
+            ap (λ (h : Option ℕ). lacks h (size / 4096)) held
+
+-- and where it was refused before its end, one page more at most, for the longest entry is shorter than a page
+pub read_first_to : (a b : Paging) (r s t : Reads) (place size : ℕ) → a.held ≡ None → b.part ≡ a.part → place ≤ size → ReadOn a b r s 0 place → ReadTo b s t place (place + 281) → t a.part ≤ r a.part + div_ceil size 4096 + 1
+read_first_to a b r s t place size none part within read refused =
+    let s_is : s b.part ≡ s a.part = ap s part in
+    let t_is : t b.part ≡ t a.part = ap t part in
+    omega (arith, refused.pages, read.pages, ap (λ (h : Option ℕ). lacks h (0 / 4096)) none)
 
 -- ---- places that are looked at
 

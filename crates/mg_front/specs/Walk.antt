@@ -3,11 +3,12 @@ use Rattle.std.specs.Prelude.{◌≡◌, ◌≢◌, ◌≤◌, ◌<◌, ◌+◌,
 use Rattle.std.specs.Option.{IsSome}
 use Rattle.std.specs.declared.option.Option.{Option}
 use Rattle.mg_dev.specs.declared.part.Part.{Part}
-use Rattle.mg_dev.specs.Files.{Files, bytes_at}
+use Rattle.mg_dev.specs.Files.{Files, Reads, bytes_at}
 use Rattle.mg_dev.specs.Causes.{Rose}
 use Rattle.mg_bits.specs.Pages.{Paging, Fits}
 use Rattle.mg_defs.specs.Front.{NoEntry, Entry, IsEntry, AreEntries, entry_bytes, front, front_from, last_string}
 use Rattle.mg_front.specs.Entries.{entry_of}
+use Rattle.mg_front.specs.Looks.{ReadOn, ReadTo}
 use Rattle.mg_front.specs.declared.entry.FrontEntry.{FrontEntry}
 use Rattle.mg_dev.specs.declared.bad.Bad as declared
 use Rattle.mg_dev.specs.declared.part_err.PartErr.{PartErr}
@@ -71,6 +72,11 @@ AnswersNext (Err (Bad bad)) w out bytes =
 abbrev pub AfterNext : Bool → Walking → Walking → Type 0
 AfterNext true old new = (old.done < old.count) × (new.done ≡ old.done + 1)
 AfterNext false old new = (old.done ≡ old.count) × (new ≡ old)
+
+-- how far a call read: an entry is read on from the walk's place to the place behind it, so that the calls together read each page once; the end takes no read; a refused call reads no byte behind the longest entry from its place on
+abbrev pub ReadsNext : Result Bool PartErr → Walking → Walking → Reads → Reads → Type 0
+ReadsNext (Ok more) old new before now = ReadOn old.feed new.feed before now old.place new.place
+ReadsNext (Err refusal) old new before now = ReadTo old.feed before now old.place (old.place + 281)
 
 -- what the next call answers where the part is the front coding of these entries, as many as were told
 abbrev pub AnswersAmong : Result Bool PartErr → Walking → FrontEntry → List Entry → Type 0

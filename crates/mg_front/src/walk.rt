@@ -1,12 +1,12 @@
 // All entries of a part, in order.
-ghost use Rattle.std.specs.Prelude.{Err, ◌≢◌, ◌≡◌, ◌≤◌, ◌<◌, ◌+◌, ◌^◌, List, [], IfOk, IfErr, IsSome, length, take, drop};
+ghost use Rattle.std.specs.Prelude.{Err, None, ◌≢◌, ◌≡◌, ◌≤◌, ◌<◌, ◌+◌, ◌^◌, List, [], IfOk, IfErr, IsSome, length, take, drop};
 ghost use Rattle.mg_dev.specs.Files.{bytes_at};
 ghost use Rattle.mg_dev.specs.Names.{full_name};
 ghost use Rattle.mg_dev.specs.PartCauses.{HasPartCause};
 ghost use Rattle.mg_bits.specs.Pages.{Fits, SameFile, Looked};
 ghost use Rattle.mg_defs.specs.Front.{Entry, IsFront};
 ghost use Rattle.mg_front.specs.Entries.{entry_of};
-ghost use Rattle.mg_front.specs.Walk.{Gave, with_next, SameWalk, AnswersNext, AfterNext, AnswersAmong};
+ghost use Rattle.mg_front.specs.Walk.{Gave, with_next, SameWalk, AnswersNext, AfterNext, AnswersAmong, ReadsNext};
 ghost use Rattle.mg_dev.specs.declared.part_err.PartErr.TheVariants.{Memory};
 
 use crate::FrontEntry;
@@ -23,6 +23,7 @@ use std::marker::Model;
 /// `count` entries, and every call returns whatever the part holds.
 #[derive(Drop)]
 pub struct FrontWalk<'a, S> {
+    strings: FileRef<'a>,
     feed: PageFeed<'a, S>,
     width: usize,
     count: u32,
@@ -34,13 +35,14 @@ pub struct FrontWalk<'a, S> {
 impl<'a, S> Model for FrontWalk<'a, S> {
     ghost use Rattle.std.specs.Prelude.{◌≡◌, ◌≤◌, ◌*◌};
     ghost use Rattle.mg_front.specs.Entries.{string_of};
+    ghost use Rattle.mg_dev.specs.Names.{full_name};
     ghost use Rattle.mg_front.specs.Walk.{Walking};
 
     ghost Value = { Walking };
 
     ghost view = { λ w. record { feed = w.feed; width = w.width; count = w.count; done = w.done; place = w.place; last = string_of w.last } };
 
-    ghost invariant = { λ w. (w.width ≤ 24) × (w.done ≤ w.count) × (w.place ≤ 281 * w.done) };
+    ghost invariant = { λ w. (w.width ≤ 24) × (w.done ≤ w.count) × (w.place ≤ 281 * w.done) × (w.feed.name ≡ full_name w.strings.base.now w.strings.part) × (w.feed.part ≡ w.strings.part) };
 }
 
 impl<'a, S: Store> FrontWalk<'a, S> {
@@ -56,12 +58,15 @@ impl<'a, S: Store> FrontWalk<'a, S> {
         ensures gave { IfOk result (λ walk. Gave walk (S.files _store.new) []) }
         ensures name { IfOk result (λ walk. walk.feed.name ≡ full_name strings.entry.base.now strings.entry.part) }
         ensures part { IfOk result (λ walk. walk.feed.part ≡ strings.entry.part) }
+        ensures held { IfOk result (λ walk. walk.feed.held ≡ None) }
+        ensures place { IfOk result (λ walk. walk.place ≡ 0) }
         ensures width { IfOk result (λ walk. walk.width ≡ width) }
         ensures count { IfOk result (λ walk. walk.count ≡ count) }
         ensures memory { IfErr result (λ refusal. refusal ≡ Memory) }
         ensures store { _store.new ≡ _store.old }
     {
         Ok(FrontWalk {
+            strings,
             feed: PageFeed::new(alloc, strings)?,
             width,
             count,
@@ -72,7 +77,8 @@ impl<'a, S: Store> FrontWalk<'a, S> {
     }
 
     /// The next entry; false after the last. It answers that the part is bad where no entry stands
-    /// next, for any string above the last one and any field, and where bytes are left over.
+    /// next, for any string above the last one and any field, and where bytes are left over. The
+    /// calls together read each page at most once, up to the first refusal.
     pub fn next(&mut self, store: &mut S, out: &mut FrontEntry) -> Result<bool, PartErr>
         requires gave { (es : List Entry) × Gave self.old (S.files store.old) es }
         ensures gave { (es : List Entry) → Gave self.old (S.files store.old) es → IfOk result (λ more. Gave self.new (S.files store.new) (with_next es more (entry_of self.old.width out.new))) }
@@ -80,6 +86,7 @@ impl<'a, S: Store> FrontWalk<'a, S> {
         ensures step { IfOk result (λ more. AfterNext more self.old self.new) }
         ensures same { SameWalk self.old self.new }
         ensures looked { Looked self.old.feed.part (S.files store.old) (S.files store.new) (S.reads store.old) (S.reads store.new) (S.faults store.old) (S.faults store.new) }
+        ensures reads { ReadsNext result self.old self.new (S.reads store.old) (S.reads store.new) }
         ensures cause { HasPartCause (S.faults store.old) (S.faults store.new) result }
         ensures among { (all : List Entry) → IsSome (S.files store.old) → IsFront self.old.width (bytes_at (S.files store.old) self.old.feed.name) all → length all ≡ self.old.count → AnswersAmong result self.old out.new all }
         ensures memory { result ≢ Err PartErr.Memory }
@@ -95,12 +102,15 @@ impl<'a, S: Store> FrontWalk<'a, S> {
         ensures step { IfOk result (λ more. AfterNext more self.old self.new) }
         ensures same { SameWalk self.old self.new }
         ensures looked { Looked self.old.feed.part (S.files store.old) (S.files store.new) (S.reads store.old) (S.reads store.new) (S.faults store.old) (S.faults store.new) }
+        ensures reads { ReadsNext result self.old self.new (S.reads store.old) (S.reads store.new) }
         ensures cause { HasPartCause (S.faults store.old) (S.faults store.new) result }
         ensures memory { result ≢ Err PartErr.Memory }
     {
         if self.done == self.count {
-            return match self.feed.size(store) {
+            let strings = self.strings;
+            return match store.size(&strings) {
                 Ok(size) => {
+                    let size = size.unwrap_or(0);
                     if size > self.place {
                         Err(PartErr::Bad(Bad {
                             part: self.feed.part(),
