@@ -5,3 +5,4 @@ pub mod FindLaws
 pub mod EnterLaws
 pub mod CursorLaws
 pub mod StandLaws
+pub mod Bounds

@@ -28,6 +28,11 @@ pub fn list_of_a_term_stands()
         (8 * list_byte collection n) (first_entry collection n) (length (postings collection t)) (blocks_of (length (postings collection t))) (postings collection t) }
 {}
 
+/// The lists of a collection within the limits have at most 2^63 bits.
+pub fn post_is_short()
+    ensures { (collection : List ℕ) → length collection < 2 ^ 32 → length (documents collection) ≤ 2 ^ 24 → length (dictionary collection) ≤ 2 ^ 22 → length (post_bits collection) ≤ 2 ^ 63 }
+{}
+
 /// Where no posting of a list is left, the cursor has ended, and reads nothing from then on.
 pub fn after_the_last()
     ensures { (c : Cursoring) (ps : List Posting) → ps ≢ [] → StandsAt c ps [] → c.ended ≡ true }

@@ -1,0 +1,5 @@
+use Rattle.mg_post.proofs.Bounds as laws
+use Rattle.mg_post.proofs.laws.post_is_short.Goals as goal
+
+pub returns : goal.returns
+returns c = laws.post_short
