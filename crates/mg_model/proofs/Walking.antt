@@ -1,12 +1,19 @@
 -- What a walk over the entries of a part tells of it.
-use Rattle.std.proofs.Common.{◌≡◌, ℕ, ◌<◌, Bool, false, List, [], ◌++◌, length, drop, sym, ap, subst, ◌∙◌, arith, inl, inr, Ok, Err, append-nil}
+use Rattle.std.proofs.Common.{◌≡◌, ℕ, ◌+◌, ◌<◌, ◌≤◌, refl, None, length-append, Bool, false, List, [], ◌++◌, length, drop, sym, ap, subst, ◌∙◌, arith, inl, inr, Ok, Err, append-nil}
 use Rattle.mg_dev.specs.declared.bad.Bad as declared
 use Rattle.mg_dev.specs.declared.part.Part.{Part}
 use Rattle.mg_dev.specs.declared.part_err.PartErr.TheVariants.{Bad}
 use Rattle.mg_defs.specs.CodedText.{piece_entries}
 use Rattle.mg_defs.specs.Front.{Entry, AreEntries, NoEntry, front, last_string}
-use Rattle.mg_front.specs.Walk.{Walking, Given, AnswersNext}
+use Rattle.mg_front.specs.Walk.{Walking, Given, Gave, AnswersNext}
 use Rattle.mg_front.specs.declared.entry.FrontEntry.{FrontEntry}
+use Rattle.std.specs.Int.{div_ceil}
+use Rattle.std.specs.declared.option.Option.{Option}
+use Rattle.std.specs.Option.{IsSome}
+use Rattle.mg_dev.specs.Files.{Files, Reads, bytes_at}
+use Rattle.mg_bits.specs.Pages.{Paging}
+use Rattle.mg_front.specs.Looks.{ReadOn, ReadTo}
+use Rattle.mg_front.proofs.ReadPages.{on_more, on_same, read_first, read_first_to}
 use Rattle.mg_model.specs.Damage.{IsPart, IsWalkDamage, StandFirst}
 use Rattle.mg_model.proofs.Entries.{code, entries-long}
 
@@ -52,3 +59,47 @@ walk-damage w out es part count bytes same bad given answer width counted at e =
       more = found-more bad (length (drop (length (front es)) bytes)) told.low_is told.high_is (told.found_is ∙ ap (λ n. length (drop n bytes)) given.place);
       told = record { part_is = told.part_is ∙ at; at_is = told.at_is ∙ given.place; low_is = told.low_is; high_is = told.high_is; found_is = told.found_is ∙ ap (λ n. length (drop n bytes)) given.place };
     })
+
+-- how far a walk from the first byte on has read
+pub record FirstRead (feed : Paging) (before now : Reads) (place : ℕ) : Type 0 where
+  pub start : Paging
+  pub none : start.held ≡ None
+  pub part : feed.part ≡ start.part
+  pub read : ReadOn start feed before now 0 place
+
+pub first-none : (feed : Paging) (r s : Reads) (place : ℕ) → feed.held ≡ None → s ≡ r → place ≡ 0 → FirstRead feed r s place
+first-none feed r s place none same at = record { start = feed; none = none; part = refl; read = subst (ReadOn feed feed r s 0) (sym at) (subst (λ t. ReadOn feed feed r t 0 0) (sym same) (on_same feed r 0)) }
+
+pub first-more : (a b : Paging) (r s t : Reads) (p q : ℕ) → b.part ≡ a.part → FirstRead a r s p → ReadOn a b s t p q → FirstRead b r t q
+first-more a b r s t p q part first on = record { start = first.start; none = first.none; part = part ∙ first.part; read = on_more first.start a b r s t 0 p q first.part first.read on }
+
+-- the walk is within its part
+pub place-within : (w : Walking) (bytes : List ℕ) (es : List Entry) → Given w bytes es → w.place ≤ length bytes
+place-within w bytes es given = omega (arith, given.place, ap length given.rest, length-append (front es) (drop w.place bytes))
+
+-- a walk that stands within its part has read no more pages than it has
+pub first-within : (feed : Paging) (r s : Reads) (place size : ℕ) → place ≤ size → FirstRead feed r s place → s feed.part ≤ r feed.part + div_ceil size 4096
+first-within feed r s place size within first =
+    let pages : div_ceil place 4096 ≤ div_ceil size 4096 = omega arith in
+    let s_is : s feed.part ≡ s first.start.part = ap s first.part in
+    let r_is : r feed.part ≡ r first.start.part = ap r first.part in
+    omega (arith, pages, read_first first.start feed r s place first.none first.read)
+
+pub first-refused : (feed : Paging) (r s t : Reads) (place size : ℕ) → place ≤ size → FirstRead feed r s place → ReadTo feed s t place (place + 281) → t feed.part ≤ r feed.part + div_ceil size 4096 + 1
+first-refused feed r s t place size within first refused =
+    let t_is : t feed.part ≡ t first.start.part = ap t first.part in
+    let r_is : r feed.part ≡ r first.start.part = ap r first.part in
+    omega (arith, read_first_to first.start feed r s t place size first.none first.part within first.read refused)
+
+-- the same of a walk whose part is told
+pub once-within : (w : Walking) (f now : Option Files) (r s : Reads) (es : List Entry) (part : Part) (name : List ℕ) → IsSome f → now ≡ f → w.feed.name ≡ name → w.feed.part ≡ part → Gave w now es → FirstRead w.feed r s w.place → s part ≤ r part + div_ceil (length (bytes_at f name)) 4096
+once-within w f now r s es part name told same named at gave first =
+    let bytes : bytes_at now w.feed.name ≡ bytes_at f name = ap (λ g. bytes_at g w.feed.name) same ∙ ap (bytes_at f) named in
+    let within : w.place ≤ length (bytes_at f name) = omega (arith, place-within w (bytes_at now w.feed.name) es (gave.given (subst IsSome (sym same) told)), ap length bytes) in
+    subst (λ p. s p ≤ r p + div_ceil (length (bytes_at f name)) 4096) at (first-within w.feed r s w.place (length (bytes_at f name)) within first)
+
+pub once-refused : (w : Walking) (f now : Option Files) (r s t : Reads) (es : List Entry) (part : Part) (name : List ℕ) → IsSome f → now ≡ f → w.feed.name ≡ name → w.feed.part ≡ part → Gave w now es → FirstRead w.feed r s w.place → ReadTo w.feed s t w.place (w.place + 281) → t part ≤ r part + div_ceil (length (bytes_at f name)) 4096 + 1
+once-refused w f now r s t es part name told same named at gave first refused =
+    let bytes : bytes_at now w.feed.name ≡ bytes_at f name = ap (λ g. bytes_at g w.feed.name) same ∙ ap (bytes_at f) named in
+    let within : w.place ≤ length (bytes_at f name) = omega (arith, place-within w (bytes_at now w.feed.name) es (gave.given (subst IsSome (sym same) told)), ap length bytes) in
+    subst (λ p. t p ≤ r p + div_ceil (length (bytes_at f name)) 4096 + 1) at (first-refused w.feed r s t w.place (length (bytes_at f name)) within first refused)

@@ -12,6 +12,7 @@ ghost use Rattle.mg_defs.specs.CodedText.{IsHuffman, pieces_part, piece_entries}
 ghost use Rattle.mg_defs.specs.Vocabulary.{sorted_of, counts_of};
 ghost use Rattle.mg_model.specs.Damage.{AnswersStream};
 ghost use Rattle.mg_model.specs.Models.{IsStreamCode};
+ghost use Rattle.mg_model.specs.Read.{ReadOnce};
 
 use crate::Vocab;
 use crate::pieces::Pieces;
@@ -113,6 +114,7 @@ impl StreamModel {
         requires { count ≤ 2 ^ 22 }
         ensures answer { IsSome (S.files store.old) → AnswersStream file.entry.part count (bytes_at (S.files store.old) (full_name file.entry.base.now file.entry.part)) result }
         ensures looked { Looked file.entry.part (S.files store.old) (S.files store.new) (S.reads store.old) (S.reads store.new) (S.faults store.old) (S.faults store.new) }
+        ensures once { IsSome (S.files store.old) → ReadOnce file.entry.part (bytes_at (S.files store.old) (full_name file.entry.base.now file.entry.part)) (S.reads store.old) (S.reads store.new) result }
         ensures cause { HasPartCause (S.faults store.old) (S.faults store.new) result }
     {
         match expect_room(store, &file, count) {
