@@ -153,26 +153,6 @@ impl<F: Feed> BitReader<F> {
         ensures told { FromPlace ((F.feeding self.old.feed).source (F.device dev.old).files) self.old.place (AnswersBit result self.old.place) }
         ensures cause { DeviceCause result (F.device dev.old).faults (F.device dev.new).faults }
     {
-        if let Some(next) = self.peek() {
-            self.place += 1;
-            return Ok(first_of(next, 1) == 1);
-        }
-        self.bit_of_byte(dev)
-    }
-
-    /// The next bit, from a byte that the feed is asked for. It stands apart so that `bit` is short
-    /// where the page is held.
-    #[inline(never)]
-    fn bit_of_byte(&mut self, dev: &mut F::Dev) -> Result<bool, BitErr>
-        requires fits { F.fits self.old.feed (F.device dev.old).files }
-        requires place { self.old.place + 1 < 2 ^ 64 }
-        ensures fits { F.fits self.new.feed (F.device dev.new).files }
-        ensures read { OnOk result (Read (F.feeding self.old.feed) (F.feeding self.new.feed) (F.device dev.old) (F.device dev.new) self.old.place (self.old.place + 1)) }
-        ensures part { OnErr result (ReadPart (F.feeding self.old.feed) (F.feeding self.new.feed) (F.device dev.old) (F.device dev.new) self.old.place (self.old.place + 1)) }
-        ensures place { MatchResult result (λ _. self.new.place ≡ self.old.place + 1) (λ _. self.new.place ≡ self.old.place) }
-        ensures told { FromPlace ((F.feeding self.old.feed).source (F.device dev.old).files) self.old.place (AnswersBit result self.old.place) }
-        ensures cause { DeviceCause result (F.device dev.old).faults (F.device dev.new).faults }
-    {
         Ok(self.piece(dev, 1)? == 1)
     }
 }
