@@ -12,3 +12,4 @@ pub mod CursorLaws
 pub mod Merges
 pub mod Heads
 pub mod Steps
+pub mod Joins

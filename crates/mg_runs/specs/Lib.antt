@@ -8,3 +8,4 @@ pub mod Decoding
 pub mod Slots
 pub mod Cursors
 pub mod Merging
+pub mod Joins

@@ -13,6 +13,7 @@ mod decode;
 mod entry;
 mod group;
 mod groups;
+mod join;
 mod pool;
 mod posting;
 mod run;
