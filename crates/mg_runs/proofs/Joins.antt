@@ -1,5 +1,5 @@
 -- Postings that are counted and written.
-use Rattle.std.proofs.Common.{◌≡◌, ℕ, zero, suc, ◌+◌, ◌*◌, ◌^◌, ◌<◌, ◌≤◌, List, [], ◌∷◌, ◌++◌, length, drop, refl, sym, ap, ◌∙◌, subst, arith, Some, None, is_some, unwrap_or, ◌≢◌, append_assoc, append-nil}
+use Rattle.std.proofs.Common.{◌≡◌, ℕ, zero, suc, ◌+◌, ◌-◌, ◌*◌, ◌%◌, ◌^◌, ◌<◌, ◌≤◌, List, [], ◌∷◌, ◌++◌, length, drop, refl, sym, ap, ◌∙◌, subst, arith, Some, None, is_some, unwrap_or, ◌≢◌, append_assoc, append-nil}
 use Rattle.std.proofs.lemmas.List.{drop-drop}
 use Rattle.std.specs.List.{AllByRecursion}
 use Rattle.std.specs.Prelude.{Err}
@@ -11,13 +11,15 @@ use Rattle.mg_dev.specs.declared.device.PutErr.{PutErr}
 use Rattle.mg_dev.specs.declared.device.PutErr.TheVariants.{Failed}
 use Rattle.mg_dev.specs.PartCauses.{HasPartCause}
 use Rattle.mg_dev.specs.declared.part_err.PartErr.{PartErr}
-use Rattle.mg_defs.specs.Bits.{Bits}
+use Rattle.mg_defs.specs.Bits.{Bits, digits, filled}
+use Rattle.mg_defs.specs.Codes.{gamma}
+use Rattle.mg_defs.proofs.BitLaws.{length_digits}
 use Rattle.mg_defs.specs.Postings.{IsBefore, AllAfter}
-use Rattle.mg_defs.specs.RunBits.{before_first, posting_bits, postings_bits}
+use Rattle.mg_defs.specs.RunBits.{before_first, posting_bits, postings_bits, run_bits}
 use Rattle.mg_defs.specs.declared.TermPosting.{TermPosting}
 use Rattle.mg_bits.specs.Pages.{Looked}
 use Rattle.mg_bits.specs.Writer.{WroteTo}
-use Rattle.mg_bits.specs.BitWriting.{BitWriting, WroteBits}
+use Rattle.mg_bits.specs.BitWriting.{BitWriting, WroteBits, to_byte}
 use Rattle.mg_bits.proofs.BitsWritten.{bits_more, bits_none}
 use Rattle.mg_runs.specs.Decoding.{IsSmall}
 use Rattle.mg_runs.specs.Cursors.{IsRun}
@@ -148,3 +150,26 @@ passed_wrote part name f g r s m n wrote le = record {
 -- the bytes of a file that is not written to
 pub passed_bytes : (part : Part) (name other : List ℕ) (f g : Option Files) (r s : Reads) (m n : ℕ) → Passed part name f g r s m n → other ≢ name → bytes_at g other ≡ bytes_at f other
 passed_bytes part name other f g r s m n passed apart = ap (λ b. unwrap_or b []) (passed.others other apart)
+
+to_byte_same : (p n : ℕ) → p % 8 ≡ 0 → to_byte (p + n) ≡ to_byte n
+to_byte_same p n h =
+    let e : (p + n) % 8 ≡ n % 8 = omega arith in
+    ap (λ k. (8 - k) % 8) e
+
+to_byte_below : (n : ℕ) → to_byte n < 8
+to_byte_below n = omega arith
+
+-- the number of postings, the postings and zero-bits to a byte are a run
+pub run_written : (f0 f1 f2 f3 : Option Files) (w0 w1 w2 w3 : BitWriting) (n : ℕ) (xs : List TermPosting) → w0.place % 8 ≡ 0 → n ≡ length xs → is_some f1 ≡ is_some f0 → is_some f2 ≡ is_some f1 → WroteBits w0 w1 f0 f1 (gamma n) → WroteBits w1 w2 f1 f2 (postings_bits before_first xs) → WroteBits w2 w3 f2 f3 (digits (to_byte w2.place) 0) → WroteBits w0 w3 f0 f3 (filled (run_bits xs))
+unfolding filled run_bits
+run_written f0 f1 f2 f3 w0 w1 w2 w3 n xs whole e t1 t2 a b d =
+    let count : gamma n ≡ gamma (length xs) = ap (λ k. gamma k) e in
+    let run : WroteBits w0 w2 f0 f2 (run_bits xs) = bits_more f0 f1 f2 w0 w1 w2 (gamma (length xs)) (postings_bits before_first xs) t1 (subst (λ c. WroteBits w0 w1 f0 f1 c) count a) b in
+    let p : w2.place ≡ w0.place + length (run_bits xs) = run.place in
+    let q : to_byte w2.place ≡ to_byte (length (run_bits xs)) = ap (λ k. to_byte k) p ∙ to_byte_same w0.place (length (run_bits xs)) whole in
+    bits_more f0 f2 f3 w0 w2 w3 (run_bits xs) (digits (to_byte (length (run_bits xs))) 0) (t2 ∙ t1) run (subst (λ k. WroteBits w2 w3 f2 f3 (digits k 0)) q d)
+
+pub aligned_place : (f0 f1 : Option Files) (w0 w1 : BitWriting) → WroteBits w0 w1 f0 f1 (digits (to_byte w0.place) 0) → w1.place ≤ w0.place + 8
+aligned_place f0 f1 w0 w1 wrote =
+    let p = wrote.place in
+    omega (arith, p, length_digits (to_byte w0.place) 0, to_byte_below w0.place)

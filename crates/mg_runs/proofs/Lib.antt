@@ -13,3 +13,7 @@ pub mod Merges
 pub mod Heads
 pub mod Steps
 pub mod Joins
+pub mod Rounds
+pub mod RoundsBits
+pub mod RoundsFed
+pub mod RoundsLoop

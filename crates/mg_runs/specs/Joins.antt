@@ -5,12 +5,12 @@ use Rattle.mg_dev.specs.declared.part.Part.{Part}
 use Rattle.mg_dev.specs.Files.{Files, Reads, file_at}
 use Rattle.mg_dev.specs.Names.{same_part}
 use Rattle.mg_defs.specs.Bits.{Bits}
-use Rattle.mg_defs.specs.Postings.{AllAfter, merged}
+use Rattle.mg_defs.specs.Postings.{AllAfter}
 use Rattle.mg_defs.specs.RunBits.{postings_bits}
 use Rattle.mg_defs.specs.declared.TermPosting.{TermPosting}
 use Rattle.mg_bits.specs.BitWriting.{BitWriting, WroteBits}
 use Rattle.mg_runs.specs.Cursors.{IsRun}
-use Rattle.mg_runs.specs.Merging.{AreLeft, AreRuns}
+use Rattle.mg_runs.specs.Merging.{AreLeft}
 use Rattle.mg_runs.specs.declared.cursor.Cursor.{Cursor}
 
 -- calls that read this part alone, and write to the file of this name alone
@@ -36,14 +36,6 @@ pub record IsPutting (slots : List (List ℕ)) (cursors : List Cursor) (file : L
 abbrev pub IsPut : List (List ℕ) → List Cursor → List ℕ → Option Files → Option Files → BitWriting → BitWriting → Option TermPosting → Bits → Type 0
 IsPut slots cursors file files_before files_now old new None bits = WroteBits old new files_before files_now bits
 IsPut slots cursors file files_before files_now old new (Some last) bits = IsPutting slots cursors file files_before files_now old new last bits
-
--- The postings of these runs, merged, may be written as a run behind so many bits.
-pub record CanJoin (runs : List (List TermPosting)) (place : ℕ) : Type 0 where
-  pub are : AreRuns runs
-  pub run : IsRun (merged runs)
-  pub some : 1 ≤ length (merged runs)
-  pub few : length (merged runs) < 2 ^ 32
-  pub room : place + 66 + 256 * length (merged runs) ≤ 2 ^ 61
 
 -- so many of the postings that were left are counted
 pub record IsCounting (slots : List (List ℕ)) (cursors : List Cursor) (file : List ℕ) (left : List TermPosting) (count : ℕ) : Type 0 where

@@ -9,3 +9,4 @@ pub mod Slots
 pub mod Cursors
 pub mod Merging
 pub mod Joins
+pub mod Rounds

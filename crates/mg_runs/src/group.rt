@@ -126,7 +126,7 @@ impl<'a> Group<'a> {
 
     /// The pool, without the runs.
     pub fn into_pool(self) -> Pool
-        ensures { result ≡ self.pool }
+        ensures { result ≡ self.entry.pool }
     {
         self.pool
     }

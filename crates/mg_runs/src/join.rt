@@ -14,7 +14,8 @@ ghost use Rattle.std.specs.declared.option.Option.{Option};
 ghost use Rattle.mg_runs.specs.Pooled.{SamePool};
 ghost use Rattle.mg_runs.specs.Cursors.{IsRun, NoDamage};
 ghost use Rattle.mg_runs.specs.Merging.{AreLeft, AreRuns, AreRunsAt, IsShaped};
-ghost use Rattle.mg_runs.specs.Joins.{CanJoin, IsPut, IsPutting, Passed};
+ghost use Rattle.mg_runs.specs.Joins.{IsPut, IsPutting, Passed};
+ghost use Rattle.mg_runs.specs.Rounds.{IsGroupAt};
 
 use crate::Pool;
 use crate::decode::MOST_LEFT;
@@ -204,11 +205,11 @@ fn put_run<S: Store>(
     requires count_some { 1 ≤ counted.count }
     requires count_few { counted.count < 2 ^ 32 }
     requires holds { Holds w.old (S.files store.old) }
-    requires apart { full_name file.entry.base.now file.entry.part ≢ w.old.name }
+    requires apart { full_name file.base.now file.part ≢ w.old.name }
     requires whole { w.old.place % 8 ≡ 0 }
     requires place { w.old.place ≤ 2 ^ 61 }
-    ensures told { IsSome (S.files store.old) → (runs : List (List TermPosting)) → AreRunsAt (bytes_at (S.files store.old) (full_name file.entry.base.now file.entry.part)) places.now runs → CanJoin runs w.old.place → counted.count ≡ length (merged runs) → OnOk result (WroteBits w.old w.new (S.files store.old) (S.files store.new) (filled (run_bits (merged runs)))) }
-    ensures undamaged { IsSome (S.files store.old) → (runs : List (List TermPosting)) → AreRunsAt (bytes_at (S.files store.old) (full_name file.entry.base.now file.entry.part)) places.now runs → CanJoin runs w.old.place → NoDamage result }
+    ensures told { IsSome (S.files store.old) → (runs : List (List TermPosting)) → AreRunsAt (bytes_at (S.files store.old) (full_name file.entry.base.now file.entry.part)) places.now runs → IsGroupAt runs w.old.place → counted.count ≡ length (merged runs) → OnOk result (WroteBits w.old w.new (S.files store.old) (S.files store.new) (filled (run_bits (merged runs)))) }
+    ensures undamaged { IsSome (S.files store.old) → (runs : List (List TermPosting)) → AreRunsAt (bytes_at (S.files store.old) (full_name file.entry.base.now file.entry.part)) places.now runs → IsGroupAt runs w.old.place → NoDamage result }
     ensures entries { IfOk result (λ made. made.entries ≡ []) }
     ensures limit { IfOk result (λ made. made.limit ≡ counted.pool.limit) }
     ensures peak { IfOk result (λ made. made.peak ≡ max counted.pool.peak (64 * length places.now)) }
@@ -253,10 +254,10 @@ pub fn join<S: Store>(
     requires limit { pool.limit ≤ 2 ^ 30 }
     requires entries { pool.entries ≡ [] }
     requires holds { Holds w.old (S.files store.old) }
-    requires apart { full_name file.entry.base.now file.entry.part ≢ w.old.name }
+    requires apart { full_name file.base.now file.part ≢ w.old.name }
     requires whole { w.old.place % 8 ≡ 0 }
-    ensures told { IsSome (S.files store.old) → (runs : List (List TermPosting)) → AreRunsAt (bytes_at (S.files store.old) (full_name file.entry.base.now file.entry.part)) places.now runs → CanJoin runs w.old.place → OnOk result (WroteBits w.old w.new (S.files store.old) (S.files store.new) (filled (run_bits (merged runs)))) }
-    ensures undamaged { IsSome (S.files store.old) → (runs : List (List TermPosting)) → AreRunsAt (bytes_at (S.files store.old) (full_name file.entry.base.now file.entry.part)) places.now runs → CanJoin runs w.old.place → NoDamage result }
+    ensures told { IsSome (S.files store.old) → (runs : List (List TermPosting)) → AreRunsAt (bytes_at (S.files store.old) (full_name file.entry.base.now file.entry.part)) places.now runs → IsGroupAt runs w.old.place → OnOk result (WroteBits w.old w.new (S.files store.old) (S.files store.new) (filled (run_bits (merged runs)))) }
+    ensures undamaged { IsSome (S.files store.old) → (runs : List (List TermPosting)) → AreRunsAt (bytes_at (S.files store.old) (full_name file.entry.base.now file.entry.part)) places.now runs → IsGroupAt runs w.old.place → NoDamage result }
     ensures entries { IfOk result (λ made. made.entries ≡ []) }
     ensures limit { IfOk result (λ made. made.limit ≡ pool.limit) }
     ensures peak { IfOk result (λ made. made.peak ≡ max pool.peak (64 * length places.now)) }
