@@ -17,3 +17,5 @@ pub mod Rounds
 pub mod RoundsBits
 pub mod RoundsFed
 pub mod RoundsLoop
+pub mod RoundsFirst
+pub mod JoinedGroups

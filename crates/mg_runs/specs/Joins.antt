@@ -2,14 +2,17 @@
 use Rattle.std.specs.Prelude.{◌≡◌, ◌≢◌, ◌≤◌, ◌<◌, ◌+◌, ◌*◌, ◌++◌, ◌^◌, ℕ, false, List, length, drop, is_some, Some, None}
 use Rattle.std.specs.declared.option.Option.{Option}
 use Rattle.mg_dev.specs.declared.part.Part.{Part}
+use Rattle.mg_dev.specs.declared.part.Part.TheVariants.{Run, MergeA, MergeB}
 use Rattle.mg_dev.specs.Files.{Files, Reads, file_at}
-use Rattle.mg_dev.specs.Names.{same_part}
+use Rattle.mg_dev.specs.Names.{full_name, number, same_part}
 use Rattle.mg_defs.specs.Bits.{Bits}
 use Rattle.mg_defs.specs.Postings.{AllAfter}
-use Rattle.mg_defs.specs.RunBits.{postings_bits}
+use Rattle.mg_defs.specs.RunBits.{postings_bits, runs_bits}
 use Rattle.mg_defs.specs.declared.TermPosting.{TermPosting}
 use Rattle.mg_bits.specs.BitWriting.{BitWriting, WroteBits}
 use Rattle.mg_runs.specs.Cursors.{IsRun}
+use Rattle.mg_runs.specs.Fed.{starts}
+use Rattle.mg_runs.specs.Rounds.{AreJoined, joined_runs}
 use Rattle.mg_runs.specs.Merging.{AreLeft}
 use Rattle.mg_runs.specs.declared.cursor.Cursor.{Cursor}
 
@@ -41,3 +44,32 @@ IsPut slots cursors file files_before files_now old new (Some last) bits = IsPut
 pub record IsCounting (slots : List (List ℕ)) (cursors : List Cursor) (file : List ℕ) (left : List TermPosting) (count : ℕ) : Type 0 where
   pub has : AreLeft slots cursors file (drop count left)
   pub within : count ≤ length left
+
+-- The groups of runs before this one are joined behind what was written before: so many bits were written, and the joined runs begin at these places.
+pub record IsJoining (width : ℕ) (runs : List (List TermPosting)) (at : ℕ) (places : List ℕ) (files_before files_now : Option Files) (old new : BitWriting) : Type 0 where
+  pub bits : Bits
+  pub joined : AreJoined width runs at bits places
+  pub wrote : WroteBits old new files_before files_now bits
+
+-- All groups are joined.
+pub record IsJoined (width : ℕ) (runs : List (List TermPosting)) (places : List ℕ) (files_before files_now : Option Files) (old new : BitWriting) : Type 0 where
+  pub wrote : WroteBits old new files_before files_now (runs_bits (joined_runs width runs))
+  pub stand : places ≡ starts 0 (joined_runs width runs)
+
+-- The merge part that the next round writes.
+abbrev pub other : Part → Part
+other MergeA = MergeB
+other part = MergeA
+
+-- Run or a merge part.
+pub record IsRunPart (part : Part) : Type 0 where
+  pub low : 10 ≤ number part
+  pub high : number part ≤ 12
+
+-- calls that read the parts of the runs of a base alone, and write to their files alone
+pub record Worked (base : List ℕ) (files_before files_now : Option Files) (reads_before reads_now : Reads) (faults_before faults_now : ℕ) : Type 0 where
+  pub told : is_some files_now ≡ is_some files_before
+  pub others : (n : List ℕ) → n ≢ full_name base Run → n ≢ full_name base MergeA → n ≢ full_name base MergeB → file_at files_now n ≡ file_at files_before n
+  pub later : (p : Part) → reads_before p ≤ reads_now p
+  pub reads : (p : Part) → same_part p Run ≡ false → same_part p MergeA ≡ false → same_part p MergeB ≡ false → reads_now p ≡ reads_before p
+  pub faults : faults_before ≤ faults_now

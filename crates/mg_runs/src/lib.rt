@@ -16,6 +16,7 @@ mod groups;
 mod join;
 mod pool;
 mod posting;
+mod round;
 mod run;
 mod runs;
 mod slot;
