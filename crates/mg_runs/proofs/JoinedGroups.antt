@@ -1,17 +1,22 @@
 -- Groups of runs, joined one after the other.
-use Rattle.std.proofs.Common.{◌≡◌, ℕ, Bool, ◌+◌, ◌-◌, ◌<◌, ◌≤◌, List, [], ◌∷◌, ◌++◌, length, refl, sym, ap, ◌∙◌, subst, arith, take, drop, min, is_some}
+use Rattle.std.proofs.Common.{◌≡◌, ℕ, Bool, ◌+◌, ◌-◌, ◌<◌, ◌≤◌, List, [], ◌∷◌, ◌++◌, length, refl, sym, ap, ◌∙◌, subst, arith, take, drop, min, is_some, IsSome, ◌≢◌, ◌%◌}
 use Rattle.std.specs.declared.option.Option.{Option}
 use Rattle.mg_dev.specs.Files.{Files}
-use Rattle.mg_defs.specs.Bits.{Bits, filled}
+use Rattle.mg_dev.specs.Names.{full_name}
+use Rattle.mg_dev.specs.declared.part.Part.{Part}
+use Rattle.mg_dev.specs.declared.part.Part.TheVariants.{Run, MergeA, MergeB}
+use Rattle.mg_defs.specs.Bits.{Bits, bits_of, digits, filled}
 use Rattle.mg_defs.specs.Postings.{merged}
-use Rattle.mg_defs.specs.RunBits.{run_bits}
+use Rattle.mg_defs.specs.RunBits.{run_bits, runs_bits}
 use Rattle.mg_defs.specs.declared.TermPosting.{TermPosting}
-use Rattle.mg_bits.specs.BitWriting.{BitWriting, WroteBits}
+use Rattle.mg_bits.specs.BitWriting.{BitWriting, WroteBits, bits_put, to_byte}
 use Rattle.mg_bits.proofs.BitsWritten.{bits_more, bits_none}
 use Rattle.mg_runs.specs.Merging.{AreRunsAt}
-use Rattle.mg_runs.specs.Rounds.{AreJoined, AreStored, IsGroupAt}
-use Rattle.mg_runs.specs.Joins.{IsJoining, IsJoined}
-use Rattle.mg_runs.proofs.RoundsLoop.{joined_none, joined_group, joined_bits, joined_places, group_at, stored_count, stored_group}
+use Rattle.mg_runs.specs.Rounds.{AreJoined, AreStored, IsGroupAt, joined_runs}
+use Rattle.mg_runs.specs.Joins.{IsJoining, IsJoined, IsRunPart, other}
+use Rattle.mg_runs.proofs.Parts.{apart}
+use Rattle.mg_runs.proofs.RoundsFirst.{finished_bits}
+use Rattle.mg_runs.proofs.RoundsLoop.{joined_none, joined_group, joined_bits, joined_places, group_at, stored_count, stored_group, stored_next}
 
 pub joining_none : (width : ℕ) (runs : List (List TermPosting)) (f : Option Files) (w : BitWriting) → 1 ≤ width → IsJoining width runs 0 [] f f w w
 joining_none width runs f w some = record { bits = []; joined = joined_none width runs some; wrote = bits_none f w }
@@ -47,3 +52,16 @@ joining_end file places whole width at made f0 f1 w0 w1 is joining some all =
       wrote = subst (λ b. WroteBits w0 w1 f0 f1 b) (joined_bits width at is.runs joining.bits made joining.joined some (omega arith)) joining.wrote;
       stand = joined_places width at is.runs joining.bits made joining.joined some (omega arith);
     }
+
+-- a part and the one that the next round writes have different names
+pub other_apart : (base : List ℕ) (part : Part) → IsRunPart part → full_name base part ≢ full_name base (other part)
+other_apart base Run is = apart base Run MergeA (λ e. omega arith)
+other_apart base MergeA is = apart base MergeA MergeB (λ e. omega arith)
+other_apart base MergeB is = apart base MergeB MergeA (λ e. omega arith)
+other_apart base part is = absurd (omega (arith, is.low, is.high))
+
+-- the runs that a round leaves
+pub round_stored : (file places : List ℕ) (whole : List TermPosting) (width : ℕ) (next made : List ℕ) (f0 f1 : Option Files) (w0 w1 : BitWriting) (is : AreStored file places whole) → IsJoined width is.runs made f0 f1 w0 w1 → IsSome f0 → bits_put w0 f0 ≡ [] → w1.place % 8 ≡ 0 → bits_of next ≡ bits_put w1 f1 ++ digits (to_byte w1.place) 0 → 1 ≤ width → width < length places → AreStored next made whole
+round_stored file places whole width next made f0 f1 w0 w1 is joined told empty aligned bits some more =
+    let put : bits_put w1 f1 ≡ runs_bits (joined_runs width is.runs) = joined.wrote.told told ∙ ap (λ b. b ++ runs_bits (joined_runs width is.runs)) empty in
+    stored_next file places next made whole width is some more (bits ∙ finished_bits w1.place (bits_put w1 f1) aligned ∙ put) joined.stand

@@ -19,3 +19,4 @@ pub mod RoundsFed
 pub mod RoundsLoop
 pub mod RoundsFirst
 pub mod JoinedGroups
+pub mod Working
