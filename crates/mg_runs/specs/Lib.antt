@@ -10,3 +10,4 @@ pub mod Cursors
 pub mod Merging
 pub mod Joins
 pub mod Rounds
+pub mod Left

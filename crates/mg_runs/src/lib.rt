@@ -14,6 +14,7 @@ mod entry;
 mod group;
 mod groups;
 mod join;
+mod merge;
 mod pool;
 mod posting;
 mod round;
@@ -23,6 +24,7 @@ mod slot;
 mod tournament;
 mod walk;
 
+pub use merge::Merge;
 pub use pool::Pool;
 pub use runs::Runs;
 
