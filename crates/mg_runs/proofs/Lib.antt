@@ -20,3 +20,4 @@ pub mod RoundsLoop
 pub mod RoundsFirst
 pub mod JoinedGroups
 pub mod Working
+pub mod LastRun
