@@ -1,5 +1,5 @@
 -- Calls that work on the parts of the runs of one base.
-use Rattle.std.proofs.Common.{◌≡◌, ◌≢◌, ℕ, ◌+◌, ◌-◌, ◌*◌, ◌/◌, ◌<◌, ◌≤◌, List, refl, ap, ◌∙◌, arith, false, is_some}
+use Rattle.std.proofs.Common.{◌≡◌, ◌≢◌, ℕ, ◌+◌, ◌-◌, ◌*◌, ◌/◌, ◌≤◌, List, refl, ap, ◌∙◌, arith, false, is_some}
 use Rattle.std.specs.declared.option.Option.{Option}
 use Rattle.mg_dev.specs.Files.{Files, Reads, file_at}
 use Rattle.mg_dev.specs.Names.{full_name, same_part}

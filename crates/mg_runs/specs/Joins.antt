@@ -1,5 +1,5 @@
 -- Runs of one file that are joined into a run of another.
-use Rattle.std.specs.Prelude.{◌≡◌, ◌≢◌, ◌≤◌, ◌<◌, ◌+◌, ◌*◌, ◌++◌, ◌^◌, ℕ, false, List, length, drop, is_some, Some, None}
+use Rattle.std.specs.Prelude.{◌≡◌, ◌≢◌, ◌≤◌, ◌+◌, ◌*◌, ◌++◌, ◌^◌, ℕ, false, List, length, drop, is_some, Some, None}
 use Rattle.std.specs.declared.option.Option.{Option}
 use Rattle.mg_dev.specs.declared.part.Part.{Part}
 use Rattle.mg_dev.specs.declared.part.Part.TheVariants.{Run, MergeA, MergeB}

@@ -1,6 +1,6 @@
-use Rattle.std.proofs.Common.{ℕ, sym, ◌∙◌, arith}
+use Rattle.std.proofs.Common.{sym, ◌∙◌, arith}
 use Rattle.mg_runs.proofs.Joins.{counting_more, counting_end}
-use Rattle.mg_runs.proofs.Steps.{looked_more, pool_more, caused_as}
+use Rattle.mg_runs.proofs.Steps.{looked_more, pool_more}
 use Rattle.mg_runs.proofs.join.count_postings.Goals as goal
 
 pub returns-then-count-gt-MOST_LEFT-clause-cause : goal.returns-then-count-gt-MOST_LEFT-clause-cause

@@ -1,4 +1,4 @@
-use Rattle.std.proofs.Common.{◌≡◌, ◌≤◌, ◌<◌, ◌^◌, List, IsSome, length, drop}
+use Rattle.std.proofs.Common.{◌≡◌, ◌<◌, ◌^◌, List, IsSome}
 use Rattle.std.specs.Prelude.{sum_by}
 use Rattle.mg_dev.specs.Files.{bytes_at}
 use Rattle.mg_dev.specs.Names.{full_name}

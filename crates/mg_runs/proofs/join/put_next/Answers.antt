@@ -1,10 +1,8 @@
-use Rattle.std.proofs.Common.{◌≡◌, ℕ, IsTrue, false, sym, ◌∙◌, subst, ap, is_some, arith}
+use Rattle.std.proofs.Common.{◌≡◌, ℕ, IsTrue, false, sym, ◌∙◌, subst, arith}
 use Rattle.std.specs.declared.option.Option.{Option}
 use Rattle.mg_defs.specs.declared.TermPosting.{TermPosting}
-use Rattle.mg_defs.specs.RunBits.{posting_bits}
 use Rattle.mg_bits.specs.BitWriting.{WroteBits}
 use Rattle.mg_runs.proofs.Joins.{putting_first, put_more, put_end, put_as, put_cause}
-use Rattle.mg_runs.proofs.Steps.{undamaged_as}
 use Rattle.mg_runs.proofs.join.put_next.Goals as goal
 use Rattle.mg_runs.proofs.join.put_next.Goals.{then-place-gt-MOST_BITS-via-then-place-gt-MOST_BITS, then-place-gt-MOST_BITS-via-else-place-gt-MOST_BITS+then-not-can_follow}
 

@@ -1,6 +1,6 @@
-use Rattle.std.proofs.Common.{ℕ, refl, sym, ◌∙◌, arith}
+use Rattle.std.proofs.Common.{refl, sym, ◌∙◌}
 use Rattle.mg_runs.proofs.Joins.{put_start, passed_none, passed_more, passed_bytes}
-use Rattle.mg_runs.proofs.Steps.{pool_more, undamaged_as}
+use Rattle.mg_runs.proofs.Steps.{pool_more}
 use Rattle.mg_runs.proofs.join.put_postings.Goals as goal
 
 pub loop-posting-init : goal.loop-posting-init

@@ -1,4 +1,4 @@
-use Rattle.std.proofs.Common.{◌≡◌, ◌≢◌, ◌≤◌, ◌+◌, ◌*◌, ◌^◌, ℕ, List, [], length, refl, sym, ◌∙◌, ap, arith, unwrap_or}
+use Rattle.std.proofs.Common.{◌≡◌, ◌≤◌, ◌+◌, ◌*◌, ◌^◌, ℕ, [], length, refl, ◌∙◌, ap, arith, unwrap_or}
 use Rattle.mg_dev.specs.Names.{full_name}
 use Rattle.mg_dev.specs.Files.{bytes_at}
 use Rattle.mg_defs.specs.Postings.{merged}

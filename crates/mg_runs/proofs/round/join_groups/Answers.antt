@@ -1,4 +1,4 @@
-use Rattle.std.proofs.Common.{◌≡◌, ◌+◌, ◌-◌, ◌*◌, ◌<◌, ◌≤◌, ◌++◌, ◌∷◌, [], ℕ, length, length-append, take, drop, sym, ◌∙◌, ap, subst, arith, min, max}
+use Rattle.std.proofs.Common.{◌≡◌, ◌+◌, ◌-◌, ◌*◌, ◌<◌, ◌++◌, ◌∷◌, [], ℕ, length, length-append, take, drop, sym, ◌∙◌, ap, subst, arith, min, max}
 use Rattle.mg_runs.specs.Rounds.{AreCounted}
 use Rattle.mg_runs.specs.declared.pool.Pool.{Pool}
 use Rattle.mg_runs.specs.declared.round.Joined.{Joined}

@@ -1,4 +1,4 @@
-use Rattle.std.proofs.Common.{◌≡◌, sym, ◌∙◌, ap, subst, is_some}
+use Rattle.std.proofs.Common.{sym, ◌∙◌, ap, subst, is_some}
 use Rattle.mg_runs.specs.Joins.{IsRunPart}
 use Rattle.mg_runs.specs.declared.group.Group.{Group}
 use Rattle.mg_runs.specs.declared.merge.Merge.{Merge}

@@ -1,4 +1,4 @@
-use Rattle.std.proofs.Common.{◌≡◌, ◌∙◌, ap, subst, sym, length, arith}
+use Rattle.std.proofs.Common.{◌∙◌, subst, sym, length, arith}
 use Rattle.mg_runs.specs.Joins.{IsRunPart}
 use Rattle.mg_runs.proofs.RoundsLoop.{peak_round}
 use Rattle.mg_runs.proofs.Working.{other_is, passed_run, worked_passed, worked_more, some_next}

@@ -1,4 +1,4 @@
-use Rattle.std.proofs.Common.{◌≡◌, ◌≤◌, ◌+◌, ◌*◌, ◌^◌, List, [], IsSome, length, min, max}
+use Rattle.std.proofs.Common.{◌≡◌, ◌*◌, List, [], IsSome, length, min, max}
 use Rattle.mg_dev.specs.declared.part.Part.TheVariants.{Run}
 use Rattle.mg_dev.specs.Files.{bytes_at, file_at}
 use Rattle.mg_dev.specs.Names.{full_name}
