@@ -131,6 +131,7 @@ impl<'a> Runs<'a> {
         requires doc { 1 ≤ doc }
         ensures fed { OnOk result ((fed : List (ℕ × ℕ)) → length fed < 2 ^ 32 - 1 → IsFed self.old (S.files store.old) fed → IsFed self.new (S.files store.new) (fed ++ (term, doc) ∷ [])) }
         ensures cap { cap_of self.new.pool ≡ cap_of self.old.pool }
+        ensures limit { self.new.pool.limit ≡ self.old.pool.limit }
         ensures base { self.new.base ≡ self.old.base }
         ensures wrote { WroteTo self.old.writer.name (S.files store.old) (S.files store.new) (S.reads store.old) (S.reads store.new) }
         ensures cause { HasPutCause (S.faults store.old) (S.faults store.new) result }

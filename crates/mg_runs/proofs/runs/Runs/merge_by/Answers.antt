@@ -26,11 +26,11 @@ overflow_cast-runs g c =
 pub returns-in-Ok-rounds-clause-left : goal.returns-in-Ok-rounds-clause-left
 returns-in-Ok-rounds-clause-left g c = λ fed is.
     c.open.ensures.left (postings fed) (λ told.
-        let now = sym c.rounds.ensures.worked.told ∙ told in
-        let was = sym c.finish.ensures.wrote.told ∙ now in
-        let stored = fed_stored _ _ fed _ _ is (c.in-Ok.ensures.run was fed is) (c.in-Ok.ensures.places fed is) in
-        let next = rw (c.in-Ok.ensures.base, c.in-Ok.ensures.part) at c.in-Ok-rounds.ensures.told in
-        next now (postings fed) stored)
+    let now = sym c.rounds.ensures.worked.told ∙ told in
+    let was = sym c.finish.ensures.wrote.told ∙ now in
+    let stored = fed_stored _ _ fed _ _ is (c.in-Ok.ensures.run was fed is) (c.in-Ok.ensures.places fed is) in
+    let next = rw (c.in-Ok.ensures.base, c.in-Ok.ensures.part) at c.in-Ok-rounds.ensures.told in
+    next now (postings fed) stored)
 
 pub returns-in-Ok-rounds-clause-run : goal.returns-in-Ok-rounds-clause-run
 returns-in-Ok-rounds-clause-run g c = λ told fed is.
