@@ -12,3 +12,12 @@ pub mod CursorLaws
 pub mod Merges
 pub mod Heads
 pub mod Steps
+pub mod Joins
+pub mod Rounds
+pub mod RoundsBits
+pub mod RoundsFed
+pub mod RoundsLoop
+pub mod RoundsFirst
+pub mod JoinedGroups
+pub mod Working
+pub mod LastRun

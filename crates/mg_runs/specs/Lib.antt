@@ -8,3 +8,6 @@ pub mod Decoding
 pub mod Slots
 pub mod Cursors
 pub mod Merging
+pub mod Joins
+pub mod Rounds
+pub mod Left

@@ -124,6 +124,13 @@ impl<'a> Group<'a> {
         }
     }
 
+    /// The pool, without the runs.
+    pub fn into_pool(self) -> Pool
+        ensures { result ≡ self.entry.pool }
+    {
+        self.pool
+    }
+
     /// The least of the postings at which cursors are, and whose it is.
     fn head(&self) -> Option<(u32, TermPosting)>
         requires shape { IsShaped self.now.pool.slots self.now.cursors.items self.now.tournament }

@@ -13,14 +13,18 @@ mod decode;
 mod entry;
 mod group;
 mod groups;
+mod join;
+mod merge;
 mod pool;
 mod posting;
+mod round;
 mod run;
 mod runs;
 mod slot;
 mod tournament;
 mod walk;
 
+pub use merge::Merge;
 pub use pool::Pool;
 pub use runs::Runs;
 

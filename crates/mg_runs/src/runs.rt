@@ -1,20 +1,27 @@
 // Occurrences that are taken, and written as runs.
-ghost use Rattle.std.specs.Prelude.{◌≡◌, ◌≢◌, ◌+◌, ◌-◌, ◌*◌, ◌/◌, ◌%◌, ◌≤◌, ◌<◌, ◌^◌, ◌++◌, ◌∷◌, [], ℕ, List, Some, IfOk, OnOk, IsSome, is_some, length};
+ghost use Rattle.std.specs.Prelude.{◌≡◌, ◌≢◌, ◌+◌, ◌-◌, ◌*◌, ◌/◌, ◌%◌, ◌≤◌, ◌<◌, ◌^◌, ◌++◌, ◌∷◌, [], ℕ, List, Some, IfOk, OnOk, IsSome, is_some, length, max, min};
 ghost use Rattle.mg_dev.specs.Causes.{HasPutCause};
 ghost use Rattle.mg_dev.specs.Files.{SameReads, bytes_at, file_at};
 ghost use Rattle.mg_dev.specs.Names.{full_name};
-ghost use Rattle.mg_defs.specs.Bits.{filled};
-ghost use Rattle.mg_defs.specs.Postings.{gathered};
-ghost use Rattle.mg_defs.specs.RunBits.{run_bits};
+ghost use Rattle.mg_dev.specs.PartCauses.{HasPartCause};
+ghost use Rattle.mg_defs.specs.Bits.{bits_of, filled};
+ghost use Rattle.mg_defs.specs.Postings.{gathered, postings};
+ghost use Rattle.mg_defs.specs.RunBits.{run_bits, run_part_bits};
+ghost use Rattle.mg_defs.specs.Runs.{runs_of};
 ghost use Rattle.mg_bits.specs.Writer.{WroteTo};
 ghost use Rattle.mg_bits.specs.BitWriting.{Holds, WroteBits};
 ghost use Rattle.mg_runs.specs.Bytes.{AreEntries};
-ghost use Rattle.mg_runs.specs.Fed.{IsFed, cap_of};
+ghost use Rattle.mg_runs.specs.Cursors.{NoDamage};
+ghost use Rattle.mg_runs.specs.Fed.{IsFed, cap_of, starts};
+ghost use Rattle.mg_runs.specs.Joins.{Worked};
+ghost use Rattle.mg_runs.specs.Left.{IsMerging};
 
-use crate::Pool;
+use crate::join::refused;
+use crate::round::Round;
 use crate::run::write_entries;
+use crate::{Merge, Pool};
 use mg_bits::BitWriter;
-use mg_dev::{FileRef, Part, PutErr, Store};
+use mg_dev::{FileRef, Part, PartErr, PutErr, Store};
 use std::alloc::{AllocError, Global};
 use std::marker::Model;
 
@@ -124,6 +131,7 @@ impl<'a> Runs<'a> {
         requires doc { 1 ≤ doc }
         ensures fed { OnOk result ((fed : List (ℕ × ℕ)) → length fed < 2 ^ 32 - 1 → IsFed self.old (S.files store.old) fed → IsFed self.new (S.files store.new) (fed ++ (term, doc) ∷ [])) }
         ensures cap { cap_of self.new.pool ≡ cap_of self.old.pool }
+        ensures limit { self.new.pool.limit ≡ self.old.pool.limit }
         ensures base { self.new.base ≡ self.old.base }
         ensures wrote { WroteTo self.old.writer.name (S.files store.old) (S.files store.new) (S.reads store.old) (S.reads store.new) }
         ensures cause { HasPutCause (S.faults store.old) (S.faults store.new) result }
@@ -135,5 +143,100 @@ impl<'a> Runs<'a> {
         }
         self.pool.push(term, doc);
         Ok(())
+    }
+
+    /// Writes the rest of the occurrences as the last run, and ends the part. No occurrence at all
+    /// gives no run.
+    fn finish<S: Store>(self, store: &mut S) -> Result<Round<'a>, PartErr>
+        requires fed { (fed : List (ℕ × ℕ)) × IsFed self (S.files store.old) fed }
+        ensures run { IsSome (S.files store.old) → (fed : List (ℕ × ℕ)) → IsFed self.entry (S.files store.old) fed → OnOk result (bits_of (bytes_at (S.files store.new) (full_name self.entry.base Part.Run)) ≡ run_part_bits (cap_of self.entry.pool) fed) }
+        ensures places { (fed : List (ℕ × ℕ)) → IsFed self.entry (S.files store.old) fed → IfOk result (λ round. round.places.items ≡ starts 0 (runs_of (cap_of self.entry.pool) fed)) }
+        ensures undamaged { NoDamage result }
+        ensures entries { IfOk result (λ round. round.pool.entries ≡ []) }
+        ensures limit { IfOk result (λ round. round.pool.limit ≡ self.entry.pool.limit) }
+        ensures peak { IfOk result (λ round. round.pool.peak ≡ self.entry.pool.peak) }
+        ensures base { IfOk result (λ round. round.file.base.now ≡ self.entry.base) }
+        ensures part { IfOk result (λ round. round.file.part ≡ Part.Run) }
+        ensures wrote { WroteTo (full_name self.entry.base Part.Run) (S.files store.old) (S.files store.new) (S.reads store.old) (S.reads store.new) }
+        ensures cause { HasPartCause (S.faults store.old) (S.faults store.new) result }
+    {
+        let Runs {
+            mut pool,
+            mut writer,
+            mut places,
+            base,
+            ..
+        } = self;
+        if pool.used() > 0 {
+            match places.push(writer.place()) {
+                Ok(()) => {}
+                Err(_) => return Err(PartErr::Memory),
+            }
+            match spill(&mut pool, &mut writer, store) {
+                Ok(()) => {}
+                Err(refusal) => return Err(refused(refusal)),
+            }
+        }
+        match writer.finish(store) {
+            Ok(()) => Ok(Round {
+                pool,
+                places,
+                file: FileRef {
+                    base,
+                    part: Part::Run,
+                },
+            }),
+            Err(refusal) => Err(refused(refusal)),
+        }
+    }
+
+    /// The same as `merge`, with at most so many runs in use.
+    pub(crate) fn merge_by<S: Store>(
+        self,
+        store: &mut S,
+        width: usize,
+    ) -> Result<Merge<'a>, PartErr>
+        requires fed { (fed : List (ℕ × ℕ)) × IsFed self (S.files store.old) fed }
+        requires some { 2 ≤ width }
+        requires room { width ≤ self.pool.limit / 64 }
+        ensures left { (fed : List (ℕ × ℕ)) → IsFed self.entry (S.files store.old) fed → IfOk result (λ merge. IsMerging merge (S.files store.new) (postings fed)) }
+        ensures run { IsSome (S.files store.old) → (fed : List (ℕ × ℕ)) → IsFed self.entry (S.files store.old) fed → OnOk result (bits_of (bytes_at (S.files store.new) (full_name self.entry.base Part.Run)) ≡ run_part_bits (cap_of self.entry.pool) fed) }
+        ensures runs { (fed : List (ℕ × ℕ)) → IsFed self.entry (S.files store.old) fed → IfOk result (λ merge. merge.runs ≡ (length fed + cap_of self.entry.pool - 1) / cap_of self.entry.pool) }
+        ensures peak { (fed : List (ℕ × ℕ)) → IsFed self.entry (S.files store.old) fed → IfOk result (λ merge. merge.peak ≡ max (12 * min (length fed) (cap_of self.entry.pool)) (64 * min ((length fed + cap_of self.entry.pool - 1) / cap_of self.entry.pool) width)) }
+        ensures base { IfOk result (λ merge. merge.base ≡ self.entry.base) }
+        ensures undamaged { IsSome (S.files store.old) → NoDamage result }
+        ensures worked { Worked self.entry.base (S.files store.old) (S.files store.new) (S.reads store.old) (S.reads store.new) (S.faults store.old) (S.faults store.new) }
+        ensures cause { HasPartCause (S.faults store.old) (S.faults store.new) result }
+    {
+        let alloc = self.alloc;
+        let first = match self.finish(store) {
+            Ok(first) => first,
+            Err(refusal) => return Err(refusal),
+        };
+        let runs = first.places.len() as u32;
+        match first.rounds(alloc, store, width) {
+            Ok(last) => Merge::open(alloc, store, last, runs),
+            Err(refusal) => Err(refusal),
+        }
+    }
+
+    /// Writes the last run, joins runs in rounds until no more are left than the pool's width, and
+    /// stands before the first posting of all.
+    ///
+    /// The first round reads the part of the runs and writes a merge part. Each later one reads one
+    /// merge part and writes the other.
+    pub fn merge<S: Store>(self, store: &mut S) -> Result<Merge<'a>, PartErr>
+        requires fed { (fed : List (ℕ × ℕ)) × IsFed self (S.files store.old) fed }
+        ensures left { (fed : List (ℕ × ℕ)) → IsFed self.entry (S.files store.old) fed → IfOk result (λ merge. IsMerging merge (S.files store.new) (postings fed)) }
+        ensures run { IsSome (S.files store.old) → (fed : List (ℕ × ℕ)) → IsFed self.entry (S.files store.old) fed → OnOk result (bits_of (bytes_at (S.files store.new) (full_name self.entry.base Part.Run)) ≡ run_part_bits (cap_of self.entry.pool) fed) }
+        ensures runs { (fed : List (ℕ × ℕ)) → IsFed self.entry (S.files store.old) fed → IfOk result (λ merge. merge.runs ≡ (length fed + cap_of self.entry.pool - 1) / cap_of self.entry.pool) }
+        ensures peak { (fed : List (ℕ × ℕ)) → IsFed self.entry (S.files store.old) fed → IfOk result (λ merge. merge.peak ≡ max (12 * min (length fed) (cap_of self.entry.pool)) (64 * min ((length fed + cap_of self.entry.pool - 1) / cap_of self.entry.pool) (self.entry.pool.limit / 64))) }
+        ensures base { IfOk result (λ merge. merge.base ≡ self.entry.base) }
+        ensures undamaged { IsSome (S.files store.old) → NoDamage result }
+        ensures worked { Worked self.entry.base (S.files store.old) (S.files store.new) (S.reads store.old) (S.reads store.new) (S.faults store.old) (S.faults store.new) }
+        ensures cause { HasPartCause (S.faults store.old) (S.faults store.new) result }
+    {
+        let width = self.pool.width() as usize;
+        self.merge_by(store, width)
     }
 }

@@ -1,40 +1,114 @@
-// What no clause says: bytes of runs as they stand in a file, and refusals of a store.
-ghost use Rattle.std.specs.Prelude.{◌≤◌, ◌^◌};
+// What no clause says: bytes of runs as they stand in a file, postings beside those of a plain
+// sort, and refusals of a store.
+ghost use Rattle.std.specs.Prelude.{◌≡◌, ◌≤◌, ◌/◌, ◌^◌, ℕ, List, IfOk, length};
+ghost use Rattle.mg_runs.specs.Fed.{IsFed};
+ghost use Rattle.mg_runs.specs.Left.{IsMerging};
+ghost use Rattle.mg_defs.specs.declared.TermPosting.{TermPosting};
 
-use crate::group::Group;
-use crate::{Pool, Runs};
+use crate::join::refused;
+use crate::{Merge, Pool, Runs};
 use mg_defs::TermPosting;
-use mg_dev::{FileRef, MemStore, Part, PutErr, Store};
-use std::alloc::Global;
+use mg_dev::{MemStore, Part, PartErr, PutErr, Store};
+use std::alloc::{AllocError, Global};
 use std::test::Fail;
-
-const RUN: FileRef<'static> = FileRef {
-    base: "set",
-    part: Part::Run,
-};
 
 fn posting(term: u32, doc: u32, count: u32) -> TermPosting {
     TermPosting { term, doc, count }
 }
 
-/// Takes so many scattered occurrences: 40 of each document, of 97 terms.
-fn take_scattered<S: Store>(
-    alloc: Global,
-    store: &mut S,
-    budget: u64,
-    count: u32,
-) -> Result<(), PutErr>
-    requires least { 4096 ≤ budget }
-    requires most { budget ≤ 2 ^ 30 }
+/// Scattered occurrences, each a term of so many and how many documents come before its own.
+fn scattered(alloc: Global, count: u32, terms: u32) -> Result<Vec<(u32, u16)>, AllocError>
     requires count { count ≤ 1000000 }
+    requires terms { 1 ≤ terms }
+    ensures len { IfOk result (λ sample. length sample.items ≡ count) }
 {
-    let mut runs = Runs::start(alloc, store, "set", Pool::new(alloc, budget)?)?;
+    let mut sample = Vec::new(alloc);
     let mut state = 12345u32;
     for k in 0..count {
         state = state.wrapping_mul(1664525).wrapping_add(1013904223);
-        runs.add(store, (state >> 16) % 97, 1 + k / 40)?;
+        sample.push(((state >> 16) % terms, (k / 40) as u16))?;
     }
-    Ok(())
+    Ok(sample)
+}
+
+/// Takes these occurrences.
+fn take<S: Store>(
+    alloc: Global,
+    store: &mut S,
+    budget: u64,
+    sample: &[(u32, u16)],
+) -> Result<Runs<'static>, PutErr>
+    requires least { 4096 ≤ budget }
+    requires most { budget ≤ 2 ^ 30 }
+    requires count { length sample.now ≤ 1000000 }
+    ensures fed { IfOk result (λ runs. (fed : List (ℕ × ℕ)) × IsFed runs (S.files store.new) fed) }
+    ensures limit { IfOk result (λ runs. runs.pool.limit ≡ budget) }
+{
+    let mut runs = Runs::start(alloc, store, "set", Pool::new(alloc, budget)?)?;
+    for k in 0..sample.len() {
+        let (term, before) = sample[k];
+        runs.add(store, term, u32::from(before) + 1)?;
+    }
+    Ok(runs)
+}
+
+/// Whether a merge has the postings of these sorted occurrences left, and no more.
+fn gives<S: Store>(
+    merge: &mut Merge<'_>,
+    store: &mut S,
+    sorted: &[(u32, u16)],
+) -> Result<bool, PartErr>
+    requires left { (left : List TermPosting) × IsMerging merge.old (S.files store.old) left }
+{
+    let mut from = 0;
+    while from < sorted.len() {
+        let (term, before) = sorted[from];
+        let mut count = 1u32;
+        from += 1;
+        while from < sorted.len() && sorted[from] == (term, before) {
+            from += 1;
+            count = count.wrapping_add(1);
+        }
+        match merge.next(store) {
+            Ok(next) => {
+                if next != Some(posting(term, u32::from(before) + 1, count)) {
+                    return Ok(false);
+                }
+            }
+            Err(refusal) => return Err(refusal),
+        }
+    }
+    match merge.next(store) {
+        Ok(next) => Ok(next.is_none()),
+        Err(refusal) => Err(refusal),
+    }
+}
+
+/// Whether the postings of a sample, merged with so many runs in use, are those of a plain sort.
+fn merges_as_sorted<S: Store>(
+    alloc: Global,
+    store: &mut S,
+    budget: u64,
+    width: usize,
+    sample: &[(u32, u16)],
+) -> Result<bool, PartErr>
+    requires least { 4096 ≤ budget }
+    requires most { budget ≤ 2 ^ 30 }
+    requires some { 2 ≤ width }
+    requires room { width ≤ budget / 64 }
+    requires count { length sample.now ≤ 1000000 }
+{
+    let mut sorted = Vec::new(alloc);
+    sorted.extend_from_slice(sample)?;
+    sorted.sort_unstable();
+    let runs = match take(alloc, store, budget, sample) {
+        Ok(runs) => runs,
+        Err(refusal) => return Err(refused(refusal)),
+    };
+    match runs.merge_by(store, width) {
+        Ok(mut merge) => gives(&mut merge, store, &sorted),
+        Err(refusal) => Err(refusal),
+    }
 }
 
 #[test]
@@ -49,61 +123,94 @@ fn a_pool_tells_its_sizes(rt: HostRuntime) -> Result<(), Fail> {
 }
 
 #[test]
-fn full_pools_are_written_as_they_come(rt: HostRuntime) -> Result<(), Fail> {
+fn runs_are_these_bytes(rt: HostRuntime) -> Result<(), Fail> {
     let alloc = rt.alloc();
     let mut store = MemStore::new(alloc);
-    take_scattered(alloc, &mut store, 4096, 6000)?;
+    let words = [
+        (0, 0),
+        (2, 0),
+        (3, 0),
+        (1, 1),
+        (3, 1),
+        (0, 2),
+        (0, 2),
+        (1, 2),
+    ];
+    take(alloc, &mut store, 4096, &words)?.merge(&mut store)?;
+    assert_eq!(rt;
+        store.file("set.run"),
+        Some(b"\xd8\x49\x20\x42\x00".as_slice())
+    );
+    take(alloc, &mut store, 4096, &[(0, 0); 4])?.merge(&mut store)?;
+    assert_eq!(rt; store.file("set.run"), Some(b"\x18".as_slice()));
+    take(alloc, &mut store, 4096, &scattered(alloc, 6000, 97)?)?;
     assert_eq!(rt; store.file("set.run").map(|bytes| bytes.len()), Some(4096));
     let bytes = store.file("set.run").ok_or("no run")?;
     assert!(rt; bytes.starts_with(b"\xff\x0d\x20\x2a\x6e\xc9\x14\xa8\x20\x4c\x12\x4d"));
     assert!(rt; bytes.ends_with(b"\xc4\x27\xec\x44\x02\x7e\xc4\x10"));
-    assert_eq!(rt; store.file("set.mergea"), Some(b"".as_slice()));
+    assert_eq!(rt; store.reads_of(Part::MergeA), 0);
+    Ok(())
+}
+
+#[test]
+fn runs_and_peaks_are_counted(rt: HostRuntime) -> Result<(), Fail> {
+    let alloc = rt.alloc();
+    let cases = [
+        (0, 0, 0, b"".as_slice()),
+        (10000, 30, 4092, b"".as_slice()),
+        (
+            25000,
+            74,
+            4096,
+            b"\x1f\xff\x95\x40\x1f\xfd\x1a\x00".as_slice(),
+        ),
+    ];
+    let same = [(0, 0); 25000];
+    for (count, runs, peak, joined) in cases {
+        let sample = same.get(..count).ok_or("no case")?;
+        let mut store = MemStore::new(alloc);
+        let mut merge = take(alloc, &mut store, 4096, sample)?.merge(&mut store)?;
+        assert_eq!(rt; (merge.runs(), merge.peak()), (runs, peak));
+        assert!(rt; gives(&mut merge, &mut store, sample)?);
+        assert_eq!(rt; store.file("set.mergea"), Some(joined));
+        assert_eq!(rt; store.file("set.mergeb"), Some(b"".as_slice()));
+        assert_eq!(rt; store.reads_of(Part::MergeA) > 0, !joined.is_empty());
+        assert_eq!(rt;
+            (store.reads_of(Part::MergeB), store.reads_of(Part::Text)),
+            (0, 0)
+        );
+    }
+    Ok(())
+}
+
+#[test]
+fn postings_are_those_of_a_sort(rt: HostRuntime) -> Result<(), Fail> {
+    let alloc = rt.alloc();
+    let sample = scattered(alloc, 25000, 97)?;
+    let mut store = MemStore::new(alloc);
+    assert!(rt; merges_as_sorted(alloc, &mut store, 4096, 64, &sample)?);
     assert_eq!(rt; store.file("set.mergeb"), Some(b"".as_slice()));
-    assert_eq!(rt; store.reads_of(Part::Run), 0);
+    assert!(rt; merges_as_sorted(alloc, &mut store, 4096, 4, &sample)?);
+    assert!(rt; store.reads_of(Part::MergeB) > 0);
+    assert!(rt; merges_as_sorted(alloc, &mut store, 5000, 78, &sample)?);
+    assert!(rt; merges_as_sorted(alloc, &mut store, 65536, 1024, &sample)?);
+    assert!(rt; merges_as_sorted(alloc, &mut store, 16777216, 262144, &sample)?);
+    assert_eq!(rt; store.file("set.mergea"), Some(b"".as_slice()));
     Ok(())
 }
 
 #[test]
 fn each_failing_call_is_told(rt: HostRuntime) -> Result<(), Fail> {
     let alloc = rt.alloc();
-    for call in 0..4 {
-        let mut store = MemStore::new(alloc);
-        store.fail_at(call, 3)?;
-        let outcome = take_scattered(alloc, &mut store, 4096, 6000);
-        assert_eq!(rt; outcome, Err(PutErr::Failed));
+    let sample = scattered(alloc, 1400, 2)?;
+    let mut store = MemStore::new(alloc);
+    assert!(rt; merges_as_sorted(alloc, &mut store, 4096, 2, &sample)?);
+    assert!(rt; store.calls() > 20);
+    for call in 0..store.calls() {
+        let mut failing = MemStore::new(alloc);
+        failing.fail_at(call, 3)?;
+        let outcome = merges_as_sorted(alloc, &mut failing, 4096, 2, &sample);
+        assert_eq!(rt; outcome, Err(PartErr::Device), "a failure at call {call}");
     }
-    Ok(())
-}
-
-#[test]
-fn one_run_is_read_back(rt: HostRuntime) -> Result<(), Fail> {
-    let alloc = rt.alloc();
-    let mut store = MemStore::new(alloc);
-    store.put_file("set.run", b"\xd8\x49\x20\x42\x00")?;
-    let mut group = Group::load(alloc, &mut store, Pool::new(alloc, 4096)?, RUN, &[0])?;
-    assert_eq!(rt; group.pool.peak(), 64);
-    assert_eq!(rt; group.next(&mut store)?, Some(posting(0, 1, 1)));
-    assert_eq!(rt; group.next(&mut store)?, Some(posting(0, 3, 2)));
-    assert_eq!(rt; group.next(&mut store)?, Some(posting(1, 2, 1)));
-    assert_eq!(rt; group.next(&mut store)?, Some(posting(1, 3, 1)));
-    assert_eq!(rt; group.next(&mut store)?, Some(posting(2, 1, 1)));
-    assert_eq!(rt; group.next(&mut store)?, Some(posting(3, 1, 1)));
-    assert_eq!(rt; group.next(&mut store)?, Some(posting(3, 2, 1)));
-    assert_eq!(rt; group.next(&mut store)?, None);
-    assert_eq!(rt; group.next(&mut store)?, None);
-    assert_eq!(rt; store.reads_of(Part::Run), 1);
-    Ok(())
-}
-
-#[test]
-fn runs_with_the_same_documents_add_their_counts(rt: HostRuntime) -> Result<(), Fail> {
-    let alloc = rt.alloc();
-    let mut store = MemStore::new(alloc);
-    store.put_file("set.run", b"\x18\xd8\x49\x20\x42\x00\x18")?;
-    let mut group = Group::load(alloc, &mut store, Pool::new(alloc, 4096)?, RUN, &[0, 8, 48])?;
-    assert_eq!(rt; group.pool.peak(), 192);
-    assert_eq!(rt; group.next(&mut store)?, Some(posting(0, 1, 9)));
-    assert_eq!(rt; group.next(&mut store)?, Some(posting(0, 3, 2)));
-    assert_eq!(rt; group.next(&mut store)?, Some(posting(1, 2, 1)));
     Ok(())
 }

@@ -1,0 +1,175 @@
+-- Postings that are counted and written.
+use Rattle.std.proofs.Common.{◌≡◌, ℕ, zero, suc, ◌+◌, ◌-◌, ◌*◌, ◌%◌, ◌^◌, ◌<◌, ◌≤◌, List, [], ◌∷◌, ◌++◌, length, drop, refl, sym, ap, ◌∙◌, subst, arith, Some, None, is_some, unwrap_or, ◌≢◌, append_assoc, append-nil}
+use Rattle.std.proofs.lemmas.List.{drop-drop}
+use Rattle.std.specs.List.{AllByRecursion}
+use Rattle.std.specs.Prelude.{Err}
+use Rattle.std.specs.declared.option.Option.{Option}
+use Rattle.mg_dev.specs.Files.{Files, Reads, file_at, bytes_at}
+use Rattle.mg_dev.specs.declared.part.Part.{Part}
+use Rattle.mg_dev.specs.Causes.{HasPutCause}
+use Rattle.mg_dev.specs.declared.device.PutErr.{PutErr}
+use Rattle.mg_dev.specs.declared.device.PutErr.TheVariants.{Failed}
+use Rattle.mg_dev.specs.PartCauses.{HasPartCause}
+use Rattle.mg_dev.specs.declared.part_err.PartErr.{PartErr}
+use Rattle.mg_defs.specs.Bits.{Bits, digits, filled}
+use Rattle.mg_defs.specs.Codes.{gamma}
+use Rattle.mg_defs.proofs.BitLaws.{length_digits}
+use Rattle.mg_defs.specs.Postings.{IsBefore, AllAfter}
+use Rattle.mg_defs.specs.RunBits.{before_first, posting_bits, postings_bits, run_bits}
+use Rattle.mg_defs.specs.declared.TermPosting.{TermPosting}
+use Rattle.mg_bits.specs.Pages.{Looked}
+use Rattle.mg_bits.specs.Writer.{WroteTo}
+use Rattle.mg_bits.specs.BitWriting.{BitWriting, WroteBits, to_byte}
+use Rattle.mg_bits.proofs.BitsWritten.{bits_more, bits_none}
+use Rattle.mg_runs.specs.Decoding.{IsSmall}
+use Rattle.mg_runs.specs.Cursors.{IsRun}
+use Rattle.mg_runs.specs.Merging.{first, AreLeft}
+use Rattle.mg_runs.specs.Joins.{IsCounting, IsPutting, Passed}
+use Rattle.mg_runs.specs.declared.cursor.Cursor.{Cursor}
+use Rattle.mg_runs.proofs.Steps.{split_first, caused_as}
+
+some_left : (left : List TermPosting) (count : ℕ) (p : TermPosting) → count ≤ length left → Some p ≡ first (drop count left) → count + 1 ≤ length left
+some_left [] zero p within e = absurd cc
+some_left [] (suc n) p within e = absurd (omega arith)
+some_left (x ∷ xs) zero p within e = omega arith
+some_left (x ∷ xs) (suc n) p within e = let h = some_left xs n p (omega arith) e in omega arith
+
+none_left : (left : List TermPosting) (count : ℕ) → count ≤ length left → None ≡ first (drop count left) → count ≡ length left
+none_left [] zero within e = refl
+none_left [] (suc n) within e = absurd (omega arith)
+none_left (x ∷ xs) zero within e = absurd cc
+none_left (x ∷ xs) (suc n) within e = let h = none_left xs n (omega arith) e in omega arith
+
+pub counting_more : (slots : List (List ℕ)) (cursors : List Cursor) (file : List ℕ) (left : List TermPosting) (count : ℕ) (p : TermPosting) → count ≤ length left → Some p ≡ first (drop count left) → AreLeft slots cursors file (drop 1 (drop count left)) → IsCounting slots cursors file left (count + 1)
+counting_more slots cursors file left count p within e has =
+    let n : 1 + count ≡ count + 1 = omega arith in
+    record {
+      has = subst (λ xs. AreLeft slots cursors file xs) (drop-drop 1 count left ∙ ap (λ k. drop k left) (omega arith)) has;
+      within = some_left left count p within e;
+    }
+
+pub counting_end : (slots : List (List ℕ)) (cursors : List Cursor) (file : List ℕ) (left : List TermPosting) (count : ℕ) → IsCounting slots cursors file left count → None ≡ first (drop count left) → count ≡ length left
+counting_end slots cursors file left count is e = none_left left count is.within e
+
+first_size : (left : List TermPosting) (p : TermPosting) (ps : List TermPosting) → left ≡ p ∷ ps → length left ≡ 1 + length ps
+first_size left p ps e = let one : suc (length ps) ≡ 1 + length ps = omega arith in ap (λ xs. length xs) e ∙ one
+
+-- the posting that comes first of those that are left
+pub putting_first : (slots : List (List ℕ)) (cursors : List Cursor) (file : List ℕ) (f0 f1 : Option Files) (w0 w1 : BitWriting) (last : TermPosting) (bits : Bits) (is : IsPutting slots cursors file f0 f1 w0 w1 last bits) (p : TermPosting) → Some p ≡ first is.left → IsBefore last p × (1 ≤ p.doc) × (1 ≤ p.count) × (w1.place + 256 ≤ 2 ^ 61)
+putting_first slots cursors file f0 f1 w0 w1 last bits is p e =
+    let s = split_first is.left p (sym e) in
+    let before = subst (λ xs. AllAfter last xs) s.1 is.before in
+    let run = subst (λ xs. IsRun xs) s.1 is.run in
+    let size : length is.left ≡ 1 + length s.0 = first_size is.left p s.0 s.1 in
+    let room = is.room in
+    (before.0, run.small.0.doc_some, run.small.0.count_some, omega arith)
+
+pub put_more : (slots news : List (List ℕ)) (cursors nexts : List Cursor) (file : List ℕ) (f0 f1 f2 : Option Files) (w0 w1 w2 : BitWriting) (last : TermPosting) (bits : Bits) (is : IsPutting slots cursors file f0 f1 w0 w1 last bits) (p : TermPosting) → Some p ≡ first is.left → AreLeft news nexts file (drop 1 is.left) → is_some f0 ≡ is_some f1 → WroteBits w1 w2 f1 f2 (posting_bits last p) → w2.place ≤ w1.place + 256 → IsPutting news nexts file f0 f2 w0 w2 p bits
+put_more slots news cursors nexts file f0 f1 f2 w0 w1 w2 last bits is p e has told wrote place =
+    let s = split_first is.left p (sym e) in
+    let run = subst (λ xs. IsRun xs) s.1 is.run in
+    let size : length is.left ≡ 1 + length s.0 = first_size is.left p s.0 s.1 in
+    let room = is.room in
+    record {
+      left = s.0;
+      has = subst (λ xs. AreLeft news nexts file xs) (ap (λ xs. drop 1 xs) s.1) has;
+      done = is.done ++ posting_bits last p;
+      wrote = bits_more f0 f1 f2 w0 w1 w2 is.done (posting_bits last p) (sym told) is.wrote wrote;
+      rest = append_assoc is.done (posting_bits last p) (postings_bits p s.0) ∙ ap (λ xs. is.done ++ postings_bits last xs) (sym s.1) ∙ is.rest;
+      before = run.rising.0;
+      run = record { rising = run.rising.1; small = run.small.1 };
+      room = omega arith;
+    }
+
+no_first : (left : List TermPosting) → None ≡ first left → left ≡ []
+no_first [] e = refl
+no_first (x ∷ xs) e = absurd cc
+
+pub put_end : (slots : List (List ℕ)) (cursors : List Cursor) (file : List ℕ) (f0 f1 : Option Files) (w0 w1 : BitWriting) (last : TermPosting) (bits : Bits) (is : IsPutting slots cursors file f0 f1 w0 w1 last bits) → None ≡ first is.left → WroteBits w0 w1 f0 f1 bits
+put_end slots cursors file f0 f1 w0 w1 last bits is e =
+    let none = no_first is.left e in
+    let whole : is.done ++ [] ≡ bits = ap (λ xs. is.done ++ postings_bits last xs) (sym none) ∙ is.rest in
+    subst (λ b. WroteBits w0 w1 f0 f1 b) (sym (append-nil is.done) ∙ whole) is.wrote
+
+-- what follows a first posting, and what every run of postings follows
+after_none : (xs : List TermPosting) → AllByRecursion (λ x. IsSmall x) xs → AllAfter before_first xs
+after_none [] all = tt
+after_none (x ∷ xs) all =
+    let d = all.0.doc_some in
+    (record { term = omega arith; doc = λ q. omega arith }, after_none xs all.1)
+
+pub put_start : (slots : List (List ℕ)) (cursors : List Cursor) (file : List ℕ) (f : Option Files) (w : BitWriting) (left : List TermPosting) → AreLeft slots cursors file left → IsRun left → w.place + 256 * length left ≤ 2 ^ 61 → IsPutting slots cursors file f f w w before_first (postings_bits before_first left)
+put_start slots cursors file f w left has run room = record {
+  left = left;
+  has = has;
+  done = [];
+  wrote = bits_none f w;
+  rest = refl;
+  before = after_none left run.small;
+  run = run;
+  room = room;
+}
+
+-- a writer's refusal
+pub put_as : (T U : Type 0) (f g : ℕ) (e : PutErr) → HasPutCause {T = T} f g (Err e) → HasPutCause {T = U} f g (Err e)
+put_as T U f g e cause = record { later = cause.later; failed = λ h. let same : e ≡ Failed = cc in cause.failed (ap (λ x. Err x) same) }
+
+pub put_cause : (T : Type 0) (f g h : ℕ) (e : PartErr) → f ≤ g → HasPartCause {T = ℕ} g h (Err e) → HasPartCause {T = T} f h (Err e)
+put_cause T f g h e le cause = let later = cause.later in record { later = omega arith; device = caused_as ℕ T f g h e le cause.device }
+
+pub passed_none : (part : Part) (name : List ℕ) (f : Option Files) (r : Reads) (n : ℕ) → Passed part name f f r r n n
+passed_none part name f r n = record { told = refl; others = λ m apart. refl; later = λ p. omega arith; reads = λ p apart. refl; faults = omega arith }
+
+pub passed_more : (part : Part) (name : List ℕ) (f g h : Option Files) (r s t : Reads) (l m n : ℕ) → Passed part name f g r s l m → Passed part name g h s t m n → Passed part name f h r t l n
+passed_more part name f g h r s t l m n one two = record {
+  told = two.told ∙ one.told;
+  others = λ k apart. two.others k apart ∙ one.others k apart;
+  later = λ p. let a = one.later p in let b = two.later p in omega arith;
+  reads = λ p apart. two.reads p apart ∙ one.reads p apart;
+  faults = let a = one.faults in let b = two.faults in omega arith;
+}
+
+pub passed_looked : (part : Part) (name : List ℕ) (f g : Option Files) (r s : Reads) (m n : ℕ) → Looked part f g r s m n → Passed part name f g r s m n
+passed_looked part name f g r s m n looked = record {
+  told = ap (λ x. is_some x) looked.files;
+  others = λ k apart. ap (λ x. file_at x k) looked.files;
+  later = looked.later;
+  reads = looked.others;
+  faults = looked.faults;
+}
+
+pub passed_wrote : (part : Part) (name : List ℕ) (f g : Option Files) (r s : Reads) (m n : ℕ) → WroteTo name f g r s → m ≤ n → Passed part name f g r s m n
+passed_wrote part name f g r s m n wrote le = record {
+  told = wrote.told;
+  others = wrote.others;
+  later = λ p. let e = wrote.reads p in omega arith;
+  reads = λ p apart. wrote.reads p;
+  faults = le;
+}
+
+-- the bytes of a file that is not written to
+pub passed_bytes : (part : Part) (name other : List ℕ) (f g : Option Files) (r s : Reads) (m n : ℕ) → Passed part name f g r s m n → other ≢ name → bytes_at g other ≡ bytes_at f other
+passed_bytes part name other f g r s m n passed apart = ap (λ b. unwrap_or b []) (passed.others other apart)
+
+to_byte_same : (p n : ℕ) → p % 8 ≡ 0 → to_byte (p + n) ≡ to_byte n
+to_byte_same p n h =
+    let e : (p + n) % 8 ≡ n % 8 = omega arith in
+    ap (λ k. (8 - k) % 8) e
+
+to_byte_below : (n : ℕ) → to_byte n < 8
+to_byte_below n = omega arith
+
+-- the number of postings, the postings and zero-bits to a byte are a run
+pub run_written : (f0 f1 f2 f3 : Option Files) (w0 w1 w2 w3 : BitWriting) (n : ℕ) (xs : List TermPosting) → w0.place % 8 ≡ 0 → n ≡ length xs → is_some f1 ≡ is_some f0 → is_some f2 ≡ is_some f1 → WroteBits w0 w1 f0 f1 (gamma n) → WroteBits w1 w2 f1 f2 (postings_bits before_first xs) → WroteBits w2 w3 f2 f3 (digits (to_byte w2.place) 0) → WroteBits w0 w3 f0 f3 (filled (run_bits xs))
+unfolding filled run_bits
+run_written f0 f1 f2 f3 w0 w1 w2 w3 n xs whole e t1 t2 a b d =
+    let count : gamma n ≡ gamma (length xs) = ap (λ k. gamma k) e in
+    let run : WroteBits w0 w2 f0 f2 (run_bits xs) = bits_more f0 f1 f2 w0 w1 w2 (gamma (length xs)) (postings_bits before_first xs) t1 (subst (λ c. WroteBits w0 w1 f0 f1 c) count a) b in
+    let p : w2.place ≡ w0.place + length (run_bits xs) = run.place in
+    let q : to_byte w2.place ≡ to_byte (length (run_bits xs)) = ap (λ k. to_byte k) p ∙ to_byte_same w0.place (length (run_bits xs)) whole in
+    bits_more f0 f2 f3 w0 w2 w3 (run_bits xs) (digits (to_byte (length (run_bits xs))) 0) (t2 ∙ t1) run (subst (λ k. WroteBits w2 w3 f2 f3 (digits k 0)) q d)
+
+pub aligned_place : (f0 f1 : Option Files) (w0 w1 : BitWriting) → WroteBits w0 w1 f0 f1 (digits (to_byte w0.place) 0) → w1.place ≤ w0.place + 8
+aligned_place f0 f1 w0 w1 wrote =
+    let p = wrote.place in
+    omega (arith, p, length_digits (to_byte w0.place) 0, to_byte_below w0.place)

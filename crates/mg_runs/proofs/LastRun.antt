@@ -1,0 +1,42 @@
+-- The last run, of the occurrences that the pool has at the end.
+use Rattle.std.proofs.Common.{◌≡◌, ℕ, ◌+◌, ◌-◌, ◌*◌, ◌/◌, ◌%◌, ◌^◌, min, max, Ok, Err, ◌<◌, ◌≤◌, List, [], ◌++◌, length, sym, ap, ◌∙◌, arith, IsSome}
+use Rattle.std.specs.Prelude.{OnOk}
+use Rattle.std.specs.declared.option.Option.{Option}
+use Rattle.std.specs.declared.result.Result.{Result}
+use Rattle.std.proofs.lemmas.Nat.{div_below}
+use Rattle.mg_dev.specs.Files.{Files}
+use Rattle.mg_defs.specs.Bits.{Bits, digits, filled}
+use Rattle.mg_defs.specs.Postings.{gathered}
+use Rattle.mg_defs.specs.RunBits.{run_bits, run_part_bits}
+use Rattle.mg_bits.specs.BitWriting.{BitWriting, WroteBits, bits_put, to_byte}
+use Rattle.mg_runs.specs.Pooled.{Pooled, used}
+use Rattle.mg_runs.specs.Fed.{Inverting, IsFed, cap_of}
+use Rattle.mg_runs.proofs.RoundsFirst.{fed_bits, fed_bits_none, finished_bits}
+
+pub some_entries : (pool : Pooled) (u : ℕ) → u ≡ used pool → pool.slots ≡ [] → 0 < u → 1 ≤ length pool.entries
+some_entries pool u e none more = let z : length pool.slots ≡ 0 = ap (λ l. length l) none in omega arith
+
+pub no_entries_used : (pool : Pooled) (u : ℕ) → u ≡ used pool → u ≤ 0 → length pool.entries ≡ 0
+no_entries_used pool u e none = omega arith
+
+pub last_bits : (runs : Inverting) (f f1 : Option Files) (fed : List (ℕ × ℕ)) (w1 : BitWriting) (bits : Bits) → IsFed runs f fed → 1 ≤ length runs.pool.entries → IsSome f → WroteBits runs.writer w1 f f1 (filled (run_bits (gathered runs.pool.entries))) → w1.place % 8 ≡ 0 → bits ≡ bits_put w1 f1 ++ digits (to_byte w1.place) 0 → bits ≡ run_part_bits (cap_of runs.pool) fed
+last_bits runs f f1 fed w1 bits is some told wrote whole e =
+    e ∙ finished_bits w1.place (bits_put w1 f1) whole ∙ wrote.told told ∙ fed_bits runs f fed is some told
+
+pub no_last_bits : (runs : Inverting) (f : Option Files) (fed : List (ℕ × ℕ)) (bits : Bits) → IsFed runs f fed → length runs.pool.entries ≡ 0 → IsSome f → bits ≡ bits_put runs.writer f ++ digits (to_byte runs.writer.place) 0 → bits ≡ run_part_bits (cap_of runs.pool) fed
+no_last_bits runs f fed bits is none told e =
+    e ∙ finished_bits runs.writer.place (bits_put runs.writer f) is.whole ∙ fed_bits_none runs f fed is none told
+
+pub on_ok : {T E : Type 0} (P : Type 0) (r : Result T E) → P → OnOk r P
+on_ok P (Ok value) p = p
+on_ok P (Err e) p = tt
+
+-- how many runs there are fits in 32 bits
+pub runs_fit : (n cap : ℕ) → 1 ≤ cap → n < 2 ^ 32 → (n + cap - 1) / cap < 2 ^ 32
+runs_fit n cap some few = div_below (n + cap - 1) cap (2 ^ 32) some (omega arith)
+
+-- the greatest use of the pool over all rounds
+pub peak_all : (n cap width first last p0 p1 : ℕ) → p0 ≡ 12 * min n cap → first ≡ (n + cap - 1) / cap → max p1 (64 * min last width) ≡ max p0 (64 * min first width) → last ≤ width → max p1 (64 * last) ≡ max (12 * min n cap) (64 * min ((n + cap - 1) / cap) width)
+peak_all n cap width first last p0 p1 start count rounds few =
+    let one : min last width ≡ last = omega arith in
+    ap (λ k. max p1 (64 * k)) (sym one) ∙ rounds ∙ ap (λ k. max k (64 * min first width)) start ∙ ap (λ k. max (12 * min n cap) (64 * min k width)) count

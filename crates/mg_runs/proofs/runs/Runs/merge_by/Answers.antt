@@ -1,0 +1,77 @@
+use Rattle.std.proofs.Common.{◌≡◌, [], length, sym, ◌∙◌, ap, subst, arith, unwrap_or}
+use Rattle.std.specs.Prelude.{IfOk}
+use Rattle.mg_dev.specs.Files.{bytes_at}
+use Rattle.mg_dev.specs.Names.{full_name}
+use Rattle.mg_dev.specs.declared.part.Part.TheVariants.{Run}
+use Rattle.mg_defs.specs.Bits.{bits_of}
+use Rattle.mg_defs.specs.Postings.{postings}
+use Rattle.mg_runs.specs.declared.round.Round.{Round}
+use Rattle.mg_runs.specs.declared.merge.Merge.{Merge}
+use Rattle.mg_runs.specs.Left.{Merging}
+use Rattle.mg_runs.proofs.LastRun.{on_ok, runs_fit, peak_all}
+use Rattle.mg_runs.proofs.RoundsLoop.{fed_count}
+use Rattle.mg_runs.proofs.RoundsFirst.{fed_cap, fed_stored}
+use Rattle.mg_runs.proofs.Steps.{undamaged_as}
+use Rattle.mg_runs.proofs.Working.{worked_wrote, worked_more, worked_looked}
+use Rattle.mg_runs.proofs.runs.Runs.merge_by.Goals as goal
+
+pub overflow_cast-runs : goal.overflow_cast-runs
+overflow_cast-runs g c =
+    let fed = c.requires.fed.0 in
+    let is = c.requires.fed.1 in
+    let count = fed_count _ _ fed (c.in-Ok.ensures.places fed is) in
+    let few = runs_fit _ _ (fed_cap _ _ fed is).0 is.few in
+    omega (arith, c.len-runs.ensures, count, few)
+
+pub returns-in-Ok-rounds-clause-left : goal.returns-in-Ok-rounds-clause-left
+returns-in-Ok-rounds-clause-left g c = λ fed is.
+    c.open.ensures.left (postings fed) (λ told.
+    let now = sym c.rounds.ensures.worked.told ∙ told in
+    let was = sym c.finish.ensures.wrote.told ∙ now in
+    let stored = fed_stored _ _ fed _ _ is (c.in-Ok.ensures.run was fed is) (c.in-Ok.ensures.places fed is) in
+    let next = rw (c.in-Ok.ensures.base, c.in-Ok.ensures.part) at c.in-Ok-rounds.ensures.told in
+    next now (postings fed) stored)
+
+pub returns-in-Ok-rounds-clause-run : goal.returns-in-Ok-rounds-clause-run
+returns-in-Ok-rounds-clause-run g c = λ told fed is.
+    let run = rw c.in-Ok.ensures.base at c.rounds.ensures.run in
+    let same : bytes_at (g.S.Store.files c.open.new.store) (full_name c.args.self.base Run) ≡ bytes_at (g.S.Store.files c.finish.new.store) (full_name c.args.self.base Run) = ap (λ f. bytes_at f (full_name c.args.self.base Run)) c.open.ensures.looked.files ∙ ap (λ b. unwrap_or b []) run in
+    on_ok _ c.open.result (ap (λ b. bits_of b) same ∙ c.in-Ok.ensures.run told fed is)
+
+pub returns-in-Ok-rounds-clause-runs : goal.returns-in-Ok-rounds-clause-runs
+returns-in-Ok-rounds-clause-runs g c = λ fed is.
+    let size : c.len-runs.result ≡ length c.in-Ok.first.places.items = omega (arith, c.len-runs.ensures) in
+    subst (λ k. IfOk c.open.result (λ (m : Merging). m.runs ≡ k)) (size ∙ fed_count _ _ fed (c.in-Ok.ensures.places fed is)) c.open.ensures.runs
+
+pub returns-in-Ok-rounds-clause-peak : goal.returns-in-Ok-rounds-clause-peak
+returns-in-Ok-rounds-clause-peak g c = λ fed is.
+    let count = fed_count _ _ fed (c.in-Ok.ensures.places fed is) in
+    subst (λ k. IfOk c.open.result (λ (m : Merging). m.peak ≡ k)) (peak_all (length fed) _ c.args.width _ _ c.in-Ok.first.pool.peak _ (c.in-Ok.ensures.peak ∙ is.peak) count c.in-Ok-rounds.ensures.peak c.in-Ok-rounds.ensures.few) c.open.ensures.peak
+
+pub returns-in-Ok-rounds-clause-undamaged : goal.returns-in-Ok-rounds-clause-undamaged
+returns-in-Ok-rounds-clause-undamaged g c = λ told.
+    let fed = c.requires.fed.0 in
+    let is = c.requires.fed.1 in
+    let now = c.finish.ensures.wrote.told ∙ told in
+    let stored = fed_stored _ _ fed _ _ is (c.in-Ok.ensures.run told fed is) (c.in-Ok.ensures.places fed is) in
+    let next = rw (c.in-Ok.ensures.base, c.in-Ok.ensures.part) at c.in-Ok-rounds.ensures.told in
+    c.open.ensures.undamaged (c.rounds.ensures.worked.told ∙ now) (postings fed) (next now (postings fed) stored)
+
+pub returns-in-Ok-rounds-clause-worked : goal.returns-in-Ok-rounds-clause-worked
+returns-in-Ok-rounds-clause-worked g c =
+    let rounds = rw c.in-Ok.ensures.base at c.rounds.ensures.worked in
+    worked_more _ _ _ _ _ _ _ _ _ _ (worked_wrote _ _ _ _ _ _ _ c.finish.ensures.wrote c.finish.ensures.cause.later) (worked_more _ _ _ _ _ _ _ _ _ _ rounds (worked_looked _ _ _ _ _ _ _ _ c.in-Ok-rounds.ensures.part c.open.ensures.looked))
+
+pub returns-in-Err-rounds-clause-worked : goal.returns-in-Err-rounds-clause-worked
+returns-in-Err-rounds-clause-worked g c =
+    let rounds = rw c.in-Ok.ensures.base at c.rounds.ensures.worked in
+    worked_more _ _ _ _ _ _ _ _ _ _ (worked_wrote _ _ _ _ _ _ _ c.finish.ensures.wrote c.finish.ensures.cause.later) rounds
+
+pub returns-in-Err-rounds-clause-undamaged : goal.returns-in-Err-rounds-clause-undamaged
+returns-in-Err-rounds-clause-undamaged g c = λ told.
+    let fed = c.requires.fed.0 in
+    let is = c.requires.fed.1 in
+    let now = c.finish.ensures.wrote.told ∙ told in
+    let stored = fed_stored _ _ fed _ _ is (c.in-Ok.ensures.run told fed is) (c.in-Ok.ensures.places fed is) in
+    let next = rw (c.in-Ok.ensures.base, c.in-Ok.ensures.part) at c.in-Err-rounds.ensures.undamaged in
+    undamaged_as Round Merge c.in-Err-rounds.refusal (next now (postings fed) stored)

@@ -1,0 +1,75 @@
+-- Runs of one file that are joined into a run of another.
+use Rattle.std.specs.Prelude.{◌≡◌, ◌≢◌, ◌≤◌, ◌+◌, ◌*◌, ◌++◌, ◌^◌, ℕ, false, List, length, drop, is_some, Some, None}
+use Rattle.std.specs.declared.option.Option.{Option}
+use Rattle.mg_dev.specs.declared.part.Part.{Part}
+use Rattle.mg_dev.specs.declared.part.Part.TheVariants.{Run, MergeA, MergeB}
+use Rattle.mg_dev.specs.Files.{Files, Reads, file_at}
+use Rattle.mg_dev.specs.Names.{full_name, number, same_part}
+use Rattle.mg_defs.specs.Bits.{Bits}
+use Rattle.mg_defs.specs.Postings.{AllAfter}
+use Rattle.mg_defs.specs.RunBits.{postings_bits, runs_bits}
+use Rattle.mg_defs.specs.declared.TermPosting.{TermPosting}
+use Rattle.mg_bits.specs.BitWriting.{BitWriting, WroteBits}
+use Rattle.mg_runs.specs.Cursors.{IsRun}
+use Rattle.mg_runs.specs.Fed.{starts}
+use Rattle.mg_runs.specs.Rounds.{AreJoined, joined_runs}
+use Rattle.mg_runs.specs.Merging.{AreLeft}
+use Rattle.mg_runs.specs.declared.cursor.Cursor.{Cursor}
+
+-- calls that read this part alone, and write to the file of this name alone
+pub record Passed (part : Part) (name : List ℕ) (files_before files_now : Option Files) (reads_before reads_now : Reads) (faults_before faults_now : ℕ) : Type 0 where
+  pub told : is_some files_now ≡ is_some files_before
+  pub others : (n : List ℕ) → n ≢ name → file_at files_now n ≡ file_at files_before n
+  pub later : (p : Part) → reads_before p ≤ reads_now p
+  pub reads : (p : Part) → same_part p part ≡ false → reads_now p ≡ reads_before p
+  pub faults : faults_before ≤ faults_now
+
+-- Of these bits those up to a posting are written, and those of the postings that are left are not.
+pub record IsPutting (slots : List (List ℕ)) (cursors : List Cursor) (file : List ℕ) (files_before files_now : Option Files) (old new : BitWriting) (last : TermPosting) (bits : Bits) : Type 0 where
+  pub left : List TermPosting
+  pub has : AreLeft slots cursors file left
+  pub done : Bits
+  pub wrote : WroteBits old new files_before files_now done
+  pub rest : done ++ postings_bits last left ≡ bits
+  pub before : AllAfter last left
+  pub run : IsRun left
+  pub room : new.place + 256 * length left ≤ 2 ^ 61
+
+-- One more posting is written, or there was none left.
+abbrev pub IsPut : List (List ℕ) → List Cursor → List ℕ → Option Files → Option Files → BitWriting → BitWriting → Option TermPosting → Bits → Type 0
+IsPut slots cursors file files_before files_now old new None bits = WroteBits old new files_before files_now bits
+IsPut slots cursors file files_before files_now old new (Some last) bits = IsPutting slots cursors file files_before files_now old new last bits
+
+-- so many of the postings that were left are counted
+pub record IsCounting (slots : List (List ℕ)) (cursors : List Cursor) (file : List ℕ) (left : List TermPosting) (count : ℕ) : Type 0 where
+  pub has : AreLeft slots cursors file (drop count left)
+  pub within : count ≤ length left
+
+-- The groups of runs before this one are joined behind what was written before: so many bits were written, and the joined runs begin at these places.
+pub record IsJoining (width : ℕ) (runs : List (List TermPosting)) (at : ℕ) (places : List ℕ) (files_before files_now : Option Files) (old new : BitWriting) : Type 0 where
+  pub bits : Bits
+  pub joined : AreJoined width runs at bits places
+  pub wrote : WroteBits old new files_before files_now bits
+
+-- All groups are joined.
+pub record IsJoined (width : ℕ) (runs : List (List TermPosting)) (places : List ℕ) (files_before files_now : Option Files) (old new : BitWriting) : Type 0 where
+  pub wrote : WroteBits old new files_before files_now (runs_bits (joined_runs width runs))
+  pub stand : places ≡ starts 0 (joined_runs width runs)
+
+-- The merge part that the next round writes.
+abbrev pub other : Part → Part
+other MergeA = MergeB
+other part = MergeA
+
+-- Run or a merge part.
+pub record IsRunPart (part : Part) : Type 0 where
+  pub low : 10 ≤ number part
+  pub high : number part ≤ 12
+
+-- calls that read the parts of the runs of a base alone, and write to their files alone
+pub record Worked (base : List ℕ) (files_before files_now : Option Files) (reads_before reads_now : Reads) (faults_before faults_now : ℕ) : Type 0 where
+  pub told : is_some files_now ≡ is_some files_before
+  pub others : (n : List ℕ) → n ≢ full_name base Run → n ≢ full_name base MergeA → n ≢ full_name base MergeB → file_at files_now n ≡ file_at files_before n
+  pub later : (p : Part) → reads_before p ≤ reads_now p
+  pub reads : (p : Part) → same_part p Run ≡ false → same_part p MergeA ≡ false → same_part p MergeB ≡ false → reads_now p ≡ reads_before p
+  pub faults : faults_before ≤ faults_now

@@ -1,0 +1,279 @@
+// Runs of one file that are joined into runs of another.
+ghost use Rattle.std.specs.Prelude.{◌≡◌, ◌≢◌, ◌≤◌, ◌<◌, ◌+◌, ◌*◌, ◌↔◌, ◌^◌, ℕ, List, Err, IfOk, OnOk, OnSome, IsSome, IsTrue, [], length, max, sum_by, is_some, ◌%◌, ◌/◌};
+ghost use Rattle.mg_dev.specs.Files.{bytes_at, Files};
+ghost use Rattle.mg_dev.specs.Names.{full_name};
+ghost use Rattle.mg_dev.specs.Causes.{HasPutCause};
+ghost use Rattle.mg_dev.specs.PartCauses.{HasPartCause};
+ghost use Rattle.mg_bits.specs.Pages.{Looked};
+ghost use Rattle.mg_bits.specs.BitWriting.{BitWriting, Holds, WroteBits};
+ghost use Rattle.mg_defs.specs.Bits.{Bits, filled};
+ghost use Rattle.mg_defs.specs.Postings.{IsBefore, merged};
+ghost use Rattle.mg_defs.specs.RunBits.{before_first, postings_bits, run_bits};
+ghost use Rattle.mg_defs.specs.declared.TermPosting.{TermPosting};
+ghost use Rattle.std.specs.declared.option.Option.{Option};
+ghost use Rattle.mg_runs.specs.Pooled.{SamePool};
+ghost use Rattle.mg_runs.specs.Cursors.{IsRun, NoDamage};
+ghost use Rattle.mg_runs.specs.Merging.{AreLeft, AreRuns, AreRunsAt, IsShaped};
+ghost use Rattle.mg_runs.specs.Joins.{IsPut, IsPutting, Passed};
+ghost use Rattle.mg_runs.specs.Rounds.{IsGroupAt};
+
+use crate::Pool;
+use crate::decode::MOST_LEFT;
+use crate::group::Group;
+use crate::posting::{put_number, put_posting};
+use crate::walk::damage;
+use mg_bits::BitWriter;
+use mg_defs::TermPosting;
+use mg_dev::{FileRef, PartErr, PutErr, Store};
+use std::alloc::Global;
+
+/// The most bits that runs have, where no more postings are put.
+const MOST_BITS: u64 = 1 << 61;
+
+/// A writer's refusal as a reader's.
+pub fn refused(refusal: PutErr) -> PartErr
+    ensures cause { (f g : ℕ) → HasPutCause {T = ℕ} f g (Err refusal) → HasPartCause {T = ℕ} f g (Err result) }
+    ensures undamaged { NoDamage {T = ℕ} (Err result) }
+{
+    match refusal {
+        PutErr::Failed => PartErr::Device,
+        PutErr::Memory => PartErr::Memory,
+    }
+}
+
+/// How many postings the runs have.
+fn count_postings<S: Store>(group: &mut Group<'_>, store: &mut S) -> Result<u64, PartErr>
+    requires shape { IsShaped group.old.pool.slots group.old.cursors.items group.old.tournament }
+    ensures told { IsSome (S.files store.old) → (left : List TermPosting) → AreLeft group.old.pool.slots group.old.cursors.items (bytes_at (S.files store.old) (full_name group.old.file.base.now group.old.file.part)) left → IfOk result (λ count. count ≡ length left) }
+    ensures undamaged { IsSome (S.files store.old) → (left : List TermPosting) → length left < 2 ^ 32 → AreLeft group.old.pool.slots group.old.cursors.items (bytes_at (S.files store.old) (full_name group.old.file.base.now group.old.file.part)) left → NoDamage result }
+    ensures few { IfOk result (λ count. count < 2 ^ 32) }
+    ensures pool { SamePool group.old.pool group.new.pool }
+    ensures file { group.new.file ≡ group.old.file }
+    ensures looked { Looked group.old.file.part (S.files store.old) (S.files store.new) (S.reads store.old) (S.reads store.new) (S.faults store.old) (S.faults store.new) }
+    ensures cause { HasPartCause (S.faults store.old) (S.faults store.new) result }
+{
+    let mut count = 0u64;
+    loop {
+        match group.next(store) {
+            Ok(Some(_)) => {
+                if count > MOST_LEFT {
+                    return Err(damage(group.file.part, 0));
+                }
+                count += 1;
+            }
+            Ok(None) => return Ok(count),
+            Err(refusal) => return Err(refusal),
+        }
+    }
+}
+
+/// Whether a posting may stand behind another one in a run.
+fn can_follow(last: &TermPosting, posting: &TermPosting) -> bool
+    ensures { IsTrue result ↔ (IsBefore last.now posting.now × (1 ≤ posting.now.doc) × (1 ≤ posting.now.count)) }
+{
+    (posting.term > last.term || (posting.term == last.term && posting.doc > last.doc))
+        && posting.doc >= 1
+        && posting.count >= 1
+}
+
+/// Writes the next posting of the runs behind another one, and answers it.
+fn put_next<S: Store>(
+    group: &mut Group<'_>,
+    store: &mut S,
+    w: &mut BitWriter<'_>,
+    last: &TermPosting,
+) -> Result<Option<TermPosting>, PartErr>
+    requires shape { IsShaped group.old.pool.slots group.old.cursors.items group.old.tournament }
+    requires holds { Holds w.old (S.files store.old) }
+    requires apart { full_name group.old.file.base.now group.old.file.part ≢ w.old.name }
+    ensures shape { OnOk result (IsShaped group.new.pool.slots group.new.cursors.items group.new.tournament) }
+    ensures told { IsSome (S.files store.old) → (files : Option Files) (before : BitWriting) (bits : Bits) → is_some files ≡ is_some (S.files store.old) → IsPutting group.old.pool.slots group.old.cursors.items (bytes_at (S.files store.old) (full_name group.old.file.base.now group.old.file.part)) files (S.files store.old) before w.old last.now bits → IfOk result (λ put. IsPut group.new.pool.slots group.new.cursors.items (bytes_at (S.files store.old) (full_name group.old.file.base.now group.old.file.part)) files (S.files store.new) before w.new put bits) }
+    ensures undamaged { IsSome (S.files store.old) → (files : Option Files) (before : BitWriting) (bits : Bits) → IsPutting group.old.pool.slots group.old.cursors.items (bytes_at (S.files store.old) (full_name group.old.file.base.now group.old.file.part)) files (S.files store.old) before w.old last.now bits → NoDamage result }
+    ensures total { IfOk result (λ put. OnSome put (sum_by (λ c. c.left) group.new.cursors.items < sum_by (λ c. c.left) group.old.cursors.items)) }
+    ensures holds { OnOk result (Holds w.new (S.files store.new)) }
+    ensures place { OnOk result (w.old.place ≤ 2 ^ 61 + 256 → w.new.place ≤ 2 ^ 61 + 256) }
+    ensures pool { SamePool group.old.pool group.new.pool }
+    ensures file { group.new.file ≡ group.old.file }
+    ensures name { w.new.name ≡ w.old.name }
+    ensures passed { Passed group.old.file.part w.old.name (S.files store.old) (S.files store.new) (S.reads store.old) (S.reads store.new) (S.faults store.old) (S.faults store.new) }
+    ensures cause { HasPartCause (S.faults store.old) (S.faults store.new) result }
+{
+    match group.next(store) {
+        Ok(Some(posting)) => {
+            if w.place() > MOST_BITS || !can_follow(last, &posting) {
+                return Err(damage(group.file.part, 0));
+            }
+            match put_posting(w, store, last, &posting) {
+                Ok(()) => Ok(Some(posting)),
+                Err(refusal) => Err(refused(refusal)),
+            }
+        }
+        Ok(None) => Ok(None),
+        Err(refusal) => Err(refusal),
+    }
+}
+
+/// Writes the postings of the runs, without the zero-bits behind them.
+fn put_postings<S: Store>(
+    group: &mut Group<'_>,
+    store: &mut S,
+    w: &mut BitWriter<'_>,
+) -> Result<(), PartErr>
+    requires shape { IsShaped group.old.pool.slots group.old.cursors.items group.old.tournament }
+    requires holds { Holds w.old (S.files store.old) }
+    requires apart { full_name group.old.file.base.now group.old.file.part ≢ w.old.name }
+    requires place { w.old.place ≤ 2 ^ 61 + 256 }
+    ensures told { IsSome (S.files store.old) → (left : List TermPosting) → AreLeft group.old.pool.slots group.old.cursors.items (bytes_at (S.files store.old) (full_name group.old.file.base.now group.old.file.part)) left → IsRun left → w.old.place + 256 * length left ≤ 2 ^ 61 → OnOk result (WroteBits w.old w.new (S.files store.old) (S.files store.new) (postings_bits before_first left)) }
+    ensures undamaged { IsSome (S.files store.old) → (left : List TermPosting) → AreLeft group.old.pool.slots group.old.cursors.items (bytes_at (S.files store.old) (full_name group.old.file.base.now group.old.file.part)) left → IsRun left → w.old.place + 256 * length left ≤ 2 ^ 61 → NoDamage result }
+    ensures holds { OnOk result (Holds w.new (S.files store.new)) }
+    ensures place { OnOk result (w.new.place ≤ 2 ^ 61 + 256) }
+    ensures pool { SamePool group.old.pool group.new.pool }
+    ensures file { group.new.file ≡ group.old.file }
+    ensures name { w.new.name ≡ w.old.name }
+    ensures passed { Passed group.old.file.part w.old.name (S.files store.old) (S.files store.new) (S.reads store.old) (S.reads store.new) (S.faults store.old) (S.faults store.new) }
+    ensures cause { HasPartCause (S.faults store.old) (S.faults store.new) result }
+{
+    let mut last = TermPosting {
+        term: 0,
+        doc: 0,
+        count: 0,
+    };
+    loop {
+        match put_next(group, store, w, &last) {
+            Ok(Some(posting)) => last = posting,
+            Ok(None) => return Ok(()),
+            Err(refusal) => return Err(refusal),
+        }
+    }
+}
+
+/// A pool, and how many postings runs have that were read through it.
+#[derive(Drop)]
+struct Counted {
+    pool: Pool,
+    count: u64,
+}
+
+/// How many postings the runs have that begin at these bit places of a file.
+fn count_runs<S: Store>(
+    alloc: Global,
+    store: &mut S,
+    pool: Pool,
+    file: FileRef<'_>,
+    places: &[u64],
+) -> Result<Counted, PartErr>
+    requires some { 1 ≤ length places.now }
+    requires room { length places.now ≤ pool.limit / 64 }
+    requires limit { pool.limit ≤ 2 ^ 30 }
+    requires entries { pool.entries ≡ [] }
+    ensures told { IsSome (S.files store.old) → (runs : List (List TermPosting)) → AreRunsAt (bytes_at (S.files store.old) (full_name file.entry.base.now file.entry.part)) places.now runs → AreRuns runs → IfOk result (λ made. made.count ≡ length (merged runs)) }
+    ensures undamaged { IsSome (S.files store.old) → (runs : List (List TermPosting)) → AreRunsAt (bytes_at (S.files store.old) (full_name file.entry.base.now file.entry.part)) places.now runs → AreRuns runs → length (merged runs) < 2 ^ 32 → NoDamage result }
+    ensures few { IfOk result (λ made. made.count < 2 ^ 32) }
+    ensures entries { IfOk result (λ made. made.pool.entries ≡ []) }
+    ensures limit { IfOk result (λ made. made.pool.limit ≡ pool.limit) }
+    ensures peak { IfOk result (λ made. made.pool.peak ≡ max pool.peak (64 * length places.now)) }
+    ensures looked { Looked file.entry.part (S.files store.old) (S.files store.new) (S.reads store.old) (S.reads store.new) (S.faults store.old) (S.faults store.new) }
+    ensures cause { HasPartCause (S.faults store.old) (S.faults store.new) result }
+{
+    let mut group = match Group::load(alloc, store, pool, file, places) {
+        Ok(group) => group,
+        Err(refusal) => return Err(refusal),
+    };
+    match count_postings(&mut group, store) {
+        Ok(count) => Ok(Counted {
+            pool: group.into_pool(),
+            count,
+        }),
+        Err(refusal) => Err(refusal),
+    }
+}
+
+/// Writes the postings of the runs that begin at these bit places of a file, which are so many, as
+/// one run, which ends at a byte.
+fn put_run<S: Store>(
+    alloc: Global,
+    store: &mut S,
+    counted: Counted,
+    file: FileRef<'_>,
+    places: &[u64],
+    w: &mut BitWriter<'_>,
+) -> Result<Pool, PartErr>
+    requires some { 1 ≤ length places.now }
+    requires room { length places.now ≤ counted.pool.limit / 64 }
+    requires limit { counted.pool.limit ≤ 2 ^ 30 }
+    requires entries { counted.pool.entries ≡ [] }
+    requires count_some { 1 ≤ counted.count }
+    requires count_few { counted.count < 2 ^ 32 }
+    requires holds { Holds w.old (S.files store.old) }
+    requires apart { full_name file.base.now file.part ≢ w.old.name }
+    requires whole { w.old.place % 8 ≡ 0 }
+    requires place { w.old.place ≤ 2 ^ 61 }
+    ensures told { IsSome (S.files store.old) → (runs : List (List TermPosting)) → AreRunsAt (bytes_at (S.files store.old) (full_name file.entry.base.now file.entry.part)) places.now runs → IsGroupAt runs w.old.place → counted.count ≡ length (merged runs) → OnOk result (WroteBits w.old w.new (S.files store.old) (S.files store.new) (filled (run_bits (merged runs)))) }
+    ensures undamaged { IsSome (S.files store.old) → (runs : List (List TermPosting)) → AreRunsAt (bytes_at (S.files store.old) (full_name file.entry.base.now file.entry.part)) places.now runs → IsGroupAt runs w.old.place → NoDamage result }
+    ensures entries { IfOk result (λ made. made.entries ≡ []) }
+    ensures limit { IfOk result (λ made. made.limit ≡ counted.pool.limit) }
+    ensures peak { IfOk result (λ made. made.peak ≡ max counted.pool.peak (64 * length places.now)) }
+    ensures holds { OnOk result (Holds w.new (S.files store.new)) }
+    ensures place { OnOk result (w.new.place ≤ 2 ^ 61 + 264) }
+    ensures whole { OnOk result (w.new.place % 8 ≡ 0) }
+    ensures name { w.new.name ≡ w.old.name }
+    ensures passed { Passed file.entry.part w.old.name (S.files store.old) (S.files store.new) (S.reads store.old) (S.reads store.new) (S.faults store.old) (S.faults store.new) }
+    ensures cause { HasPartCause (S.faults store.old) (S.faults store.new) result }
+{
+    let Counted { pool, count } = counted;
+    let mut group = match Group::load(alloc, store, pool, file, places) {
+        Ok(group) => group,
+        Err(refusal) => return Err(refusal),
+    };
+    match put_number(w, store, count) {
+        Ok(()) => {}
+        Err(refusal) => return Err(refused(refusal)),
+    }
+    match put_postings(&mut group, store, w) {
+        Ok(()) => {}
+        Err(refusal) => return Err(refusal),
+    }
+    match w.align(store) {
+        Ok(()) => Ok(group.into_pool()),
+        Err(refusal) => Err(refused(refusal)),
+    }
+}
+
+/// Joins the runs that begin at these bit places of a file into one run, which ends at a byte.
+/// The number of its postings stands before them, so these are read twice.
+pub fn join<S: Store>(
+    alloc: Global,
+    store: &mut S,
+    pool: Pool,
+    file: FileRef<'_>,
+    places: &[u64],
+    w: &mut BitWriter<'_>,
+) -> Result<Pool, PartErr>
+    requires some { 1 ≤ length places.now }
+    requires room { length places.now ≤ pool.limit / 64 }
+    requires limit { pool.limit ≤ 2 ^ 30 }
+    requires entries { pool.entries ≡ [] }
+    requires holds { Holds w.old (S.files store.old) }
+    requires apart { full_name file.base.now file.part ≢ w.old.name }
+    requires whole { w.old.place % 8 ≡ 0 }
+    ensures told { IsSome (S.files store.old) → (runs : List (List TermPosting)) → AreRunsAt (bytes_at (S.files store.old) (full_name file.entry.base.now file.entry.part)) places.now runs → IsGroupAt runs w.old.place → OnOk result (WroteBits w.old w.new (S.files store.old) (S.files store.new) (filled (run_bits (merged runs)))) }
+    ensures undamaged { IsSome (S.files store.old) → (runs : List (List TermPosting)) → AreRunsAt (bytes_at (S.files store.old) (full_name file.entry.base.now file.entry.part)) places.now runs → IsGroupAt runs w.old.place → NoDamage result }
+    ensures entries { IfOk result (λ made. made.entries ≡ []) }
+    ensures limit { IfOk result (λ made. made.limit ≡ pool.limit) }
+    ensures peak { IfOk result (λ made. made.peak ≡ max pool.peak (64 * length places.now)) }
+    ensures holds { OnOk result (Holds w.new (S.files store.new)) }
+    ensures place { OnOk result (w.new.place ≤ 2 ^ 61 + 264) }
+    ensures whole { OnOk result (w.new.place % 8 ≡ 0) }
+    ensures name { w.new.name ≡ w.old.name }
+    ensures passed { Passed file.entry.part w.old.name (S.files store.old) (S.files store.new) (S.reads store.old) (S.reads store.new) (S.faults store.old) (S.faults store.new) }
+    ensures cause { HasPartCause (S.faults store.old) (S.faults store.new) result }
+{
+    let counted = match count_runs(alloc, store, pool, file, places) {
+        Ok(counted) => counted,
+        Err(refusal) => return Err(refusal),
+    };
+    if counted.count == 0 || w.place() > MOST_BITS {
+        return Err(damage(file.part, 0));
+    }
+    put_run(alloc, store, counted, file, places, w)
+}

@@ -1,0 +1,177 @@
+// Rounds: the runs of one part, joined into fewer runs of another.
+ghost use Rattle.std.specs.Prelude.{◌≡◌, ◌≢◌, ◌≤◌, ◌<◌, ◌+◌, ◌-◌, ◌*◌, ◌/◌, ◌%◌, ◌^◌, List, [], IfOk, OnOk, IsSome, length, max, min};
+ghost use Rattle.mg_dev.specs.Files.{bytes_at, file_at};
+ghost use Rattle.mg_dev.specs.Names.{full_name};
+ghost use Rattle.mg_dev.specs.PartCauses.{HasPartCause};
+ghost use Rattle.mg_bits.specs.BitWriting.{Holds};
+ghost use Rattle.mg_defs.specs.declared.TermPosting.{TermPosting};
+ghost use Rattle.mg_runs.specs.Cursors.{NoDamage};
+ghost use Rattle.mg_runs.specs.Joins.{IsJoined, IsRunPart, Passed, Worked, other};
+ghost use Rattle.mg_runs.specs.Rounds.{AreStored};
+
+use crate::Pool;
+use crate::join::{join, refused};
+use mg_bits::BitWriter;
+use mg_dev::{FileRef, Part, PartErr, Store};
+use std::alloc::Global;
+
+/// The runs of a part, which begin at these bit places, and the pool through which they are read.
+#[derive(Drop)]
+pub struct Round<'a> {
+    pub pool: Pool,
+    pub places: Vec<u64>,
+    pub file: FileRef<'a>,
+}
+
+/// A pool, and where runs begin that were joined through it.
+#[derive(Drop)]
+struct Joined {
+    pool: Pool,
+    places: Vec<u64>,
+}
+
+/// The merge part that the next round writes, where the runs stand in this part.
+fn other_part(part: Part) -> Part
+    ensures { result ≡ other part }
+{
+    match part {
+        Part::MergeA => Part::MergeB,
+        _ => Part::MergeA,
+    }
+}
+
+/// Joins runs, so many at a time, into runs that follow one another, and answers where these
+/// begin.
+fn join_groups<S: Store>(
+    alloc: Global,
+    store: &mut S,
+    mut pool: Pool,
+    file: FileRef<'_>,
+    places: &[u64],
+    width: usize,
+    w: &mut BitWriter<'_>,
+) -> Result<Joined, PartErr>
+    requires some { 1 ≤ width }
+    requires more { width < length places.now }
+    requires room { width ≤ pool.limit / 64 }
+    requires limit { pool.limit ≤ 2 ^ 30 }
+    requires entries { pool.entries ≡ [] }
+    requires holds { Holds w.old (S.files store.old) }
+    requires apart { full_name file.base.now file.part ≢ w.old.name }
+    requires place { w.old.place ≡ 0 }
+    ensures told { IsSome (S.files store.old) → (whole : List TermPosting) (is : AreStored (bytes_at (S.files store.old) (full_name file.entry.base.now file.entry.part)) places.now whole) → IfOk result (λ made. IsJoined width is.runs made.places.items (S.files store.old) (S.files store.new) w.old w.new) }
+    ensures undamaged { IsSome (S.files store.old) → (whole : List TermPosting) → AreStored (bytes_at (S.files store.old) (full_name file.entry.base.now file.entry.part)) places.now whole → NoDamage result }
+    ensures count { IfOk result (λ made. length made.places.items ≡ (length places.now + width - 1) / width) }
+    ensures entries { IfOk result (λ made. made.pool.entries ≡ []) }
+    ensures limit { IfOk result (λ made. made.pool.limit ≡ pool.limit) }
+    ensures peak { IfOk result (λ made. made.pool.peak ≡ max pool.peak (64 * width)) }
+    ensures holds { OnOk result (Holds w.new (S.files store.new)) }
+    ensures place { OnOk result (w.new.place ≤ 2 ^ 61 + 264) }
+    ensures whole { OnOk result (w.new.place % 8 ≡ 0) }
+    ensures name { w.new.name ≡ w.old.name }
+    ensures passed { Passed file.entry.part w.old.name (S.files store.old) (S.files store.new) (S.reads store.old) (S.reads store.new) (S.faults store.old) (S.faults store.new) }
+    ensures cause { HasPartCause (S.faults store.old) (S.faults store.new) result }
+{
+    let mut made = match Vec::with_capacity(alloc, places.len() / width + 1) {
+        Ok(made) => made,
+        Err(_) => return Err(PartErr::Memory),
+    };
+    let mut at = 0;
+    while at < places.len() {
+        let end = at + width.min(places.len() - at);
+        match made.push(w.place()) {
+            Ok(()) => {}
+            Err(_) => return Err(PartErr::Memory),
+        }
+        match join(alloc, store, pool, file, &places[at..end], w) {
+            Ok(left) => pool = left,
+            Err(refusal) => return Err(refusal),
+        }
+        at = end;
+    }
+    Ok(Joined { pool, places: made })
+}
+
+impl<'a> Round<'a> {
+    /// The runs, so many at a time, joined into runs of another merge part, which held nothing
+    /// that is still needed.
+    fn joined<S: Store>(
+        self,
+        alloc: Global,
+        store: &mut S,
+        width: usize,
+    ) -> Result<Round<'a>, PartErr>
+        requires some { 1 ≤ width }
+        requires more { width < length self.places.items }
+        requires room { width ≤ self.pool.limit / 64 }
+        requires limit { self.pool.limit ≤ 2 ^ 30 }
+        requires entries { self.pool.entries ≡ [] }
+        requires part { IsRunPart self.file.part }
+        ensures told { IsSome (S.files store.old) → (whole : List TermPosting) → AreStored (bytes_at (S.files store.old) (full_name self.entry.file.base.now self.entry.file.part)) self.entry.places.items whole → IfOk result (λ next. AreStored (bytes_at (S.files store.new) (full_name next.file.base.now next.file.part)) next.places.items whole) }
+        ensures undamaged { IsSome (S.files store.old) → (whole : List TermPosting) → AreStored (bytes_at (S.files store.old) (full_name self.entry.file.base.now self.entry.file.part)) self.entry.places.items whole → NoDamage result }
+        ensures count { IfOk result (λ next. length next.places.items ≡ (length self.entry.places.items + width - 1) / width) }
+        ensures entries { IfOk result (λ next. next.pool.entries ≡ []) }
+        ensures limit { IfOk result (λ next. next.pool.limit ≡ self.entry.pool.limit) }
+        ensures peak { IfOk result (λ next. next.pool.peak ≡ max self.entry.pool.peak (64 * width)) }
+        ensures base { IfOk result (λ next. next.file.base ≡ self.entry.file.base) }
+        ensures part { IfOk result (λ next. next.file.part ≡ other self.entry.file.part) }
+        ensures passed { Passed self.entry.file.part (full_name self.entry.file.base.now (other self.entry.file.part)) (S.files store.old) (S.files store.new) (S.reads store.old) (S.reads store.new) (S.faults store.old) (S.faults store.new) }
+        ensures cause { HasPartCause (S.faults store.old) (S.faults store.new) result }
+    {
+        let Round { pool, places, file } = self;
+        let to = FileRef {
+            base: file.base,
+            part: other_part(file.part),
+        };
+        let mut w = match BitWriter::start(alloc, store, to) {
+            Ok(w) => w,
+            Err(refusal) => return Err(refused(refusal)),
+        };
+        match join_groups(alloc, store, pool, file, &places, width, &mut w) {
+            Ok(made) => match w.finish(store) {
+                Ok(()) => Ok(Round {
+                    pool: made.pool,
+                    places: made.places,
+                    file: to,
+                }),
+                Err(refusal) => Err(refused(refusal)),
+            },
+            Err(refusal) => Err(refusal),
+        }
+    }
+
+    /// As many rounds as leave no more runs than this width.
+    pub fn rounds<S: Store>(
+        self,
+        alloc: Global,
+        store: &mut S,
+        width: usize,
+    ) -> Result<Round<'a>, PartErr>
+        requires some { 2 ≤ width }
+        requires room { width ≤ self.pool.limit / 64 }
+        requires limit { self.pool.limit ≤ 2 ^ 30 }
+        requires entries { self.pool.entries ≡ [] }
+        requires part { IsRunPart self.file.part }
+        ensures told { IsSome (S.files store.old) → (whole : List TermPosting) → AreStored (bytes_at (S.files store.old) (full_name self.entry.file.base.now self.entry.file.part)) self.entry.places.items whole → IfOk result (λ last. AreStored (bytes_at (S.files store.new) (full_name last.file.base.now last.file.part)) last.places.items whole) }
+        ensures undamaged { IsSome (S.files store.old) → (whole : List TermPosting) → AreStored (bytes_at (S.files store.old) (full_name self.entry.file.base.now self.entry.file.part)) self.entry.places.items whole → NoDamage result }
+        ensures few { IfOk result (λ last. length last.places.items ≤ width) }
+        ensures count { IfOk result (λ last. length last.places.items ≡ 0 → length self.entry.places.items ≡ 0) }
+        ensures entries { IfOk result (λ last. last.pool.entries ≡ []) }
+        ensures limit { IfOk result (λ last. last.pool.limit ≡ self.entry.pool.limit) }
+        ensures peak { IfOk result (λ last. max last.pool.peak (64 * min (length last.places.items) width) ≡ max self.entry.pool.peak (64 * min (length self.entry.places.items) width)) }
+        ensures base { IfOk result (λ last. last.file.base ≡ self.entry.file.base) }
+        ensures part { IfOk result (λ last. IsRunPart last.file.part) }
+        ensures run { file_at (S.files store.new) (full_name self.entry.file.base.now Part.Run) ≡ file_at (S.files store.old) (full_name self.entry.file.base.now Part.Run) }
+        ensures worked { Worked self.entry.file.base.now (S.files store.old) (S.files store.new) (S.reads store.old) (S.reads store.new) (S.faults store.old) (S.faults store.new) }
+        ensures cause { HasPartCause (S.faults store.old) (S.faults store.new) result }
+    {
+        let mut round = self;
+        while round.places.len() > width {
+            match round.joined(alloc, store, width) {
+                Ok(next) => round = next,
+                Err(refusal) => return Err(refusal),
+            }
+        }
+        Ok(round)
+    }
+}
