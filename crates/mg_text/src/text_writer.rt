@@ -111,12 +111,13 @@ impl<'a> TextWriter<'a> {
         ensures reads { SameReads (S.reads store.old) (S.reads store.new) }
         ensures cause { HasPutCause (S.faults store.old) (S.faults store.new) result }
     {
+        let count = u64::from(pairs);
         put_place(&mut self.places, store, self.text.place() / 8)?;
-        put_gamma(&mut self.text, store, u64::from(pairs) + 1)?;
+        put_gamma(&mut self.text, store, count + 1)?;
         self.docs += 1;
-        self.pairs += u64::from(pairs);
+        self.pairs += count;
         self.is_open = true;
-        self.left = 2 * u64::from(pairs);
+        self.left = 2 * count;
         Ok(())
     }
 
