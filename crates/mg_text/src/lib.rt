@@ -12,3 +12,6 @@ mod text_writer;
 
 pub use laws::{pieces_make_documents, text_has_its_documents};
 pub use text_writer::TextWriter;
+
+#[cfg(test)]
+mod writer_tests;
