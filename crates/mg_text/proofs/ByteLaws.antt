@@ -1,6 +1,6 @@
 -- Bytes are told by their bits.
-use Rattle.std.proofs.Common.{arith, ◌≡◌, ◌+◌, ◌%◌, ◌^◌, ◌≤◌, ◌<◌, ◌++◌, ℕ, zero, suc, true, false, List, [], ◌∷◌, length, take, drop, replicate, refl, sym, ◌∙◌, ap, subst, length-append, length-take-le, pow-suc}
-use Rattle.std.specs.List.{All, flat_map}
+use Rattle.std.proofs.Common.{arith, ◌≡◌, ◌^◌, ◌<◌, ◌++◌, ℕ, zero, suc, true, false, List, [], ◌∷◌, length, take, drop, replicate, refl, sym, ◌∙◌, ap, subst, length-append, length-take-le, pow-suc}
+use Rattle.std.specs.List.{All}
 use Rattle.std.specs.declared.option.Option.{Option}
 use Rattle.std.proofs.Math.Seq.{take-append_seam}
 use Rattle.std.proofs.lemmas.List.{append_cancel_left}

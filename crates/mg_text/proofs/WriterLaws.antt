@@ -1,9 +1,9 @@
 -- What the calls of a writer do to the documents that it took.
-use Rattle.std.proofs.Common.{arith, ◌≡◌, ◌≢◌, ◌+◌, ◌-◌, ◌*◌, ◌/◌, ◌%◌, ◌^◌, ◌≤◌, ◌<◌, ◌++◌, ℕ, zero, suc, true, false, List, [], ◌∷◌, length, refl, sym, ◌∙◌, ap, subst, IsSome, is_some, unwrap_or, get_or, length-append, append_assoc, append-nil}
+use Rattle.std.proofs.Common.{arith, ◌≡◌, ◌≢◌, ◌+◌, ◌-◌, ◌*◌, ◌/◌, ◌^◌, ◌≤◌, ◌<◌, ◌++◌, ℕ, zero, suc, true, false, List, [], ◌∷◌, length, refl, sym, ◌∙◌, ap, IsSome, is_some, unwrap_or, get_or, length-append, append_assoc, append-nil}
 use Rattle.std.specs.List.{flat_map}
 use Rattle.std.specs.declared.option.Option.{Option}
 use Rattle.std.proofs.lemmas.Grind.{flat_map-append}
-use Rattle.mg_dev.specs.Files.{Files, Reads, bytes_at, file_at}
+use Rattle.mg_dev.specs.Files.{Files, Reads, bytes_at}
 use Rattle.mg_dev.specs.Names.{full_name}
 use Rattle.mg_dev.specs.Laws.{same_part_of_name}
 use Rattle.mg_dev.specs.declared.part.Part.TheVariants.{Text, Places}

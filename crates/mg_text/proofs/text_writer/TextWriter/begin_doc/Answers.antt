@@ -1,4 +1,4 @@
-use Rattle.std.proofs.Common.{[], refl}
+use Rattle.std.proofs.Common.{[]}
 use Rattle.mg_text.proofs.WriterLaws.{text_counts, took_begun}
 use Rattle.mg_text.proofs.text_writer.TextWriter.begin_doc.Goals as goal
 
