@@ -1,0 +1,3 @@
+pub mod WriterLaws
+pub mod DocumentLaws
+pub mod ByteLaws
