@@ -1,3 +1,4 @@
 pub mod Decoding
 pub mod Refusals
 pub mod Places
+pub mod Reading

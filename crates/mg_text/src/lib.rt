@@ -5,8 +5,6 @@ mod decoder;
 mod places;
 mod show_buffer;
 mod symbols;
+mod text_reader;
 
-pub use decoder::show_doc;
-pub use places::{first_byte, width_of};
-pub use show_buffer::ShowBuffer;
-pub use symbols::{get_count, get_symbol};
+pub use text_reader::TextReader;
