@@ -4,7 +4,7 @@ use Rattle.std.proofs.lemmas.Grind.{common_steps}
 use Rattle.std.specs.List.{flat_map}
 use Rattle.mg_dev.specs.Files.{Files, bytes_at}
 use Rattle.mg_dev.specs.Names.{full_name}
-use Rattle.mg_dev.specs.Streams.{appended, GrewByPrefix}
+use Rattle.mg_dev.specs.Streams.{AfterPut, appended, GrewByPrefix}
 use Rattle.mg_dev.specs.StreamLaws.{grew_nothing}
 use Rattle.mg_dev.specs.declared.part.Part.{Part}
 use Rattle.mg_dev.specs.declared.part.Part.TheVariants as part
@@ -24,7 +24,7 @@ use Rattle.mg_model.specs.Damage.{AnswersLoad, AnswersStanding}
 use Rattle.mg_model.specs.Models.{IsModel}
 use Rattle.mg_text.specs.Decoding.{Ends, Stopped, Takes, WholeDoc}
 use Rattle.mg_text.specs.Places.{place_width}
-use Rattle.mg_text.specs.Reading.{AnswersDoc, AnswersReader, AnswersSizes, AnswersTextSizes, IsText, IsTextReader, SameText, TextReading, TextStands, stored_at, places_size}
+use Rattle.mg_text.specs.Reading.{AnswersDoc, AnswersReader, AnswersTextSizes, IsText, IsTextReader, SameText, ShowIsNotBad, TextReading, TextStands, stored_at, places_size}
 use Rattle.mg_text.specs.Decoding.{PairsIn, Shows}
 use Rattle.mg_text.specs.Places.{IsPlaceAt}
 use Rattle.mg_text.proofs.StandLaws.{doc_ends, doc_pieces, doc_shown, few_pairs, place_long, place_stands, place_within, small_place}
@@ -119,7 +119,7 @@ place_wanted r files collection number stands some within = (
 pub doc_told : (result : Result (Unit {0}) ShowErr) (r : TextReading) (files mid : Option Files) (collection : List ℕ) (number from place : ℕ) (feed : Paging) (f1 : Feeding) (d0 d1 : Seen) (before : ℕ) (w0 w1 : Option (List ℕ)) →
     TextStands r files collection → 1 ≤ number → number ≤ r.documents → mid ≡ files → from ≡ place_after r.code collection (number - 1) → place ≡ 8 * from → feed ≡ r.text → r.text.part ≡ part.Text → d0.reads part.Text ≡ before →
     ((doc : List ℕ) → PairsIn r.code (parse doc) → length (parse doc) < 2 ^ 32 → place + length (coded_doc r.code doc) ≤ 2 ^ 63 → Shows (told_at mid feed.name) place (coded_doc r.code doc) →
-        Ends result (WholeDoc (feeding_of 4096 feed) f1 d0 d1 place (place + length (coded_doc r.code doc)) w0 w1 doc) (Stopped (feeding_of 4096 feed) f1 d0 d1 place (place + length (coded_doc r.code doc)) w0 w1 doc)) →
+    Ends result (WholeDoc (feeding_of 4096 feed) f1 d0 d1 place (place + length (coded_doc r.code doc)) w0 w1 doc) (Stopped (feeding_of 4096 feed) f1 d0 d1 place (place + length (coded_doc r.code doc)) w0 w1 doc)) →
     AnswersDoc result w0 w1 (get_or (documents collection) (number - 1) []) before (d1.reads part.Text) (pages (doc_range r.code collection number).from (doc_range r.code collection number).to)
 doc_told result r files mid collection number from place feed f1 d0 d1 before w0 w1 stands some within same at place_is fed own e told =
     let i = number - 1 in
@@ -145,3 +145,43 @@ models_refused base files mid head Device same sizes answers told = tt
 models_refused base files mid head Memory same sizes answers told = tt
 models_refused base files mid head (Bad bad) same sizes answers told =
     inr (sizes, subst (λ f. AnswersLoad head.words head.others (bytes_at f (full_name base part.Words)) (bytes_at f (full_name base part.Nonwords)) (Err (Bad bad))) same (answers (subst IsSome (sym same) told)))
+
+-- ---- what an answer says
+
+pub answer_content : (result : Result (Unit {0}) ShowErr) (w0 w1 : Option (List ℕ)) (doc : List ℕ) (before now most : ℕ) → AnswersDoc result w0 w1 doc before now most → AfterPut w0 w1 doc result
+answer_content (Ok done) w0 w1 doc before now most h = h.0
+answer_content (Err (show.Part Device)) w0 w1 doc before now most h = h.0
+answer_content (Err (show.Part Memory)) w0 w1 doc before now most h = absurd h
+answer_content (Err (show.Part (Bad bad))) w0 w1 doc before now most h = absurd h
+answer_content (Err show.Write) w0 w1 doc before now most h = h.0
+answer_content (Err show.Memory) w0 w1 doc before now most h = h.0
+
+pub answer_bad : (result : Result (Unit {0}) ShowErr) (w0 w1 : Option (List ℕ)) (doc : List ℕ) (before now most : ℕ) → AnswersDoc result w0 w1 doc before now most → ShowIsNotBad result
+answer_bad (Ok done) w0 w1 doc before now most h = tt
+answer_bad (Err (show.Part Device)) w0 w1 doc before now most h = tt
+answer_bad (Err (show.Part Memory)) w0 w1 doc before now most h = tt
+answer_bad (Err (show.Part (Bad bad))) w0 w1 doc before now most h = h
+answer_bad (Err show.Write) w0 w1 doc before now most h = tt
+answer_bad (Err show.Memory) w0 w1 doc before now most h = tt
+
+pub answer_pages : (result : Result (Unit {0}) ShowErr) (w0 w1 : Option (List ℕ)) (doc : List ℕ) (before now most : ℕ) → AnswersDoc result w0 w1 doc before now most → now ≤ before + most
+answer_pages (Ok done) w0 w1 doc before now most h = h.1
+answer_pages (Err (show.Part Device)) w0 w1 doc before now most h = h.1
+answer_pages (Err (show.Part Memory)) w0 w1 doc before now most h = absurd h
+answer_pages (Err (show.Part (Bad bad))) w0 w1 doc before now most h = absurd h
+answer_pages (Err show.Write) w0 w1 doc before now most h = h.1
+answer_pages (Err show.Memory) w0 w1 doc before now most h = h.1
+
+-- a reader stands as long as its parts stay as they are
+pub text_stays : (r now : TextReading) (files files_now : Option Files) (collection : List ℕ) → SameText r now → files_now ≡ files → TextStands r files collection → TextStands now files_now collection
+text_stays r now files files_now collection same e stands = record {
+  told = subst IsSome (sym e) stands.told;
+  model = subst IsModel (sym same.code) stands.model;
+  code = subst (IsTextCode collection) (sym same.code) stands.code;
+  text = ap (bytes_at files_now) same.text ∙ ap (λ f. bytes_at f r.text.name) e ∙ stands.text ∙ ap (λ c. text_of c collection) (sym same.code);
+  places = ap (bytes_at files_now) same.places ∙ ap (λ f. bytes_at f r.places.name) e ∙ stands.places ∙ ap (λ c. places_of r.version c collection) (sym same.code) ∙ ap (λ v. places_of v now.code collection) (sym same.version);
+  size = same.size ∙ stands.size ∙ ap (λ c. length (text_of c collection)) (sym same.code);
+  documents = same.documents ∙ stands.documents;
+  few = stands.few;
+  small = rw (same.size, same.version) stands.small;
+}

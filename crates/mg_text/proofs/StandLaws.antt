@@ -128,9 +128,9 @@ piece_in code sorted s is there =
 has_left : (s : List ℕ) (a b : List (List ℕ)) → has a s ≡ true → has (a ++ b) s ≡ true
 has_left s [] b h = absurd cc
 has_left s (t ∷ a) b h = elim (cases_Bool (bytes_eq s t)) [
-    | inl is ↦ or_left (bytes_eq s t) (has (a ++ b) s) is
-    | inr isnt ↦ or_right (bytes_eq s t) (has (a ++ b) s) (has_left s a b (rw isnt at h))
-  ]
+  | inl is ↦ or_left (bytes_eq s t) (has (a ++ b) s) is
+  | inr isnt ↦ or_right (bytes_eq s t) (has (a ++ b) s) (has_left s a b (rw isnt at h))
+]
 
 has_right : (s : List ℕ) (a b : List (List ℕ)) → has b s ≡ true → has (a ++ b) s ≡ true
 has_right s [] b h = h

@@ -36,8 +36,8 @@ fn show_piece<F: Feed, O: Sink>(
     ensures told { (before : Option (List ℕ)) (bytes piece : List ℕ) → IsIn (code_of stream model.now) piece → r.old.place + length (codeword_of (code_of stream model.now) piece) ≤ 2 ^ 63 →
         Shows ((F.feeding r.old.feed).source (F.device dev.old).files) r.old.place (codeword_of (code_of stream model.now) piece) → Shown before (O.written out.old) buffer.old bytes →
         Ends result
-            (Decoded (F.feeding r.old.feed) (F.feeding r.new.feed) (F.device dev.old) (F.device dev.new) r.old.place (r.old.place + length (codeword_of (code_of stream model.now) piece)) r.new.place before (O.written out.new) buffer.new (bytes ++ piece))
-            (Stopped (F.feeding r.old.feed) (F.feeding r.new.feed) (F.device dev.old) (F.device dev.new) r.old.place (r.old.place + length (codeword_of (code_of stream model.now) piece)) before (O.written out.new) (bytes ++ piece)) }
+        (Decoded (F.feeding r.old.feed) (F.feeding r.new.feed) (F.device dev.old) (F.device dev.new) r.old.place (r.old.place + length (codeword_of (code_of stream model.now) piece)) r.new.place before (O.written out.new) buffer.new (bytes ++ piece))
+        (Stopped (F.feeding r.old.feed) (F.feeding r.new.feed) (F.device dev.old) (F.device dev.new) r.old.place (r.old.place + length (codeword_of (code_of stream model.now) piece)) before (O.written out.new) (bytes ++ piece)) }
     ensures added { Added (O.written out.old) (O.written out.new) (O.faults out.old) (O.faults out.new) (O.lacks out.old) (O.lacks out.new) }
     ensures cause { IsShowCaused result (F.device dev.old).faults (F.device dev.new).faults (O.faults out.old) (O.faults out.new) (O.lacks out.old) (O.lacks out.new) }
 {
@@ -64,8 +64,8 @@ fn show_pair<F: Feed, O: Sink>(
     ensures told { (before : Option (List ℕ)) (bytes : List ℕ) (p : Pair) → PairIn model.now p → r.old.place + length (coded_pair model.now p) ≤ 2 ^ 63 →
         Shows ((F.feeding r.old.feed).source (F.device dev.old).files) r.old.place (coded_pair model.now p) → Shown before (O.written out.old) buffer.old bytes →
         Ends result
-            (Decoded (F.feeding r.old.feed) (F.feeding r.new.feed) (F.device dev.old) (F.device dev.new) r.old.place (r.old.place + length (coded_pair model.now p)) r.new.place before (O.written out.new) buffer.new (bytes ++ (p.word ++ p.other)))
-            (Stopped (F.feeding r.old.feed) (F.feeding r.new.feed) (F.device dev.old) (F.device dev.new) r.old.place (r.old.place + length (coded_pair model.now p)) before (O.written out.new) (bytes ++ (p.word ++ p.other))) }
+        (Decoded (F.feeding r.old.feed) (F.feeding r.new.feed) (F.device dev.old) (F.device dev.new) r.old.place (r.old.place + length (coded_pair model.now p)) r.new.place before (O.written out.new) buffer.new (bytes ++ (p.word ++ p.other)))
+        (Stopped (F.feeding r.old.feed) (F.feeding r.new.feed) (F.device dev.old) (F.device dev.new) r.old.place (r.old.place + length (coded_pair model.now p)) before (O.written out.new) (bytes ++ (p.word ++ p.other))) }
     ensures added { Added (O.written out.old) (O.written out.new) (O.faults out.old) (O.faults out.new) (O.lacks out.old) (O.lacks out.new) }
     ensures cause { IsShowCaused result (F.device dev.old).faults (F.device dev.new).faults (O.faults out.old) (O.faults out.new) (O.lacks out.old) (O.lacks out.new) }
 {
@@ -95,8 +95,8 @@ fn show_pairs<F: Feed, O: Sink>(
     ensures told { (ps : List Pair) → PairsIn model.now ps → count ≡ length ps → r.old.place + length (coded_pairs model.now ps) ≤ 2 ^ 63 →
         Shows ((F.feeding r.old.feed).source (F.device dev.old).files) r.old.place (coded_pairs model.now ps) →
         Ends result
-            (Decoded (F.feeding r.old.feed) (F.feeding r.new.feed) (F.device dev.old) (F.device dev.new) r.old.place (r.old.place + length (coded_pairs model.now ps)) r.new.place (O.written out.old) (O.written out.new) buffer.new (text ps))
-            (Stopped (F.feeding r.old.feed) (F.feeding r.new.feed) (F.device dev.old) (F.device dev.new) r.old.place (r.old.place + length (coded_pairs model.now ps)) (O.written out.old) (O.written out.new) (text ps)) }
+        (Decoded (F.feeding r.old.feed) (F.feeding r.new.feed) (F.device dev.old) (F.device dev.new) r.old.place (r.old.place + length (coded_pairs model.now ps)) r.new.place (O.written out.old) (O.written out.new) buffer.new (text ps))
+        (Stopped (F.feeding r.old.feed) (F.feeding r.new.feed) (F.device dev.old) (F.device dev.new) r.old.place (r.old.place + length (coded_pairs model.now ps)) (O.written out.old) (O.written out.new) (text ps)) }
     ensures added { Added (O.written out.old) (O.written out.new) (O.faults out.old) (O.faults out.new) (O.lacks out.old) (O.lacks out.new) }
     ensures cause { IsShowCaused result (F.device dev.old).faults (F.device dev.new).faults (O.faults out.old) (O.faults out.new) (O.lacks out.old) (O.lacks out.new) }
 {
@@ -125,8 +125,8 @@ pub fn show_doc<F: Feed, O: Sink>(
     ensures told { (doc : List ℕ) → PairsIn model.now (parse doc) → length (parse doc) < 2 ^ 32 → r.old.place + length (coded_doc model.now doc) ≤ 2 ^ 63 →
         Shows ((F.feeding r.old.feed).source (F.device dev.old).files) r.old.place (coded_doc model.now doc) →
         Ends result
-            (WholeDoc (F.feeding r.old.feed) (F.feeding r.new.feed) (F.device dev.old) (F.device dev.new) r.old.place (r.old.place + length (coded_doc model.now doc)) (O.written out.old) (O.written out.new) doc)
-            (Stopped (F.feeding r.old.feed) (F.feeding r.new.feed) (F.device dev.old) (F.device dev.new) r.old.place (r.old.place + length (coded_doc model.now doc)) (O.written out.old) (O.written out.new) doc) }
+        (WholeDoc (F.feeding r.old.feed) (F.feeding r.new.feed) (F.device dev.old) (F.device dev.new) r.old.place (r.old.place + length (coded_doc model.now doc)) (O.written out.old) (O.written out.new) doc)
+        (Stopped (F.feeding r.old.feed) (F.feeding r.new.feed) (F.device dev.old) (F.device dev.new) r.old.place (r.old.place + length (coded_doc model.now doc)) (O.written out.old) (O.written out.new) doc) }
     ensures added { Added (O.written out.old) (O.written out.new) (O.faults out.old) (O.faults out.new) (O.lacks out.old) (O.lacks out.new) }
     ensures cause { IsShowCaused result (F.device dev.old).faults (F.device dev.new).faults (O.faults out.old) (O.faults out.new) (O.lacks out.old) (O.lacks out.new) }
 {

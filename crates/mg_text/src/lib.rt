@@ -3,8 +3,10 @@
 
 mod decoder;
 mod places;
+mod reader_laws;
 mod show_buffer;
 mod symbols;
 mod text_reader;
 
+pub use reader_laws::texts_stand;
 pub use text_reader::TextReader;

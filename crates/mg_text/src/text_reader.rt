@@ -81,12 +81,7 @@ impl<'a, S: Store> TextReader<'a, S> {
     /// A reader of the text under this base, which the head tells of. It compares the sizes of Text
     /// and of Places, in this order, with those of the head before it reads or reserves anything,
     /// and then loads the models; the first that is refused is told.
-    pub fn load(
-        alloc: Global,
-        store: &mut S,
-        base: &'a str,
-        head: &Head,
-    ) -> Result<Self, PartErr>
+    pub fn load(alloc: Global, store: &mut S, base: &'a str, head: &Head) -> Result<Self, PartErr>
         requires words { head.now.words ≤ 2 ^ 22 }
         requires others { head.now.others ≤ 2 ^ 22 }
         ensures fits { IfOk result (λ r. TextFits r (S.files store.new)) }
@@ -111,12 +106,7 @@ impl<'a, S: Store> TextReader<'a, S> {
     }
 
     // A reader by this model.
-    fn over(
-        alloc: Global,
-        base: &'a str,
-        head: &Head,
-        model: TextModel,
-    ) -> Result<Self, AllocError>
+    fn over(alloc: Global, base: &'a str, head: &Head, model: TextModel) -> Result<Self, AllocError>
         ensures fits { IfOk result (λ r. (files : Option Files) → TextFits r files) }
         ensures reader { IfOk result (λ r. IsTextReader r base.entry.now head.now) }
         ensures model { IfOk result (λ r. r.code ≡ model) }
@@ -145,12 +135,25 @@ impl<'a, S: Store> TextReader<'a, S> {
 
     /// Writes the bytes of a document, from 1 to the number of documents, to a sink, and no byte
     /// behind them. After a refusal a prefix of them was written, where the parts stand.
-    pub fn doc<O: Sink>(
-        &mut self,
-        store: &mut S,
-        number: u32,
-        out: &mut O,
-    ) -> Result<(), ShowErr>
+    pub fn doc<O: Sink>(&mut self, store: &mut S, number: u32, out: &mut O) -> Result<(), ShowErr>
+        requires fits { TextFits self.old (S.files store.old) }
+        requires some { 1 ≤ number }
+        requires within { number ≤ self.old.documents }
+        ensures fits { TextFits self.new (S.files store.new) }
+        ensures same { SameText self.old self.new }
+        ensures looked { LookedAt part.Text part.Places (S.files store.old) (S.files store.new) (S.reads store.old) (S.reads store.new) (S.faults store.old) (S.faults store.new) }
+        ensures content { (collection : List ℕ) → TextStands self.old (S.files store.old) collection → AfterPut (O.written out.old) (O.written out.new) (get_or (documents collection) (number - 1) []) result }
+        ensures never_bad { (collection : List ℕ) → TextStands self.old (S.files store.old) collection → ShowIsNotBad result }
+        ensures pages { (collection : List ℕ) → TextStands self.old (S.files store.old) collection → S.reads store.new part.Text ≤ S.reads store.old part.Text + pages (doc_range self.old.code collection number).from (doc_range self.old.code collection number).to }
+        ensures places { S.reads store.new part.Places ≤ S.reads store.old part.Places + 1 }
+        ensures added { Added (O.written out.old) (O.written out.new) (O.faults out.old) (O.faults out.new) (O.lacks out.old) (O.lacks out.new) }
+        ensures cause { IsShowCaused result (S.faults store.old) (S.faults store.new) (O.faults out.old) (O.faults out.new) (O.lacks out.old) (O.lacks out.new) }
+    {
+        self.show(store, number, out)
+    }
+
+    // Shows a document, where the parts stand or not.
+    fn show<O: Sink>(&mut self, store: &mut S, number: u32, out: &mut O) -> Result<(), ShowErr>
         requires fits { TextFits self.old (S.files store.old) }
         requires some { 1 ≤ number }
         requires within { number ≤ self.old.documents }
