@@ -11,7 +11,7 @@ use Rattle.mg_dev.specs.declared.part.Part.TheVariants.{Text}
 use Rattle.mg_defs.specs.Bits.{Bits, bits_of, digits, number}
 use Rattle.mg_defs.specs.CodedText.{as_bytes, bytes_upto}
 use Rattle.mg_defs.proofs.BitLaws.{length_digits, digits_same}
-use Rattle.mg_text.specs.Writing.{TextStands, text_bytes}
+use Rattle.mg_text.specs.Writing.{DocumentsStand, text_bytes}
 
 front_byte : (x : ℕ) (more : Bits) → take 8 (digits 8 x ++ more) ≡ digits 8 x
 front_byte x more = ap (λ n. take n (digits 8 x ++ more)) (sym (length_digits 8 x)) ∙ take-append_seam (digits 8 x) more
@@ -57,5 +57,5 @@ docs_bytes : (docs : List Bits) → All (λ byte. byte < 2 ^ 8) (text_bytes docs
 docs_bytes [] = All-nil (λ byte. byte < 2 ^ 8)
 docs_bytes (bits ∷ docs) = All-append (λ byte. byte < 2 ^ 8) (as_bytes bits) (text_bytes docs) (doc_bytes bits) (docs_bytes docs)
 
-pub written_bytes : (base : List ℕ) (files : Option Files) (docs : List Bits) → TextStands base files docs → All (λ byte. byte < 2 ^ 8) (bytes_at files (full_name base Text)) → bytes_at files (full_name base Text) ≡ text_bytes docs
+pub written_bytes : (base : List ℕ) (files : Option Files) (docs : List Bits) → DocumentsStand base files docs → All (λ byte. byte < 2 ^ 8) (bytes_at files (full_name base Text)) → bytes_at files (full_name base Text) ≡ text_bytes docs
 written_bytes base files docs stands fit = same_bytes (bytes_at files (full_name base Text)) (text_bytes docs) fit (docs_bytes docs) stands.text

@@ -19,7 +19,7 @@ use Rattle.mg_defs.specs.TextBits.{text_bits}
 use Rattle.mg_defs.proofs.BitLaws.{length_bits_of}
 use Rattle.mg_defs.proofs.TextBitsLaws.{text-within}
 use Rattle.mg_text.specs.Documents.{TextHolds, coded_docs, piece_bits, pieces_bits}
-use Rattle.mg_text.specs.Writing.{TextStands, text_bytes, sizes, turn}
+use Rattle.mg_text.specs.Writing.{DocumentsStand, text_bytes, sizes, turn}
 
 -- ---- pieces in turn
 
@@ -86,7 +86,7 @@ places_are code collection = ap (λ l. flat_map eight (running 0 l)) (sizes_are 
 same_long : (a b : List ℕ) → bits_of a ≡ bits_of b → length a ≡ length b
 same_long a b same = omega (arith, length_bits_of a, length_bits_of b, ap length same)
 
-pub text_holds : (base : List ℕ) (files : Option Files) (code : TextCode) (collection : List ℕ) → TextStands base files (coded_docs code collection) → TextHolds base files code collection
+pub text_holds : (base : List ℕ) (files : Option Files) (code : TextCode) (collection : List ℕ) → DocumentsStand base files (coded_docs code collection) → TextHolds base files code collection
 text_holds base files code collection stands =
     let same : bits_of (bytes_at files (full_name base Text)) ≡ bits_of (text_of code collection) = stands.text ∙ ap bits_of (text_is code collection) in
     record {
@@ -95,5 +95,5 @@ text_holds base files code collection stands =
       places = stands.places ∙ places_are code collection;
     }
 
-pub text_within : (base : List ℕ) (files : Option Files) (code : TextCode) (collection : List ℕ) → IsTextCode collection code → TextStands base files (coded_docs code collection) → length (bytes_at files (full_name base Text)) ≤ text_bits collection / 8 + length (documents collection)
+pub text_within : (base : List ℕ) (files : Option Files) (code : TextCode) (collection : List ℕ) → IsTextCode collection code → DocumentsStand base files (coded_docs code collection) → length (bytes_at files (full_name base Text)) ≤ text_bits collection / 8 + length (documents collection)
 text_within base files code collection is stands = omega (arith, (text_holds base files code collection stands).size, text-within code collection is)

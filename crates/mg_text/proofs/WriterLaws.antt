@@ -21,7 +21,7 @@ use Rattle.mg_defs.proofs.CodeLaws.{length_gamma}
 use Rattle.mg_defs.proofs.FixedLaws.{IsLog, is_log}
 use Rattle.mg_codes.proofs.Instances.{log_small}
 use Rattle.mg_model.specs.Models.{IsStreamCode}
-use Rattle.mg_text.specs.Writing.{TextWriting, IsOnText, TextStands, text_bytes, sizes, starts, begun, as_count}
+use Rattle.mg_text.specs.Writing.{TextWriting, IsOnText, DocumentsStand, text_bytes, sizes, starts, begun, as_count}
 
 told_back : (f g : Option Files) → is_some g ≡ is_some f → IsSome g → IsSome f
 told_back f g e told = cc
@@ -217,7 +217,7 @@ whole_text w files docs took =
 pub text_finished : (w : TextWriting) (p o : Writing) (f g h k : Option Files) (r s t u : Reads) (docs : List Bits) → IsSome f → w.is_open ≡ false →
     Wrote w.places p f g (eight (w.text.place / 8)) → WroteTo w.places.name f g r s →
     (IsSome g → bits_of (bytes_at h w.text.name) ≡ bits_put w.text g ++ digits (to_byte w.text.place) 0) → WroteTo w.text.name g h s t →
-    Wrote p o h k [] → o.buffered ≡ [] → WroteTo p.name h k t u → IsOnText w f docs [] → TextStands w.base k docs
+    Wrote p o h k [] → o.buffered ≡ [] → WroteTo p.name h k t u → IsOnText w f docs [] → DocumentsStand w.base k docs
 text_finished w p o f g h k r s t u docs told closed placed placed_to file to last empty last_to took =
     let apart = names_apart w f docs [] took in
     let told_g : IsSome g = placed_to.told ∙ told in

@@ -91,6 +91,6 @@ pub record Ended (old new : TextWriting) : Type 0 where
   pub left : new.left ≡ 0
 
 -- the parts of a base hold these documents and their places
-pub record TextStands (base : List ℕ) (files : Option Files) (docs : List Bits) : Type 0 where
+pub record DocumentsStand (base : List ℕ) (files : Option Files) (docs : List Bits) : Type 0 where
   pub text : bits_of (bytes_at files (full_name base Text)) ≡ bits_of (text_bytes docs)
   pub places : bytes_at files (full_name base Places) ≡ flat_map eight (running 0 (sizes docs))

@@ -13,7 +13,7 @@ ghost use Rattle.mg_defs.specs.Pieces.{pieces};
 ghost use Rattle.mg_defs.specs.Split.{documents};
 ghost use Rattle.mg_defs.specs.TextBits.{text_bits};
 ghost use Rattle.mg_text.specs.Documents.{TextHolds, coded_docs, piece_bits, pieces_bits};
-ghost use Rattle.mg_text.specs.Writing.{TextStands, text_bytes, turn};
+ghost use Rattle.mg_text.specs.Writing.{DocumentsStand, text_bytes, turn};
 
 /// The pieces of a document, put in turn behind the number of its pairs, are its bits. The stream
 /// of a piece is told by the number of those before it as well as by that of those to come.
@@ -30,10 +30,10 @@ pub fn pieces_make_documents()
 pub fn text_has_its_documents()
     ensures text { (code : TextCode) (collection : List ℕ) → text_bytes (coded_docs code collection) ≡ text_of code collection }
     ensures holds { (base : List ℕ) (files : Option Files) (code : TextCode) (collection : List ℕ) →
-        TextStands base files (coded_docs code collection) → TextHolds base files code collection }
+        DocumentsStand base files (coded_docs code collection) → TextHolds base files code collection }
     ensures size { (base : List ℕ) (files : Option Files) (code : TextCode) (collection : List ℕ) → IsTextCode collection code →
-        TextStands base files (coded_docs code collection) →
+        DocumentsStand base files (coded_docs code collection) →
         length (bytes_at files (full_name base Text)) ≤ text_bits collection / 8 + length (documents collection) }
-    ensures bytes { (base : List ℕ) (files : Option Files) (docs : List Bits) → TextStands base files docs →
+    ensures bytes { (base : List ℕ) (files : Option Files) (docs : List Bits) → DocumentsStand base files docs →
         All (λ byte. byte < 2 ^ 8) (bytes_at files (full_name base Text)) → bytes_at files (full_name base Text) ≡ text_bytes docs }
 {}

@@ -7,10 +7,18 @@
 //! See Witten, Moffat and Bell, *Managing Gigabytes*, chapter 2.
 #![tactic(auto)]
 
+mod decoder;
 mod laws;
+mod places;
+mod reader_laws;
+mod show_buffer;
+mod symbols;
+mod text_reader;
 mod text_writer;
 
 pub use laws::{pieces_make_documents, text_has_its_documents};
+pub use reader_laws::texts_stand;
+pub use text_reader::TextReader;
 pub use text_writer::TextWriter;
 
 #[cfg(test)]

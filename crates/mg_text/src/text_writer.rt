@@ -11,7 +11,7 @@ ghost use Rattle.mg_defs.specs.Canon.{codeword};
 ghost use Rattle.mg_defs.specs.Codes.{gamma};
 ghost use Rattle.mg_defs.specs.Numbers.{eight};
 ghost use Rattle.mg_model.specs.Models.{code_of};
-ghost use Rattle.mg_text.specs.Writing.{Began, Ended, IsOnText, PutOne, TextStands, text_bytes, turn};
+ghost use Rattle.mg_text.specs.Writing.{Began, Ended, IsOnText, PutOne, DocumentsStand, text_bytes, turn};
 
 use mg_bits::{BitWriter, PageWriter};
 use mg_codes::put_gamma;
@@ -172,7 +172,7 @@ impl<'a> TextWriter<'a> {
     pub fn finish<S: Store>(&mut self, store: &mut S) -> Result<u64, PutErr>
         requires took { (docs : List Bits) × IsOnText self.old (S.files store.old) docs [] }
         requires closed { self.old.is_open ≡ false }
-        ensures finished { OnOk result ((docs : List Bits) → IsOnText self.old (S.files store.old) docs [] → IsSome (S.files store.old) → TextStands self.old.base (S.files store.new) docs) }
+        ensures finished { OnOk result ((docs : List Bits) → IsOnText self.old (S.files store.old) docs [] → IsSome (S.files store.old) → DocumentsStand self.old.base (S.files store.new) docs) }
         ensures answer { IfOk result (λ size. (docs : List Bits) → IsOnText self.old (S.files store.old) docs [] → size ≡ length (text_bytes docs)) }
         ensures base { self.new.base ≡ self.old.base }
         ensures others { (n : List ℕ) → n ≢ full_name self.old.base part.Text → n ≢ full_name self.old.base part.Places → file_at (S.files store.new) n ≡ file_at (S.files store.old) n }
