@@ -10,3 +10,6 @@ mod text_reader;
 
 pub use reader_laws::texts_stand;
 pub use text_reader::TextReader;
+
+#[cfg(test)]
+mod reader_tests;
