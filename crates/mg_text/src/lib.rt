@@ -22,4 +22,6 @@ pub use text_reader::TextReader;
 pub use text_writer::TextWriter;
 
 #[cfg(test)]
+mod reader_tests;
+#[cfg(test)]
 mod writer_tests;
