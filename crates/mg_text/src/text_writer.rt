@@ -25,7 +25,8 @@ use std::marker::Model;
 ///
 /// A document is begun with the number of its pairs; then its pieces are put, a word and what
 /// follows it in turn, and the document is ended. It holds back up to a page of each part and keeps
-/// nothing of what was put but a few numbers.
+/// nothing of what was put but a few numbers. A call refuses where the store does, or where it wants
+/// memory; then what stands in the two parts is no text, and no other file was changed.
 #[derive(Drop)]
 pub struct TextWriter<'a> {
     base: &'a str,
