@@ -1,4 +1,9 @@
-//! Coded documents with their places.
+//! The text of a collection: its documents in code, and the place of each.
+//!
+//! A document is the number of its pairs in the gamma code, and then the codewords of its words and
+//! others in turn. It begins at a byte, which its place tells, so that any document is shown by
+//! itself: a [`TextReader`] reads one place and the pages on which the document's bits lie. It
+//! trusts none of these bytes. See Witten, Moffat and Bell, *Managing Gigabytes*, chapter 2.
 #![tactic(auto)]
 
 mod decoder;
