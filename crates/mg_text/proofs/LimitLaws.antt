@@ -1,5 +1,5 @@
 -- The size of the text of a collection that is within the limits.
-use Rattle.std.proofs.Common.{arith, ◌≡◌, ◌+◌, ◌-◌, ◌*◌, ◌^◌, ◌≤◌, ◌<◌, ◌==◌, nat_le, if◌then◌else◌, ℕ, suc, zero, Bool, true, false, List, [], ◌∷◌, ◌++◌, length, get_or, sum_by, refl, sym, ◌∙◌, ap, length-append}
+use Rattle.std.proofs.Common.{arith, ◌≡◌, ◌+◌, ◌-◌, ◌*◌, ◌^◌, ◌≤◌, ◌<◌, ◌==◌, nat_le, if◌then◌else◌, ℕ, suc, zero, Bool, true, false, List, [], ◌∷◌, ◌++◌, length, get_or, sum_by, sym, ◌∙◌, ap, length-append}
 use Rattle.std.specs.List.{onto_first}
 use Rattle.std.proofs.lemmas.List.Sums.{sum_by-cons}
 use Rattle.std.proofs.Math.Seq.{take-length}
@@ -7,7 +7,7 @@ use Rattle.mg_defs.specs.Bits.{digits}
 use Rattle.mg_defs.specs.Canon.{AreGood, AreWithin}
 use Rattle.mg_defs.specs.Codes.{gamma, log2, log2_below, unary}
 use Rattle.mg_defs.specs.CodedText.{IsTextCode, StreamCode, TextCode, codeword_of, coded_doc, coded_pair, coded_size, text_of}
-use Rattle.mg_defs.specs.Heads.{Limits, limits}
+use Rattle.mg_defs.specs.Heads.{Limits}
 use Rattle.mg_defs.specs.Limits.{IsWithinLimits}
 use Rattle.mg_defs.specs.Parse.{Pair, parse}
 use Rattle.mg_defs.specs.Sorted.{number_of}

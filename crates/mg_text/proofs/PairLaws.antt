@@ -1,25 +1,22 @@
 -- Pieces and pairs, one after the other.
-use Rattle.std.proofs.Common.{arith, ◌≡◌, ◌+◌, ◌-◌, ◌*◌, ◌^◌, ◌≤◌, ◌<◌, ℕ, suc, zero, List, [], ◌∷◌, ◌++◌, length, take, drop, get_or, Option, Some, None, Result, Ok, Err, refl, sym, ◌∙◌, ap, subst, length-append, append-nil, append_assoc, add_assoc, slice_get, add-one, drop-cons, take-append-drop}
-use Rattle.std.specs.List.{AllByRecursion, flat_map}
-use Rattle.std.proofs.lemmas.Option.{slice_get_within, same_Some}
+use Rattle.std.proofs.Common.{arith, ◌≡◌, ◌+◌, ◌^◌, ◌≤◌, ◌<◌, ℕ, suc, zero, List, [], ◌∷◌, ◌++◌, length, take, drop, get_or, Option, Err, refl, sym, ◌∙◌, ap, subst, length-append, append-nil, append_assoc, add-one, drop-cons, take-append-drop}
+use Rattle.std.proofs.lemmas.Option.{slice_get_within}
 use Rattle.std.proofs.lemmas.List.{take_more}
 use Rattle.std.proofs.lemmas.Grind.{flat_map-append}
 use Rattle.mg_dev.specs.Streams.{appended, GrewByPrefix}
 use Rattle.mg_dev.specs.StreamLaws.{grew_first}
 use Rattle.mg_dev.specs.Faults.{show_of_put}
-use Rattle.mg_dev.specs.Causes.{HasLack, HasPutCause, Rose}
 use Rattle.mg_dev.specs.declared.device.PutErr.{PutErr}
 use Rattle.mg_dev.specs.declared.device.PutErr.TheVariants as put
 use Rattle.mg_dev.specs.declared.part_err.PartErr.{PartErr}
 use Rattle.mg_dev.specs.declared.part_err.PartErr.TheVariants as part
-use Rattle.mg_dev.specs.declared.show_err.ShowErr.{ShowErr}
 use Rattle.mg_dev.specs.declared.show_err.ShowErr.TheVariants as show
 use Rattle.mg_bits.specs.Feed.{Feeding, Device as Seen, Read, ReadsWithin, Calm}
 use Rattle.mg_bits.proofs.Ranges.{read_none}
 use Rattle.mg_bits.proofs.Told.{same_told}
 use Rattle.mg_defs.specs.Bits.{Bits}
 use Rattle.mg_defs.specs.Codes.{gamma}
-use Rattle.mg_defs.specs.CodedText.{StreamCode, TextCode, codeword_of, coded_doc, coded_pair}
+use Rattle.mg_defs.specs.CodedText.{StreamCode, TextCode, coded_doc, coded_pair}
 use Rattle.mg_defs.specs.Parse.{Pair, parse, text}
 use Rattle.mg_defs.specs.Sorted.{number_of}
 use Rattle.mg_defs.proofs.ParseLaws.{parse-is}
@@ -30,10 +27,6 @@ use Rattle.mg_text.proofs.Steps.{decoded_more, shown_all, shown_grew, shown_none
 
 pub piece_number : (code : StreamCode) (piece : List ℕ) → IsIn code piece → number_of code.pieces piece < length code.pieces
 piece_number code piece is = slice_get_within code.pieces (number_of code.pieces piece) piece is
-
--- the piece of its symbol
-pub same_piece : (code : StreamCode) (piece got : List ℕ) (symbol : ℕ) → IsIn code piece → symbol ≡ number_of code.pieces piece → slice_get code.pieces symbol ≡ Some got → got ≡ piece
-same_piece code piece got symbol is number got_is = same_Some got piece (sym got_is ∙ ap (slice_get code.pieces) number ∙ is)
 
 pub piece_refused : (T : Type 0) (refusal : PartErr) (whole : T → Type 0) (all : Type 0) (f0 f1 : Feeding) (d0 d1 : Seen) (from to : ℕ) (w0 w1 : Option (List ℕ)) (held bytes piece : List ℕ) → Shown w0 w1 held bytes →
     Takes {T = T} (Err refusal) whole (ReadsWithin f0 f1 d0 d1 from to) → Ends (Err (show.Part refusal)) all (Stopped f0 f1 d0 d1 from to w0 w1 (bytes ++ piece))

@@ -1,5 +1,5 @@
 -- A place in the bytes that a page feed filled in.
-use Rattle.std.proofs.Common.{arith, ◌≡◌, ◌+◌, ◌*◌, ◌^◌, ◌<◌, ℕ, Bool, true, false, List, [], ◌++◌, length, take, drop, min, refl, sym, ◌∙◌, ap, append-nil, length-take}
+use Rattle.std.proofs.Common.{arith, ◌≡◌, ◌^◌, ◌<◌, ℕ, Bool, true, false, List, [], ◌++◌, length, take, drop, min, refl, sym, ◌∙◌, ap, append-nil, length-take}
 use Rattle.mg_bits.specs.Pages.{IsFilled}
 use Rattle.mg_defs.specs.Numbers.{four, eight, four_at, eight_at}
 use Rattle.mg_defs.proofs.NumberLaws.{four_back, eight_back}

@@ -1,12 +1,11 @@
 -- What a reader of a text answers where its parts stand.
-use Rattle.std.proofs.Common.{arith, ◌≡◌, ◌≢◌, ◌+◌, ◌-◌, ◌*◌, ◌/◌, ◌^◌, ◌≤◌, ◌<◌, ◌==◌, ◌⊎◌, inl, inr, ℕ, suc, zero, Bool, true, false, List, [], ◌∷◌, ◌++◌, length, Option, Some, None, Result, Ok, Err, IsSome, refl, sym, ◌∙◌, ap, subst, length-append}
+use Rattle.std.proofs.Common.{arith, ◌≡◌, ◌+◌, ◌-◌, ◌*◌, ◌^◌, ◌≤◌, ◌<◌, inl, inr, ℕ, List, [], ◌∷◌, length, Option, Some, None, Result, Ok, Err, IsSome, refl, sym, ◌∙◌, ap, subst, length-append}
 use Rattle.std.proofs.lemmas.Grind.{common_steps}
 use Rattle.std.specs.List.{flat_map}
 use Rattle.mg_dev.specs.Files.{Files, bytes_at}
 use Rattle.mg_dev.specs.Names.{full_name}
-use Rattle.mg_dev.specs.Streams.{AfterPut, appended, GrewByPrefix}
+use Rattle.mg_dev.specs.Streams.{AfterPut}
 use Rattle.mg_dev.specs.StreamLaws.{grew_nothing}
-use Rattle.mg_dev.specs.declared.part.Part.{Part}
 use Rattle.mg_dev.specs.declared.part.Part.TheVariants as part
 use Rattle.mg_dev.specs.declared.part_err.PartErr.{PartErr}
 use Rattle.mg_dev.specs.declared.part_err.PartErr.TheVariants.{Device, Memory, Bad}
@@ -21,15 +20,14 @@ use Rattle.mg_defs.specs.PagesOf.{pages}
 use Rattle.mg_defs.specs.Split.{documents}
 use Rattle.mg_defs.proofs.CodedTextLaws.{places-long}
 use Rattle.mg_front.specs.Reading.{IsNotBad}
-use Rattle.mg_layout.specs.Sizes.{TellsSize}
 use Rattle.mg_layout.specs.declared.head.Head.{Head}
-use Rattle.mg_model.specs.Damage.{AnswersLoad, AnswersStanding}
+use Rattle.mg_model.specs.Damage.{AnswersLoad}
 use Rattle.mg_model.specs.Models.{IsModel, PartsStand}
 use Rattle.mg_text.specs.Documents.{TextHolds}
 use Rattle.mg_text.proofs.LimitLaws.{text_small}
 use Rattle.mg_text.specs.Decoding.{Ends, Stopped, Takes, WholeDoc}
 use Rattle.mg_text.specs.Places.{place_width}
-use Rattle.mg_text.specs.Reading.{AnswersDoc, AnswersReader, AnswersTextSizes, IsText, IsTextReader, SameText, ShowIsNotBad, TextReading, TextStands, stored_at, places_size}
+use Rattle.mg_text.specs.Reading.{AnswersDoc, AnswersReader, AnswersTextSizes, IsText, SameText, ShowIsNotBad, TextReading, TextStands, stored_at, places_size}
 use Rattle.mg_text.specs.Decoding.{PairsIn, Shows}
 use Rattle.mg_text.specs.Places.{IsPlaceAt}
 use Rattle.mg_text.proofs.StandLaws.{doc_ends, doc_pieces, doc_shown, few_pairs, place_long, place_stands, place_within, small_place}
@@ -40,23 +38,6 @@ use Rattle.mg_defs.specs.Parse.{parse}
 use Rattle.std.proofs.Common.{get_or}
 
 -- ---- loading
-
--- the reader of a base stands over the parts of the base
-pub text_loaded : (r : TextReading) (base : List ℕ) (files files_now : Option Files) (head : Head) (code model : TextCode) (collection : List ℕ) → IsTextReader r base head → r.code ≡ model → AnswersStanding (Ok model) code → files_now ≡ files →
-    IsText base files head code collection → TextStands r files_now collection
-text_loaded r base files files_now head code model collection reader is found e it =
-    let coded : code ≡ r.code = sym found ∙ sym is in
-    record {
-      told = subst IsSome (sym e) it.models.told;
-      model = subst IsModel coded it.models.model;
-      code = subst (IsTextCode collection) coded it.code_is;
-      text = ap (λ n. bits_of (bytes_at files_now n)) reader.text_is ∙ ap (λ f. bits_of (bytes_at f (full_name base part.Text))) e ∙ it.text_is ∙ ap (λ c. bits_of (text_of c collection)) coded;
-      places = ap (bytes_at files_now) reader.places_is ∙ ap (λ f. bytes_at f (full_name base part.Places)) e ∙ it.places_are ∙ ap (λ c. places_of head.version c collection) coded ∙ ap (λ v. places_of v r.code collection) (sym reader.version_is);
-      size = reader.size_is ∙ it.size_is ∙ ap (λ c. length (text_of c collection)) coded;
-      documents = reader.documents_are ∙ it.documents_are;
-      few = it.few;
-      small = rw (reader.size_is, reader.version_is) it.small;
-    }
 
 width_of_all : (f : ℕ → List ℕ) (w : ℕ) (xs : List ℕ) → ((x : ℕ) → length (f x) ≡ w) → length (flat_map f xs) ≡ w * length xs
 width_of_all f w [] long = omega arith
@@ -78,12 +59,6 @@ sizes_stand base files head code collection Device it answers = tt
 sizes_stand base files head code collection Memory it answers = tt
 sizes_stand base files head code collection (Bad bad) it (inl text) = text.0 (same_length (bytes_at files (full_name base part.Text)) (text_of code collection) it.text_is ∙ sym it.size_is)
 sizes_stand base files head code collection (Bad bad) it (inr places) = places.1 (ap length it.places_are ∙ places_long head code collection it.documents_are)
-
--- no model is bad where the parts stand
-pub models_stand : (refusal : PartErr) (code : TextCode) → AnswersStanding (Err refusal) code → IsNotBad refusal
-models_stand Device code answers = tt
-models_stand Memory code answers = tt
-models_stand (Bad bad) code answers = answers
 
 -- ---- showing a document
 

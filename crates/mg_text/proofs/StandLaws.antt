@@ -1,7 +1,6 @@
 -- Where the text of a collection stands: each document's place, bits, pieces and pages.
-use Rattle.std.proofs.Common.{arith, inl, inr, ◌≡◌, ◌+◌, ◌-◌, ◌*◌, ◌/◌, ◌^◌, ◌≤◌, ◌<◌, ◌==◌, if◌then◌else◌, ℕ, suc, zero, Bool, true, false, List, [], ◌∷◌, ◌++◌, length, take, drop, get_or, map, sum_by, Option, Some, None, Result, Ok, Err, IsSome, refl, sym, ◌∙◌, ap, subst, length-append, append-nil, append_assoc, add_assoc, slice_get, take-append-drop}
-use Rattle.std.proofs.lemmas.Grind.{common_steps}
-use Rattle.std.specs.List.{AllByRecursion, flat_map, list_any, onto_first}
+use Rattle.std.proofs.Common.{arith, inl, inr, ◌≡◌, ◌+◌, ◌-◌, ◌*◌, ◌^◌, ◌≤◌, ◌<◌, ◌==◌, if◌then◌else◌, ℕ, suc, zero, Bool, true, false, List, [], ◌∷◌, ◌++◌, length, take, drop, get_or, map, sum_by, Option, Some, None, IsSome, refl, sym, ◌∙◌, ap, subst, append_assoc, slice_get, take-append-drop}
+use Rattle.std.specs.List.{flat_map, list_any, onto_first}
 use Rattle.std.specs.Str.{bytes_eq}
 use Rattle.std.proofs.lemmas.Option.{slice_get-get_or}
 use Rattle.std.proofs.lemmas.Bool.{or_left, or_right, cases_Bool}
@@ -13,7 +12,7 @@ use Rattle.mg_bits.proofs.EightBytes.{drop_bits}
 use Rattle.mg_defs.specs.declared.Stream.{Stream}
 use Rattle.mg_defs.specs.declared.Stream.TheVariants.{Words, Others}
 use Rattle.mg_defs.specs.Bits.{Bits, Begins, bits_of, digits, filled, to_byte}
-use Rattle.mg_defs.specs.CodedText.{IsCodeOf, IsTextCode, StreamCode, TextCode, as_bytes, coded_doc, coded_pair, coded_size, place_after, place_bytes, places, places_of, text_of}
+use Rattle.mg_defs.specs.CodedText.{IsTextCode, StreamCode, TextCode, as_bytes, coded_doc, coded_size, place_after, place_bytes, places, text_of}
 use Rattle.mg_defs.specs.Numbers.{eight, four}
 use Rattle.mg_defs.specs.Parse.{Pair, parse}
 use Rattle.mg_defs.specs.Sorted.{number_of}
@@ -21,11 +20,11 @@ use Rattle.mg_defs.specs.Split.{documents}
 use Rattle.mg_defs.specs.Vocabulary.{all_pieces, piece_of_pair, pieces_in, sorted_pieces}
 use Rattle.mg_defs.proofs.BitLaws.{bits_of_append}
 use Rattle.mg_defs.proofs.CodedTextLaws.{bits-of_as_bytes, length-as_bytes, places-at, places-long, text-at, text-long}
-use Rattle.mg_defs.proofs.FrontLaws.{begins_append, begins_through}
+use Rattle.mg_defs.proofs.FrontLaws.{begins_append}
 use Rattle.mg_defs.proofs.ParseLaws.{parse_short}
 use Rattle.mg_defs.proofs.SortedLaws.{has-sorted, number-found, same-refl}
-use Rattle.mg_text.specs.Decoding.{IsIn, PairIn, PairsIn, Shows}
-use Rattle.mg_text.specs.Places.{IsPlaceAt, most_text, place_limit, place_width}
+use Rattle.mg_text.specs.Decoding.{IsIn, PairsIn, Shows}
+use Rattle.mg_text.specs.Places.{IsPlaceAt, place_width}
 use Rattle.mg_text.specs.Reading.{TextReading, TextStands}
 
 -- ---- places

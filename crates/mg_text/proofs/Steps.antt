@@ -1,26 +1,22 @@
 -- What stands where a code is read, and steps one after the other.
-use Rattle.std.proofs.Common.{arith, ◌≡◌, ◌+◌, ◌-◌, ◌*◌, ◌^◌, ◌≤◌, ◌<◌, ℕ, suc, zero, List, [], ◌∷◌, ◌++◌, length, take, drop, min, Option, Some, None, Result, Ok, Err, refl, sym, ◌∙◌, ap, subst, length-append, append-nil, append_assoc, add_assoc, slice_get}
-use Rattle.std.proofs.lemmas.Grind.{common_steps}
-use Rattle.std.proofs.lemmas.List.{take-append-drop, drop-drop}
-use Rattle.std.specs.Prelude.{MatchResult}
+use Rattle.std.proofs.Common.{arith, ◌≡◌, ◌+◌, ◌≤◌, ◌<◌, ℕ, List, [], ◌++◌, length, Option, Some, None, Result, Ok, Err, refl, sym, ◌∙◌, ap, subst, append-nil, append_assoc}
+use Rattle.std.proofs.lemmas.List.{drop-drop}
 use Rattle.mg_dev.specs.Causes.{Rose}
-use Rattle.mg_dev.specs.Streams.{appended, AfterPut, GrewByPrefix}
+use Rattle.mg_dev.specs.Streams.{appended, GrewByPrefix}
 use Rattle.mg_dev.specs.StreamLaws.{appended-nil, appended-appended, grew_first, grew_nothing, grew_second}
-use Rattle.mg_dev.specs.declared.device.PutErr.{PutErr}
 use Rattle.mg_dev.specs.declared.part_err.PartErr.{PartErr}
 use Rattle.mg_dev.specs.declared.part_err.PartErr.TheVariants as part
 use Rattle.mg_dev.specs.declared.show_err.ShowErr.{ShowErr}
 use Rattle.mg_dev.specs.declared.show_err.ShowErr.TheVariants as show
-use Rattle.mg_defs.specs.Bits.{Bits, Begins, FromPlace, bits_of}
+use Rattle.mg_defs.specs.Bits.{Bits, Begins, FromPlace}
 use Rattle.mg_defs.specs.Answers.{IsPrefixFree}
 use Rattle.mg_defs.proofs.FrontLaws.{begins_first, begins_second, one_stands}
-use Rattle.mg_bits.specs.CodeAnswers.{AnswersCode, OnlyPagesOf}
-use Rattle.mg_bits.specs.Feed.{Feeding, Device as Seen, Read, ReadsWithin, Calm}
-use Rattle.mg_bits.proofs.Ranges.{read_more, read_none, within_more, within_wider}
+use Rattle.mg_bits.specs.CodeAnswers.{AnswersCode}
+use Rattle.mg_bits.specs.Feed.{Feeding, Device as Seen}
+use Rattle.mg_bits.proofs.Ranges.{read_more, within_more, within_wider}
 use Rattle.mg_bits.specs.declared.code_err.CodeErr.{CodeErr}
 use Rattle.mg_bits.specs.declared.code_err.CodeErr.TheVariants as code
-use Rattle.mg_text.specs.Decoding.{Added, Decoded, Ends, IsShowCaused, IsReadCaused, Shows, Shown, Stopped, Takes}
-use Rattle.mg_text.specs.Refusals.{IsRefused, IsDamaged}
+use Rattle.mg_text.specs.Decoding.{Added, Decoded, Ends, IsShowCaused, Shows, Shown, Stopped, Takes}
 
 -- ---- bits that stand at a place
 
@@ -50,17 +46,6 @@ pub told_got : (within : ℕ → Type 0) (words : ℕ → Bits) (free : IsPrefix
     FromPlace told place (AnswersCode result within words limit place) → IsGot result y
 told_got within words free None result limit place y taken shows answers = absurd shows
 told_got within words free (Some bytes) result limit place y taken shows answers = code_got within words free result limit place y _ taken shows answers
-
--- the pages that a refused reader of a code read
-pub told_pages : (within : ℕ → Type 0) (words : ℕ → Bits) (told : Option (List ℕ)) (place y : ℕ) (f0 f1 : Feeding) (d0 d1 : Seen) → within y → Shows told place (words y) →
-    FromPlace told place (OnlyPagesOf within words f0 f1 d0 d1 place) → ReadsWithin f0 f1 d0 d1 place (place + length (words y))
-told_pages within words None place y f0 f1 d0 d1 taken shows pages = absurd shows
-told_pages within words (Some bytes) place y f0 f1 d0 d1 taken shows pages = pages y taken shows
-
-pub refused_takes : {T : Type 0} (refusal : CodeErr) (e : PartErr) (y : ℕ) (whole : T → Type 0) (part : Type 0) → IsRefused refusal e → IsGot (Err refusal) y → part → Takes {T = T} (Err e) whole part
-refused_takes code.Device e y whole part is got pages = rw is pages
-refused_takes (code.End at) e y whole part is got pages = absurd got
-refused_takes (code.Over at limit) e y whole part is got pages = absurd got
 
 -- ---- bytes on their way to a sink
 
@@ -102,10 +87,6 @@ added_more w0 w1 w2 f0 f1 f2 l0 l1 l2 one two = record {
   told = two.told ∙ ap (λ w. appended w two.bytes) one.told ∙ appended-appended w0 one.bytes two.bytes;
 }
 
-pub added_put : {E : Type 0} (w0 w1 : Option (List ℕ)) (piece : List ℕ) (f0 f1 l0 l1 : ℕ) (r : Result (Unit {0}) E) → f0 ≤ f1 → l0 ≤ l1 → AfterPut w0 w1 piece r → Added w0 w1 f0 f1 l0 l1
-added_put w0 w1 piece f0 f1 l0 l1 (Ok u) f l after = record { faults = f; lacks = l; bytes = piece; told = after }
-added_put w0 w1 piece f0 f1 l0 l1 (Err e) f l after = record { faults = f; lacks = l; bytes = take after.count piece; told = after.is }
-
 -- ---- steps
 
 pub decoded_more : (f0 f1 f2 : Feeding) (d0 d1 d2 : Seen) (a p q at_p at_q : ℕ) (w0 w1 w2 : Option (List ℕ)) (held1 held2 bytes more : List ℕ) → 0 < f0.page → a ≤ p → p ≤ q →
@@ -134,9 +115,6 @@ stopped_wider f0 f1 d0 d1 a p q w0 w1 bytes more some le le2 stopped = record {
 rose_more : (a b c : ℕ) → a ≤ b → Rose b c → Rose a c
 rose_more a b c le rose = omega (arith, le, rose)
 
-rose_later : (a b c : ℕ) → b ≤ c → Rose a b → Rose a c
-rose_later a b c le rose = omega (arith, le, rose)
-
 pub caused_more : (r : Result (Unit {0}) ShowErr) (s0 s1 s2 f0 f1 f2 l0 l1 l2 : ℕ) → s0 ≤ s1 → f0 ≤ f1 → l0 ≤ l1 → IsShowCaused r s1 s2 f1 f2 l1 l2 → IsShowCaused r s0 s2 f0 f2 l0 l2
 caused_more (Ok done) s0 s1 s2 f0 f1 f2 l0 l1 l2 s f l cause = tt
 caused_more (Err (show.Part part.Device)) s0 s1 s2 f0 f1 f2 l0 l1 l2 s f l cause = rose_more s0 s1 s2 s cause
@@ -144,12 +122,6 @@ caused_more (Err (show.Part part.Memory)) s0 s1 s2 f0 f1 f2 l0 l1 l2 s f l cause
 caused_more (Err (show.Part (part.Bad bad))) s0 s1 s2 f0 f1 f2 l0 l1 l2 s f l cause = tt
 caused_more (Err show.Write) s0 s1 s2 f0 f1 f2 l0 l1 l2 s f l cause = rose_more f0 f1 f2 f cause
 caused_more (Err show.Memory) s0 s1 s2 f0 f1 f2 l0 l1 l2 s f l cause = rose_more l0 l1 l2 l cause
-
--- a refused read as a refusal to show
-pub caused_read : (T : Type 0) (refusal : PartErr) (s t f g l m : ℕ) → IsReadCaused {T = T} (Err refusal) s t → IsShowCaused (Err (show.Part refusal)) s t f g l m
-caused_read T part.Device s t f g l m cause = cause
-caused_read T part.Memory s t f g l m cause = cause
-caused_read T (part.Bad bad) s t f g l m cause = tt
 
 pub ends_read : {T : Type 0} (refusal : PartErr) (whole : T → Type 0) (part all now : Type 0) → (part → now) → Takes {T = T} (Err refusal) whole part → Ends (Err (show.Part refusal)) all now
 ends_read part.Device whole p all now f takes = f takes

@@ -1,8 +1,9 @@
-//! The coded text: the documents of a collection in few bits, and where each begins.
+//! The text of a collection: its documents in code, and the place of each.
 //!
-//! A document is the number of its pairs and then the codewords of its words and of what stands
-//! between them, in turn. Each begins at a byte, whose place stands beside, so that one document is
-//! read without those before it. The form of both parts is in docs/FORMAT.md.
+//! A document is the number of its pairs in the gamma code, and then the codewords of its words and
+//! others in turn. It begins at a byte, which its place tells, so that any document is shown by
+//! itself: a [`TextReader`] reads one place and the pages on which the document's bits lie. It
+//! trusts none of these bytes. The form of both parts is in docs/FORMAT.md.
 //!
 //! See Witten, Moffat and Bell, *Managing Gigabytes*, chapter 2.
 #![tactic(auto)]

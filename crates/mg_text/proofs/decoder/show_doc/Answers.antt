@@ -1,9 +1,8 @@
-use Rattle.std.proofs.Common.{arith, ◌≡◌, ◌+◌, ◌<◌, length, sym, ◌∙◌, ap, subst, [], take, length-append}
+use Rattle.std.proofs.Common.{arith, ◌+◌, length, length-append}
 use Rattle.mg_bits.specs.Feed.{ReadsWithin}
 use Rattle.mg_defs.specs.Codes.{gamma}
-use Rattle.mg_defs.specs.CodedText.{coded_doc}
-use Rattle.mg_defs.specs.Parse.{parse, text}
-use Rattle.mg_text.specs.Decoding.{Stopped, WholeDoc, coded_pairs}
+use Rattle.mg_defs.specs.Parse.{parse}
+use Rattle.mg_text.specs.Decoding.{coded_pairs}
 use Rattle.mg_text.proofs.Steps.{added_more, added_none, ends_more, ends_read, shows_left}
 use Rattle.mg_text.proofs.PairLaws.{doc_decoded, doc_stopped, flush_stopped, head_stopped, put_refused, shows_next}
 use Rattle.mg_text.proofs.decoder.show_doc.Goals as goal

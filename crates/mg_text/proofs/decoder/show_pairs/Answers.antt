@@ -1,7 +1,6 @@
-use Rattle.std.proofs.Common.{arith, ◌≡◌, ◌+◌, ◌<◌, length, sym, ◌∙◌, ap, subst, [], take}
+use Rattle.std.proofs.Common.{arith, take}
 use Rattle.mg_bits.proofs.Ranges.{calm_more, calm_none}
 use Rattle.mg_defs.specs.Parse.{text}
-use Rattle.mg_text.specs.Decoding.{Decoded, Shown, coded_pairs}
 use Rattle.mg_text.proofs.Steps.{added_more, added_none, ends_more}
 use Rattle.mg_text.proofs.PairLaws.{next_pair, no_pairs, pair_shows, pair_small, pairs_more, pairs_stopped}
 use Rattle.mg_text.proofs.decoder.show_pairs.Goals as goal

@@ -1,6 +1,4 @@
-use Rattle.std.proofs.Common.{arith, ◌≡◌, ◌+◌, ◌<◌, length, sym, ◌∙◌, ap, subst, ◌++◌}
-use Rattle.mg_bits.specs.Feed.{ReadsWithin}
-use Rattle.mg_defs.specs.CodedText.{codeword_of}
+use Rattle.std.proofs.Common.{arith, ◌<◌, length}
 use Rattle.mg_defs.specs.Sorted.{number_of}
 use Rattle.mg_model.specs.Models.{code_of}
 use Rattle.mg_text.proofs.Steps.{added_none}

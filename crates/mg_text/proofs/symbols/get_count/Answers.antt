@@ -1,5 +1,4 @@
-use Rattle.std.proofs.Common.{arith, ◌≡◌, ◌+◌, ◌-◌, length, sym, ◌∙◌, ap, subst, Ok, Err}
-use Rattle.mg_bits.specs.Feed.{Read}
+use Rattle.std.proofs.Common.{arith, ◌≡◌, ◌+◌, length, ◌∙◌, ap, Ok}
 use Rattle.mg_defs.specs.Codes.{gamma}
 use Rattle.mg_defs.specs.Answers.{UpTo}
 use Rattle.mg_defs.proofs.CodeLaws.{gamma_free}

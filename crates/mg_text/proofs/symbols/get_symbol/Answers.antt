@@ -1,5 +1,4 @@
-use Rattle.std.proofs.Common.{arith, ◌≡◌, ◌+◌, ◌-◌, length, sym, ◌∙◌, ap, subst, Ok, Err}
-use Rattle.mg_bits.specs.Feed.{Read}
+use Rattle.std.proofs.Common.{◌≡◌, ◌+◌, length, ◌∙◌, ap, Ok}
 use Rattle.mg_defs.specs.Canon.{codeword}
 use Rattle.mg_defs.specs.Answers.{Below}
 use Rattle.mg_defs.proofs.CanonLaws.{codewords_free}

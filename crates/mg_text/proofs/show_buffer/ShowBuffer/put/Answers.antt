@@ -1,4 +1,4 @@
-use Rattle.std.proofs.Common.{rules, sym, ◌∙◌, ap, subst, [], ◌++◌}
+use Rattle.std.proofs.Common.{sym, ◌∙◌, ap, subst, [], ◌++◌}
 use Rattle.mg_dev.specs.StreamLaws.{grew_first}
 use Rattle.mg_text.specs.Decoding.{Shown}
 use Rattle.mg_text.proofs.Steps.{added_none, shown_grew, shown_held, shown_sent}

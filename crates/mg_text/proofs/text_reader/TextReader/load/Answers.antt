@@ -1,4 +1,3 @@
-use Rattle.std.proofs.Common.{rules, refl, sym, ◌∙◌, ap, subst, inl, inr}
 use Rattle.mg_text.proofs.ReaderLaws.{models_refused, sizes_stand}
 use Rattle.mg_text.proofs.text_reader.TextReader.load.Goals as goal
 

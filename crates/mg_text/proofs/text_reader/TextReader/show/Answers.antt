@@ -1,4 +1,4 @@
-use Rattle.std.proofs.Common.{rules, refl, sym, ◌∙◌, ap, subst, ◌-◌, ◌*◌}
+use Rattle.std.proofs.Common.{refl, ◌∙◌, ap, ◌-◌}
 use Rattle.mg_dev.specs.declared.part.Part.TheVariants as part
 use Rattle.mg_dev.specs.Names.{same_part}
 use Rattle.mg_defs.specs.CodedText.{place_after}
