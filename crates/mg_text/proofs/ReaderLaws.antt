@@ -1,0 +1,185 @@
+-- What a reader of a text answers where its parts stand.
+use Rattle.std.proofs.Common.{arith, ◌≡◌, ◌+◌, ◌-◌, ◌*◌, ◌^◌, ◌≤◌, ◌<◌, inl, inr, ℕ, List, [], ◌∷◌, length, Option, Some, None, Result, Ok, Err, IsSome, refl, sym, ◌∙◌, ap, subst, length-append}
+use Rattle.std.proofs.lemmas.Grind.{common_steps}
+use Rattle.std.specs.List.{flat_map}
+use Rattle.mg_dev.specs.Files.{Files, bytes_at}
+use Rattle.mg_dev.specs.Names.{full_name}
+use Rattle.mg_dev.specs.Streams.{AfterPut}
+use Rattle.mg_dev.specs.StreamLaws.{grew_nothing}
+use Rattle.mg_dev.specs.declared.part.Part.TheVariants as part
+use Rattle.mg_dev.specs.declared.part_err.PartErr.{PartErr}
+use Rattle.mg_dev.specs.declared.part_err.PartErr.TheVariants.{Device, Memory, Bad}
+use Rattle.mg_dev.specs.declared.show_err.ShowErr.{ShowErr}
+use Rattle.mg_dev.specs.declared.show_err.ShowErr.TheVariants as show
+use Rattle.mg_bits.specs.Feed.{Feeding, Device as Seen, ReadsWithin, to_read}
+use Rattle.mg_defs.specs.Bits.{bits_of}
+use Rattle.mg_defs.specs.Limits.{IsWithinLimits}
+use Rattle.mg_defs.proofs.BitLaws.{length_bits_of}
+use Rattle.mg_defs.specs.CodedText.{IsTextCode, TextCode, place_bytes, places, places_of, text_of}
+use Rattle.mg_defs.specs.PagesOf.{pages}
+use Rattle.mg_defs.specs.Split.{documents}
+use Rattle.mg_defs.proofs.CodedTextLaws.{places-long}
+use Rattle.mg_front.specs.Reading.{IsNotBad}
+use Rattle.mg_layout.specs.declared.head.Head.{Head}
+use Rattle.mg_model.specs.Damage.{AnswersLoad}
+use Rattle.mg_model.specs.Models.{IsModel, PartsStand}
+use Rattle.mg_text.specs.Documents.{TextHolds}
+use Rattle.mg_text.proofs.LimitLaws.{text_small}
+use Rattle.mg_text.specs.Decoding.{Ends, Stopped, Takes, WholeDoc}
+use Rattle.mg_text.specs.Places.{place_width}
+use Rattle.mg_text.specs.Reading.{AnswersDoc, AnswersReader, AnswersTextSizes, IsText, SameText, ShowIsNotBad, TextReading, TextStands, stored_at, places_size}
+use Rattle.mg_text.specs.Decoding.{PairsIn, Shows}
+use Rattle.mg_text.specs.Places.{IsPlaceAt}
+use Rattle.mg_text.proofs.StandLaws.{doc_ends, doc_pieces, doc_shown, few_pairs, place_long, place_stands, place_within, small_place}
+use Rattle.mg_bits.specs.Feed.{told_at}
+use Rattle.mg_bits.specs.Pages.{Paging, feeding_of}
+use Rattle.mg_defs.specs.CodedText.{coded_doc, doc_range, place_after}
+use Rattle.mg_defs.specs.Parse.{parse}
+use Rattle.std.proofs.Common.{get_or}
+
+-- ---- loading
+
+width_of_all : (f : ℕ → List ℕ) (w : ℕ) (xs : List ℕ) → ((x : ℕ) → length (f x) ≡ w) → length (flat_map f xs) ≡ w * length xs
+width_of_all f w [] long = omega arith
+width_of_all f w (x ∷ xs) long = omega (arith, length-append (f x) (flat_map f xs), long x, width_of_all f w xs long)
+
+-- the places have the size that follows from the head
+pub places_long : (head : Head) (code : TextCode) (collection : List ℕ) → head.documents ≡ length (documents collection) → length (places_of head.version code collection) ≡ places_size head
+places_long head code collection is =
+    width_of_all (place_bytes head.version) (place_width head.version) (places code collection) (place_long head.version)
+    ∙ ap (λ n. place_width head.version * n) (places-long code collection ∙ ap (λ n. n + 1) (sym is))
+
+-- bytes of the same bits are as many
+same_length : (a b : List ℕ) → bits_of a ≡ bits_of b → length a ≡ length b
+same_length a b same = omega (arith, ap length same, length_bits_of a, length_bits_of b)
+
+-- no size differs where the parts stand
+pub sizes_stand : (base : List ℕ) (files : Option Files) (head : Head) (code : TextCode) (collection : List ℕ) (refusal : PartErr) → IsText base files head code collection → AnswersTextSizes (stored_at files base head) (Err refusal) → IsNotBad refusal
+sizes_stand base files head code collection Device it answers = tt
+sizes_stand base files head code collection Memory it answers = tt
+sizes_stand base files head code collection (Bad bad) it (inl text) = text.0 (same_length (bytes_at files (full_name base part.Text)) (text_of code collection) it.text_is ∙ sym it.size_is)
+sizes_stand base files head code collection (Bad bad) it (inr places) = places.1 (ap length it.places_are ∙ places_long head code collection it.documents_are)
+
+-- ---- showing a document
+
+to_read_most : (held : Option ℕ) (from to : ℕ) → to_read 4096 held from to ≤ pages from to
+to_read_most None from to = grind (arith, common_steps)
+to_read_most (Some h) from to = grind (arith, common_steps)
+
+pages_wider : (from to more : ℕ) → to ≤ more → pages from to ≤ pages from more
+pages_wider from to more le = grind (arith, common_steps)
+
+-- reads within a range of bits are at most its pages
+pub text_reads : (f0 f1 : Feeding) (d0 d1 : Seen) (from to more : ℕ) → f0.page ≡ 4096 → f0.part ≡ Some part.Text → to ≤ more → ReadsWithin f0 f1 d0 d1 from to → d1.reads part.Text ≤ d0.reads part.Text + pages from more
+text_reads f0 f1 d0 d1 from to more page own le within =
+    let some : d1.reads part.Text ≤ d0.reads part.Text + to_read 4096 f0.held from to = subst (λ n. d1.reads part.Text ≤ d0.reads part.Text + to_read n f0.held from to) page (within.device part.Text own) in
+    omega (arith, some, to_read_most f0.held from to, pages_wider from to more le)
+
+pub doc_answered : (result : Result (Unit {0}) ShowErr) (f0 f1 : Feeding) (d0 d1 : Seen) (from to more before : ℕ) (w0 w1 : Option (List ℕ)) (doc : List ℕ) → f0.page ≡ 4096 → f0.part ≡ Some part.Text → to ≤ more → d0.reads part.Text ≡ before →
+    Ends result (WholeDoc f0 f1 d0 d1 from to w0 w1 doc) (Stopped f0 f1 d0 d1 from to w0 w1 doc) → AnswersDoc result w0 w1 doc before (d1.reads part.Text) (pages from more)
+doc_answered (Ok done) f0 f1 d0 d1 from to more before w0 w1 doc page own le e h = (h.grew, rw (← e) (text_reads f0 f1 d0 d1 from to more page own le h.pages))
+doc_answered (Err (show.Part Device)) f0 f1 d0 d1 from to more before w0 w1 doc page own le e h = (h.grew, rw (← e) (text_reads f0 f1 d0 d1 from to more page own le h.pages))
+doc_answered (Err (show.Part Memory)) f0 f1 d0 d1 from to more before w0 w1 doc page own le e h = h
+doc_answered (Err (show.Part (Bad bad))) f0 f1 d0 d1 from to more before w0 w1 doc page own le e h = h
+doc_answered (Err show.Write) f0 f1 d0 d1 from to more before w0 w1 doc page own le e h = (h.grew, rw (← e) (text_reads f0 f1 d0 d1 from to more page own le h.pages))
+doc_answered (Err show.Memory) f0 f1 d0 d1 from to more before w0 w1 doc page own le e h = (h.grew, rw (← e) (text_reads f0 f1 d0 d1 from to more page own le h.pages))
+
+-- the place was refused
+pub place_refused : (T : Type 0) (refusal : PartErr) (whole : T → Type 0) (w : Option (List ℕ)) (doc : List ℕ) (before now most : ℕ) → now ≡ before → Takes {T = T} (Err refusal) whole (Unit {0}) → AnswersDoc (Err (show.Part refusal)) w w doc before now most
+place_refused T Device whole w doc before now most same h = (grew_nothing w doc, omega (arith, same))
+place_refused T Memory whole w doc before now most same h = h
+place_refused T (Bad bad) whole w doc before now most same h = h
+
+-- where the place of a document stands
+pub place_wanted : (r : TextReading) (files : Option Files) (collection : List ℕ) (number : ℕ) → TextStands r files collection → 1 ≤ number → number ≤ r.documents →
+    IsPlaceAt r.version (number - 1) (place_after r.code collection (number - 1)) (bytes_at files r.places.name) × (place_after r.code collection (number - 1) ≤ r.size) × (place_after r.code collection (number - 1) ≤ 2 ^ 60)
+place_wanted r files collection number stands some within = (
+  place_stands r files collection (number - 1) stands (omega (arith, stands.documents, some, within)),
+  omega (arith, place_within r.code collection (number - 1), stands.size),
+  small_place r files collection (number - 1) stands,
+)
+
+-- what is shown from the place of a document
+pub doc_told : (result : Result (Unit {0}) ShowErr) (r : TextReading) (files mid : Option Files) (collection : List ℕ) (number from place : ℕ) (feed : Paging) (f1 : Feeding) (d0 d1 : Seen) (before : ℕ) (w0 w1 : Option (List ℕ)) →
+    TextStands r files collection → 1 ≤ number → number ≤ r.documents → mid ≡ files → from ≡ place_after r.code collection (number - 1) → place ≡ 8 * from → feed ≡ r.text → r.text.part ≡ part.Text → d0.reads part.Text ≡ before →
+    ((doc : List ℕ) → PairsIn r.code (parse doc) → length (parse doc) < 2 ^ 32 → place + length (coded_doc r.code doc) ≤ 2 ^ 63 → Shows (told_at mid feed.name) place (coded_doc r.code doc) →
+    Ends result (WholeDoc (feeding_of 4096 feed) f1 d0 d1 place (place + length (coded_doc r.code doc)) w0 w1 doc) (Stopped (feeding_of 4096 feed) f1 d0 d1 place (place + length (coded_doc r.code doc)) w0 w1 doc)) →
+    AnswersDoc result w0 w1 (get_or (documents collection) (number - 1) []) before (d1.reads part.Text) (pages (doc_range r.code collection number).from (doc_range r.code collection number).to)
+doc_told result r files mid collection number from place feed f1 d0 d1 before w0 w1 stands some within same at place_is fed own e told =
+    let i = number - 1 in
+    let doc = get_or (documents collection) i [] in
+    let lt : i < length (documents collection) = omega (arith, stands.documents, some, within) in
+    let here : place ≡ 8 * place_after r.code collection i = omega (arith, at, place_is) in
+    let next : i + 1 ≡ number = omega (arith, some) in
+    let ends : place + length (coded_doc r.code doc) ≤ 8 * place_after r.code collection number =
+    subst (λ n. place + length (coded_doc r.code doc) ≤ 8 * place_after r.code collection n) next (omega (arith, here, doc_ends r collection i lt)) in
+    let small : place + length (coded_doc r.code doc) ≤ 2 ^ 63 = omega (arith, ends, small_place r files collection number stands) in
+    let shows : Shows (told_at mid feed.name) place (coded_doc r.code doc) =
+    subst (λ f. Shows (told_at mid f.name) place (coded_doc r.code doc)) (sym fed)
+    (subst (λ f. Shows (told_at f r.text.name) place (coded_doc r.code doc)) (sym same)
+    (subst (λ n. Shows (told_at files r.text.name) n (coded_doc r.code doc)) (sym here) (doc_shown r files collection i stands lt))) in
+    let answered = told doc (doc_pieces r.code collection i stands.code lt) (few_pairs collection i stands.few) small shows in
+    subst (λ n. AnswersDoc result w0 w1 doc before (d1.reads part.Text) (pages n (8 * place_after r.code collection number))) here
+    (doc_answered result (feeding_of 4096 feed) f1 d0 d1 place (place + length (coded_doc r.code doc)) (8 * place_after r.code collection number) before w0 w1 doc refl (ap (λ (f : Paging). Some f.part) fed ∙ ap Some own) ends e answered)
+
+-- the models were refused once the sizes were found to be right
+pub models_refused : (base : List ℕ) (files mid : Option Files) (head : Head) (refusal : PartErr) → mid ≡ files → AnswersTextSizes (stored_at files base head) (Ok tt) →
+    (IsSome mid → AnswersLoad head.words head.others (bytes_at mid (full_name base part.Words)) (bytes_at mid (full_name base part.Nonwords)) (Err refusal)) → IsSome files → AnswersReader (stored_at files base head) (Err refusal)
+models_refused base files mid head Device same sizes answers told = tt
+models_refused base files mid head Memory same sizes answers told = tt
+models_refused base files mid head (Bad bad) same sizes answers told =
+    inr (sizes, subst (λ f. AnswersLoad head.words head.others (bytes_at f (full_name base part.Words)) (bytes_at f (full_name base part.Nonwords)) (Err (Bad bad))) same (answers (subst IsSome (sym same) told)))
+
+-- ---- what an answer says
+
+pub answer_content : (result : Result (Unit {0}) ShowErr) (w0 w1 : Option (List ℕ)) (doc : List ℕ) (before now most : ℕ) → AnswersDoc result w0 w1 doc before now most → AfterPut w0 w1 doc result
+answer_content (Ok done) w0 w1 doc before now most h = h.0
+answer_content (Err (show.Part Device)) w0 w1 doc before now most h = h.0
+answer_content (Err (show.Part Memory)) w0 w1 doc before now most h = absurd h
+answer_content (Err (show.Part (Bad bad))) w0 w1 doc before now most h = absurd h
+answer_content (Err show.Write) w0 w1 doc before now most h = h.0
+answer_content (Err show.Memory) w0 w1 doc before now most h = h.0
+
+pub answer_bad : (result : Result (Unit {0}) ShowErr) (w0 w1 : Option (List ℕ)) (doc : List ℕ) (before now most : ℕ) → AnswersDoc result w0 w1 doc before now most → ShowIsNotBad result
+answer_bad (Ok done) w0 w1 doc before now most h = tt
+answer_bad (Err (show.Part Device)) w0 w1 doc before now most h = tt
+answer_bad (Err (show.Part Memory)) w0 w1 doc before now most h = tt
+answer_bad (Err (show.Part (Bad bad))) w0 w1 doc before now most h = h
+answer_bad (Err show.Write) w0 w1 doc before now most h = tt
+answer_bad (Err show.Memory) w0 w1 doc before now most h = tt
+
+pub answer_pages : (result : Result (Unit {0}) ShowErr) (w0 w1 : Option (List ℕ)) (doc : List ℕ) (before now most : ℕ) → AnswersDoc result w0 w1 doc before now most → now ≤ before + most
+answer_pages (Ok done) w0 w1 doc before now most h = h.1
+answer_pages (Err (show.Part Device)) w0 w1 doc before now most h = h.1
+answer_pages (Err (show.Part Memory)) w0 w1 doc before now most h = absurd h
+answer_pages (Err (show.Part (Bad bad))) w0 w1 doc before now most h = absurd h
+answer_pages (Err show.Write) w0 w1 doc before now most h = h.1
+answer_pages (Err show.Memory) w0 w1 doc before now most h = h.1
+
+-- a reader stands as long as its parts stay as they are
+pub text_stays : (r now : TextReading) (files files_now : Option Files) (collection : List ℕ) → SameText r now → files_now ≡ files → TextStands r files collection → TextStands now files_now collection
+text_stays r now files files_now collection same e stands = record {
+  told = subst IsSome (sym e) stands.told;
+  model = subst IsModel (sym same.code) stands.model;
+  code = subst (IsTextCode collection) (sym same.code) stands.code;
+  text = ap (λ n. bits_of (bytes_at files_now n)) same.text ∙ ap (λ f. bits_of (bytes_at f r.text.name)) e ∙ stands.text ∙ ap (λ c. bits_of (text_of c collection)) (sym same.code);
+  places = ap (bytes_at files_now) same.places ∙ ap (λ f. bytes_at f r.places.name) e ∙ stands.places ∙ ap (λ c. places_of r.version c collection) (sym same.code) ∙ ap (λ v. places_of v now.code collection) (sym same.version);
+  size = same.size ∙ stands.size ∙ ap (λ c. length (text_of c collection)) (sym same.code);
+  documents = same.documents ∙ stands.documents;
+  few = stands.few;
+  small = rw (same.size, same.version) stands.small;
+}
+
+-- the parts that a writer wrote for a collection, and a head of its numbers
+pub text_written : (base : List ℕ) (files : Option Files) (head : Head) (code : TextCode) (collection : List ℕ) → TextHolds base files code collection → PartsStand files base code head.words head.others → IsTextCode collection code →
+    head.version ≡ 2 → head.text_bytes ≡ length (text_of code collection) → head.documents ≡ length (documents collection) → length collection < 2 ^ 32 → IsWithinLimits 2 collection → IsText base files head code collection
+text_written base files head code collection holds models coded version size count few limits = record {
+  models = models;
+  code_is = coded;
+  text_is = holds.text;
+  places_are = holds.places ∙ ap (λ v. places_of v code collection) (sym version);
+  size_is = size;
+  documents_are = count;
+  few = few;
+  small = rw (version, size) (text_small 2 code collection coded limits);
+}

@@ -1,0 +1,137 @@
+-- What stands where a code is read, and steps one after the other.
+use Rattle.std.proofs.Common.{arith, ◌≡◌, ◌+◌, ◌≤◌, ◌<◌, ℕ, List, [], ◌++◌, length, Option, Some, None, Result, Ok, Err, refl, sym, ◌∙◌, ap, subst, append-nil, append_assoc}
+use Rattle.std.proofs.lemmas.List.{drop-drop}
+use Rattle.mg_dev.specs.Causes.{Rose}
+use Rattle.mg_dev.specs.Streams.{appended, GrewByPrefix}
+use Rattle.mg_dev.specs.StreamLaws.{appended-nil, appended-appended, grew_first, grew_nothing, grew_second}
+use Rattle.mg_dev.specs.declared.part_err.PartErr.{PartErr}
+use Rattle.mg_dev.specs.declared.part_err.PartErr.TheVariants as part
+use Rattle.mg_dev.specs.declared.show_err.ShowErr.{ShowErr}
+use Rattle.mg_dev.specs.declared.show_err.ShowErr.TheVariants as show
+use Rattle.mg_defs.specs.Bits.{Bits, Begins, FromPlace}
+use Rattle.mg_defs.specs.Answers.{IsPrefixFree}
+use Rattle.mg_defs.proofs.FrontLaws.{begins_first, begins_second, one_stands}
+use Rattle.mg_bits.specs.CodeAnswers.{AnswersCode}
+use Rattle.mg_bits.specs.Feed.{Feeding, Device as Seen}
+use Rattle.mg_bits.proofs.Ranges.{read_more, within_more, within_wider}
+use Rattle.mg_bits.specs.declared.code_err.CodeErr.{CodeErr}
+use Rattle.mg_bits.specs.declared.code_err.CodeErr.TheVariants as code
+use Rattle.mg_text.specs.Decoding.{Added, Decoded, Ends, IsShowCaused, Shows, Shown, Stopped, Takes}
+
+-- ---- bits that stand at a place
+
+pub shows_left : (told : Option (List ℕ)) (place : ℕ) (a b : Bits) → Shows told place (a ++ b) → Shows told place a
+shows_left None place a b h = h
+shows_left (Some bytes) place a b h = begins_first a b _ h
+
+pub shows_right : (told : Option (List ℕ)) (place next : ℕ) (a b : Bits) → next ≡ place + length a → Shows told place (a ++ b) → Shows told next b
+shows_right None place next a b e h = h
+shows_right (Some bytes) place next a b e h = rw e (rw drop-drop at (begins_second a b _ h))
+
+-- the number that stands there, or a device's failure
+abbrev pub IsGot : Result ℕ CodeErr → ℕ → Type 0
+IsGot (Ok x) y = x ≡ y
+IsGot (Err code.Device) y = Unit {0}
+IsGot (Err (code.End at)) y = ⊥
+IsGot (Err (code.Over at limit)) y = ⊥
+
+code_got : (within : ℕ → Type 0) (words : ℕ → Bits) (free : IsPrefixFree within words) (result : Result ℕ CodeErr) (limit place y : ℕ) (s : Bits) → within y → Begins (words y) s → AnswersCode result within words limit place s → IsGot result y
+code_got within words free (Ok x) limit place y s taken begins answers = one_stands within words s x y free answers.0 taken answers.1 begins
+code_got within words free (Err code.Device) limit place y s taken begins answers = tt
+code_got within words free (Err (code.End at)) limit place y s taken begins answers = answers.1.none y taken begins
+code_got within words free (Err (code.Over at most)) limit place y s taken begins answers = answers.2.begins y taken begins
+
+-- the answer of a reader of a code where the code of a value stands
+pub told_got : (within : ℕ → Type 0) (words : ℕ → Bits) (free : IsPrefixFree within words) (told : Option (List ℕ)) (result : Result ℕ CodeErr) (limit place y : ℕ) → within y → Shows told place (words y) →
+    FromPlace told place (AnswersCode result within words limit place) → IsGot result y
+told_got within words free None result limit place y taken shows answers = absurd shows
+told_got within words free (Some bytes) result limit place y taken shows answers = code_got within words free result limit place y _ taken shows answers
+
+-- ---- bytes on their way to a sink
+
+pub shown_none : (w : Option (List ℕ)) → Shown w w [] []
+shown_none w = record { sent = []; told = sym (appended-nil w); whole = refl }
+
+pub shown_held : (before now : Option (List ℕ)) (held bytes piece : List ℕ) → Shown before now held bytes → Shown before now (held ++ piece) (bytes ++ piece)
+shown_held before now held bytes piece shown = record {
+  sent = shown.sent;
+  told = shown.told;
+  whole = sym (append_assoc shown.sent held piece) ∙ ap (λ b. b ++ piece) shown.whole;
+}
+
+pub shown_sent : (before now next : Option (List ℕ)) (held bytes : List ℕ) → Shown before now held bytes → next ≡ appended now held → Shown before next [] bytes
+shown_sent before now next held bytes shown sent = record {
+  sent = shown.sent ++ held;
+  told = sent ∙ ap (λ w. appended w held) shown.told ∙ appended-appended before shown.sent held;
+  whole = append-nil (shown.sent ++ held) ∙ shown.whole;
+}
+
+pub shown_grew : (before now next : Option (List ℕ)) (held bytes : List ℕ) → Shown before now held bytes → GrewByPrefix now next held → GrewByPrefix before next bytes
+shown_grew before now next held bytes shown grew = subst (GrewByPrefix before next) shown.whole (grew_second before now next shown.sent held shown.told grew)
+
+-- what went to the sink is a prefix
+pub shown_prefix : (before now : Option (List ℕ)) (held bytes : List ℕ) → Shown before now held bytes → GrewByPrefix before now bytes
+shown_prefix before now held bytes shown = shown_grew before now now held bytes shown (grew_nothing now held)
+
+pub shown_all : (before now : Option (List ℕ)) (bytes : List ℕ) → Shown before now [] bytes → now ≡ appended before bytes
+shown_all before now bytes shown = shown.told ∙ ap (appended before) (sym (append-nil shown.sent) ∙ shown.whole)
+
+pub added_none : (w : Option (List ℕ)) (f l : ℕ) → Added w w f f l l
+added_none w f l = record { faults = omega arith; lacks = omega arith; bytes = []; told = sym (appended-nil w) }
+
+pub added_more : (w0 w1 w2 : Option (List ℕ)) (f0 f1 f2 l0 l1 l2 : ℕ) → Added w0 w1 f0 f1 l0 l1 → Added w1 w2 f1 f2 l1 l2 → Added w0 w2 f0 f2 l0 l2
+added_more w0 w1 w2 f0 f1 f2 l0 l1 l2 one two = record {
+  faults = omega (arith, one.faults, two.faults);
+  lacks = omega (arith, one.lacks, two.lacks);
+  bytes = one.bytes ++ two.bytes;
+  told = two.told ∙ ap (λ w. appended w two.bytes) one.told ∙ appended-appended w0 one.bytes two.bytes;
+}
+
+-- ---- steps
+
+pub decoded_more : (f0 f1 f2 : Feeding) (d0 d1 d2 : Seen) (a p q at_p at_q : ℕ) (w0 w1 w2 : Option (List ℕ)) (held1 held2 bytes more : List ℕ) → 0 < f0.page → a ≤ p → p ≤ q →
+    Decoded f0 f1 d0 d1 a p at_p w0 w1 held1 bytes → Decoded f1 f2 d1 d2 p q at_q w0 w2 held2 more → Decoded f0 f2 d0 d2 a q at_q w0 w2 held2 more
+decoded_more f0 f1 f2 d0 d1 d2 a p q at_p at_q w0 w1 w2 held1 held2 bytes more some le le2 one two = record {
+  at_end = two.at_end;
+  read = read_more f0 f1 f2 d0 d1 d2 a p q some le le2 one.read two.read;
+  shown = two.shown;
+}
+
+pub stopped_more : (f0 f1 f2 : Feeding) (d0 d1 d2 : Seen) (a p q at_p : ℕ) (w0 w1 w2 : Option (List ℕ)) (held1 bytes more : List ℕ) → 0 < f0.page → a ≤ p → p ≤ q →
+    Decoded f0 f1 d0 d1 a p at_p w0 w1 held1 bytes → Stopped f1 f2 d1 d2 p q w0 w2 more → Stopped f0 f2 d0 d2 a q w0 w2 more
+stopped_more f0 f1 f2 d0 d1 d2 a p q at_p w0 w1 w2 held1 bytes more some le le2 one two = record {
+  pages = within_more f0 f1 f2 d0 d1 d2 a p q some le le2 one.read.calm.part one.read.calm.page one.read.held one.read.pages two.pages;
+  grew = two.grew;
+}
+
+pub stopped_wider : (f0 f1 : Feeding) (d0 d1 : Seen) (a p q : ℕ) (w0 w1 : Option (List ℕ)) (bytes more : List ℕ) → 0 < f0.page → a ≤ p → p ≤ q → Stopped f0 f1 d0 d1 a p w0 w1 bytes → Stopped f0 f1 d0 d1 a q w0 w1 (bytes ++ more)
+stopped_wider f0 f1 d0 d1 a p q w0 w1 bytes more some le le2 stopped = record {
+  pages = within_wider f0 f1 d0 d1 a p q some le le2 stopped.pages;
+  grew = grew_first w0 w1 bytes more stopped.grew;
+}
+
+-- ---- causes
+
+rose_more : (a b c : ℕ) → a ≤ b → Rose b c → Rose a c
+rose_more a b c le rose = omega (arith, le, rose)
+
+pub caused_more : (r : Result (Unit {0}) ShowErr) (s0 s1 s2 f0 f1 f2 l0 l1 l2 : ℕ) → s0 ≤ s1 → f0 ≤ f1 → l0 ≤ l1 → IsShowCaused r s1 s2 f1 f2 l1 l2 → IsShowCaused r s0 s2 f0 f2 l0 l2
+caused_more (Ok done) s0 s1 s2 f0 f1 f2 l0 l1 l2 s f l cause = tt
+caused_more (Err (show.Part part.Device)) s0 s1 s2 f0 f1 f2 l0 l1 l2 s f l cause = rose_more s0 s1 s2 s cause
+caused_more (Err (show.Part part.Memory)) s0 s1 s2 f0 f1 f2 l0 l1 l2 s f l cause = cause
+caused_more (Err (show.Part (part.Bad bad))) s0 s1 s2 f0 f1 f2 l0 l1 l2 s f l cause = tt
+caused_more (Err show.Write) s0 s1 s2 f0 f1 f2 l0 l1 l2 s f l cause = rose_more f0 f1 f2 f cause
+caused_more (Err show.Memory) s0 s1 s2 f0 f1 f2 l0 l1 l2 s f l cause = rose_more l0 l1 l2 l cause
+
+pub ends_read : {T : Type 0} (refusal : PartErr) (whole : T → Type 0) (part all now : Type 0) → (part → now) → Takes {T = T} (Err refusal) whole part → Ends (Err (show.Part refusal)) all now
+ends_read part.Device whole p all now f takes = f takes
+ends_read part.Memory whole p all now f takes = takes
+ends_read (part.Bad bad) whole p all now f takes = takes
+
+-- a refusal that goes on upwards
+pub ends_more : (refusal : ShowErr) (a b p q : Type 0) → (p → q) → Ends (Err refusal) a p → Ends (Err refusal) b q
+ends_more (show.Part part.Device) a b p q f h = f h
+ends_more (show.Part part.Memory) a b p q f h = h
+ends_more (show.Part (part.Bad bad)) a b p q f h = h
+ends_more show.Write a b p q f h = f h
+ends_more show.Memory a b p q f h = f h

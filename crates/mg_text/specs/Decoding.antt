@@ -1,0 +1,105 @@
+-- What decoding the bits of a document does to the reader of bits, and to where the document's bytes go.
+use Rattle.std.specs.Prelude.{◌≡◌, ℕ, ◌≤◌, ◌++◌, List, drop, Some, None, Ok, Err}
+use Rattle.std.specs.List.{AllByRecursion, flat_map}
+use Rattle.std.specs.declared.option.Option.{Option}
+use Rattle.std.specs.declared.result.Result.{Result}
+use Rattle.std.specs.Prelude.{slice_get}
+use Rattle.mg_dev.specs.Causes.{Rose}
+use Rattle.mg_dev.specs.Streams.{appended, GrewByPrefix}
+use Rattle.mg_dev.specs.declared.part_err.PartErr.{PartErr}
+use Rattle.mg_dev.specs.declared.part_err.PartErr.TheVariants.{Device, Memory, Bad}
+use Rattle.mg_dev.specs.declared.show_err.ShowErr.{ShowErr}
+use Rattle.mg_dev.specs.declared.show_err.ShowErr.TheVariants as show
+use Rattle.mg_bits.specs.Feed.{Feeding, Device as Seen, Read, ReadsWithin}
+use Rattle.mg_defs.specs.Bits.{Bits, Begins, bits_of}
+use Rattle.mg_defs.specs.CodedText.{StreamCode, TextCode, coded_pair}
+use Rattle.mg_defs.specs.Parse.{Pair}
+use Rattle.mg_defs.specs.Sorted.{number_of}
+
+-- these bits stand at this place of bytes that are told
+abbrev pub Shows : Option (List ℕ) → ℕ → Bits → Type 0
+Shows None place bits = ⊥
+Shows (Some bytes) place bits = Begins bits (drop place (bits_of bytes))
+
+-- ---- pieces of a code
+
+-- the piece is one of the stream
+abbrev pub IsIn : StreamCode → List ℕ → Type 0
+IsIn code piece = slice_get code.pieces (number_of code.pieces piece) ≡ Some piece
+
+pub record PairIn (code : TextCode) (p : Pair) : Type 0 where
+  pub word : IsIn code.words p.word
+  pub other : IsIn code.others p.other
+
+abbrev pub PairsIn : TextCode → List Pair → Type 0
+PairsIn code ps = AllByRecursion (PairIn code) ps
+
+abbrev pub coded_pairs : TextCode → List Pair → Bits
+coded_pairs code ps = flat_map (coded_pair code) ps
+
+-- ---- bytes on their way to a sink
+
+-- bytes of which the first went to the sink, and the others are held
+pub record Shown (before now : Option (List ℕ)) (held bytes : List ℕ) : Type 0 where
+  pub sent : List ℕ
+  pub told : now ≡ appended before sent
+  pub whole : sent ++ held ≡ bytes
+
+-- a sink's counts did not fall, and some bytes were added to what it tells
+pub record Added (before now : Option (List ℕ)) (faults_before faults_now lacks_before lacks_now : ℕ) : Type 0 where
+  pub faults : faults_before ≤ faults_now
+  pub lacks : lacks_before ≤ lacks_now
+  pub bytes : List ℕ
+  pub told : now ≡ appended before bytes
+
+-- ---- steps
+
+-- a range of bits was read and the reader stands at its end; the bytes that the bits code went to the sink or are held
+pub record Decoded (f0 f1 : Feeding) (d0 d1 : Seen) (from to place : ℕ) (w0 w1 : Option (List ℕ)) (held bytes : List ℕ) : Type 0 where
+  pub at_end : place ≡ to
+  pub read : Read f0 f1 d0 d1 from to
+  pub shown : Shown w0 w1 held bytes
+
+-- only pages of a range of bits were read, and a prefix of the bytes that the bits code went to the sink
+pub record Stopped (f0 f1 : Feeding) (d0 d1 : Seen) (from to : ℕ) (w0 w1 : Option (List ℕ)) (bytes : List ℕ) : Type 0 where
+  pub pages : ReadsWithin f0 f1 d0 d1 from to
+  pub grew : GrewByPrefix w0 w1 bytes
+
+-- only pages of a range of bits were read, and all bytes that the bits code went to the sink
+pub record WholeDoc (f0 f1 : Feeding) (d0 d1 : Seen) (from to : ℕ) (w0 w1 : Option (List ℕ)) (bytes : List ℕ) : Type 0 where
+  pub pages : ReadsWithin f0 f1 d0 d1 from to
+  pub grew : w1 ≡ appended w0 bytes
+
+-- what stands there is read, or the device failed within it
+abbrev pub Takes : {T : Type 0} → Result T PartErr → (T → Type 0) → Type 0 → Type 0
+Takes (Ok value) whole part = whole value
+Takes (Err Device) whole part = part
+Takes (Err Memory) whole part = ⊥
+Takes (Err (Bad bad)) whole part = ⊥
+
+-- what stands there is shown, or a device failed within it, or the sink lacked memory
+abbrev pub Ends : Result (Unit {0}) ShowErr → Type 0 → Type 0 → Type 0
+Ends (Ok done) whole part = whole
+Ends (Err (show.Part Device)) whole part = part
+Ends (Err (show.Part Memory)) whole part = ⊥
+Ends (Err (show.Part (Bad bad))) whole part = ⊥
+Ends (Err show.Write) whole part = part
+Ends (Err show.Memory) whole part = part
+
+-- ---- causes
+
+-- the store's failure, the sink's failure and the sink's want of memory each have a cause, and no other memory is wanted
+abbrev pub IsShowCaused : Result (Unit {0}) ShowErr → ℕ → ℕ → ℕ → ℕ → ℕ → ℕ → Type 0
+IsShowCaused (Ok done) s t f g l m = Unit {0}
+IsShowCaused (Err (show.Part Device)) s t f g l m = Rose s t
+IsShowCaused (Err (show.Part Memory)) s t f g l m = ⊥
+IsShowCaused (Err (show.Part (Bad bad))) s t f g l m = Unit {0}
+IsShowCaused (Err show.Write) s t f g l m = Rose f g
+IsShowCaused (Err show.Memory) s t f g l m = Rose l m
+
+-- the store's failure has a cause, and no memory is wanted
+abbrev pub IsReadCaused : {T : Type 0} → Result T PartErr → ℕ → ℕ → Type 0
+IsReadCaused (Ok value) before now = Unit {0}
+IsReadCaused (Err Device) before now = Rose before now
+IsReadCaused (Err Memory) before now = ⊥
+IsReadCaused (Err (Bad bad)) before now = Unit {0}

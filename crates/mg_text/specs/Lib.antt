@@ -1,0 +1,6 @@
+pub mod Documents
+pub mod Writing
+pub mod Decoding
+pub mod Refusals
+pub mod Places
+pub mod Reading

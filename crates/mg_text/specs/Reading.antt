@@ -1,0 +1,142 @@
+-- A reader of the text: what contracts see of it, when its parts stand, and what its calls answer.
+use Rattle.std.specs.Prelude.{◌≡◌, ◌≢◌, ℕ, ◌*◌, ◌+◌, ◌^◌, ◌≤◌, ◌<◌, ◌⊎◌, List, length, Ok, Err}
+use Rattle.std.specs.Option.{IsSome}
+use Rattle.std.specs.declared.option.Option.{Option}
+use Rattle.std.specs.declared.result.Result.{Result}
+use Rattle.mg_dev.specs.Files.{Files, bytes_at}
+use Rattle.mg_dev.specs.Names.{full_name}
+use Rattle.mg_dev.specs.declared.part.Part.TheVariants as part
+use Rattle.mg_dev.specs.declared.part_err.PartErr.{PartErr}
+use Rattle.mg_dev.specs.declared.part_err.PartErr.TheVariants.{Device, Memory, Bad}
+use Rattle.mg_dev.specs.declared.show_err.ShowErr.{ShowErr}
+use Rattle.mg_dev.specs.declared.show_err.ShowErr.TheVariants as show
+use Rattle.mg_dev.specs.Streams.{GrewByPrefix, appended}
+use Rattle.mg_bits.specs.Pages.{Fits, Paging}
+use Rattle.mg_defs.specs.Bits.{bits_of}
+use Rattle.mg_defs.specs.CodedText.{IsTextCode, TextCode, places_of, text_of}
+use Rattle.mg_defs.specs.Split.{documents}
+use Rattle.mg_layout.specs.Sizes.{TellsSize}
+use Rattle.mg_layout.specs.declared.head.Head.{Head}
+use Rattle.mg_model.specs.Damage.{AnswersLoad}
+use Rattle.mg_model.specs.Models.{IsModel, PartsStand}
+use Rattle.mg_text.specs.Decoding.{Ends}
+use Rattle.mg_text.specs.Places.{most_text, place_width}
+
+-- the feeds of Text and Places, the codes of both streams, the version of the places, how many documents there are, and the size of Text
+pub record TextReading : Type 0 where
+  pub text : Paging
+  pub places : Paging
+  pub code : TextCode
+  pub version : ℕ
+  pub documents : ℕ
+  pub size : ℕ
+
+-- what it keeps of Text and Places agrees with them, where the files are told
+pub record TextFits (r : TextReading) (files : Option Files) : Type 0 where
+  pub text : Fits r.text files
+  pub places : Fits r.places files
+
+-- it reads the same files, by the same codes
+pub record SameText (old new : TextReading) : Type 0 where
+  pub text : new.text.name ≡ old.text.name
+  pub places : new.places.name ≡ old.places.name
+  pub code : new.code ≡ old.code
+  pub version : new.version ≡ old.version
+  pub documents : new.documents ≡ old.documents
+  pub size : new.size ≡ old.size
+
+-- a reader of the parts of a base, by the numbers of a head
+pub record IsTextReader (r : TextReading) (base : List ℕ) (head : Head) : Type 0 where
+  pub text_is : r.text.name ≡ full_name base part.Text
+  pub places_is : r.places.name ≡ full_name base part.Places
+  pub version_is : r.version ≡ head.version
+  pub documents_are : r.documents ≡ head.documents
+  pub size_is : r.size ≡ head.text_bytes
+
+-- ---- where the parts stand
+
+-- the parts of a base are the words, others, text and places of this collection under these codes, and the head's numbers are theirs
+pub record IsText (base : List ℕ) (files : Option Files) (head : Head) (code : TextCode) (collection : List ℕ) : Type 0 where
+  pub models : PartsStand files base code head.words head.others
+  pub code_is : IsTextCode collection code
+  pub text_is : bits_of (bytes_at files (full_name base part.Text)) ≡ bits_of (text_of code collection)
+  pub places_are : bytes_at files (full_name base part.Places) ≡ places_of head.version code collection
+  pub size_is : head.text_bytes ≡ length (text_of code collection)
+  pub documents_are : head.documents ≡ length (documents collection)
+  pub few : length collection < 2 ^ 32
+  pub small : head.text_bytes ≤ most_text head.version
+
+-- the parts of a reader are the text and places of this collection
+pub record TextStands (r : TextReading) (files : Option Files) (collection : List ℕ) : Type 0 where
+  pub told : IsSome files
+  pub model : IsModel r.code
+  pub code : IsTextCode collection r.code
+  pub text : bits_of (bytes_at files r.text.name) ≡ bits_of (text_of r.code collection)
+  pub places : bytes_at files r.places.name ≡ places_of r.version r.code collection
+  pub size : r.size ≡ length (text_of r.code collection)
+  pub documents : r.documents ≡ length (documents collection)
+  pub few : length collection < 2 ^ 32
+  pub small : r.size ≤ most_text r.version
+
+-- ---- loading
+
+-- what comparing the sizes of Text and Places answers, Text first
+abbrev pub AnswersSizes : ℕ → ℕ → List ℕ → List ℕ → Result (Unit {0}) PartErr → Type 0
+AnswersSizes text_size places_size text places (Ok done) = (length text ≡ text_size) × (length places ≡ places_size)
+AnswersSizes text_size places_size text places (Err Device) = Unit {0}
+AnswersSizes text_size places_size text places (Err Memory) = ⊥
+AnswersSizes text_size places_size text places (Err (Bad bad)) =
+    ((length text ≢ text_size) × TellsSize bad part.Text text_size (length text))
+    ⊎ ((length text ≡ text_size) × (length places ≢ places_size) × TellsSize bad part.Places places_size (length places))
+
+-- a head and the bytes of the parts that are looked at
+pub record Stored : Type 0 where
+  pub head : Head
+  pub words : List ℕ
+  pub others : List ℕ
+  pub text : List ℕ
+  pub places : List ℕ
+
+-- the bytes of places for so many documents
+abbrev pub places_size : Head → ℕ
+places_size head = place_width head.version * (head.documents + 1)
+
+abbrev pub AnswersTextSizes : Stored → Result (Unit {0}) PartErr → Type 0
+AnswersTextSizes s r = AnswersSizes s.head.text_bytes (places_size s.head) s.text s.places r
+
+-- the two sizes are those of the head
+abbrev pub HasSizes : Stored → Type 0
+HasSizes s = (length s.text ≡ s.head.text_bytes) × (length s.places ≡ places_size s.head)
+
+-- what loading a reader answers: the first of the two sizes that differs, then what the models answer
+abbrev pub AnswersReader : Stored → Result TextReading PartErr → Type 0
+AnswersReader s (Ok r) = HasSizes s × AnswersLoad s.head.words s.head.others s.words s.others (Ok r.code)
+AnswersReader s (Err Device) = Unit {0}
+AnswersReader s (Err Memory) = Unit {0}
+AnswersReader s (Err (Bad bad)) = AnswersTextSizes s (Err (Bad bad)) ⊎ (HasSizes s × AnswersLoad s.head.words s.head.others s.words s.others (Err (Bad bad)))
+
+-- what the parts of a base hold
+abbrev pub stored_at : Option Files → List ℕ → Head → Stored
+stored_at files base head = record {
+  head = head;
+  words = bytes_at files (full_name base part.Words);
+  others = bytes_at files (full_name base part.Nonwords);
+  text = bytes_at files (full_name base part.Text);
+  places = bytes_at files (full_name base part.Places);
+}
+
+-- ---- showing a document
+
+-- the document was written, or a prefix of it; and so many reads of the text at most were added
+abbrev pub AnswersDoc : Result (Unit {0}) ShowErr → Option (List ℕ) → Option (List ℕ) → List ℕ → ℕ → ℕ → ℕ → Type 0
+AnswersDoc result before now doc reads_before reads_now most =
+    Ends result ((now ≡ appended before doc) × (reads_now ≤ reads_before + most)) (GrewByPrefix before now doc × (reads_now ≤ reads_before + most))
+
+-- no part is bad
+abbrev pub ShowIsNotBad : Result (Unit {0}) ShowErr → Type 0
+ShowIsNotBad (Ok done) = Unit {0}
+ShowIsNotBad (Err (show.Part Device)) = Unit {0}
+ShowIsNotBad (Err (show.Part Memory)) = Unit {0}
+ShowIsNotBad (Err (show.Part (Bad bad))) = ⊥
+ShowIsNotBad (Err show.Write) = Unit {0}
+ShowIsNotBad (Err show.Memory) = Unit {0}

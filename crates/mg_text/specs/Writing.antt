@@ -1,0 +1,96 @@
+-- A writer of coded documents: what contracts see of it, and which documents it took.
+use Rattle.std.specs.Prelude.{◌≡◌, ◌≤◌, ◌+◌, ◌-◌, ◌*◌, ◌%◌, ◌^◌, ◌==◌, ◌++◌, ℕ, Bool, true, false, List, [], ◌∷◌, length, map, if◌then◌else◌}
+use Rattle.std.specs.List.{flat_map}
+use Rattle.std.specs.Option.{IsSome}
+use Rattle.std.specs.declared.option.Option.{Option}
+use Rattle.mg_dev.specs.Files.{Files, bytes_at}
+use Rattle.mg_dev.specs.Names.{full_name}
+use Rattle.mg_dev.specs.declared.part.Part.TheVariants.{Text, Places}
+use Rattle.mg_bits.specs.Writer.{Writing, put_to}
+use Rattle.mg_bits.specs.BitWriting.{BitWriting, Holds, bits_put}
+use Rattle.mg_defs.specs.declared.Stream.{Stream}
+use Rattle.mg_defs.specs.declared.Stream.TheVariants.{Words, Others}
+use Rattle.mg_defs.specs.Bits.{Bits, bits_of}
+use Rattle.mg_defs.specs.CodedText.{as_bytes, running}
+use Rattle.mg_defs.specs.Numbers.{eight}
+
+pub record TextWriting : Type 0 where
+  pub base : List ℕ
+  pub text : BitWriting
+  pub places : Writing
+  -- how many documents were begun
+  pub docs : ℕ
+  -- how many pairs they have
+  pub pairs : ℕ
+  -- whether the last of them is not ended
+  pub is_open : Bool
+  -- how many of its pieces are still to come
+  pub left : ℕ
+
+-- the stream of the next piece where so many are still to come: a document has as many words as others, and they alternate
+abbrev pub turn : ℕ → Stream
+turn left = if left % 2 == 0 then Words else Others
+
+-- ---- documents, by their bits
+
+-- the documents in order, each from a byte on
+abbrev pub text_bytes : List Bits → List ℕ
+text_bytes docs = flat_map as_bytes docs
+
+-- how many bytes each document has
+abbrev pub sizes : List Bits → List ℕ
+sizes docs = map (λ (bits : Bits). length (as_bytes bits)) docs
+
+-- where each document begins, the first of them at a place
+abbrev pub starts : ℕ → List ℕ → List ℕ
+starts at [] = []
+starts at (size ∷ sizes) = at ∷ starts (at + size) sizes
+
+-- the places that were written: an open document begins where the documents before end
+abbrev pub begun : Bool → List ℕ → List ℕ
+begun false sizes = starts 0 sizes
+begun true sizes = running 0 sizes
+
+abbrev pub as_count : Bool → ℕ
+as_count b = if b then 1 else 0
+
+-- the writer stands for these documents, and for these bits of the open one
+pub record IsOnText (w : TextWriting) (files : Option Files) (docs : List Bits) (bits : Bits) : Type 0 where
+  pub text_name : w.text.name ≡ full_name w.base Text
+  pub places_name : w.places.name ≡ full_name w.base Places
+  pub holds : Holds w.text files
+  pub text : IsSome files → bits_put w.text files ≡ bits_of (text_bytes docs) ++ bits
+  pub places : IsSome files → put_to w.places files ≡ flat_map eight (begun w.is_open (sizes docs))
+  pub place : w.text.place ≡ 8 * length (text_bytes docs) + length bits
+  pub count : w.docs ≡ length docs + as_count w.is_open
+  pub none : w.is_open ≡ false → bits ≡ []
+  pub nothing_left : w.is_open ≡ false → w.left ≡ 0
+  pub few_docs : w.docs ≤ 2 ^ 24
+  pub few_pairs : w.pairs ≤ 2 ^ 32 - 1
+  pub bound : w.text.place + 48 * w.left ≤ 96 * w.pairs + 96 * w.docs + 7 * length docs
+
+-- a document more was begun, of so many pairs
+pub record Began (old new : TextWriting) (count : ℕ) : Type 0 where
+  pub docs : new.docs ≡ old.docs + 1
+  pub pairs : new.pairs ≡ old.pairs + count
+  pub is_open : new.is_open ≡ true
+  pub left : new.left ≡ 2 * count
+
+-- a piece more of the open document was put
+pub record PutOne (old new : TextWriting) : Type 0 where
+  pub docs : new.docs ≡ old.docs
+  pub pairs : new.pairs ≡ old.pairs
+  pub is_open : new.is_open ≡ old.is_open
+  pub left : new.left ≡ old.left - 1
+
+-- the open document was ended
+pub record Ended (old new : TextWriting) : Type 0 where
+  pub docs : new.docs ≡ old.docs
+  pub pairs : new.pairs ≡ old.pairs
+  pub is_open : new.is_open ≡ false
+  pub left : new.left ≡ 0
+
+-- the parts of a base hold these documents and their places
+pub record DocumentsStand (base : List ℕ) (files : Option Files) (docs : List Bits) : Type 0 where
+  pub text : bits_of (bytes_at files (full_name base Text)) ≡ bits_of (text_bytes docs)
+  pub places : bytes_at files (full_name base Places) ≡ flat_map eight (running 0 (sizes docs))

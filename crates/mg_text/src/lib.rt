@@ -1,0 +1,28 @@
+//! The text of a collection: its documents in code, and the place of each.
+//!
+//! A document is the number of its pairs in the gamma code, and then the codewords of its words and
+//! others in turn. It begins at a byte, which its place tells, so that any document is shown by
+//! itself: a [`TextReader`] reads one place and the pages on which the document's bits lie. It
+//! trusts none of these bytes. The form of both parts is in docs/FORMAT.md.
+//!
+//! See Witten, Moffat and Bell, *Managing Gigabytes*, chapter 2.
+#![tactic(auto)]
+
+mod decoder;
+mod laws;
+mod places;
+mod reader_laws;
+mod show_buffer;
+mod symbols;
+mod text_reader;
+mod text_writer;
+
+pub use laws::{pieces_make_documents, text_has_its_documents};
+pub use reader_laws::texts_stand;
+pub use text_reader::TextReader;
+pub use text_writer::TextWriter;
+
+#[cfg(test)]
+mod reader_tests;
+#[cfg(test)]
+mod writer_tests;

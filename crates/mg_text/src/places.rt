@@ -1,0 +1,129 @@
+//! Where documents begin in the text.
+ghost use Rattle.std.specs.Prelude.{◌≡◌, ◌+◌, ◌*◌, ◌≤◌, ◌<◌, ◌^◌, ℕ, IfOk, IsSome, Some, length, take, drop};
+ghost use Rattle.mg_dev.specs.Files.{bytes_at};
+ghost use Rattle.mg_dev.specs.Causes.{HasCause};
+ghost use Rattle.mg_bits.specs.Pages.{Fits, Looked, SameFile};
+ghost use Rattle.mg_defs.specs.Numbers.{eight, four};
+ghost use Rattle.mg_text.specs.Decoding.{IsReadCaused, Takes};
+ghost use Rattle.mg_text.specs.Places.{IsPlaceAt, place_width};
+
+use mg_bits::PageFeed;
+use mg_dev::{Bad, Failed, Part, PartErr, Store};
+use mg_layout::numbers::{eight_at, four_at};
+
+// The last byte from which a document is read.
+const LAST: u64 = 1 << 60;
+
+/// How many bytes a place has in a version of the files.
+pub fn width_of(version: u8) -> u64
+    ensures { result ≡ place_width version }
+{
+    if version == 1 { 4 } else { 8 }
+}
+
+// A place of four bytes; None where the part ends before it.
+fn narrow_place<S: Store>(
+    places: &mut PageFeed<'_, S>,
+    store: &mut S,
+    index: u32,
+) -> Result<Option<u64>, Failed>
+    requires fits { Fits places.old (S.files store.old) }
+    ensures fits { Fits places.new (S.files store.new) }
+    ensures file { SameFile places.old places.new }
+    ensures looked { Looked places.old.part (S.files store.old) (S.files store.new) (S.reads store.old) (S.reads store.new) (S.faults store.old) (S.faults store.new) }
+    ensures told { IsSome (S.files store.old) → (p : ℕ) → p < 2 ^ 32 → take 4 (drop (4 * index) (bytes_at (S.files store.old) places.old.name)) ≡ four p → IfOk result (λ place. place ≡ Some p) }
+    ensures page { S.reads store.new places.old.part ≤ S.reads store.old places.old.part + 1 }
+    ensures cause { HasCause (S.faults store.old) (S.faults store.new) result }
+{
+    let mut bytes = [0u8; 4];
+    match places.fill(store, 4 * u64::from(index), &mut bytes) {
+        Ok(true) => Ok(Some(u64::from(four_at(&bytes, 0)))),
+        Ok(false) => Ok(None),
+        Err(failed) => Err(failed),
+    }
+}
+
+// A place of eight bytes; None where the part ends before it.
+fn wide_place<S: Store>(
+    places: &mut PageFeed<'_, S>,
+    store: &mut S,
+    index: u32,
+) -> Result<Option<u64>, Failed>
+    requires fits { Fits places.old (S.files store.old) }
+    ensures fits { Fits places.new (S.files store.new) }
+    ensures file { SameFile places.old places.new }
+    ensures looked { Looked places.old.part (S.files store.old) (S.files store.new) (S.reads store.old) (S.reads store.new) (S.faults store.old) (S.faults store.new) }
+    ensures told { IsSome (S.files store.old) → (p : ℕ) → p < 2 ^ 64 → take 8 (drop (8 * index) (bytes_at (S.files store.old) places.old.name)) ≡ eight p → IfOk result (λ place. place ≡ Some p) }
+    ensures page { S.reads store.new places.old.part ≤ S.reads store.old places.old.part + 1 }
+    ensures cause { HasCause (S.faults store.old) (S.faults store.new) result }
+{
+    let mut bytes = [0u8; 8];
+    match places.fill(store, 8 * u64::from(index), &mut bytes) {
+        Ok(true) => Ok(Some(eight_at(&bytes, 0))),
+        Ok(false) => Ok(None),
+        Err(failed) => Err(failed),
+    }
+}
+
+// The place of a number, counted from 0; None where the part ends before it.
+fn read_place<S: Store>(
+    places: &mut PageFeed<'_, S>,
+    store: &mut S,
+    version: u8,
+    index: u32,
+) -> Result<Option<u64>, Failed>
+    requires fits { Fits places.old (S.files store.old) }
+    ensures fits { Fits places.new (S.files store.new) }
+    ensures file { SameFile places.old places.new }
+    ensures looked { Looked places.old.part (S.files store.old) (S.files store.new) (S.reads store.old) (S.reads store.new) (S.faults store.old) (S.faults store.new) }
+    ensures told { IsSome (S.files store.old) → (p : ℕ) → IsPlaceAt version index p (bytes_at (S.files store.old) places.old.name) → IfOk result (λ place. place ≡ Some p) }
+    ensures page { S.reads store.new places.old.part ≤ S.reads store.old places.old.part + 1 }
+    ensures cause { HasCause (S.faults store.old) (S.faults store.new) result }
+{
+    if version == 1 {
+        return narrow_place(places, store, index);
+    }
+    wide_place(places, store, index)
+}
+
+/// The byte of a text of so many bytes where a document begins, counted from 0.
+pub fn first_byte<S: Store>(
+    places: &mut PageFeed<'_, S>,
+    store: &mut S,
+    version: u8,
+    size: u64,
+    index: u32,
+) -> Result<u64, PartErr>
+    requires fits { Fits places.old (S.files store.old) }
+    ensures fits { Fits places.new (S.files store.new) }
+    ensures file { SameFile places.old places.new }
+    ensures looked { Looked places.old.part (S.files store.old) (S.files store.new) (S.reads store.old) (S.reads store.new) (S.faults store.old) (S.faults store.new) }
+    ensures small { IfOk result (λ from. from ≤ 2 ^ 60) }
+    ensures told { IsSome (S.files store.old) → (p : ℕ) → IsPlaceAt version index p (bytes_at (S.files store.old) places.old.name) → p ≤ size → p ≤ 2 ^ 60 → Takes result (λ from. from ≡ p) (Unit {0}) }
+    ensures page { S.reads store.new places.old.part ≤ S.reads store.old places.old.part + 1 }
+    ensures cause { IsReadCaused result (S.faults store.old) (S.faults store.new) }
+{
+    let high = size.min(LAST);
+    match read_place(places, store, version, index) {
+        Ok(Some(from)) => {
+            if from <= high {
+                return Ok(from);
+            }
+            Err(PartErr::Bad(Bad {
+                part: Part::Places,
+                at: width_of(version) * u64::from(index),
+                low: 0,
+                high,
+                found: from,
+            }))
+        }
+        Ok(None) => Err(PartErr::Bad(Bad {
+            part: Part::Places,
+            at: width_of(version) * u64::from(index),
+            low: 1,
+            high: 1,
+            found: 0,
+        })),
+        Err(_) => Err(PartErr::Device),
+    }
+}

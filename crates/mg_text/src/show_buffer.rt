@@ -1,0 +1,98 @@
+//! Bytes on their way to a sink.
+ghost use Rattle.std.specs.Prelude.{◌≡◌, ◌≤◌, ◌+◌, ◌++◌, ℕ, List, [], Option, IfOk, OnOk, MatchResult, length};
+ghost use Rattle.mg_dev.specs.Causes.{HasLack, HasPutCause};
+ghost use Rattle.mg_dev.specs.Streams.{AfterPut, GrewByPrefix};
+ghost use Rattle.mg_text.specs.Decoding.{Added, Shown};
+
+use mg_dev::{PutErr, Sink};
+use std::alloc::{AllocError, Global};
+use std::marker::Model;
+
+const SIZE: usize = 16384;
+
+/// Holds bytes until there are enough of them for one put of a sink.
+#[derive(Drop)]
+pub struct ShowBuffer {
+    bytes: Vec<u8>,
+    used: usize,
+}
+
+impl Model for ShowBuffer {
+    ghost use Rattle.std.specs.Prelude.{◌≡◌, ◌≤◌, take, length, List, ℕ};
+
+    ghost Value = { List ℕ };
+
+    ghost view = { λ b. take b.used b.bytes.items };
+
+    ghost invariant = { λ b. (length b.bytes.items ≡ 16384) × (b.used ≤ 16384) };
+}
+
+impl ShowBuffer {
+    /// A buffer that holds no byte.
+    pub fn new(alloc: Global) -> Result<Self, AllocError>
+        ensures { IfOk result (λ b. b ≡ []) }
+    {
+        Ok(ShowBuffer {
+            bytes: vec![in alloc; 0; SIZE]?,
+            used: 0,
+        })
+    }
+
+    /// Forgets what it holds.
+    pub fn clear(&mut self)
+        ensures { self.new ≡ [] }
+    {
+        self.used = 0;
+    }
+
+    /// Adds the bytes of a piece. What was held before goes to the sink where there is no room.
+    #[inline]
+    pub fn put<O: Sink>(&mut self, out: &mut O, piece: &[u8]) -> Result<(), PutErr>
+        requires short { length piece.now ≤ 255 }
+        ensures shown { (before : Option (List ℕ)) (bytes : List ℕ) → Shown before (O.written out.old) self.old bytes →
+            MatchResult result (λ _. Shown before (O.written out.new) self.new (bytes ++ piece.now)) (λ _. GrewByPrefix before (O.written out.new) (bytes ++ piece.now)) }
+        ensures added { Added (O.written out.old) (O.written out.new) (O.faults out.old) (O.faults out.new) (O.lacks out.old) (O.lacks out.new) }
+        ensures cause { HasPutCause (O.faults out.old) (O.faults out.new) result }
+        ensures lack { HasLack (O.lacks out.old) (O.lacks out.new) result }
+    {
+        if piece.len() <= SIZE - self.used {
+            self.keep(piece);
+            return Ok(());
+        }
+        match self.flush(out) {
+            Ok(()) => {
+                self.keep(piece);
+                Ok(())
+            }
+            Err(refusal) => Err(refusal),
+        }
+    }
+
+    /// Holds bytes for which there is room.
+    fn keep(&mut self, piece: &[u8])
+        requires room { length self.old + length piece.now ≤ 16384 }
+        ensures { self.new ≡ self.old ++ piece.now }
+    {
+        let end = self.used + piece.len();
+        self.bytes[self.used..end].copy_from_slice(piece);
+        self.used = end;
+    }
+
+    /// Puts what is held to the sink.
+    pub fn flush<O: Sink>(&mut self, out: &mut O) -> Result<(), PutErr>
+        ensures content { AfterPut (O.written out.old) (O.written out.new) self.old result }
+        ensures empty { OnOk result (self.new ≡ []) }
+        ensures added { Added (O.written out.old) (O.written out.new) (O.faults out.old) (O.faults out.new) (O.lacks out.old) (O.lacks out.new) }
+        ensures cause { HasPutCause (O.faults out.old) (O.faults out.new) result }
+        ensures lack { HasLack (O.lacks out.old) (O.lacks out.new) result }
+    {
+        let used = self.used;
+        match out.put(&self.bytes[..used]) {
+            Ok(()) => {
+                self.used = 0;
+                Ok(())
+            }
+            Err(refusal) => Err(refusal),
+        }
+    }
+}

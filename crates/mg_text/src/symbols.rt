@@ -1,0 +1,88 @@
+//! The numbers that are read of a document: how many pairs it has, and the symbols of its pieces.
+ghost use Rattle.std.specs.Prelude.{◌≡◌, ◌+◌, ◌≤◌, ◌<◌, ◌^◌, ℕ, IfOk, length};
+ghost use Rattle.mg_bits.specs.Feed.{Calm, Read, ReadsWithin};
+ghost use Rattle.mg_defs.specs.Canon.{codeword};
+ghost use Rattle.mg_defs.specs.Codes.{gamma};
+ghost use Rattle.mg_text.specs.Decoding.{IsReadCaused, Shows, Takes};
+ghost use Rattle.mg_text.specs.Refusals.{IsRefused, IsDamaged};
+
+use mg_bits::{BitReader, CodeErr, Feed};
+use mg_canon::Canon;
+use mg_codes::get_gamma;
+use mg_dev::{Bad, Part, PartErr};
+
+// The last place from which a code is read.
+const LAST: u64 = 1 << 63;
+
+// The most pairs of a document, and one.
+const MOST: u64 = 1 << 32;
+
+/// What is to stand at this bit place of the text does not.
+pub fn damaged(at: u64) -> PartErr
+    ensures { IsDamaged at result }
+{
+    PartErr::Bad(Bad {
+        part: Part::Text,
+        at,
+        low: 1,
+        high: 1,
+        found: 0,
+    })
+}
+
+// A refusal of a reader of a code.
+fn refused(refusal: CodeErr) -> PartErr
+    ensures { IsRefused refusal result }
+{
+    match refusal {
+        CodeErr::Device => PartErr::Device,
+        CodeErr::End { at } => damaged(at),
+        CodeErr::Over { at, .. } => damaged(at),
+    }
+}
+
+/// The symbol whose codeword stands at the place.
+#[inline]
+pub fn get_symbol<F: Feed>(
+    canon: &Canon,
+    r: &mut BitReader<F>,
+    dev: &mut F::Dev,
+) -> Result<u32, PartErr>
+    requires fits { F.fits r.old.feed (F.device dev.old).files }
+    ensures fits { F.fits r.new.feed (F.device dev.new).files }
+    ensures calm { Calm (F.feeding r.old.feed) (F.feeding r.new.feed) (F.device dev.old) (F.device dev.new) }
+    ensures symbol { IfOk result (λ s. s < length canon.now) }
+    ensures told { (s : ℕ) → s < length canon.now → r.old.place + length (codeword canon.now s) ≤ 2 ^ 63 → Shows ((F.feeding r.old.feed).source (F.device dev.old).files) r.old.place (codeword canon.now s) →
+        Takes result (λ t. (t ≡ s) × (r.new.place ≡ r.old.place + length (codeword canon.now s)) × Read (F.feeding r.old.feed) (F.feeding r.new.feed) (F.device dev.old) (F.device dev.new) r.old.place (r.old.place + length (codeword canon.now s)))
+        (ReadsWithin (F.feeding r.old.feed) (F.feeding r.new.feed) (F.device dev.old) (F.device dev.new) r.old.place (r.old.place + length (codeword canon.now s))) }
+    ensures cause { IsReadCaused result (F.device dev.old).faults (F.device dev.new).faults }
+{
+    let at = r.place();
+    if at > LAST || canon.count() == 0 {
+        return Err(damaged(at));
+    }
+    match canon.get(r, dev) {
+        Ok(symbol) => Ok(symbol),
+        Err(refusal) => Err(refused(refusal)),
+    }
+}
+
+/// How many pairs the document has whose bits stand at the place.
+pub fn get_count<F: Feed>(r: &mut BitReader<F>, dev: &mut F::Dev) -> Result<u32, PartErr>
+    requires fits { F.fits r.old.feed (F.device dev.old).files }
+    ensures fits { F.fits r.new.feed (F.device dev.new).files }
+    ensures calm { Calm (F.feeding r.old.feed) (F.feeding r.new.feed) (F.device dev.old) (F.device dev.new) }
+    ensures told { (n : ℕ) → n < 2 ^ 32 → r.old.place + length (gamma (n + 1)) ≤ 2 ^ 63 → Shows ((F.feeding r.old.feed).source (F.device dev.old).files) r.old.place (gamma (n + 1)) →
+        Takes result (λ m. (m ≡ n) × (r.new.place ≡ r.old.place + length (gamma (n + 1))) × Read (F.feeding r.old.feed) (F.feeding r.new.feed) (F.device dev.old) (F.device dev.new) r.old.place (r.old.place + length (gamma (n + 1))))
+        (ReadsWithin (F.feeding r.old.feed) (F.feeding r.new.feed) (F.device dev.old) (F.device dev.new) r.old.place (r.old.place + length (gamma (n + 1)))) }
+    ensures cause { IsReadCaused result (F.device dev.old).faults (F.device dev.new).faults }
+{
+    let at = r.place();
+    if at > LAST {
+        return Err(damaged(at));
+    }
+    match get_gamma(r, dev, MOST) {
+        Ok(number) => Ok((number - 1) as u32),
+        Err(refusal) => Err(refused(refusal)),
+    }
+}

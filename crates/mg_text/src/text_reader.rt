@@ -1,0 +1,179 @@
+//! A reader of coded documents.
+ghost use Rattle.std.specs.Prelude.{◌≡◌, ◌≢◌, ◌-◌, ◌+◌, ◌*◌, ◌≤◌, ◌<◌, ◌^◌, ℕ, List, [], get_or, Option, IsSome, IfErr, IfOk, Err, length};
+ghost use Rattle.mg_dev.specs.Files.{Files, SameReads, bytes_at};
+ghost use Rattle.mg_dev.specs.Names.{full_name};
+ghost use Rattle.mg_dev.specs.PartCauses.{HasPartCause};
+ghost use Rattle.mg_dev.specs.Streams.{AfterPut};
+ghost use Rattle.mg_dev.specs.declared.part.Part.TheVariants as part;
+ghost use Rattle.mg_defs.specs.CodedText.{TextCode, doc_range};
+ghost use Rattle.mg_defs.specs.PagesOf.{pages};
+ghost use Rattle.mg_defs.specs.Split.{documents};
+ghost use Rattle.mg_front.specs.Reading.{IsNotBad, LookedAt};
+ghost use Rattle.mg_text.specs.Decoding.{Added, IsShowCaused};
+ghost use Rattle.mg_text.specs.Reading.{AnswersDoc, AnswersReader, AnswersTextSizes, IsText, IsTextReader, SameText, ShowIsNotBad, TextFits, TextStands, stored_at};
+
+use crate::decoder::show_doc;
+use crate::places::{first_byte, width_of};
+use crate::show_buffer::ShowBuffer;
+use mg_bits::{BitReader, PageFeed};
+use mg_dev::{FileRef, Part, PartErr, ShowErr, Sink, Store};
+use mg_layout::{Head, expect_size};
+use mg_model::TextModel;
+use std::alloc::{AllocError, Global};
+use std::marker::Model;
+
+/// Shows the documents of a collection.
+///
+/// It keeps the codes of both streams, a page of the text and one of its places, and a buffer in
+/// which the pieces of a document gather, so that a sink is asked seldom. It needs no memory once
+/// it is loaded.
+#[derive(Drop)]
+pub struct TextReader<'a, S> {
+    text: BitReader<PageFeed<'a, S>>,
+    places: PageFeed<'a, S>,
+    model: TextModel,
+    buffer: ShowBuffer,
+    version: u8,
+    documents: u32,
+    size: u64,
+}
+
+impl<'a, S> Model for TextReader<'a, S> {
+    ghost use Rattle.std.specs.Prelude.{◌≡◌};
+    ghost use Rattle.mg_dev.specs.declared.part.Part.TheVariants as part;
+    ghost use Rattle.mg_text.specs.Reading.{TextReading};
+
+    ghost Value = { TextReading };
+
+    ghost view = { λ r. record { text = r.text.feed; places = r.places; code = r.model; version = r.version; documents = r.documents; size = r.size } };
+
+    ghost invariant = { λ r. (r.text.feed.part ≡ part.Text) × (r.places.part ≡ part.Places) };
+}
+
+// Compares the sizes of Text and Places with those of the head, in this order.
+fn expect_sizes<S: Store>(store: &mut S, base: &str, head: &Head) -> Result<(), PartErr>
+    ensures answer { IsSome (S.files store.old) → AnswersTextSizes (stored_at (S.files store.old) base.now head.now) result }
+    ensures memory { result ≢ Err PartErr.Memory }
+    ensures files { S.files store.new ≡ S.files store.old }
+    ensures reads { SameReads (S.reads store.old) (S.reads store.new) }
+    ensures cause { HasPartCause (S.faults store.old) (S.faults store.new) result }
+{
+    let text = FileRef {
+        base,
+        part: Part::Text,
+    };
+    let places = FileRef {
+        base,
+        part: Part::Places,
+    };
+    match expect_size(store, text, head.text_bytes) {
+        Ok(()) => {}
+        Err(refusal) => return Err(refusal),
+    }
+    let size = width_of(head.version) * (u64::from(head.documents) + 1);
+    match expect_size(store, places, size) {
+        Ok(()) => Ok(()),
+        Err(refusal) => Err(refusal),
+    }
+}
+
+impl<'a, S: Store> TextReader<'a, S> {
+    /// A reader of the text under this base, which the head tells of. It compares the sizes of Text
+    /// and of Places, in this order, with those of the head before it reads or reserves anything,
+    /// and then loads the models; the first that is refused is told.
+    pub fn load(alloc: Global, store: &mut S, base: &'a str, head: &Head) -> Result<Self, PartErr>
+        requires words { head.now.words ≤ 2 ^ 22 }
+        requires others { head.now.others ≤ 2 ^ 22 }
+        ensures fits { IfOk result (λ r. TextFits r (S.files store.new)) }
+        ensures reader { IfOk result (λ r. IsTextReader r base.entry.now head.now) }
+        ensures answer { IsSome (S.files store.old) → AnswersReader (stored_at (S.files store.old) base.entry.now head.now) result }
+        ensures stands { (code : TextCode) (collection : List ℕ) → IsText base.entry.now (S.files store.old) head.now code collection → IfOk result (λ r. TextStands r (S.files store.new) collection) }
+        ensures never_bad { (code : TextCode) (collection : List ℕ) → IsText base.entry.now (S.files store.old) head.now code collection → IfErr result (λ refusal. IsNotBad refusal) }
+        ensures looked { LookedAt part.Words part.Nonwords (S.files store.old) (S.files store.new) (S.reads store.old) (S.reads store.new) (S.faults store.old) (S.faults store.new) }
+        ensures cause { HasPartCause (S.faults store.old) (S.faults store.new) result }
+    {
+        match expect_sizes(store, base, head) {
+            Ok(()) => {}
+            Err(refusal) => return Err(refusal),
+        }
+        match TextModel::load(alloc, store, base, head.words, head.others) {
+            Ok(model) => match Self::over(alloc, base, head, model) {
+                Ok(reader) => Ok(reader),
+                Err(_) => Err(PartErr::Memory),
+            },
+            Err(refusal) => Err(refusal),
+        }
+    }
+
+    // A reader by this model.
+    fn over(alloc: Global, base: &'a str, head: &Head, model: TextModel) -> Result<Self, AllocError>
+        ensures fits { IfOk result (λ r. (files : Option Files) → TextFits r files) }
+        ensures reader { IfOk result (λ r. IsTextReader r base.entry.now head.now) }
+        ensures model { IfOk result (λ r. r.code ≡ model) }
+    {
+        let text_file = FileRef {
+            base,
+            part: Part::Text,
+        };
+        let places_file = FileRef {
+            base,
+            part: Part::Places,
+        };
+        let text = PageFeed::new(alloc, text_file)?;
+        let places = PageFeed::new(alloc, places_file)?;
+        let buffer = ShowBuffer::new(alloc)?;
+        Ok(TextReader {
+            text: BitReader::new(text, 0),
+            places,
+            model,
+            buffer,
+            version: head.version,
+            documents: head.documents,
+            size: head.text_bytes,
+        })
+    }
+
+    /// Writes the bytes of a document, from 1 to the number of documents, to a sink, and no byte
+    /// behind them. After a refusal a prefix of them was written, where the parts stand.
+    pub fn doc<O: Sink>(&mut self, store: &mut S, number: u32, out: &mut O) -> Result<(), ShowErr>
+        requires fits { TextFits self.old (S.files store.old) }
+        requires some { 1 ≤ number }
+        requires within { number ≤ self.old.documents }
+        ensures fits { TextFits self.new (S.files store.new) }
+        ensures same { SameText self.old self.new }
+        ensures looked { LookedAt part.Text part.Places (S.files store.old) (S.files store.new) (S.reads store.old) (S.reads store.new) (S.faults store.old) (S.faults store.new) }
+        ensures content { (collection : List ℕ) → TextStands self.old (S.files store.old) collection → AfterPut (O.written out.old) (O.written out.new) (get_or (documents collection) (number - 1) []) result }
+        ensures never_bad { (collection : List ℕ) → TextStands self.old (S.files store.old) collection → ShowIsNotBad result }
+        ensures pages { (collection : List ℕ) → TextStands self.old (S.files store.old) collection → S.reads store.new part.Text ≤ S.reads store.old part.Text + pages (doc_range self.old.code collection number).from (doc_range self.old.code collection number).to }
+        ensures places { S.reads store.new part.Places ≤ S.reads store.old part.Places + 1 }
+        ensures added { Added (O.written out.old) (O.written out.new) (O.faults out.old) (O.faults out.new) (O.lacks out.old) (O.lacks out.new) }
+        ensures cause { IsShowCaused result (S.faults store.old) (S.faults store.new) (O.faults out.old) (O.faults out.new) (O.lacks out.old) (O.lacks out.new) }
+    {
+        self.show(store, number, out)
+    }
+
+    // Shows a document, where the parts stand or not.
+    fn show<O: Sink>(&mut self, store: &mut S, number: u32, out: &mut O) -> Result<(), ShowErr>
+        requires fits { TextFits self.old (S.files store.old) }
+        requires some { 1 ≤ number }
+        requires within { number ≤ self.old.documents }
+        ensures fits { TextFits self.new (S.files store.new) }
+        ensures same { SameText self.old self.new }
+        ensures looked { LookedAt part.Text part.Places (S.files store.old) (S.files store.new) (S.reads store.old) (S.reads store.new) (S.faults store.old) (S.faults store.new) }
+        ensures answer { (collection : List ℕ) → TextStands self.old (S.files store.old) collection →
+            AnswersDoc result (O.written out.old) (O.written out.new) (get_or (documents collection) (number - 1) []) (S.reads store.old part.Text) (S.reads store.new part.Text) (pages (doc_range self.old.code collection number).from (doc_range self.old.code collection number).to) }
+        ensures places { S.reads store.new part.Places ≤ S.reads store.old part.Places + 1 }
+        ensures added { Added (O.written out.old) (O.written out.new) (O.faults out.old) (O.faults out.new) (O.lacks out.old) (O.lacks out.new) }
+        ensures cause { IsShowCaused result (S.faults store.old) (S.faults store.new) (O.faults out.old) (O.faults out.new) (O.lacks out.old) (O.lacks out.new) }
+    {
+        let version = self.version;
+        let size = self.size;
+        let from = match first_byte(&mut self.places, store, version, size, number - 1) {
+            Ok(from) => from,
+            Err(refusal) => return Err(ShowErr::Part(refusal)),
+        };
+        self.text.seek(8 * from);
+        self.buffer.clear();
+        show_doc(&self.model, &mut self.text, store, &mut self.buffer, out)
+    }
+}
