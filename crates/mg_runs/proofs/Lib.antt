@@ -21,3 +21,4 @@ pub mod RoundsFirst
 pub mod JoinedGroups
 pub mod Working
 pub mod LastRun
+pub mod Kept

@@ -1,0 +1,52 @@
+-- What stands for occurrences or has postings left does so as long as the files of the runs stay as they are.
+use Rattle.std.proofs.Common.{◌≡◌, ◌++◌, ℕ, List, [], length, None, Some, sym, ap, ◌∙◌, subst, is_some, unwrap_or}
+use Rattle.std.specs.declared.option.Option.{Option}
+use Rattle.mg_dev.specs.Files.{Files, bytes_at, file_at}
+use Rattle.mg_dev.specs.Names.{full_name}
+use Rattle.mg_dev.specs.declared.part.Part.{Part}
+use Rattle.mg_dev.specs.declared.part.Part.TheVariants.{Run}
+use Rattle.mg_defs.specs.Bits.{bits_of}
+use Rattle.mg_defs.specs.declared.TermPosting.{TermPosting}
+use Rattle.mg_bits.specs.BitWriting.{bits_put}
+use Rattle.mg_runs.specs.Merging.{AreLeft}
+use Rattle.mg_runs.specs.Joins.{IsRunPart}
+use Rattle.mg_runs.specs.Fed.{Inverting, IsFed}
+use Rattle.mg_runs.specs.Left.{Merging, IsLeftIn, IsMerging}
+use Rattle.mg_runs.specs.declared.group.Group.{Group}
+
+left_kept : (group : Option Group) (base : List ℕ) (f g : Option Files) (left : List TermPosting) → is_some g ≡ is_some f → ((part : Part) → IsRunPart part → file_at g (full_name base part) ≡ file_at f (full_name base part)) → IsLeftIn group f base left → IsLeftIn group g base left
+left_kept None base f g left told same is = λ t. is (sym told ∙ t)
+left_kept (Some group) base f g left told same is =
+    let name : full_name group.file.base.now group.file.part ≡ full_name base group.file.part = ap (λ b. full_name b group.file.part) is.same_base in
+    let here : file_at g (full_name group.file.base.now group.file.part) ≡ file_at f (full_name group.file.base.now group.file.part) = ap (λ n. file_at g n) name ∙ same group.file.part is.part ∙ ap (λ n. file_at f n) (sym name) in
+    let bytes : bytes_at g (full_name group.file.base.now group.file.part) ≡ bytes_at f (full_name group.file.base.now group.file.part) = ap (λ b. unwrap_or b []) here in
+    record {
+      shape = is.shape;
+      same_base = is.same_base;
+      part = is.part;
+      told = λ t. subst (λ b. AreLeft group.pool.slots group.cursors.items b left) (sym bytes) (is.told (sym told ∙ t));
+    }
+
+pub merging_kept : (merge : Merging) (f g : Option Files) (left : List TermPosting) → is_some g ≡ is_some f → ((part : Part) → IsRunPart part → file_at g (full_name merge.base part) ≡ file_at f (full_name merge.base part)) → IsMerging merge f left → IsMerging merge g left
+merging_kept merge f g left told same is = record { has = left_kept merge.group merge.base f g left told same is.has }
+
+pub fed_kept : (runs : Inverting) (f g : Option Files) (fed : List (ℕ × ℕ)) → is_some g ≡ is_some f → file_at g (full_name runs.base Run) ≡ file_at f (full_name runs.base Run) → IsFed runs f fed → IsFed runs g fed
+fed_kept runs f g fed told same is =
+    let here : file_at g runs.writer.name ≡ file_at f runs.writer.name = ap (λ n. file_at g n) is.name ∙ same ∙ ap (λ n. file_at f n) (sym is.name) in
+    let put : bits_put runs.writer g ≡ bits_put runs.writer f = ap (λ b. bits_of (unwrap_or b []) ++ runs.writer.buffered) here in
+    record {
+      least = is.least;
+      most = is.most;
+      slots = is.slots;
+      entries = is.entries;
+      peak = is.peak;
+      name = is.name;
+      holds = record { count = λ t. ap (λ b. length b) put ∙ is.holds.count (sym told ∙ t) };
+      written = λ t. put ∙ is.written (sym told ∙ t);
+      place = is.place;
+      whole = is.whole;
+      below = is.below;
+      places = is.places;
+      occurrences = is.occurrences;
+      few = is.few;
+    }
