@@ -1,6 +1,7 @@
 // What no clause says: the bytes of real parts, the damages by their numbers, that calls succeed, and
 // how much is read.
-ghost use Rattle.std.specs.Prelude.{◌≡◌, ◌<◌, ◌^◌, length};
+ghost use Rattle.std.specs.Prelude.{◌≡◌, ◌+◌, ◌<◌, ◌≤◌, ◌^◌, length, OnOk};
+ghost use Rattle.mg_defs.specs.Vocabulary.{total};
 ghost use Rattle.mg_model.specs.Terms.{terms_and_numbers};
 
 use crate::{Stream, TermTable, TextModel, Vocab, VocabErr};
@@ -26,6 +27,8 @@ const FOUR_OTHERS: [&[u8]; 4] = [b" ", b" ", b" ", b" "];
 const FOLDING: [&[u8]; 7] = [b"", b"CAT", b"Cat", b"cat", b"\xc3\xa9T", b"dog", b"ant"];
 
 const NONE: [&[u8]; 0] = [];
+
+const DIGITS: [u8; 16] = *b"0123456789abcdef";
 
 fn vocab_of(alloc: Global, pieces: &[&[u8]]) -> Result<Vocab, VocabErr>
     requires { length pieces.now < 2 ^ 20 }
@@ -68,6 +71,52 @@ fn pieces_are_counted(rt: HostRuntime) -> Result<(), Fail> {
     assert!(rt; vocab.counts()?.as_slice() == [2, 2, 1, 2, 1].as_slice());
     vocab.sort()?;
     assert!(rt; vocab.counts()?.as_slice() == [1, 2, 2, 1, 2].as_slice());
+    Ok(())
+}
+
+// The six hexadecimal digits of a number.
+fn digits_of(number: u32) -> [u8; 6] {
+    let mut digits = [0; 6];
+    let mut rest = number;
+    for i in 0..6 {
+        digits[5 - i] = DIGITS[(rest % 16) as usize];
+        rest /= 16;
+    }
+    digits
+}
+
+// Counts the digits of so many numbers.
+fn count_numbers(vocab: &mut Vocab, count: u32) -> Result<(), VocabErr>
+    requires total { total vocab.old ≤ 2 ^ 24 }
+    requires count { count ≤ 2 ^ 24 }
+    ensures total { OnOk result (total vocab.new ≤ 2 ^ 25) }
+{
+    for i in 0..count {
+        vocab.count(&digits_of(i))?;
+    }
+    Ok(())
+}
+
+// Whether a piece is one too many.
+fn is_too_many(vocab: &mut Vocab, piece: &[u8]) -> bool
+    requires total { total vocab.old ≤ 2 ^ 25 }
+    requires short { length piece.now ≤ 255 }
+    ensures total { total vocab.new ≤ 2 ^ 25 + 1 }
+{
+    match vocab.count(piece) {
+        Err(VocabErr::TooMany) => true,
+        _ => false,
+    }
+}
+
+#[test]
+fn a_full_vocabulary_takes_no_new_piece(rt: HostRuntime) -> Result<(), Fail> {
+    let mut vocab = Vocab::new(rt.alloc());
+    count_numbers(&mut vocab, 1 << 22)?;
+    assert!(rt; vocab.len() == 1 << 22);
+    assert!(rt; is_too_many(&mut vocab, b"400000"));
+    assert!(rt; vocab.len() == 1 << 22);
+    vocab.count(b"3fffff")?;
     Ok(())
 }
 
