@@ -1,12 +1,11 @@
 -- How long the bits of all lists of a collection are at most.
-use Rattle.std.proofs.Common.{arith, ◌≡◌, ◌+◌, ◌-◌, ◌*◌, ◌/◌, ◌%◌, ◌^◌, ◌≤◌, ◌<◌, ℕ, List, [], ◌∷◌, ◌++◌, length, map, refl, ap, ◌∙◌, subst, length-append}
-use Rattle.std.proofs.lemmas.List.{length-map}
+use Rattle.std.proofs.Common.{arith, ◌+◌, ◌-◌, ◌*◌, ◌^◌, ◌≤◌, ◌<◌, ℕ, List, [], ◌∷◌, length, map, length-append}
 use Rattle.mg_defs.specs.declared.Posting.{Posting}
 use Rattle.mg_defs.specs.Bits.{Bits, filled, digits, to_byte}
 use Rattle.mg_defs.specs.Codes.{golomb_parameter}
 use Rattle.mg_defs.specs.Split.{documents}
 use Rattle.mg_defs.specs.Terms.{dictionary}
-use Rattle.mg_defs.specs.Lists.{Follows, Rises, bits_after, bits_of_list, posting_bits, postings, inverted, lists_bits, post_bits}
+use Rattle.mg_defs.specs.Lists.{Follows, Rises, bits_after, bits_of_list, posting_bits, postings, lists_bits, post_bits}
 use Rattle.mg_defs.proofs.BitLaws.{length_digits}
 use Rattle.mg_defs.proofs.ListLaws.{list_rises}
 use Rattle.std.proofs.Math.Nat.{div-le_self}

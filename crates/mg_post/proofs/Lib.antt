@@ -6,3 +6,4 @@ pub mod EnterLaws
 pub mod CursorLaws
 pub mod StandLaws
 pub mod Bounds
+pub mod Totals

@@ -4,7 +4,7 @@ ghost use Rattle.mg_defs.specs.declared.Posting.{Posting};
 ghost use Rattle.mg_defs.specs.Bits.{bits_of};
 ghost use Rattle.mg_defs.specs.Codes.{golomb_parameter};
 ghost use Rattle.mg_defs.specs.Split.{documents};
-ghost use Rattle.mg_defs.specs.Terms.{dictionary};
+ghost use Rattle.mg_defs.specs.Terms.{dictionary, docs};
 ghost use Rattle.mg_defs.specs.Lists.{Rises, entry_bits, lists_bits, lists_entries, postings, post_bits, skip_bits, list_byte, first_entry};
 ghost use Rattle.mg_post.specs.Stands.{ListStands};
 ghost use Rattle.std.specs.declared.option.Option.{Option};
@@ -31,6 +31,14 @@ pub fn list_of_a_term_stands()
 /// The lists of a collection within the limits have at most 2^63 bits.
 pub fn post_is_short()
     ensures { (collection : List ℕ) → length collection < 2 ^ 32 → length (documents collection) ≤ 2 ^ 24 → length (dictionary collection) ≤ 2 ^ 22 → length (post_bits collection) ≤ 2 ^ 63 }
+{}
+
+/// What the lexicon tells of a term of a collection within the limits fits in its field: the number of
+/// documents in 4 bytes, the byte of its list in 8, and its first skip entry in 4.
+pub fn infos_fit()
+    ensures docs { (collection : List ℕ) (t : List ℕ) → length (documents collection) ≤ 2 ^ 24 → docs collection t < 2 ^ 32 }
+    ensures post_at { (collection : List ℕ) (n : ℕ) → length collection < 2 ^ 32 → length (documents collection) ≤ 2 ^ 24 → length (dictionary collection) ≤ 2 ^ 22 → list_byte collection n < 2 ^ 64 }
+    ensures skip_at { (collection : List ℕ) (n : ℕ) → length collection < 2 ^ 32 → first_entry collection n < 2 ^ 32 }
 {}
 
 /// Where no posting of a list is left, the cursor has ended, and reads nothing from then on.
