@@ -6,5 +6,6 @@ pub mod WriterLaws
 pub mod BitsWritten
 pub mod Fills
 pub mod Kept
+pub mod Keeping
 pub mod Walks
 pub mod EightBytes

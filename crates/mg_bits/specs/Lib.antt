@@ -1,6 +1,7 @@
 pub mod Feed
 pub mod Pages
 pub mod FeedLaws
+pub mod Keeping
 pub mod Reader
 pub mod CodeAnswers
 pub mod Writer

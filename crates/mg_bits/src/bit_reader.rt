@@ -1,17 +1,24 @@
 // Bits of a feed.
-ghost use Rattle.std.specs.Prelude.{◌≡◌, ◌+◌, ◌-◌, ◌*◌, ◌/◌, ◌≤◌, ◌<◌, ◌^◌, IfOk, ◌%◌, OnOk, OnErr, MatchResult, Option, Some, IfSome, IsSome};
+ghost use Rattle.std.specs.Prelude.{◌≡◌, ◌+◌, ◌-◌, ◌*◌, ◌/◌, ◌≤◌, ◌<◌, ◌^◌, ◌∷◌, [], IfOk, ◌%◌, OnOk, OnErr, MatchResult, Option, Some, IfSome, IsSome, OnSome, IfNone};
 ghost use Rattle.mg_dev.specs.Files.{Files};
 ghost use Rattle.mg_bits.specs.Feed.{HasBits, HoldsBits, Read, ReadPart, page_of};
 ghost use Rattle.mg_defs.specs.Bits.{Begins, FromPlace, digits};
+ghost use Rattle.mg_bits.specs.Keeping.{IsKept, Keeps};
 ghost use Rattle.mg_bits.specs.Reader.{AnswersBit, AnswersBits, AnswersPiece, DeviceCause, EndHolds, at_place};
 
+use crate::kept_byte::KeptByte;
 use crate::{BitErr, Feed};
 
 /// Reads bits, the highest of each byte first.
+///
+/// It keeps the byte in which it read a bit last, so that `bit` asks the feed once for the eight bits
+/// of a byte. The kept byte is one of the page that the feed holds, whatever device the feed reads.
 #[derive(Drop)]
-pub struct BitReader<F> {
+pub struct BitReader<F: Feed> {
     feed: F,
     place: u64,
+    kept: Option<KeptByte>,
+    ghost keeps: { Keeps (F.feeding feed) (F.fits feed) kept },
 }
 
 impl<F: Feed> BitReader<F> {
@@ -19,7 +26,11 @@ impl<F: Feed> BitReader<F> {
         ensures feed { result.feed ≡ feed }
         ensures place { result.place ≡ place }
     {
-        BitReader { feed, place }
+        BitReader {
+            feed,
+            place,
+            kept: None,
+        }
     }
 
     pub fn place(&self) -> u64
@@ -68,6 +79,7 @@ impl<F: Feed> BitReader<F> {
         ensures cause { DeviceCause result (F.device dev.old).faults (F.device dev.new).faults }
     {
         let place = self.place;
+        self.kept = None;
         match self.feed.byte(dev, place / 8) {
             Err(_) => Err(BitErr::Device),
             Ok(None) => Err(BitErr::End { at: place }),
@@ -153,7 +165,79 @@ impl<F: Feed> BitReader<F> {
         ensures told { FromPlace ((F.feeding self.old.feed).source (F.device dev.old).files) self.old.place (AnswersBit result self.old.place) }
         ensures cause { DeviceCause result (F.device dev.old).faults (F.device dev.new).faults }
     {
-        Ok(self.piece(dev, 1)? == 1)
+        match self.kept_bit() {
+            Some(bit) => Ok(bit),
+            None => self.bit_of_feed(dev),
+        }
+    }
+
+    /// The next bit, of a byte that is not kept yet. It stands apart so that `bit` is short where the
+    /// byte is kept.
+    #[inline(never)]
+    fn bit_of_feed(&mut self, dev: &mut F::Dev) -> Result<bool, BitErr>
+        requires fits { F.fits self.old.feed (F.device dev.old).files }
+        requires place { self.old.place + 1 < 2 ^ 64 }
+        ensures fits { F.fits self.new.feed (F.device dev.new).files }
+        ensures read { OnOk result (Read (F.feeding self.old.feed) (F.feeding self.new.feed) (F.device dev.old) (F.device dev.new) self.old.place (self.old.place + 1)) }
+        ensures part { OnErr result (ReadPart (F.feeding self.old.feed) (F.feeding self.new.feed) (F.device dev.old) (F.device dev.new) self.old.place (self.old.place + 1)) }
+        ensures place { MatchResult result (λ _. self.new.place ≡ self.old.place + 1) (λ _. self.new.place ≡ self.old.place) }
+        ensures told { FromPlace ((F.feeding self.old.feed).source (F.device dev.old).files) self.old.place (AnswersBit result self.old.place) }
+        ensures cause { DeviceCause result (F.device dev.old).faults (F.device dev.new).faults }
+    {
+        self.keep();
+        match self.kept_bit() {
+            Some(bit) => Ok(bit),
+            None => Ok(self.piece(dev, 1)? == 1),
+        }
+    }
+
+    /// Keeps the byte of the next bit, where the page that is held has it.
+    fn keep(&mut self)
+        ensures feed { self.new.feed ≡ self.old.feed }
+        ensures place { self.new.place ≡ self.old.place }
+    {
+        let at = self.place / 8;
+        self.kept = match self.feed.held_byte(at) {
+            Some(byte) => Some(KeptByte { at, byte }),
+            None => None,
+        };
+    }
+
+    /// The byte of the next bit, where it is kept.
+    #[inline]
+    fn kept_byte(&self) -> Option<u8>
+        ensures { IfSome result (λ byte. IsKept (F.feeding self.now.feed) (F.fits self.now.feed) (self.now.place / 8) byte) }
+    {
+        match self.kept {
+            Some(kept) => {
+                if kept.at == self.place / 8 {
+                    Some(kept.byte)
+                } else {
+                    None
+                }
+            }
+            None => None,
+        }
+    }
+
+    /// The next bit, where its byte is kept.
+    #[inline]
+    fn kept_bit(&mut self) -> Option<bool>
+        requires place { self.old.place + 1 < 2 ^ 64 }
+        ensures feed { self.new.feed ≡ self.old.feed }
+        ensures told { (files : Option Files) → F.fits self.old.feed files → IfSome result (λ bit. FromPlace ((F.feeding self.old.feed).source files) self.old.place (Begins (bit ∷ []))) }
+        ensures held { OnSome result (HoldsBits (F.feeding self.old.feed) self.old.place 1) }
+        ensures some { OnSome result (self.new.place ≡ self.old.place + 1) }
+        ensures none { IfNone result (self.new.place ≡ self.old.place) }
+    {
+        match self.kept_byte() {
+            Some(byte) => {
+                let rest = 7 - (self.place % 8) as u32;
+                self.place += 1;
+                Some(field(byte, rest, 1) == 1)
+            }
+            None => None,
+        }
     }
 }
 

@@ -110,6 +110,20 @@ impl<'a, S: Store> PageFeed<'a, S> {
         answer
     }
 
+    /// The byte at a place, if the page that is held has it.
+    #[inline]
+    fn held_byte(&self, at: u64) -> Option<u8>
+        ensures told { (files : Option Files) → Fits self.now files → IfSome result (λ byte. IfSome ((feeding_of 4096 self.now).source files) (λ bytes. Some byte ≡ slice_get bytes at)) }
+        ensures held { OnSome result (self.now.held ≡ Some (page_of 4096 (8 * at))) }
+        ensures some { (files : Option Files) → Fits self.now files → HasBits (feeding_of 4096 self.now) files (8 * at) 8 → IsSome result }
+    {
+        if !self.window.has(at) {
+            return None;
+        }
+        let index = (at - self.window.first) as usize;
+        byte_in(&self.page[..self.window.count], index)
+    }
+
     /// The eight bytes from a place on as a number, if the page that is held has them all.
     #[inline]
     fn held_word(&self, at: u64) -> Option<u64>
@@ -190,6 +204,11 @@ impl<'a, S: Store> Feed for PageFeed<'a, S> {
     #[inline]
     fn byte(&mut self, dev: &mut S, at: u64) -> Result<Option<u8>, Failed> {
         PageFeed::byte(self, dev, at)
+    }
+
+    #[inline]
+    fn held_byte(&self, at: u64) -> Option<u8> {
+        PageFeed::held_byte(self, at)
     }
 
     #[inline]

@@ -42,6 +42,11 @@ impl<'a> Feed for SliceFeed<'a> {
     }
 
     #[inline]
+    fn held_byte(&self, at: u64) -> Option<u8> {
+        self.bytes.get(at as usize).copied()
+    }
+
+    #[inline]
     fn word(&self, at: u64) -> Option<u64> {
         word_in(self.bytes, at as usize)
     }

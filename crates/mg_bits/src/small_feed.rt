@@ -8,7 +8,7 @@ ghost use Rattle.mg_bits.specs.FeedLaws.{same_page};
 ghost use Rattle.mg_bits.specs.Pages.{IsFirst, IsPageIn};
 
 use crate::Feed;
-use crate::window::{Window, window_byte, word_in};
+use crate::window::{Window, byte_in, window_byte, word_in};
 use mg_dev::{Failed, FileRef, Store};
 use std::marker::PhantomData;
 
@@ -64,6 +64,15 @@ impl<'a, 'b, S: Store> Feed for SmallFeed<'a, 'b, S> {
         );
         self.window = window;
         answer
+    }
+
+    #[inline]
+    fn held_byte(&self, at: u64) -> Option<u8> {
+        if !self.window.has(at) {
+            return None;
+        }
+        let index = (at - self.window.first) as usize;
+        byte_in(&self.slot[..self.window.count], index)
     }
 
     #[inline]

@@ -47,6 +47,75 @@ fn reads_as<F: Feed>(r: &mut BitReader<F>, dev: &mut F::Dev, wanted: &[u8]) -> b
     end <= 1 << 40 && r.bit(dev) == Err(BitErr::End { at: end }) && r.place() == end
 }
 
+/// Whether these bytes stand from the reader's place on, read bit by bit. Behind every third bit the
+/// bits of the next byte are looked at, and the reader goes back.
+fn reads_bit_by_bit<F: Feed>(r: &mut BitReader<F>, dev: &mut F::Dev, wanted: &[u8]) -> bool
+    requires fits { F.fits r.old.feed (F.device dev.old).files }
+{
+    for number in 0..8 * wanted.len() {
+        let place = r.place();
+        if place > 1 << 40 {
+            return false;
+        }
+        if number % 3 == 0 {
+            let _ = r.bits(dev, 16);
+            r.seek(place);
+        }
+        let bit = wanted[number / 8] >> (7 - number % 8) & 1 == 1;
+        if r.bit(dev) != Ok(bit) {
+            return false;
+        }
+    }
+    true
+}
+
+#[test]
+fn whole_files_are_read_bit_by_bit(rt: HostRuntime) -> Result<(), Fail> {
+    let alloc = rt.alloc();
+    for size in [1, 7, 8, 63, 65, 4097] {
+        let bytes = sample(alloc, size)?;
+        let mut store = SureStore::new(alloc);
+        store.put_file("x.text", &bytes)?;
+        let mut slice = BitReader::new(SliceFeed::new(&bytes), 0);
+        assert!(rt;
+            reads_bit_by_bit(&mut slice, &mut NoDev, &bytes),
+            "a slice of {size}"
+        );
+        let mut paged = BitReader::new(PageFeed::new(alloc, TEXT)?, 0);
+        assert!(rt;
+            reads_bit_by_bit(&mut paged, &mut store, &bytes),
+            "pages of {size}"
+        );
+        let mut slot = [0; 64];
+        let mut small = BitReader::new(SmallFeed::new(TEXT, &mut slot), 0);
+        assert!(rt;
+            reads_bit_by_bit(&mut small, &mut store, &bytes),
+            "slots of {size}"
+        );
+    }
+    Ok(())
+}
+
+#[test]
+fn a_bit_of_a_page_that_was_turned_is_read_again(rt: HostRuntime) -> Result<(), Fail> {
+    let alloc = rt.alloc();
+    let bytes = sample(alloc, 8192)?;
+    let mut store = SureStore::new(alloc);
+    store.put_file("x.text", &bytes)?;
+    let mut r = BitReader::new(PageFeed::new(alloc, TEXT)?, 8 * 81);
+    for bit in [false, true, false] {
+        assert_eq!(rt; r.bit(&mut store), Ok(bit));
+    }
+    assert_eq!(rt; store.reads_of(Part::Text), 1);
+    r.seek(8 * 4096);
+    assert_eq!(rt; r.bits(&mut store, 8), Ok(4096 % 251));
+    assert_eq!(rt; store.reads_of(Part::Text), 2);
+    r.seek(8 * 81 + 3);
+    assert_eq!(rt; r.bit(&mut store), Ok(true));
+    assert_eq!(rt; store.reads_of(Part::Text), 3, "81 is 0x51");
+    Ok(())
+}
+
 #[test]
 fn whole_files_are_read_through_each_feed(rt: HostRuntime) -> Result<(), Fail> {
     let alloc = rt.alloc();
