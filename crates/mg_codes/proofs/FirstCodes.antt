@@ -11,6 +11,7 @@ use Rattle.mg_defs.proofs.CodeLaws.{gamma_is, golomb_is, unary_next}
 use Rattle.mg_defs.proofs.FixedLaws.{IsLog}
 use Rattle.mg_bits.proofs.EightBytes.{digits_split}
 use Rattle.mg_codes.specs.Held.{IsFirstCode, IsOnesBeforeZero}
+use Rattle.mg_codes.proofs.Instances.{with_highest}
 use Rattle.mg_codes.proofs.Written.{unary_digits}
 
 -- ---- bits of a number
@@ -76,11 +77,6 @@ golomb_of_one next q ones = record {
   bits = golomb_is 1 (q + 1) q 0 (omega arith) (omega arith) (omega arith)
       ∙ (ap (λ l. unary (1 + q) ++ l) no_bits ∙ (append-nil (unary (1 + q)) ∙ (unary_one_more q ∙ unary_first next q ones)));
 }
-
-with_highest : (q v : ℕ) → v < 2 ^ q → digits q (2 ^ q + v) ≡ digits q v
-with_highest q v below =
-    let e : 2 ^ q + v ≡ 1 * 2 ^ q + v = omega arith in
-    sym (digits_mod q q (2 ^ q + v) (omega arith)) ∙ ap (digits q) (ap (λ n. n % 2 ^ q) e ∙ mod_low 1 q v below)
 
 pub gamma_first : (next q : ℕ) → IsOnesBeforeZero next q → q ≤ 28 → IsFirstCode (gamma (2 ^ q + next / 2 ^ (56 - 2 * q) % 2 ^ q)) next (2 * q + 1)
 gamma_first next q ones few =

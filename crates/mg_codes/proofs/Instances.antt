@@ -121,6 +121,12 @@ gamma_parts limit top small is = record {
       };
 }
 
+-- the bits below the highest
+pub with_highest : (q v : ℕ) → v < 2 ^ q → digits q (2 ^ q + v) ≡ digits q v
+with_highest q v below =
+    let e : 2 ^ q + v ≡ 1 * 2 ^ q + v = omega arith in
+    sym (digits_mod q q (2 ^ q + v) (omega arith)) ∙ ap (digits q) (ap (λ n. n % 2 ^ q) e ∙ mod_low 1 q v below)
+
 pub gamma_joined_below : (limit top q v bound : ℕ) → IsLog limit top → IsBound (2 ^ q) top (limit - 2 ^ top) q bound → v < bound → 2 ^ q + v ≤ limit
 gamma_joined_below limit top q v bound is bounds below =
     elim (cases_lt q top) [
@@ -133,24 +139,19 @@ pub gamma_second : (limit top q bound : ℕ) → limit < 2 ^ 48 → IsLog limit 
 gamma_second limit top q bound small is bounds within short_q = record {
   value = λ v below. (omega (arith, pow_pos q), gamma_joined_below limit top q v bound is bounds below);
   leads = λ v below. leads v below;
-  is = λ v below. ap (λ n. digits n (2 ^ q + v)) (leads v below) ∙ lower v (omega (arith, below, within)) ∙ sym (short_of_power q v short_q);
+  is = λ v below. ap (λ n. digits n (2 ^ q + v)) (leads v below) ∙ with_highest q v (omega (arith, below, within)) ∙ sym (short_of_power q v short_q);
   back = λ x taken same.
       let log : IsLog x (log2 x) = is_log x taken.0 (omega (arith, taken.1, small)) in
       let log : IsLog x q = subst (IsLog x) same log in
       record {
         v = x - 2 ^ q;
         below = remainder_below x taken log;
-        is = ap (λ n. digits n x) same ∙ ap (digits q) (let e : x ≡ 2 ^ q + (x - 2 ^ q) = omega (arith, log.low) in e) ∙ lower (x - 2 ^ q) (omega (arith, log.high, two-pow-succ q)) ∙ sym (short_of_power q (x - 2 ^ q) short_q);
+        is = ap (λ n. digits n x) same ∙ ap (digits q) (let e : x ≡ 2 ^ q + (x - 2 ^ q) = omega (arith, log.low) in e) ∙ with_highest q (x - 2 ^ q) (omega (arith, log.high, two-pow-succ q)) ∙ sym (short_of_power q (x - 2 ^ q) short_q);
       };
 }
   where
     leads : (v : ℕ) → v < bound → log2 (2 ^ q + v) ≡ q
     leads v below = one_log (2 ^ q + v) _ _ (is_log (2 ^ q + v) (omega (arith, pow_pos q)) (omega (arith, gamma_joined_below limit top q v bound is bounds below, small))) (joined_log q v (omega (arith, below, within)))
-
-    lower : (v : ℕ) → v < 2 ^ q → digits q (2 ^ q + v) ≡ digits q v
-    lower v below =
-        let e : 2 ^ q + v ≡ 1 * 2 ^ q + v = omega arith in
-        sym (digits_mod q q (2 ^ q + v) (omega arith)) ∙ ap (digits q) (ap (λ n. n % 2 ^ q) e ∙ mod_low 1 q v below)
 
     remainder_below : (x : ℕ) → UpTo limit x → IsLog x q → x - 2 ^ q < bound
     remainder_below x taken log =

@@ -33,7 +33,7 @@ use std::mem::swap;
 /// Contracts see three numbers: the pages of Post that were read, the pages of the blocks that were
 /// entered, and the pages of Skip that were read. After a refusal the cursor stands where it stood.
 #[derive(Drop)]
-pub struct Cursor<'a, S> {
+pub struct Cursor<'a, S: Store> {
     post: BitReader<PageFeed<'a, S>>,
     skip: BitReader<PageFeed<'a, S>>,
     post_at: u64,
@@ -49,7 +49,7 @@ pub struct Cursor<'a, S> {
     passed: u64,
 }
 
-impl<'a, S> Model for Cursor<'a, S> {
+impl<'a, S: Store> Model for Cursor<'a, S> {
     ghost use Rattle.std.specs.Prelude.{◌≡◌, ◌≤◌, ◌<◌, ◌^◌, true, []};
     ghost use Rattle.mg_dev.specs.declared.part.Part.TheVariants as part;
     ghost use Rattle.mg_post.specs.Cursor.{Cursoring, blocks_of};

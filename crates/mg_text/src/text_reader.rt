@@ -28,7 +28,7 @@ use std::marker::Model;
 /// which the pieces of a document gather, so that a sink is asked seldom. It needs no memory once
 /// it is loaded.
 #[derive(Drop)]
-pub struct TextReader<'a, S> {
+pub struct TextReader<'a, S: Store> {
     text: BitReader<PageFeed<'a, S>>,
     places: PageFeed<'a, S>,
     model: TextModel,
@@ -38,7 +38,7 @@ pub struct TextReader<'a, S> {
     size: u64,
 }
 
-impl<'a, S> Model for TextReader<'a, S> {
+impl<'a, S: Store> Model for TextReader<'a, S> {
     ghost use Rattle.std.specs.Prelude.{◌≡◌};
     ghost use Rattle.mg_dev.specs.declared.part.Part.TheVariants as part;
     ghost use Rattle.mg_text.specs.Reading.{TextReading};
