@@ -52,18 +52,19 @@ fn reads_as<F: Feed>(r: &mut BitReader<F>, dev: &mut F::Dev, wanted: &[u8]) -> b
 fn reads_bit_by_bit<F: Feed>(r: &mut BitReader<F>, dev: &mut F::Dev, wanted: &[u8]) -> bool
     requires fits { F.fits r.old.feed (F.device dev.old).files }
 {
-    for number in 0..8 * wanted.len() {
-        let place = r.place();
-        if place > 1 << 40 {
-            return false;
-        }
-        if number % 3 == 0 {
-            let _ = r.bits(dev, 16);
-            r.seek(place);
-        }
-        let bit = wanted[number / 8] >> (7 - number % 8) & 1 == 1;
-        if r.bit(dev) != Ok(bit) {
-            return false;
+    for byte in wanted {
+        for down in 0..8u32 {
+            let place = r.place();
+            if place > 1 << 40 {
+                return false;
+            }
+            if place % 3 == 0 {
+                let _ = r.bits(dev, 16);
+                r.seek(place);
+            }
+            if r.bit(dev) != Ok(byte >> (7 - down) & 1 == 1) {
+                return false;
+            }
         }
     }
     true
