@@ -2,6 +2,7 @@ pub mod Feed
 pub mod Pages
 pub mod FeedLaws
 pub mod Keeping
+pub mod Reading
 pub mod Reader
 pub mod CodeAnswers
 pub mod Writer

@@ -3,22 +3,36 @@ ghost use Rattle.std.specs.Prelude.{◌≡◌, ◌+◌, ◌-◌, ◌*◌, ◌/�
 ghost use Rattle.mg_dev.specs.Files.{Files};
 ghost use Rattle.mg_bits.specs.Feed.{HasBits, HoldsBits, Read, ReadPart, page_of};
 ghost use Rattle.mg_defs.specs.Bits.{Begins, FromPlace, digits};
-ghost use Rattle.mg_bits.specs.Keeping.{IsKept, Keeps};
+ghost use Rattle.mg_bits.specs.Keeping.{Keeps};
 ghost use Rattle.mg_bits.specs.Reader.{AnswersBit, AnswersBits, AnswersPiece, DeviceCause, EndHolds, at_place};
 
-use crate::kept_byte::KeptByte;
+use crate::kept_bits::KeptBits;
 use crate::{BitErr, Feed};
+use std::marker::Model;
 
 /// Reads bits, the highest of each byte first.
 ///
-/// It keeps the byte in which it read a bit last, so that `bit` asks the feed once for the eight bits
-/// of a byte. The kept byte is one of the page that the feed holds, whatever device the feed reads.
+/// It keeps bits of the page that its feed holds, so that `bit` asks the feed once for 64 bits, and
+/// once for eight where the page ends within the next 64. They are bits of that page whatever
+/// device the feed reads, and a call that may turn the page forgets them.
 #[derive(Drop)]
 pub struct BitReader<F: Feed> {
     feed: F,
     place: u64,
-    kept: Option<KeptByte>,
-    ghost keeps: { Keeps (F.feeding feed) (F.fits feed) kept },
+    kept: KeptBits,
+}
+
+impl<F: Feed> Model for BitReader<F> {
+    ghost use Rattle.mg_bits.specs.Keeping.{Keeps};
+    ghost use Rattle.mg_bits.specs.Reading.{Reading, reading_code};
+
+    ghost Value = { Reading F };
+
+    ghost coded = { reading_code F.code };
+
+    ghost view = { λ r. record { feed = r.feed; place = r.place } };
+
+    ghost invariant = { λ r. Keeps (F.feeding r.feed) (F.fits r.feed) r.kept };
 }
 
 impl<F: Feed> BitReader<F> {
@@ -29,7 +43,7 @@ impl<F: Feed> BitReader<F> {
         BitReader {
             feed,
             place,
-            kept: None,
+            kept: KeptBits::none(),
         }
     }
 
@@ -79,7 +93,7 @@ impl<F: Feed> BitReader<F> {
         ensures cause { DeviceCause result (F.device dev.old).faults (F.device dev.new).faults }
     {
         let place = self.place;
-        self.kept = None;
+        self.kept = KeptBits::none();
         match self.feed.byte(dev, place / 8) {
             Err(_) => Err(BitErr::Device),
             Ok(None) => Err(BitErr::End { at: place }),
@@ -111,7 +125,7 @@ impl<F: Feed> BitReader<F> {
         }
         match self.peek() {
             Some(next) => {
-                self.place += u64::from(count);
+                self.seek(self.place() + u64::from(count));
                 Ok(first_of(next, count))
             }
             None => self.bits_by_bytes(dev, count),
@@ -133,15 +147,15 @@ impl<F: Feed> BitReader<F> {
             (EndHolds result (F.feeding self.old.feed).page self.old.place count (F.feeding self.new.feed).held) }
         ensures cause { DeviceCause result (F.device dev.old).faults (F.device dev.new).faults }
     {
-        let start = self.place;
+        let start = self.place();
         let mut value = 0u64;
         let mut done = 0u32;
         while done < count {
-            let room = 8 - (self.place % 8) as u32;
+            let room = 8 - (self.place() % 8) as u32;
             let size = room.min(count - done);
             match self.piece(dev, size) {
                 Err(refusal) => {
-                    self.place = start;
+                    self.seek(start);
                     return Err(at_start(refusal, start));
                 }
                 Ok(more) => {
@@ -191,36 +205,15 @@ impl<F: Feed> BitReader<F> {
         }
     }
 
-    /// Keeps the byte of the next bit, where the page that is held has it.
+    /// Keeps the bits of the next bit's byte, and of those behind it, that the page that is held has.
     fn keep(&mut self)
         ensures feed { self.new.feed ≡ self.old.feed }
         ensures place { self.new.place ≡ self.old.place }
     {
-        let at = self.place / 8;
-        self.kept = match self.feed.held_byte(at) {
-            Some(byte) => Some(KeptByte { at, byte }),
-            None => None,
-        };
+        self.kept = bits_at(&self.feed, self.place / 8);
     }
 
-    /// The byte of the next bit, where it is kept.
-    #[inline]
-    fn kept_byte(&self) -> Option<u8>
-        ensures { IfSome result (λ byte. IsKept (F.feeding self.now.feed) (F.fits self.now.feed) (self.now.place / 8) byte) }
-    {
-        match self.kept {
-            Some(kept) => {
-                if kept.at == self.place / 8 {
-                    Some(kept.byte)
-                } else {
-                    None
-                }
-            }
-            None => None,
-        }
-    }
-
-    /// The next bit, where its byte is kept.
+    /// The next bit, where it is kept.
     #[inline]
     fn kept_bit(&mut self) -> Option<bool>
         requires place { self.old.place + 1 < 2 ^ 64 }
@@ -230,14 +223,37 @@ impl<F: Feed> BitReader<F> {
         ensures some { OnSome result (self.new.place ≡ self.old.place + 1) }
         ensures none { IfNone result (self.new.place ≡ self.old.place) }
     {
-        match self.kept_byte() {
-            Some(byte) => {
-                let rest = 7 - (self.place % 8) as u32;
-                self.place += 1;
-                Some(field(byte, rest, 1) == 1)
-            }
-            None => None,
+        let place = self.place;
+        let kept = self.kept;
+        if place < kept.start || place - kept.start >= u64::from(kept.count) {
+            return None;
         }
+        let behind = kept.count - 1 - (place - kept.start) as u32;
+        self.place = place + 1;
+        Some((kept.word >> behind) % 2 == 1)
+    }
+}
+
+/// The bits of eight bytes from a place on, or else those of one, where the page that is held has them.
+fn bits_at<F: Feed>(feed: &F, at: u64) -> KeptBits
+    requires { 8 * at < 2 ^ 64 }
+    ensures { Keeps (F.feeding feed.now) (F.fits feed.now) result }
+{
+    let start = 8 * at;
+    if let Some(word) = feed.word(at) {
+        return KeptBits {
+            start,
+            count: 64,
+            word,
+        };
+    }
+    match feed.held_byte(at) {
+        Some(byte) => KeptBits {
+            start,
+            count: 8,
+            word: u64::from(byte),
+        },
+        None => KeptBits::none(),
     }
 }
 

@@ -11,7 +11,7 @@ mod bit_reader;
 mod bit_writer;
 mod code_err;
 mod feed;
-mod kept_byte;
+mod kept_bits;
 mod page_feed;
 mod page_writer;
 mod slice_feed;

@@ -104,9 +104,9 @@ fn a_bit_of_a_page_that_was_turned_is_read_again(rt: HostRuntime) -> Result<(), 
     let mut store = SureStore::new(alloc);
     store.put_file("x.text", &bytes)?;
     let mut r = BitReader::new(PageFeed::new(alloc, TEXT)?, 8 * 81);
-    for bit in [false, true, false] {
-        assert_eq!(rt; r.bit(&mut store), Ok(bit));
-    }
+    assert_eq!(rt; r.bit(&mut store), Ok(false));
+    assert_eq!(rt; r.bit(&mut store), Ok(true));
+    assert_eq!(rt; r.bit(&mut store), Ok(false));
     assert_eq!(rt; store.reads_of(Part::Text), 1);
     r.seek(8 * 4096);
     assert_eq!(rt; r.bits(&mut store, 8), Ok(4096 % 251));

@@ -5,8 +5,9 @@ use Rattle.mg_bits.proofs.bit_reader.BitReader.bits.Goals as goal
 
 pub returns-in-Some-clause-read : goal.returns-in-Some-clause-read
 returns-in-Some-clause-read g c =
-    read_held _ _ c.args.self.now.place c.args.count (omega arith)
-    (holds_inside _ c.args.self.now.place c.args.self.now.place 57 c.args.count (g.met.F.Feed.whole_pages c.args.self.now.feed).some (omega arith) (omega arith) (omega arith) c.in-Some.ensures.held)
+    rw c.seek.ensures.feed
+    (read_held _ _ c.args.self.now.place c.args.count (omega arith)
+    (holds_inside _ c.args.self.now.place c.args.self.now.place 57 c.args.count (g.met.F.Feed.whole_pages c.args.self.now.feed).some (omega arith) (omega arith) (omega arith) c.in-Some.ensures.held))
 
 pub returns-in-Some-clause-told : goal.returns-in-Some-clause-told
 returns-in-Some-clause-told g c =

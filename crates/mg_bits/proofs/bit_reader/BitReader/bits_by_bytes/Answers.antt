@@ -16,13 +16,14 @@ loop-done-init g c = record {
 
 pub returns-in-Err-clause-part : goal.returns-in-Err-clause-part
 returns-in-Err-clause-part g c =
-    part_step _ _ _ _ _ _ c.args.self.now.place c.loop-done.done c.min-size.result c.loop-done.self.place c.args.count
+    rw c.seek.ensures.feed
+    (part_step _ _ _ _ _ _ c.args.self.now.place c.loop-done.done c.min-size.result c.loop-done.self.place c.args.count
     (g.met.F.Feed.whole_pages c.args.self.now.feed).some c.loop-done.invariant.place (omega arith)
-    c.loop-done.invariant.read c.in-Err.ensures.part
+    c.loop-done.invariant.read c.in-Err.ensures.part)
 
 pub returns-in-Err-clause-told : goal.returns-in-Err-clause-told
 returns-in-Err-clause-told g c =
-    rw c.at_start.ensures
+    rw (c.at_start.ensures, c.place-start.ensures)
     (told_refused _ c.in-Err.refusal c.args.self.now.place c.loop-done.done c.loop-done.self.place c.min-size.result c.args.count (omega arith)
     c.loop-done.invariant.place
     (rw (same_told _ _ _ _ c.loop-done.invariant.read.calm) at c.in-Err.ensures.told))
@@ -44,7 +45,7 @@ loop-done-preserved g c = record {
 
 pub returns-in-Err-clause-end : goal.returns-in-Err-clause-end
 returns-in-Err-clause-end g c =
-    rw c.at_start.ensures
+    rw (c.at_start.ensures, c.place-start.ensures, c.seek.ensures.feed)
     (told_end _ c.in-Err.refusal (g.F.Feed.feeding c.args.self.now.feed).page c.args.self.now.place c.loop-done.done c.loop-done.self.place c.min-size.result c.args.count
     (g.F.Feed.feeding c.args.self.now.feed).held (g.F.Feed.feeding c.loop-done.self.feed).held _
     (g.met.F.Feed.whole_pages c.args.self.now.feed).some (omega arith) c.loop-done.invariant.place
