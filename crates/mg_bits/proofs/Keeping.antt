@@ -1,5 +1,5 @@
 -- What kept bits tell of the bit at a place.
-use Rattle.std.proofs.Common.{arith, ◌≡◌, ◌+◌, ◌*◌, ◌-◌, ◌/◌, ◌%◌, ◌^◌, ◌<◌, ℕ, List, [], ◌∷◌, ◌++◌, length, drop, None, Some, IfSome, sym, ◌∙◌, ap, subst, slice_get, nat_eq}
+use Rattle.std.proofs.Common.{arith, ◌≡◌, ◌+◌, ◌*◌, ◌-◌, ◌/◌, ◌%◌, ◌^◌, ℕ, List, [], ◌∷◌, ◌++◌, length, drop, None, Some, IfSome, sym, ◌∙◌, ap, subst, slice_get, nat_eq}
 use Rattle.std.specs.declared.option.Option.{Option}
 use Rattle.std.proofs.lemmas.List.{drop-drop}
 use Rattle.mg_defs.specs.Bits.{Begins, FromPlace, bits_of, digits}
