@@ -185,9 +185,8 @@ impl<F: Feed> BitReader<F> {
         }
     }
 
-    /// The next bit, of a byte that is not kept yet. It stands apart so that `bit` is short where the
-    /// byte is kept.
-    #[inline(never)]
+    /// The next bit, where it is not kept yet.
+    #[inline]
     fn bit_of_feed(&mut self, dev: &mut F::Dev) -> Result<bool, BitErr>
         requires fits { F.fits self.old.feed (F.device dev.old).files }
         requires place { self.old.place + 1 < 2 ^ 64 }
