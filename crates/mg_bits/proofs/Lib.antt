@@ -8,3 +8,4 @@ pub mod Fills
 pub mod Kept
 pub mod Walks
 pub mod EightBytes
+pub mod ByteLaws
