@@ -1,14 +1,16 @@
 -- Bytes, by their bits and through writes.
-use Rattle.std.proofs.Common.{arith, ◌≡◌, ◌<◌, ◌^◌, ◌++◌, inl, inr, ℕ, List, [], ◌∷◌, length, take, Ok, Err, unwrap_or, IsSome, refl, sym, ◌∙◌, ap, subst, length-append, get_or, Fits, w8}
+use Rattle.std.proofs.Common.{arith, ◌≡◌, ◌<◌, ◌^◌, ◌++◌, inl, inr, ℕ, zero, suc, true, false, List, [], ◌∷◌, length, take, drop, replicate, Ok, Err, unwrap_or, IsSome, refl, sym, ◌∙◌, ap, subst, append-nil, length-append, length-take-le, pow-suc, get_or, Fits, w8}
 use Rattle.std.specs.declared.option.Option.{Option}
 use Rattle.std.specs.declared.result.Result.{Result}
 use Rattle.std.proofs.Math.Seq.{take-append_seam}
 use Rattle.std.proofs.lemmas.List.{append_cancel_left}
-use Rattle.std.proofs.lemmas.List.Elements.{All-head, All-tail, All-append, All-take, All-from_get_or}
+use Rattle.std.proofs.lemmas.List.Elements.{All-nil, All-cons, All-head, All-tail, All-append, All-take, All-from_get_or}
 use Rattle.mg_dev.specs.Files.{Files, AfterAppend, GrewInPart, bytes_at, grown}
 use Rattle.mg_dev.specs.Laws.{file_at-written}
-use Rattle.mg_defs.specs.Bits.{Bits, bits_of, digits}
-use Rattle.mg_defs.proofs.BitLaws.{length_digits, digits_same}
+use Rattle.mg_defs.specs.Bits.{Bits, bits_of, digits, filled, number, to_byte}
+use Rattle.mg_defs.specs.CodedText.{as_bytes, bytes_upto}
+use Rattle.mg_defs.proofs.BitLaws.{length_bits_of, length_digits, digits_same}
+use Rattle.mg_defs.proofs.CodedTextLaws.{bits-of_as_bytes}
 use Rattle.mg_bits.specs.Writer.{AreBytes, KeepsBytes}
 
 -- ---- bytes and their bits
@@ -32,6 +34,38 @@ same_bytes (x ∷ a) (y ∷ b) fits also same =
     let byte : x ≡ y = omega (arith, digits_same 8 x y front, low, low_too) in
     let rest : bits_of a ≡ bits_of b = append_cancel_left (digits 8 y) (bits_of a) (bits_of b) (ap (λ d. d ++ bits_of a) (sym front) ∙ same) in
     ap (λ n. n ∷ a) byte ∙ ap (λ l. y ∷ l) (same_bytes a b (All-tail (λ byte. byte < 2 ^ 8) x a fits) (All-tail (λ byte. byte < 2 ^ 8) y b also) rest)
+
+number_below : (bits : Bits) → number bits < 2 ^ length bits
+unfolding number
+number_below [] = omega arith
+number_below (true ∷ bits) = rw (pow-suc 2 (length bits)) (omega (arith, number_below bits))
+number_below (false ∷ bits) = rw (pow-suc 2 (length bits)) (omega (arith, number_below bits))
+
+eight_below : (bits : Bits) → length bits ≡ 8 → number bits < 2 ^ 8
+eight_below bits long = subst (λ n. number bits < 2 ^ n) long (number_below bits)
+
+upto_are_bytes : (n : ℕ) (bits : Bits) → AreBytes (bytes_upto n bits)
+upto_are_bytes zero bits = All-nil (λ byte. byte < 2 ^ 8)
+upto_are_bytes (suc n) [] = All-nil (λ byte. byte < 2 ^ 8)
+upto_are_bytes (suc n) (b ∷ bits) =
+    let long : length (take 8 (b ∷ bits ++ replicate 7 false)) ≡ 8 = length-take-le 8 (b ∷ bits ++ replicate 7 false) (omega (arith, length-append bits (replicate 7 false))) in
+    All-cons (λ byte. byte < 2 ^ 8) (number (take 8 (b ∷ bits ++ replicate 7 false))) (bytes_upto n (drop 7 bits)) (eight_below (take 8 (b ∷ bits ++ replicate 7 false)) long) (upto_are_bytes n (drop 7 bits))
+
+-- bits as bytes
+pub bits_are_bytes : (bits : Bits) → AreBytes (as_bytes bits)
+unfolding as_bytes
+bits_are_bytes bits = upto_are_bytes (length bits) bits
+
+whole_bytes : (bytes : List ℕ) → filled (bits_of bytes) ≡ bits_of bytes
+unfolding filled digits
+whole_bytes bytes =
+    let none : to_byte (length (bits_of bytes)) ≡ 0 = omega (arith, length_bits_of bytes) in
+    rw none (append-nil (bits_of bytes))
+
+-- bytes are those of their bits
+pub bytes_again : (bytes : List ℕ) → AreBytes bytes → as_bytes (bits_of bytes) ≡ bytes
+bytes_again bytes fits =
+    same_bytes (as_bytes (bits_of bytes)) bytes (bits_are_bytes (bits_of bytes)) fits (bits-of_as_bytes (bits_of bytes) ∙ whole_bytes bytes)
 
 -- ---- writes
 

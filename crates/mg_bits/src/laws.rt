@@ -2,13 +2,16 @@
 ghost use Rattle.std.specs.Prelude.{◌≡◌, ℕ, List, Option};
 ghost use Rattle.std.specs.Option.{is_some};
 ghost use Rattle.mg_dev.specs.Files.{Files, file_at};
-ghost use Rattle.mg_defs.specs.Bits.{bits_of};
+ghost use Rattle.mg_defs.specs.Bits.{Bits, bits_of};
+ghost use Rattle.mg_defs.specs.CodedText.{as_bytes};
 ghost use Rattle.mg_bits.specs.Writer.{AreBytes};
 ghost use Rattle.mg_bits.specs.BitWriting.{BitWriting, Holds, bits_put};
 
-/// Bytes of the same bits are the same.
+/// Bytes of the same bits are the same, and bytes are those that their bits make.
 pub fn bits_tell_bytes()
-    ensures { (a b : List ℕ) → AreBytes a → AreBytes b → bits_of a ≡ bits_of b → a ≡ b }
+    ensures same { (a b : List ℕ) → AreBytes a → AreBytes b → bits_of a ≡ bits_of b → a ≡ b }
+    ensures made { (bytes : List ℕ) → AreBytes bytes → as_bytes (bits_of bytes) ≡ bytes }
+    ensures bytes { (bits : Bits) → AreBytes (as_bytes bits) }
 {}
 
 /// What was written to a file stays, and its writer may write on, where that file stays: calls that
