@@ -1,12 +1,12 @@
 -- What bytes and bits written are of the file and the buffer.
-use Rattle.std.proofs.Common.{arith, ◌≡◌, ◌+◌, ◌*◌, ◌/◌, ◌%◌, ◌≤◌, ◌<◌, ◌-◌, ◌^◌, ℕ, List, [], ◌∷◌, ◌++◌, length, refl, sym, ◌∙◌, ap, length-append, append_assoc, append-nil, IsSome, is_some}
+use Rattle.std.proofs.Common.{arith, ◌≡◌, ◌+◌, ◌*◌, ◌/◌, ◌%◌, ◌≤◌, ◌<◌, ◌-◌, ◌^◌, ℕ, List, [], ◌∷◌, ◌++◌, length, refl, sym, ◌∙◌, ap, subst, length-append, append_assoc, append-nil, IsSome, is_some, unwrap_or}
 use Rattle.std.specs.declared.option.Option.{Option}
 use Rattle.std.proofs.lemmas.Nat.{shr_split, shr-shr, mod_below}
 use Rattle.std.proofs.Math.Pow.{pow_pos}
-use Rattle.mg_dev.specs.Files.{Files, Reads, bytes_at}
+use Rattle.mg_dev.specs.Files.{Files, Reads, bytes_at, file_at}
 use Rattle.mg_defs.specs.Bits.{Bits, digits, bits_of}
 use Rattle.mg_defs.proofs.BitLaws.{length_digits, digits_append, bits_of_append}
-use Rattle.mg_bits.specs.Writer.{Writing, put_to, Wrote, WroteTo}
+use Rattle.mg_bits.specs.Writer.{Writing, put_to, AreBytes, KeepsBytes, Wrote, WroteTo}
 use Rattle.mg_bits.specs.BitWriting.{BitWriting, Holds, WroteBits, bits_put}
 
 -- eight bits more than were held go out as a byte
@@ -68,11 +68,24 @@ bits_more f0 f1 f2 w0 w1 w2 a b told one two = record {
 pub bits_none : (f : Option Files) (w : BitWriting) → WroteBits w w f f []
 bits_none f w = record { name = refl; place = omega arith; told = λ t. sym (append-nil (bits_put w f)) }
 
-pub holds_kept : (f0 f1 : Option Files) (w0 w1 : BitWriting) (a : Bits) → is_some f1 ≡ is_some f0 → WroteBits w0 w1 f0 f1 a → Holds w0 f0 → Holds w1 f1
-holds_kept f0 f1 w0 w1 a told wrote holds = record {
+pub holds_kept : (f0 f1 : Option Files) (w0 w1 : BitWriting) (a : Bits) → is_some f1 ≡ is_some f0 → WroteBits w0 w1 f0 f1 a → KeepsBytes w0.name f0 f1 → Holds w0 f0 → Holds w1 f1
+holds_kept f0 f1 w0 w1 a told wrote keeps holds = record {
   count = λ t.
       let back : IsSome f0 = sym told ∙ t in
       omega (arith, ap length (wrote.told back), length-append (bits_put w0 f0) a, holds.count back, wrote.place);
+  bytes = λ t.
+      let back : IsSome f0 = sym told ∙ t in
+      subst (λ n. AreBytes (bytes_at f1 n)) (sym wrote.name) (keeps.bytes back (holds.bytes back));
+}
+
+-- what was written stays where its file stays
+pub bits_stay : (w : BitWriting) (f g : Option Files) → file_at g w.name ≡ file_at f w.name → bits_put w g ≡ bits_put w f
+bits_stay w f g same = ap (λ o. bits_of (unwrap_or o []) ++ w.buffered) same
+
+pub holds_stay : (w : BitWriting) (f g : Option Files) → is_some g ≡ is_some f → file_at g w.name ≡ file_at f w.name → Holds w f → Holds w g
+holds_stay w f g told same holds = record {
+  count = λ t. ap length (bits_stay w f g same) ∙ holds.count (sym told ∙ t);
+  bytes = λ t. subst (λ o. AreBytes (unwrap_or o [])) (sym same) (holds.bytes (sym told ∙ t));
 }
 
 -- a number in two pieces

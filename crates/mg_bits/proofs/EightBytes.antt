@@ -74,7 +74,7 @@ drop_bits (suc at) (byte ∷ bytes) =
 -- ---- on a page
 
 -- the bytes of a page from an index on are the first ones of the file from that place on
-page_from : (size number index at : ℕ) (file : List ℕ) → index ≤ size → size * number + index ≡ at → drop index (take size (drop (size * number) file)) ≡ take (size - index) (drop at file)
+pub page_from : (size number index at : ℕ) (file : List ℕ) → index ≤ size → size * number + index ≡ at → drop index (take size (drop (size * number) file)) ≡ take (size - index) (drop at file)
 page_from size number index at file within place =
     let e : index + (size - index) ≡ size = omega arith in
     ap (λ n. drop index (take n (drop (size * number) file))) (sym e) ∙ drop-take index (size - index) (drop (size * number) file)

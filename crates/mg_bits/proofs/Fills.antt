@@ -1,12 +1,18 @@
 -- Bytes that are read one after the other into a buffer.
-use Rattle.std.proofs.Common.{arith, ◌≡◌, ◌+◌, ◌*◌, ◌/◌, ◌<◌, ℕ, List, [], ◌∷◌, ◌++◌, length, take, drop, set, Some, slice_get, sym, ◌∙◌, ap, subst}
+use Rattle.std.proofs.Common.{arith, zero, suc, ◌≡◌, ◌+◌, ◌-◌, ◌*◌, ◌/◌, ◌%◌, ◌≤◌, ◌<◌, ℕ, List, [], ◌∷◌, ◌++◌, length, take, drop, set, Some, slice_get, sym, ◌∙◌, ap, subst, length-take, length-drop}
 use Rattle.std.specs.declared.option.Option.{Option}
-use Rattle.std.proofs.lemmas.List.{take_more, take_more_set}
+use Rattle.std.specs.List.{slice_range}
+use Rattle.std.proofs.Math.Nat.{div-add-mod}
+use Rattle.std.proofs.Math.Seq.{take-add}
+use Rattle.std.proofs.lemmas.Slice.{take-put_mid}
+use Rattle.std.proofs.lemmas.List.{drop-drop, drop-take, take-take, take_more, take_more_set}
+use borrow.Rule.Slice.PartMut.{put_mid}
 use Rattle.std.proofs.lemmas.Option.{slice_get_within, get_or_from_slice_get}
-use Rattle.mg_bits.specs.Feed.{Feeding, Device, Calm, Read, ReadPart, ReadsWithin, page_of}
+use Rattle.mg_bits.specs.Feed.{Feeding, Device, Calm, HoldsBits, Read, ReadPart, ReadsWithin, page_of}
 use Rattle.mg_dev.specs.declared.part.Part.{Part}
 use Rattle.mg_dev.specs.Files.{Files, Reads}
-use Rattle.mg_bits.specs.Pages.{Looked}
+use Rattle.mg_bits.specs.Pages.{IsPageIn, Looked}
+use Rattle.mg_bits.proofs.EightBytes.{page_from, read_held}
 use Rattle.mg_bits.proofs.Places.{slice_get-drop}
 use Rattle.mg_bits.proofs.Ranges.{within_piece, held_piece, read_more, part_more, part_wider}
 
@@ -16,6 +22,30 @@ filled_more buf bytes at i byte within before is =
     let there : slice_get (drop at bytes) i ≡ Some byte = slice_get-drop at bytes i ∙ sym is in
     let short : i < length (drop at bytes) = slice_get_within (drop at bytes) i byte there in
     take_more_set buf i byte within ∙ ap (λ r. r ++ byte ∷ []) before ∙ ap (λ b. take i (drop at bytes) ++ b ∷ []) (sym (get_or_from_slice_get (drop at bytes) i byte byte there)) ∙ sym (take_more (drop at bytes) i byte short)
+
+-- bytes of a page, copied behind the first ones of a buffer
+pub page_copied : (size : ℕ) (held : Option ℕ) (items buf piece file : List ℕ) (kept at index from count : ℕ) → 0 < size → held ≡ Some (at / size) → index ≡ at % size → IsPageIn size held (take kept items) file →
+    kept ≤ size → kept ≤ length items → index + count ≤ kept → from + count ≤ length buf → piece ≡ slice_range items index (index + count) →
+    take (from + count) (put_mid from (from + count - from) buf piece) ≡ take from buf ++ take count (drop at file)
+page_copied size held items buf piece file kept at index from count some is offset agrees short long within room copied =
+    let here : take kept items ≡ take size (drop (size * (at / size)) file) = subst (λ h. IsPageIn size h (take kept items) file) is agrees in
+    let below : index ≤ size = omega arith in
+    let place : size * (at / size) + index ≡ at = rw offset (div-add-mod at size) in
+    let left : index + (kept - index) ≡ kept = omega arith in
+    let of_page : drop index (take kept items) ≡ take (kept - index) (drop index items) = ap (λ n. drop index (take n items)) (sym left) ∙ drop-take index (kept - index) items in
+    let of_file : drop index (take kept items) ≡ take (size - index) (drop at file) = ap (drop index) here ∙ page_from size (at / size) index at file below place in
+    let n : index + count - index ≡ count = omega arith in
+    let piece_is : piece ≡ take count (drop at file) =
+    copied ∙ ap (λ k. take k (drop index items)) n ∙ sym (take-take count (kept - index) (drop index items) (omega arith)) ∙ ap (take count) (sym of_page ∙ of_file)
+    ∙ take-take count (size - index) (drop at file) (omega arith) in
+    let size_is : length piece ≡ count = ap length copied ∙ length-take (index + count - index) (drop index items) ∙ omega (arith, length-drop index items) in
+    take-put_mid from (from + count - from) buf piece (from + count) (omega arith) (omega arith) ∙ ap (λ l. take from buf ++ l) piece_is
+
+-- what was copied behind the first bytes
+pub filled_on : (old buf bytes : List ℕ) (at i n p q : ℕ) → p ≡ at + i → q ≡ i + n → take q buf ≡ take i old ++ take n (drop p bytes) → take i old ≡ take i (drop at bytes) → take q buf ≡ take q (drop at bytes)
+filled_on old buf bytes at i n p q here next copied before =
+    copied ∙ ap (λ l. l ++ take n (drop p bytes)) before ∙ ap (λ k. take i (drop at bytes) ++ take n (drop k bytes)) here
+    ∙ ap (λ l. take i (drop at bytes) ++ take n l) (sym (drop-drop i at bytes)) ∙ sym (take-add i n (drop at bytes)) ∙ ap (λ k. take k (drop at bytes)) (sym next)
 
 -- the pages of a byte are those of its first bit
 pub byte_within : (f0 f1 : Feeding) (d0 d1 : Device) (at : ℕ) → ReadsWithin f0 f1 d0 d1 (8 * at) (8 * at + 1) → ReadsWithin f0 f1 d0 d1 (8 * at) (8 * at + 8)
@@ -31,6 +61,18 @@ byte_read f0 f1 f2 d0 d1 d2 at i p q some here next before calm within held =
     subst (Read f0 f2 d0 d2 (8 * at)) e
     (read_more f0 f1 f2 d0 d1 d2 (8 * at) (8 * p) (8 * p + 8) some (omega arith) (omega arith) before
     (record { calm = calm; pages = byte_within f1 f2 d1 d2 p within; held = held ∙ sym (held_piece f1.page f1.held (8 * p) 8 (omega arith) (omega arith)) }))
+
+-- bytes that were copied from the page that is held after those before them
+pub copied_read : (f0 f1 : Feeding) (d0 d1 : Device) (at i p q n : ℕ) → 0 < f0.page → p ≡ at + i → q ≡ at + (i + n) → Read f0 f1 d0 d1 (8 * at) (8 * p) →
+    (0 < n → HoldsBits f1 (8 * p) (8 * n)) → Read f0 f1 d0 d1 (8 * at) (8 * q)
+copied_read f0 f1 d0 d1 at i p q zero some here next before holds =
+    let e : 8 * p ≡ 8 * q = omega arith in
+    subst (Read f0 f1 d0 d1 (8 * at)) e before
+copied_read f0 f1 d0 d1 at i p q (suc n) some here next before holds =
+    let e : 8 * p + 8 * suc n ≡ 8 * q = omega arith in
+    subst (Read f0 f1 d0 d1 (8 * at)) e
+    (read_more f0 f1 f1 d0 d1 d1 (8 * at) (8 * p) (8 * p + 8 * suc n) some (omega arith) (omega arith) before
+    (read_held f1 d1 (8 * p) (8 * suc n) (omega arith) (holds (omega arith))))
 
 -- a byte that was not read after those before it
 pub byte_part : (f0 f1 f2 : Feeding) (d0 d1 d2 : Device) (at i p q n : ℕ) → 0 < f0.page → p ≡ at + i → q ≡ at + n → i < n → Read f0 f1 d0 d1 (8 * at) (8 * p) →

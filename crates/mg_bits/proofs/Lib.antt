@@ -9,3 +9,4 @@ pub mod Kept
 pub mod Keeping
 pub mod Walks
 pub mod EightBytes
+pub mod ByteLaws

@@ -4,6 +4,7 @@ use Rattle.std.specs.Option.{IsSome}
 use Rattle.std.specs.declared.option.Option.{Option}
 use Rattle.mg_dev.specs.Files.{Files, bytes_at}
 use Rattle.mg_defs.specs.Bits.{Bits, bits_of}
+use Rattle.mg_bits.specs.Writer.{AreBytes}
 
 -- a bit writer: the full name of its file, the bits that it still holds, and how many were written
 pub record BitWriting : Type 0 where
@@ -15,9 +16,10 @@ pub record BitWriting : Type 0 where
 abbrev pub bits_put : BitWriting → Option Files → Bits
 bits_put w files = bits_of (bytes_at files w.name) ++ w.buffered
 
--- the place is the number of the bits written, where the files are told
+-- where the files are told, the place is the number of the bits written, and the file's numbers are bytes
 pub record Holds (w : BitWriting) (files : Option Files) : Type 0 where
   pub count : IsSome files → length (bits_put w files) ≡ w.place
+  pub bytes : IsSome files → AreBytes (bytes_at files w.name)
 
 -- these bits were written
 pub record WroteBits (old new : BitWriting) (files_before files_now : Option Files) (bits : Bits) : Type 0 where

@@ -4,7 +4,7 @@ ghost use Rattle.mg_dev.specs.Names.{full_name};
 ghost use Rattle.mg_dev.specs.Files.{bytes_at};
 ghost use Rattle.mg_dev.specs.Causes.{HasPutCause};
 ghost use Rattle.mg_defs.specs.Bits.{digits, bits_of};
-ghost use Rattle.mg_bits.specs.Writer.{WroteTo};
+ghost use Rattle.mg_bits.specs.Writer.{KeepsBytes, WroteTo};
 ghost use Rattle.mg_bits.specs.BitWriting.{Holds, WroteBits, bits_put, to_byte};
 
 use crate::PageWriter;
@@ -124,6 +124,7 @@ impl<'a> BitWriter<'a> {
         ensures bits { OnOk result (WroteBits self.old self.new (S.files store.old) (S.files store.new) []) }
         ensures nothing { OnOk result (self.new.buffered ≡ []) }
         ensures name { self.new.name ≡ self.old.name }
+        ensures still { KeepsBytes self.old.name (S.files store.old) (S.files store.new) }
         ensures wrote { WroteTo self.old.name (S.files store.old) (S.files store.new) (S.reads store.old) (S.reads store.new) }
         ensures cause { HasPutCause (S.faults store.old) (S.faults store.new) result }
     {
@@ -139,6 +140,7 @@ impl<'a> BitWriter<'a> {
         requires bits { bits < 2 ^ size }
         ensures bits { OnOk result (WroteBits self.old self.new (S.files store.old) (S.files store.new) (digits size bits)) }
         ensures name { self.new.name ≡ self.old.name }
+        ensures still { KeepsBytes self.old.name (S.files store.old) (S.files store.new) }
         ensures wrote { WroteTo self.old.name (S.files store.old) (S.files store.new) (S.reads store.old) (S.reads store.new) }
         ensures cause { HasPutCause (S.faults store.old) (S.faults store.new) result }
     {

@@ -1,7 +1,7 @@
 // A feed over a file, through one page of 4,096 bytes.
-ghost use Rattle.std.specs.Prelude.{◌≡◌, ◌≤◌, ◌<◌, ◌+◌, ◌*◌, ◌^◌, Option, Some, None, IfOk, IfSome, OnSome, slice_get, length, IsSome, true};
+ghost use Rattle.std.specs.Prelude.{◌≡◌, ◌≤◌, ◌<◌, ◌+◌, ◌*◌, ◌^◌, ◌++◌, Option, Some, None, IfOk, IfSome, OnSome, slice_get, take, drop, length, IsSome, true};
 ghost use Rattle.std.proofs.Common.{rules};
-ghost use Rattle.mg_dev.specs.Files.{Files, bytes_at};
+ghost use Rattle.mg_dev.specs.Files.{Files, SameReads, bytes_at};
 ghost use Rattle.mg_dev.specs.Names.{full_name};
 ghost use Rattle.mg_dev.specs.Causes.{HasCause};
 ghost use Rattle.mg_defs.specs.Bits.{Begins, FromPlace, digits};
@@ -142,6 +142,7 @@ impl<'a, S: Store> PageFeed<'a, S> {
     pub fn size(&mut self, store: &mut S) -> Result<u64, Failed>
         ensures same { self.new ≡ self.old }
         ensures looked { Looked self.old.part (S.files store.old) (S.files store.new) (S.reads store.old) (S.reads store.new) (S.faults store.old) (S.faults store.new) }
+        ensures reads { SameReads (S.reads store.old) (S.reads store.new) }
         ensures told { IsSome (S.files store.old) → IfOk result (λ size. size ≡ length (bytes_at (S.files store.old) self.old.name)) }
         ensures cause { HasCause (S.faults store.old) (S.faults store.new) result }
     {
@@ -179,16 +180,38 @@ impl<'a, S: Store> PageFeed<'a, S> {
         ensures held { IfOk result (λ whole. whole ≡ true → self.new.held ≡ held_after 4096 self.old.held (8 * at) (8 * (at + length buf.old))) }
         ensures cause { HasCause (S.faults store.old) (S.faults store.new) result }
     {
-        for i in 0..buf.len() {
-            match self.byte(store, at + i as u64) {
+        let mut done = 0;
+        while done < buf.len() {
+            match self.byte(store, at + done as u64) {
                 Ok(Some(byte)) => {
-                    buf[i] = byte;
+                    buf[done] = byte;
+                    done += 1;
+                    done += self.copy_held(at + done as u64, buf, done);
                 }
                 Ok(None) => return Ok(false),
                 Err(failed) => return Err(failed),
             }
         }
         Ok(true)
+    }
+
+    /// Copies the bytes that the page that is held has from a place on, behind the first `from` of the
+    /// buffer. Answers how many: none where the page has not the place, fewer than there is room for
+    /// where the page ends.
+    fn copy_held(&self, at: u64, buf: &mut [u8], from: usize) -> usize
+        requires from { from ≤ length buf.old }
+        ensures length { length buf.new ≡ length buf.old }
+        ensures within { from + result ≤ length buf.old }
+        ensures told { (files : Option Files) → Fits self.now files → IsSome files → take (from + result) buf.new ≡ take from buf.old ++ take result (drop at (bytes_at files self.now.name)) }
+        ensures held { 0 < result → HoldsBits (feeding_of 4096 self.now) (8 * at) (8 * result) }
+    {
+        if !self.window.has(at) {
+            return 0;
+        }
+        let index = (at - self.window.first) as usize;
+        let count = (self.window.count - index).min(buf.len() - from);
+        buf[from..from + count].copy_from_slice(&self.page[index..index + count]);
+        count
     }
 }
 

@@ -2,8 +2,8 @@
 ghost use Rattle.std.specs.Prelude.{◌≡◌, ◌≤◌, ◌<◌, ◌+◌, ◌++◌, ◌∷◌, ℕ, List, [], IfOk, OnOk, length, take, IsSome};
 ghost use Rattle.mg_dev.specs.Names.{full_name};
 ghost use Rattle.mg_dev.specs.Causes.{HasPutCause};
-ghost use Rattle.mg_dev.specs.Files.{bytes_at};
-ghost use Rattle.mg_bits.specs.Writer.{Writing, put_to, WroteTo, Wrote};
+ghost use Rattle.mg_dev.specs.Files.{AfterAppend, SameReads, bytes_at};
+ghost use Rattle.mg_bits.specs.Writer.{Writing, put_to, KeepsBytes, WroteTo, Wrote};
 
 use mg_dev::{FileRef, PutErr, Store};
 use std::alloc::Global;
@@ -31,6 +31,16 @@ impl<'a> Model for PageWriter<'a> {
     ghost invariant = { λ w. (length w.page.items ≡ 4096) × (w.used < 4096) };
 }
 
+/// Adds bytes at a file's end.
+fn append<S: Store>(store: &mut S, file: &FileRef<'_>, piece: &[u8]) -> Result<(), PutErr>
+    ensures content { AfterAppend (S.files store.old) (S.files store.new) (full_name file.now.base.now file.now.part) piece.now result }
+    ensures still { KeepsBytes (full_name file.now.base.now file.now.part) (S.files store.old) (S.files store.new) }
+    ensures reads { SameReads (S.reads store.old) (S.reads store.new) }
+    ensures cause { HasPutCause (S.faults store.old) (S.faults store.new) result }
+{
+    store.append(file, piece)
+}
+
 #[tactic(auto, using(mg_dev::specs::Laws::file_laws))]
 impl<'a> PageWriter<'a> {
     /// A writer of a file, which it empties.
@@ -55,6 +65,7 @@ impl<'a> PageWriter<'a> {
     pub fn put<S: Store>(&mut self, store: &mut S, byte: u8) -> Result<(), PutErr>
         ensures bytes { OnOk result (Wrote self.old self.new (S.files store.old) (S.files store.new) (byte ∷ [])) }
         ensures name { self.new.name ≡ self.old.name }
+        ensures still { KeepsBytes self.old.name (S.files store.old) (S.files store.new) }
         ensures wrote { WroteTo self.old.name (S.files store.old) (S.files store.new) (S.reads store.old) (S.reads store.new) }
         ensures cause { HasPutCause (S.faults store.old) (S.faults store.new) result }
     {
@@ -64,7 +75,7 @@ impl<'a> PageWriter<'a> {
             self.used = used + 1;
             return Ok(());
         }
-        match store.append(&self.file, &self.page) {
+        match append(store, &self.file, &self.page) {
             Ok(()) => {
                 self.used = 0;
                 Ok(())
@@ -77,6 +88,7 @@ impl<'a> PageWriter<'a> {
     pub fn put_all<S: Store>(&mut self, store: &mut S, piece: &[u8]) -> Result<(), PutErr>
         ensures bytes { OnOk result (Wrote self.old self.new (S.files store.old) (S.files store.new) piece.now) }
         ensures name { self.new.name ≡ self.old.name }
+        ensures still { KeepsBytes self.old.name (S.files store.old) (S.files store.new) }
         ensures wrote { WroteTo self.old.name (S.files store.old) (S.files store.new) (S.reads store.old) (S.reads store.new) }
         ensures cause { HasPutCause (S.faults store.old) (S.faults store.new) result }
     {
@@ -92,7 +104,7 @@ impl<'a> PageWriter<'a> {
             self.keep(piece);
             return Ok(());
         }
-        store.append(&self.file, piece)
+        append(store, &self.file, piece)
     }
 
     /// Holds bytes that leave room in the page.
@@ -111,11 +123,12 @@ impl<'a> PageWriter<'a> {
         ensures bytes { OnOk result (Wrote self.old self.new (S.files store.old) (S.files store.new) []) }
         ensures nothing { OnOk result (self.new.buffered ≡ []) }
         ensures name { self.new.name ≡ self.old.name }
+        ensures still { KeepsBytes self.old.name (S.files store.old) (S.files store.new) }
         ensures wrote { WroteTo self.old.name (S.files store.old) (S.files store.new) (S.reads store.old) (S.reads store.new) }
         ensures cause { HasPutCause (S.faults store.old) (S.faults store.new) result }
     {
         let used = self.used;
-        match store.append(&self.file, &self.page[..used]) {
+        match append(store, &self.file, &self.page[..used]) {
             Ok(()) => {
                 self.used = 0;
                 Ok(())

@@ -1,29 +1,32 @@
 -- What the calls of a writer do to the lists that it was handed.
-use Rattle.std.proofs.Common.{arith, zero, suc, ◌≡◌, ◌≢◌, ◌+◌, ◌-◌, ◌*◌, ◌/◌, ◌%◌, ◌^◌, ◌≤◌, ◌<◌, ◌++◌, ℕ, List, [], ◌∷◌, length, refl, sym, ◌∙◌, ap, ◌⊎◌, inl, inr, IsSome, is_some, unwrap_or, length-append, append_assoc, append-nil}
+use Rattle.std.proofs.Common.{arith, zero, suc, ◌≡◌, ◌≢◌, ◌+◌, ◌-◌, ◌*◌, ◌/◌, ◌%◌, ◌^◌, ◌≤◌, ◌<◌, ◌++◌, ℕ, List, [], ◌∷◌, length, refl, sym, ◌∙◌, ap, subst, ◌⊎◌, inl, inr, IsSome, is_some, unwrap_or, length-append, append_assoc, append-nil}
 use Rattle.std.specs.Prelude.{flat_map}
 use Rattle.std.specs.declared.option.Option.{Option}
 use Rattle.std.proofs.lemmas.Grind.{flat_map-append}
 use Rattle.std.proofs.lemmas.List.{take-append-le, take_all}
 use Rattle.mg_dev.specs.Files.{Files, Reads, bytes_at}
-use Rattle.mg_bits.specs.Writer.{WroteTo}
+use Rattle.mg_bits.specs.Writer.{AreBytes, WroteTo}
 use Rattle.mg_bits.specs.BitWriting.{BitWriting, Holds, WroteBits, bits_put}
+use Rattle.mg_bits.proofs.BitsWritten.{bits_stay, holds_stay}
+use Rattle.mg_bits.proofs.ByteLaws.{bytes_again}
+use Rattle.mg_defs.specs.CodedText.{as_bytes}
 use Rattle.mg_defs.specs.declared.Posting.{Posting}
 use Rattle.mg_defs.specs.Bits.{Bits, bits_of, digits, filled, to_byte}
 use Rattle.mg_defs.specs.Codes.{golomb_parameter}
 use Rattle.mg_defs.specs.Lists.{SkipEntry, posting_bits, bits_after, last_doc, doc_before, bits_before, block_count, entry_of, entries_to, entry_bits, bits_of_list, entries_of_list, lists_bits, lists_entries}
 use Rattle.mg_defs.proofs.BitLaws.{length_digits}
 use Rattle.mg_defs.proofs.ListLaws.{bits_append, last_append}
-use Rattle.mg_post.specs.Writing.{Listing, Took, Finished, skip_entry}
+use Rattle.mg_post.specs.Writing.{Listing, Took, Finished, InBytes, skip_entry}
 
 pub told_back : (f g : Option Files) → is_some g ≡ is_some f → IsSome g → IsSome f
 told_back f g e told = cc
 
 -- what was put to a file stays over a call that writes another
 put_stays : (w : BitWriting) (name : List ℕ) (f g : Option Files) (r s : Reads) → WroteTo name f g r s → w.name ≢ name → bits_put w g ≡ bits_put w f
-put_stays w name f g r s wrote apart = ap (λ o. bits_of (unwrap_or o []) ++ w.buffered) (wrote.others w.name apart)
+put_stays w name f g r s wrote apart = bits_stay w f g (wrote.others w.name apart)
 
 holds_stays : (w : BitWriting) (name : List ℕ) (f g : Option Files) (r s : Reads) → WroteTo name f g r s → w.name ≢ name → Holds w f → Holds w g
-holds_stays w name f g r s wrote apart holds = record { count = λ told. ap length (put_stays w name f g r s wrote apart) ∙ holds.count (told_back f g wrote.told told) }
+holds_stays w name f g r s wrote apart holds = holds_stay w f g wrote.told (wrote.others w.name apart) holds
 
 -- ---- lists
 
@@ -389,4 +392,17 @@ finished w f g h r s t lists told same post to skip skip_to took =
           ∙ ap (λ l. lists_bits w.all lists ++ l) (nothing_after w.parameter) ∙ append-nil (lists_bits w.all lists);
       skip = skip (same ∙ told) ∙ ap (λ l. bits_put w.skip g ++ l) (whole_skip w f lists took) ∙ append-nil (bits_put w.skip g) ∙ put_stays w.skip w.post.name f g r s to (λ e. took.apart (sym e)) ∙ took.skip_bits told
           ∙ ap (λ l. flat_map entry_bits (lists_entries w.all lists ++ l)) (ap (λ n. entries_to w.parameter n []) nothing ∙ no_entries w.parameter) ∙ ap (flat_map entry_bits) (append-nil (lists_entries w.all lists));
+    }
+
+-- bytes of known bits
+made_of : (bytes : List ℕ) (bits : Bits) → AreBytes bytes → bits_of bytes ≡ bits → bytes ≡ as_bytes bits
+made_of bytes bits small is = sym (bytes_again bytes small) ∙ ap as_bytes is
+
+pub finished_bytes : (w : Listing) (q k : BitWriting) (g h : Option Files) (s t : Reads) (lists : List (List Posting)) → IsSome h → q.name ≡ w.post.name → k.name ≡ w.skip.name → w.post.name ≢ w.skip.name → Holds q g →
+    WroteTo w.skip.name g h s t → Holds k h → Finished w h lists → InBytes w h lists
+finished_bytes w q k g h s t lists told post skip apart post_holds to skip_holds is =
+    let still : Holds q h = holds_stays q w.skip.name g h s t to (λ same. apart (sym post ∙ same)) post_holds in
+    record {
+      post = made_of (bytes_at h w.post.name) (lists_bits w.all lists) (subst (λ n. AreBytes (bytes_at h n)) post (still.bytes told)) is.post;
+      skip = made_of (bytes_at h w.skip.name) (flat_map entry_bits (lists_entries w.all lists)) (subst (λ n. AreBytes (bytes_at h n)) skip (skip_holds.bytes told)) is.skip;
     }

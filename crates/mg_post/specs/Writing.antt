@@ -6,6 +6,7 @@ use Rattle.mg_dev.specs.Files.{Files, bytes_at}
 use Rattle.mg_bits.specs.BitWriting.{BitWriting, Holds, bits_put}
 use Rattle.mg_defs.specs.declared.Posting.{Posting}
 use Rattle.mg_defs.specs.Bits.{bits_of}
+use Rattle.mg_defs.specs.CodedText.{as_bytes}
 use Rattle.mg_defs.specs.Codes.{golomb_parameter}
 use Rattle.mg_defs.specs.Lists.{SkipEntry, bits_after, bits_before, last_doc, entry_bits, entries_to, lists_bits, lists_entries}
 
@@ -86,3 +87,8 @@ pub record IsBetween (old new : Listing) (count : ℕ) : Type 0 where
 pub record Finished (w : Listing) (files : Option Files) (lists : List (List Posting)) : Type 0 where
   pub post : bits_of (bytes_at files w.post.name) ≡ lists_bits w.all lists
   pub skip : bits_of (bytes_at files w.skip.name) ≡ flat_map entry_bits (lists_entries w.all lists)
+
+-- and no other bytes than those that these bits make
+pub record InBytes (w : Listing) (files : Option Files) (lists : List (List Posting)) : Type 0 where
+  pub post : bytes_at files w.post.name ≡ as_bytes (lists_bits w.all lists)
+  pub skip : bytes_at files w.skip.name ≡ as_bytes (flat_map entry_bits (lists_entries w.all lists))

@@ -10,7 +10,7 @@ ghost use Rattle.mg_bits.specs.BitWriting.{Holds, WroteBits};
 ghost use Rattle.mg_defs.specs.declared.Posting.{Posting};
 ghost use Rattle.mg_defs.specs.Codes.{golomb_parameter};
 ghost use Rattle.mg_defs.specs.Lists.{entry_bits, lists_bits, lists_entries};
-ghost use Rattle.mg_post.specs.Writing.{posting_of, skip_entry, Took, SameFiles, Pushed, IsBetween, Finished};
+ghost use Rattle.mg_post.specs.Writing.{posting_of, skip_entry, Took, SameFiles, Pushed, IsBetween, Finished, InBytes};
 
 use crate::put::{put_entry, put_posting};
 use mg_bits::BitWriter;
@@ -225,6 +225,7 @@ impl<'a> ListWriter<'a> {
     pub fn finish<S: Store>(&mut self, store: &mut S) -> Result<(u64, u64), PutErr>
         requires took { (lists : List (List Posting)) × Took self.old (S.files store.old) lists [] }
         ensures finished { OnOk result ((lists : List (List Posting)) → Took self.old (S.files store.old) lists [] → IsSome (S.files store.old) → Finished self.old (S.files store.new) lists) }
+        ensures bytes { OnOk result ((lists : List (List Posting)) → Took self.old (S.files store.old) lists [] → IsSome (S.files store.old) → InBytes self.old (S.files store.new) lists) }
         ensures answer { IfOk result (λ sizes. (lists : List (List Posting)) → Took self.old (S.files store.old) lists [] →
             (sizes.0 ≡ length (lists_bits self.old.all lists) / 8) × (sizes.1 ≡ length (lists_entries self.old.all lists))) }
         ensures same { SameFiles self.old self.new }

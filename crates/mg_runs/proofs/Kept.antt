@@ -1,13 +1,12 @@
 -- What stands for occurrences or has postings left does so as long as the files of the runs stay as they are.
-use Rattle.std.proofs.Common.{◌≡◌, ◌++◌, ℕ, List, [], length, None, Some, sym, ap, ◌∙◌, subst, is_some, unwrap_or}
+use Rattle.std.proofs.Common.{◌≡◌, ℕ, List, [], None, Some, sym, ap, ◌∙◌, subst, is_some, unwrap_or}
 use Rattle.std.specs.declared.option.Option.{Option}
 use Rattle.mg_dev.specs.Files.{Files, bytes_at, file_at}
 use Rattle.mg_dev.specs.Names.{full_name}
 use Rattle.mg_dev.specs.declared.part.Part.{Part}
 use Rattle.mg_dev.specs.declared.part.Part.TheVariants.{Run}
-use Rattle.mg_defs.specs.Bits.{bits_of}
 use Rattle.mg_defs.specs.declared.TermPosting.{TermPosting}
-use Rattle.mg_bits.specs.BitWriting.{bits_put}
+use Rattle.mg_bits.proofs.BitsWritten.{bits_stay, holds_stay}
 use Rattle.mg_runs.specs.Merging.{AreLeft}
 use Rattle.mg_runs.specs.Joins.{IsRunPart}
 use Rattle.mg_runs.specs.Fed.{Inverting, IsFed}
@@ -33,7 +32,6 @@ merging_kept merge f g left told same is = record { has = left_kept merge.group 
 pub fed_kept : (runs : Inverting) (f g : Option Files) (fed : List (ℕ × ℕ)) → is_some g ≡ is_some f → file_at g (full_name runs.base Run) ≡ file_at f (full_name runs.base Run) → IsFed runs f fed → IsFed runs g fed
 fed_kept runs f g fed told same is =
     let here : file_at g runs.writer.name ≡ file_at f runs.writer.name = ap (λ n. file_at g n) is.name ∙ same ∙ ap (λ n. file_at f n) (sym is.name) in
-    let put : bits_put runs.writer g ≡ bits_put runs.writer f = ap (λ b. bits_of (unwrap_or b []) ++ runs.writer.buffered) here in
     record {
       least = is.least;
       most = is.most;
@@ -41,8 +39,8 @@ fed_kept runs f g fed told same is =
       entries = is.entries;
       peak = is.peak;
       name = is.name;
-      holds = record { count = λ t. ap (λ b. length b) put ∙ is.holds.count (sym told ∙ t) };
-      written = λ t. put ∙ is.written (sym told ∙ t);
+      holds = holds_stay runs.writer f g told here is.holds;
+      written = λ t. bits_stay runs.writer f g here ∙ is.written (sym told ∙ t);
       place = is.place;
       whole = is.whole;
       below = is.below;

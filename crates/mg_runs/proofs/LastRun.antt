@@ -1,14 +1,17 @@
 -- The last run, of the occurrences that the pool has at the end.
-use Rattle.std.proofs.Common.{◌≡◌, ℕ, ◌+◌, ◌-◌, ◌*◌, ◌/◌, ◌%◌, ◌^◌, min, max, Ok, Err, ◌<◌, ◌≤◌, List, [], ◌++◌, length, sym, ap, ◌∙◌, arith, IsSome}
+use Rattle.std.proofs.Common.{◌≡◌, ℕ, ◌+◌, ◌-◌, ◌*◌, ◌/◌, ◌%◌, ◌^◌, min, max, Ok, Err, ◌<◌, ◌≤◌, List, [], ◌++◌, length, sym, ap, subst, ◌∙◌, arith, IsSome}
 use Rattle.std.specs.Prelude.{OnOk}
 use Rattle.std.specs.declared.option.Option.{Option}
 use Rattle.std.specs.declared.result.Result.{Result}
 use Rattle.std.proofs.lemmas.Nat.{div_below}
-use Rattle.mg_dev.specs.Files.{Files}
-use Rattle.mg_defs.specs.Bits.{Bits, digits, filled}
+use Rattle.mg_dev.specs.Files.{Files, bytes_at}
+use Rattle.mg_defs.specs.Bits.{Bits, bits_of, digits, filled}
+use Rattle.mg_defs.specs.CodedText.{as_bytes}
 use Rattle.mg_defs.specs.Postings.{gathered}
 use Rattle.mg_defs.specs.RunBits.{run_bits, run_part_bits}
-use Rattle.mg_bits.specs.BitWriting.{BitWriting, WroteBits, bits_put, to_byte}
+use Rattle.mg_bits.specs.Writer.{AreBytes}
+use Rattle.mg_bits.proofs.ByteLaws.{bytes_again}
+use Rattle.mg_bits.specs.BitWriting.{BitWriting, Holds, WroteBits, bits_put, to_byte}
 use Rattle.mg_runs.specs.Pooled.{Pooled, used}
 use Rattle.mg_runs.specs.Fed.{Inverting, IsFed, cap_of}
 use Rattle.mg_runs.proofs.RoundsFirst.{fed_bits, fed_bits_none, finished_bits}
@@ -30,6 +33,13 @@ no_last_bits runs f fed bits is none told e =
 pub on_ok : {T E : Type 0} (P : Type 0) (r : Result T E) → P → OnOk r P
 on_ok P (Ok value) p = p
 on_ok P (Err e) p = tt
+
+-- the part of the runs as bytes
+pub run_is_bytes : (w : BitWriting) (name : List ℕ) (f : Option Files) → IsSome f → w.name ≡ name → Holds w f → AreBytes (bytes_at f name)
+run_is_bytes w name f told same holds = subst (λ n. AreBytes (bytes_at f n)) same (holds.bytes told)
+
+pub run_made : {T E : Type 0} (r : Result T E) (bytes : List ℕ) (bits : Bits) → AreBytes bytes → bits_of bytes ≡ bits → OnOk r (bytes ≡ as_bytes bits)
+run_made r bytes bits small is = on_ok (bytes ≡ as_bytes bits) r (sym (bytes_again bytes small) ∙ ap as_bytes is)
 
 -- how many runs there are fits in 32 bits
 pub runs_fit : (n cap : ℕ) → 1 ≤ cap → n < 2 ^ 32 → (n + cap - 1) / cap < 2 ^ 32

@@ -6,9 +6,10 @@ ghost use Rattle.mg_dev.specs.Names.{full_name};
 ghost use Rattle.mg_dev.specs.PartCauses.{HasPartCause};
 ghost use Rattle.mg_defs.specs.Bits.{bits_of, filled};
 ghost use Rattle.mg_defs.specs.Postings.{gathered, postings};
+ghost use Rattle.mg_defs.specs.CodedText.{as_bytes};
 ghost use Rattle.mg_defs.specs.RunBits.{run_bits, run_part_bits};
 ghost use Rattle.mg_defs.specs.Runs.{runs_of};
-ghost use Rattle.mg_bits.specs.Writer.{WroteTo};
+ghost use Rattle.mg_bits.specs.Writer.{AreBytes, WroteTo};
 ghost use Rattle.mg_bits.specs.BitWriting.{Holds, WroteBits};
 ghost use Rattle.mg_runs.specs.Bytes.{AreEntries};
 ghost use Rattle.mg_runs.specs.Cursors.{NoDamage};
@@ -150,6 +151,7 @@ impl<'a> Runs<'a> {
     fn finish<S: Store>(self, store: &mut S) -> Result<Round<'a>, PartErr>
         requires fed { (fed : List (ℕ × ℕ)) × IsFed self (S.files store.old) fed }
         ensures run { IsSome (S.files store.old) → (fed : List (ℕ × ℕ)) → IsFed self.entry (S.files store.old) fed → OnOk result (bits_of (bytes_at (S.files store.new) (full_name self.entry.base Part.Run)) ≡ run_part_bits (cap_of self.entry.pool) fed) }
+        ensures bytes { IsSome (S.files store.old) → OnOk result (AreBytes (bytes_at (S.files store.new) (full_name self.entry.base Part.Run))) }
         ensures places { (fed : List (ℕ × ℕ)) → IsFed self.entry (S.files store.old) fed → IfOk result (λ round. round.places.items ≡ starts 0 (runs_of (cap_of self.entry.pool) fed)) }
         ensures undamaged { NoDamage result }
         ensures entries { IfOk result (λ round. round.pool.entries ≡ []) }
@@ -201,6 +203,7 @@ impl<'a> Runs<'a> {
         requires room { width ≤ self.pool.limit / 64 }
         ensures left { (fed : List (ℕ × ℕ)) → IsFed self.entry (S.files store.old) fed → IfOk result (λ merge. IsMerging merge (S.files store.new) (postings fed)) }
         ensures run { IsSome (S.files store.old) → (fed : List (ℕ × ℕ)) → IsFed self.entry (S.files store.old) fed → OnOk result (bits_of (bytes_at (S.files store.new) (full_name self.entry.base Part.Run)) ≡ run_part_bits (cap_of self.entry.pool) fed) }
+        ensures run_bytes { IsSome (S.files store.old) → (fed : List (ℕ × ℕ)) → IsFed self.entry (S.files store.old) fed → OnOk result (bytes_at (S.files store.new) (full_name self.entry.base Part.Run) ≡ as_bytes (run_part_bits (cap_of self.entry.pool) fed)) }
         ensures runs { (fed : List (ℕ × ℕ)) → IsFed self.entry (S.files store.old) fed → IfOk result (λ merge. merge.runs ≡ (length fed + cap_of self.entry.pool - 1) / cap_of self.entry.pool) }
         ensures peak { (fed : List (ℕ × ℕ)) → IsFed self.entry (S.files store.old) fed → IfOk result (λ merge. merge.peak ≡ max (12 * min (length fed) (cap_of self.entry.pool)) (64 * min ((length fed + cap_of self.entry.pool - 1) / cap_of self.entry.pool) width)) }
         ensures base { IfOk result (λ merge. merge.base ≡ self.entry.base) }
@@ -229,6 +232,7 @@ impl<'a> Runs<'a> {
         requires fed { (fed : List (ℕ × ℕ)) × IsFed self (S.files store.old) fed }
         ensures left { (fed : List (ℕ × ℕ)) → IsFed self.entry (S.files store.old) fed → IfOk result (λ merge. IsMerging merge (S.files store.new) (postings fed)) }
         ensures run { IsSome (S.files store.old) → (fed : List (ℕ × ℕ)) → IsFed self.entry (S.files store.old) fed → OnOk result (bits_of (bytes_at (S.files store.new) (full_name self.entry.base Part.Run)) ≡ run_part_bits (cap_of self.entry.pool) fed) }
+        ensures run_bytes { IsSome (S.files store.old) → (fed : List (ℕ × ℕ)) → IsFed self.entry (S.files store.old) fed → OnOk result (bytes_at (S.files store.new) (full_name self.entry.base Part.Run) ≡ as_bytes (run_part_bits (cap_of self.entry.pool) fed)) }
         ensures runs { (fed : List (ℕ × ℕ)) → IsFed self.entry (S.files store.old) fed → IfOk result (λ merge. merge.runs ≡ (length fed + cap_of self.entry.pool - 1) / cap_of self.entry.pool) }
         ensures peak { (fed : List (ℕ × ℕ)) → IsFed self.entry (S.files store.old) fed → IfOk result (λ merge. merge.peak ≡ max (12 * min (length fed) (cap_of self.entry.pool)) (64 * min ((length fed + cap_of self.entry.pool - 1) / cap_of self.entry.pool) (self.entry.pool.limit / 64))) }
         ensures base { IfOk result (λ merge. merge.base ≡ self.entry.base) }

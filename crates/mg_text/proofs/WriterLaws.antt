@@ -1,5 +1,5 @@
 -- What the calls of a writer do to the documents that it took.
-use Rattle.std.proofs.Common.{arith, ◌≡◌, ◌≢◌, ◌+◌, ◌-◌, ◌*◌, ◌/◌, ◌^◌, ◌≤◌, ◌<◌, ◌++◌, ℕ, zero, suc, true, false, List, [], ◌∷◌, length, refl, sym, ◌∙◌, ap, IsSome, is_some, unwrap_or, get_or, length-append, append_assoc, append-nil}
+use Rattle.std.proofs.Common.{arith, ◌≡◌, ◌≢◌, ◌+◌, ◌-◌, ◌*◌, ◌/◌, ◌^◌, ◌≤◌, ◌<◌, ◌++◌, ℕ, zero, suc, true, false, List, [], ◌∷◌, length, refl, sym, ◌∙◌, ap, subst, IsSome, is_some, unwrap_or, get_or, length-append, append_assoc, append-nil}
 use Rattle.std.specs.List.{flat_map}
 use Rattle.std.specs.declared.option.Option.{Option}
 use Rattle.std.proofs.lemmas.Grind.{flat_map-append}
@@ -7,8 +7,10 @@ use Rattle.mg_dev.specs.Files.{Files, Reads, bytes_at}
 use Rattle.mg_dev.specs.Names.{full_name}
 use Rattle.mg_dev.specs.Laws.{same_part_of_name}
 use Rattle.mg_dev.specs.declared.part.Part.TheVariants.{Text, Places}
-use Rattle.mg_bits.specs.Writer.{Writing, put_to, Wrote, WroteTo}
+use Rattle.mg_bits.specs.Writer.{Writing, AreBytes, put_to, Wrote, WroteTo}
 use Rattle.mg_bits.specs.BitWriting.{BitWriting, Holds, WroteBits, bits_put}
+use Rattle.mg_bits.proofs.BitsWritten.{bits_stay, holds_stay}
+use Rattle.mg_text.proofs.ByteLaws.{written_bytes}
 use Rattle.mg_defs.specs.Bits.{Bits, bits_of, digits, filled, to_byte}
 use Rattle.mg_defs.specs.Canon.{AreGood, codeword}
 use Rattle.mg_defs.specs.Codes.{gamma, log2}
@@ -33,11 +35,11 @@ pub names_apart : (w : TextWriting) (files : Option Files) (docs : List Bits) (b
 names_apart w files docs bits took same = two_parts (same_part_of_name w.base Text Places (sym took.text_name ∙ same ∙ took.places_name))
 
 -- what was put to a file stays over a call that writes another
-bits_stay : (w : BitWriting) (name : List ℕ) (f g : Option Files) (r s : Reads) → WroteTo name f g r s → w.name ≢ name → bits_put w g ≡ bits_put w f
-bits_stay w name f g r s wrote apart = ap (λ o. bits_of (unwrap_or o []) ++ w.buffered) (wrote.others w.name apart)
+put_stays : (w : BitWriting) (name : List ℕ) (f g : Option Files) (r s : Reads) → WroteTo name f g r s → w.name ≢ name → bits_put w g ≡ bits_put w f
+put_stays w name f g r s wrote apart = bits_stay w f g (wrote.others w.name apart)
 
 holds_stays : (w : BitWriting) (name : List ℕ) (f g : Option Files) (r s : Reads) → WroteTo name f g r s → w.name ≢ name → Holds w f → Holds w g
-holds_stays w name f g r s wrote apart holds = record { count = λ told. ap length (bits_stay w name f g r s wrote apart) ∙ holds.count (told_back f g wrote.told told) }
+holds_stays w name f g r s wrote apart holds = holds_stay w f g wrote.told (wrote.others w.name apart) holds
 
 -- the text's bits are counted as before once a place was written
 pub text_counts : (w : TextWriting) (f g : Option Files) (r s : Reads) (docs : List Bits) (bits : Bits) → IsOnText w f docs bits → WroteTo w.places.name f g r s → Holds w.text g
@@ -111,7 +113,7 @@ took_none w f g h r s t docs pairs closed left place text_name places_name empty
       text_name = text_name;
       places_name = places_name;
       holds = holds_stays w.text w.places.name g h s t to apart holds;
-      text = λ told. bits_stay w.text w.places.name g h s t to apart ∙ empty (told_back f g told_too (told_back g h to.told told));
+      text = λ told. put_stays w.text w.places.name g h s t to apart ∙ empty (told_back f g told_too (told_back g h to.told told));
       places = λ told. none (told_back g h to.told told) ∙ ap (λ b. flat_map eight (begun b [])) (sym closed);
       place = place;
       count = omega (arith, docs, ap as_count closed);
@@ -137,7 +139,7 @@ took_begun w p q f g h r s t docs pairs placed placed_to wrote to holds closed f
       text = λ told.
           let mid : IsSome g = told_back g h to.told told in
           let back : IsSome f = told_back f g placed_to.told mid in
-          wrote.told mid ∙ ap (λ l. l ++ gamma (pairs + 1)) (bits_stay w.text w.places.name f g r s placed_to apart ∙ took.text back ∙ append-nil (bits_of (text_bytes docs)));
+          wrote.told mid ∙ ap (λ l. l ++ gamma (pairs + 1)) (put_stays w.text w.places.name f g r s placed_to apart ∙ took.text back ∙ append-nil (bits_of (text_bytes docs)));
       places = λ told.
           let back : IsSome f = told_back f g placed_to.told (told_back g h to.told told) in
           bytes_stay p w.text.name g h s t to (λ same. apart (sym same ∙ placed.name)) ∙ placed.bytes back
@@ -226,10 +228,17 @@ text_finished w p o f g h k r s t u docs told closed placed placed_to file to la
     record {
       text =
           ap (λ n. bits_of (bytes_at k n)) (sym took.text_name) ∙ ap (λ x. bits_of (unwrap_or x [])) (last_to.others w.text.name apart_p) ∙ file told_g ∙ ap (λ l. bits_put w.text g ++ l) (whole_text w f docs took) ∙ append-nil (bits_put w.text g)
-          ∙ bits_stay w.text w.places.name f g r s placed_to apart ∙ took.text told ∙ append-nil (bits_of (text_bytes docs));
+          ∙ put_stays w.text w.places.name f g r s placed_to apart ∙ took.text told ∙ append-nil (bits_of (text_bytes docs));
       places =
           ap (bytes_at k) (sym (last.name ∙ placed.name ∙ took.places_name)) ∙ sym (append-nil (bytes_at k o.name)) ∙ ap (λ l. bytes_at k o.name ++ l) (sym empty) ∙ last.bytes told_h ∙ append-nil (put_to p h)
           ∙ bytes_stay p w.text.name g h s t to (λ same. apart_p (sym same)) ∙ placed.bytes told
           ∙ ap (λ l. l ++ eight (w.text.place / 8)) (took.places told ∙ ap (λ b. flat_map eight (begun b (sizes docs))) closed)
           ∙ all_places docs (w.text.place / 8) (text_size w f docs took);
     }
+
+-- and the bytes that they make, since none of its numbers is above a byte's
+pub text_exact : (base text places : List ℕ) (q : BitWriting) (h k : Option Files) (t u : Reads) (docs : List Bits) → IsSome h → q.name ≡ text → text ≢ places → text ≡ full_name base Text → Holds q h →
+    WroteTo places h k t u → DocumentsStand base k docs → bytes_at k (full_name base Text) ≡ text_bytes docs
+text_exact base text places q h k t u docs told name apart is holds to stands =
+    let still : Holds q k = holds_stays q places h k t u to (λ same. apart (sym name ∙ same)) holds in
+    written_bytes base k docs stands (subst (λ n. AreBytes (bytes_at k n)) (name ∙ is) (still.bytes (to.told ∙ told)))

@@ -2,7 +2,7 @@
 ghost use Rattle.std.specs.Prelude.{◌≡◌, ◌≢◌, ◌≤◌, ◌<◌, ◌+◌, ◌-◌, ◌^◌, ◌++◌, [], ◌∷◌, ℕ, List, true, false, length, IfOk, OnOk, IsSome};
 ghost use Rattle.std.specs.Option.{is_some};
 ghost use Rattle.mg_dev.specs.Causes.{HasPutCause};
-ghost use Rattle.mg_dev.specs.Files.{SameReads, file_at};
+ghost use Rattle.mg_dev.specs.Files.{SameReads, bytes_at, file_at};
 ghost use Rattle.mg_dev.specs.Names.{full_name};
 ghost use Rattle.mg_dev.specs.declared.part.Part.TheVariants as part;
 ghost use Rattle.mg_bits.specs.Writer.{WroteTo, Wrote};
@@ -174,6 +174,7 @@ impl<'a> TextWriter<'a> {
         requires took { (docs : List Bits) × IsOnText self.old (S.files store.old) docs [] }
         requires closed { self.old.is_open ≡ false }
         ensures finished { OnOk result ((docs : List Bits) → IsOnText self.old (S.files store.old) docs [] → IsSome (S.files store.old) → DocumentsStand self.old.base (S.files store.new) docs) }
+        ensures bytes { OnOk result ((docs : List Bits) → IsOnText self.old (S.files store.old) docs [] → IsSome (S.files store.old) → bytes_at (S.files store.new) (full_name self.old.base part.Text) ≡ text_bytes docs) }
         ensures answer { IfOk result (λ size. (docs : List Bits) → IsOnText self.old (S.files store.old) docs [] → size ≡ length (text_bytes docs)) }
         ensures base { self.new.base ≡ self.old.base }
         ensures others { (n : List ℕ) → n ≢ full_name self.old.base part.Text → n ≢ full_name self.old.base part.Places → file_at (S.files store.new) n ≡ file_at (S.files store.old) n }

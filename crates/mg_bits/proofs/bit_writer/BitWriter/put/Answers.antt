@@ -1,7 +1,8 @@
-use Rattle.std.proofs.Common.{arith, ◌≡◌, ◌-◌, ◌/◌, ◌^◌, ℕ, refl, []}
+use Rattle.std.proofs.Common.{arith, ◌≡◌, ◌-◌, ◌/◌, ◌^◌, ◌∙◌, ℕ, refl, []}
 use Rattle.mg_defs.specs.Bits.{digits}
 use Rattle.mg_defs.proofs.BitLaws.{length_digits}
-use Rattle.mg_bits.proofs.BitsWritten.{bits_none, bits_more, to_none, to_more, digits_next}
+use Rattle.mg_bits.proofs.BitsWritten.{bits_none, bits_more, holds_kept, to_none, to_more, digits_next}
+use Rattle.mg_bits.proofs.ByteLaws.{keeps_more, same_keeps}
 use Rattle.mg_bits.proofs.bit_writer.BitWriter.put.Goals as goal
 
 no_digits : (count value : ℕ) → digits (count - count) value ≡ []
@@ -13,6 +14,7 @@ loop-left-init g c = record {
   left = omega arith;
   bits = rw no_digits (bits_none _ _);
   wrote = to_none _ _ _;
+  still = same_keeps _ _ _ refl;
   faults = omega arith;
 }
 
@@ -26,5 +28,9 @@ loop-left-preserved g c = record {
   bits = rw (← digits_next c.args.count c.loop-left.left c.min-size.result c.args.value (omega arith) c.loop-left.invariant.left)
       (bits_more _ _ _ _ _ _ _ _ c.loop-left.invariant.wrote.told c.loop-left.invariant.bits (rw c.low.ensures at c.in_ok-put_piece.ensures.bits));
   wrote = to_more _ _ _ _ _ _ _ c.loop-left.invariant.wrote (rw c.loop-left.invariant.bits.name at c.in_ok-put_piece.ensures.wrote);
+  still = keeps_more _ _ _ _ (λ t. c.loop-left.invariant.wrote.told ∙ t) c.loop-left.invariant.still (rw c.loop-left.invariant.bits.name at c.in_ok-put_piece.ensures.still);
   faults = omega (arith, c.in_ok-put_piece.ensures.cause.later);
 }
+
+pub returns-clause-holds : goal.returns-clause-holds
+returns-clause-holds g c = holds_kept _ _ _ _ _ c.loop-left.invariant.wrote.told c.loop-left.invariant.bits c.loop-left.invariant.still c.requires.holds

@@ -1,10 +1,12 @@
-use Rattle.std.proofs.Common.{◌≡◌, ◌≤◌, ◌++◌, ◌∷◌, [], ℕ, sym, ◌∙◌, ap, arith}
+use Rattle.std.proofs.Common.{◌≡◌, ◌≤◌, ◌++◌, ◌∷◌, [], ℕ, sym, ◌∙◌, ap, arith, is_some, refl}
 use Rattle.mg_dev.specs.Files.{bytes_at}
+use Rattle.mg_dev.specs.Names.{full_name}
+use Rattle.mg_dev.specs.declared.part.Part.TheVariants.{Run}
 use Rattle.mg_defs.specs.Bits.{bits_of}
 use Rattle.mg_runs.specs.declared.round.Round.{Round}
 use Rattle.mg_runs.proofs.Feeding.{fed_entries}
 use Rattle.mg_runs.proofs.Joins.{put_as, put_cause}
-use Rattle.mg_runs.proofs.LastRun.{some_entries, no_entries_used, last_bits, no_last_bits}
+use Rattle.mg_runs.proofs.LastRun.{some_entries, no_entries_used, last_bits, no_last_bits, run_is_bytes}
 use Rattle.mg_runs.proofs.RoundsFirst.{fed_places, fed_places_none}
 use Rattle.mg_runs.proofs.runs.Runs.finish.Goals as goal
 use Rattle.mg_runs.proofs.runs.Runs.finish.Goals.{then-used-gt0+in-Ok+in-Ok-spill, else-used-gt0}
@@ -32,6 +34,19 @@ returns-in-Ok-finish-clause-run g c = λ told fed is.
           let none = no_entries_used c.self.inside.pool c.used.result c.used.ensures.value (omega (arith, w.if-used-gt0.false)) in
           rw (← c.self.view_is) (no_last_bits _ _ fed _ was none told (ap (λ n. bits_of (bytes_at (g.S.Store.files c.finish.new.store) n)) (sym was.name) ∙ file told))
     ]
+
+pub returns-in-Ok-finish-clause-bytes : goal.returns-in-Ok-finish-clause-bytes
+returns-in-Ok-finish-clause-bytes g c = λ told.
+    let was = rw (← c.self.view_is) at c.requires.fed.1 in
+    let name : c.if-used-gt0.writer.name ≡ full_name c.self.inside.base.now Run = elim c.if-used-gt0.branch as (λ _. c.if-used-gt0.writer.name ≡ full_name c.self.inside.base.now Run) [
+      | then-used-gt0+in-Ok+in-Ok-spill w ↦ rw w.writer-is (w.spill.ensures.name ∙ was.name)
+      | else-used-gt0 w ↦ rw w.writer-is was.name
+    ] in
+    let before : is_some (g.S.Store.files c.if-used-gt0.store) ≡ is_some (g.S.Store.files c.args.store.now) = elim c.if-used-gt0.branch as (λ _. is_some (g.S.Store.files c.if-used-gt0.store) ≡ is_some (g.S.Store.files c.args.store.now)) [
+      | then-used-gt0+in-Ok+in-Ok-spill w ↦ rw w.store-is w.spill.ensures.wrote.told
+      | else-used-gt0 w ↦ rw w.store-is refl
+    ] in
+    rw (← c.self.view_is) (run_is_bytes _ _ _ (c.finish.ensures.wrote.told ∙ (before ∙ told)) (c.finish.ensures.name ∙ name) c.in-Ok-finish.ensures.holds)
 
 pub returns-in-Ok-finish-clause-places : goal.returns-in-Ok-finish-clause-places
 returns-in-Ok-finish-clause-places g c = λ fed is.

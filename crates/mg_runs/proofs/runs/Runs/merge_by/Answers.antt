@@ -3,12 +3,13 @@ use Rattle.std.specs.Prelude.{IfOk}
 use Rattle.mg_dev.specs.Files.{bytes_at}
 use Rattle.mg_dev.specs.Names.{full_name}
 use Rattle.mg_dev.specs.declared.part.Part.TheVariants.{Run}
+use Rattle.mg_bits.specs.Writer.{AreBytes}
 use Rattle.mg_defs.specs.Bits.{bits_of}
 use Rattle.mg_defs.specs.Postings.{postings}
 use Rattle.mg_runs.specs.declared.round.Round.{Round}
 use Rattle.mg_runs.specs.declared.merge.Merge.{Merge}
 use Rattle.mg_runs.specs.Left.{Merging}
-use Rattle.mg_runs.proofs.LastRun.{on_ok, runs_fit, peak_all}
+use Rattle.mg_runs.proofs.LastRun.{on_ok, run_made, runs_fit, peak_all}
 use Rattle.mg_runs.proofs.RoundsLoop.{fed_count}
 use Rattle.mg_runs.proofs.RoundsFirst.{fed_cap, fed_stored}
 use Rattle.mg_runs.proofs.Steps.{undamaged_as}
@@ -37,6 +38,12 @@ returns-in-Ok-rounds-clause-run g c = λ told fed is.
     let run = rw c.in-Ok.ensures.base at c.rounds.ensures.run in
     let same : bytes_at (g.S.Store.files c.open.new.store) (full_name c.args.self.base Run) ≡ bytes_at (g.S.Store.files c.finish.new.store) (full_name c.args.self.base Run) = ap (λ f. bytes_at f (full_name c.args.self.base Run)) c.open.ensures.looked.files ∙ ap (λ b. unwrap_or b []) run in
     on_ok _ c.open.result (ap (λ b. bits_of b) same ∙ c.in-Ok.ensures.run told fed is)
+
+pub returns-in-Ok-rounds-clause-run_bytes : goal.returns-in-Ok-rounds-clause-run_bytes
+returns-in-Ok-rounds-clause-run_bytes g c = λ told fed is.
+    let run = rw c.in-Ok.ensures.base at c.rounds.ensures.run in
+    let same : bytes_at (g.S.Store.files c.open.new.store) (full_name c.args.self.base Run) ≡ bytes_at (g.S.Store.files c.finish.new.store) (full_name c.args.self.base Run) = ap (λ f. bytes_at f (full_name c.args.self.base Run)) c.open.ensures.looked.files ∙ ap (λ b. unwrap_or b []) run in
+    run_made c.open.result _ _ (subst AreBytes (sym same) (c.in-Ok.ensures.bytes told)) (ap (λ b. bits_of b) same ∙ c.in-Ok.ensures.run told fed is)
 
 pub returns-in-Ok-rounds-clause-runs : goal.returns-in-Ok-rounds-clause-runs
 returns-in-Ok-rounds-clause-runs g c = λ fed is.

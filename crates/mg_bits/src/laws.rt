@@ -1,0 +1,22 @@
+// Laws of bytes, and of what was written.
+ghost use Rattle.std.specs.Prelude.{◌≡◌, ℕ, List, Option};
+ghost use Rattle.std.specs.Option.{is_some};
+ghost use Rattle.mg_dev.specs.Files.{Files, file_at};
+ghost use Rattle.mg_defs.specs.Bits.{Bits, bits_of};
+ghost use Rattle.mg_defs.specs.CodedText.{as_bytes};
+ghost use Rattle.mg_bits.specs.Writer.{AreBytes};
+ghost use Rattle.mg_bits.specs.BitWriting.{BitWriting, Holds, bits_put};
+
+/// Bytes of the same bits are the same, and bytes are those that their bits make.
+pub fn bits_tell_bytes()
+    ensures same { (a b : List ℕ) → AreBytes a → AreBytes b → bits_of a ≡ bits_of b → a ≡ b }
+    ensures made { (bytes : List ℕ) → AreBytes bytes → as_bytes (bits_of bytes) ≡ bytes }
+    ensures bytes { (bits : Bits) → AreBytes (as_bytes bits) }
+{}
+
+/// What was written to a file stays, and its writer may write on, where that file stays: calls that
+/// write other files don't matter.
+pub fn written_bits_stay()
+    ensures bits { (w : BitWriting) (f g : Option Files) → file_at g w.name ≡ file_at f w.name → bits_put w g ≡ bits_put w f }
+    ensures holds { (w : BitWriting) (f g : Option Files) → is_some g ≡ is_some f → file_at g w.name ≡ file_at f w.name → Holds w f → Holds w g }
+{}
