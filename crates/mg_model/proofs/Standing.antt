@@ -130,7 +130,7 @@ standing words others files base it (Err (Bad bad)) stand (inr (whole, d)) = no-
 -- the damage of the second part, where the first has none
 pub second-damage : (words others : ℕ) (word_bytes other_bytes : List ℕ) (it : StreamCode) (refusal : PartErr) → (2 * words ≤ length word_bytes) × IsPart words word_bytes it → AnswersStream part.Nonwords others other_bytes (Err refusal) → AnswersLoad words others word_bytes other_bytes (Err refusal)
 second-damage words others word_bytes other_bytes it Device first h = tt
-second-damage words others word_bytes other_bytes it Memory first h = tt
+second-damage words others word_bytes other_bytes it Memory first h = first.0
 second-damage words others word_bytes other_bytes it (Bad bad) first h = inr ((it, first.0, first.1), h)
 
 pub names-apart : (base : List ℕ) → full_name base part.Words ≢ full_name base part.Nonwords

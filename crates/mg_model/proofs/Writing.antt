@@ -92,5 +92,5 @@ part-rises count bytes it is = entries-rise it.pieces it.lengths is.each is.fron
 
 pub code-damage : (part : Part) (count : ℕ) (bytes : List ℕ) (refusal : PartErr) → 2 * count ≤ length bytes → AnswersCode {T = List ℕ} part count bytes (Err refusal) → AnswersStream part count bytes (Err refusal)
 code-damage part count bytes Device room h = tt
-code-damage part count bytes Memory room h = tt
+code-damage part count bytes Memory room h = room
 code-damage part count bytes (Bad bad) room h = inr (room, inr h)

@@ -82,22 +82,22 @@ AnswersRoom part count bytes (Err Device) = Unit {0}
 AnswersRoom part count bytes (Err Memory) = ⊥
 AnswersRoom part count bytes (Err (Bad bad)) = IsTooShort part count bytes bad
 
--- what loading the code of one stream answers
+-- what loading the code of one stream answers; memory is wanted only where the part has room for the entries
 abbrev pub AnswersStream : Part → ℕ → List ℕ → Result StreamCode PartErr → Type 0
 AnswersStream part count bytes (Ok code) = (2 * count ≤ length bytes) × IsPart count bytes code
 AnswersStream part count bytes (Err Device) = Unit {0}
-AnswersStream part count bytes (Err Memory) = Unit {0}
+AnswersStream part count bytes (Err Memory) = 2 * count ≤ length bytes
 AnswersStream part count bytes (Err (Bad bad)) = IsDamage part count bytes bad
 
 -- the part has no damage
 abbrev pub IsWhole : ℕ → List ℕ → Type 0
 IsWhole count bytes = (code : StreamCode) × (2 * count ≤ length bytes) × IsPart count bytes code
 
--- what loading a model answers, the words before the others
+-- what loading a model answers, the words before the others; memory is wanted only where Words has room for its entries
 abbrev pub AnswersLoad : ℕ → ℕ → List ℕ → List ℕ → Result TextCode PartErr → Type 0
 AnswersLoad words others word_bytes other_bytes (Ok code) = IsPart words word_bytes code.words × IsPart others other_bytes code.others
 AnswersLoad words others word_bytes other_bytes (Err Device) = Unit {0}
-AnswersLoad words others word_bytes other_bytes (Err Memory) = Unit {0}
+AnswersLoad words others word_bytes other_bytes (Err Memory) = 2 * words ≤ length word_bytes
 AnswersLoad words others word_bytes other_bytes (Err (Bad bad)) = IsDamage part.Words words word_bytes bad ⊎ (IsWhole words word_bytes × IsDamage part.Nonwords others other_bytes bad)
 
 -- what loading a model answers where the parts stand: that model, and never that a part is bad

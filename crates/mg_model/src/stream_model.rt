@@ -103,8 +103,9 @@ impl StreamModel {
         }
     }
 
-    /// Reads the model of so many pieces from a part. That the pieces rise is tested again, for the
-    /// walk promises it only over a store that tells its files.
+    /// Reads the model of so many pieces from a part. Memory is wanted only where the part has two
+    /// bytes for each. That the pieces rise is tested again, for the walk promises it only over a
+    /// store that tells its files.
     pub fn load<S: Store>(
         alloc: Global,
         store: &mut S,

@@ -81,8 +81,9 @@ impl TextModel {
     /// Reads the parts Words and Nonwords, in this order, each once. `words` and `others` are the
     /// numbers of pieces, at most 2^22 each. It compares a part's size with twice that number before
     /// it reserves anything, walks the entries, and then tests the lengths; the first test that
-    /// fails is told. It reads no page of 4,096 bytes twice; where it is refused it may have asked
-    /// for one page behind a part's end, since an entry that breaks off is sought on there.
+    /// fails is told. So memory is wanted only where Words is no shorter than twice `words`. It
+    /// reads no page of 4,096 bytes twice; where it is refused it may have asked for one page behind
+    /// a part's end, since an entry that breaks off is sought on there.
     pub fn load<S: Store>(
         alloc: Global,
         store: &mut S,

@@ -121,7 +121,8 @@ more_left cursor near slot now file x (y ∷ ys) r at more is next = next y ys i
 
 -- ---- a run's header
 
-after_start : (xs : List TermPosting) → AllByRecursion (λ x. IsSmall x) xs → AllAfter before_first xs
+-- the postings of a run come after the first of all
+pub after_start : (xs : List TermPosting) → AllByRecursion (λ x. IsSmall x) xs → AllAfter before_first xs
 after_start [] all = tt
 after_start (x ∷ xs) all =
     let d = all.0.doc_some in

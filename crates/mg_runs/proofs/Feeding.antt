@@ -16,6 +16,7 @@ use Rattle.mg_defs.proofs.Segments.{finished-room, finished-full, finished-low, 
 use Rattle.mg_bits.specs.BitWriting.{Holds, WroteBits, bits_put}
 use Rattle.mg_runs.specs.Bytes.{AreEntries}
 use Rattle.mg_runs.specs.Fed.{Inverting, IsFed, IsOccurrence, AreOccurrences, cap_of, starts}
+use Rattle.mg_runs.proofs.RoundsBits.{starts_more}
 
 finished-none : (cap : ℕ) → 1 ≤ cap → finished cap 0 ≡ 0
 finished-none cap some = let h : 0 / cap < 1 = div_below 0 cap 1 some (omega arith) in omega arith
@@ -109,12 +110,6 @@ peak_room : (n q cap len p0 p1 : ℕ) → len ≡ n - q * cap → len < cap → 
 peak_room n zero cap len p0 p1 is room low old new = let z : zero * cap ≡ 0 = omega arith in omega arith
 peak_room n (suc q) cap len p0 p1 is room low old new = let z : suc q * cap ≡ cap + q * cap = omega arith in omega arith
 
-starts-end : (at : ℕ) (runs : List (List TermPosting)) (run : List TermPosting) → starts at (runs ++ run ∷ []) ≡ starts at runs ++ (at + length (runs_bits runs)) ∷ []
-starts-end at [] run = let z : at ≡ at + 0 = omega arith in ap (λ n. n ∷ []) z
-starts-end at (first ∷ runs) run =
-    let size : at + length (filled (run_bits first)) + length (runs_bits runs) ≡ at + length (runs_bits (first ∷ runs)) = omega (arith, length-append (filled (run_bits first)) (runs_bits runs)) in
-    ap (λ l. at ∷ l) (starts-end (at + length (filled (run_bits first))) runs run ∙ ap (λ n. starts (at + length (filled (run_bits first))) runs ++ n ∷ []) size)
-
 pub fed_room : (r0 r1 : Inverting) (f : Option Files) (fed : List (ℕ × ℕ)) (o : ℕ × ℕ) → IsFed r0 f fed → length r0.pool.entries < cap_of r0.pool → IsOccurrence o → length fed < 2 ^ 32 - 1 → r1.pool.entries ≡ r0.pool.entries ++ once o ∷ [] → r1.pool.slots ≡ [] → r1.pool.peak ≡ max r0.pool.peak (12 * length r1.pool.entries + 64 * length r1.pool.slots) → r1.pool.limit ≡ r0.pool.limit → r1.writer ≡ r0.writer → r1.places ≡ r0.places → r1.base ≡ r0.base → IsFed r1 f (fed ++ o ∷ [])
 fed_room r0 r1 f fed o is room doc room_left entries slots peak limit writer places base =
     let n : ℕ = length fed in
@@ -192,10 +187,7 @@ fed_full r0 r1 f0 f1 fed o is full doc room_left told wrote holds whole below en
       place = wrote.place ∙ ap (λ k. k + length (filled (run_bits (gathered r0.pool.entries)))) is.place ∙ sym (length-append (runs_bits (first_runs cap q fed)) (filled (run_bits (gathered r0.pool.entries)))) ∙ ap (λ l. length l) (sym bits) ∙ ap (λ rs. length (runs_bits rs)) (sym runs);
       whole = whole;
       below = place-step q cap r0.writer.place r1.writer.place _ at some is.below (subst (λ k. r1.writer.place ≤ r0.writer.place + 128 + 256 * k) full below);
-      places = places ∙ ap (λ l. l ++ r0.writer.place ∷ []) is.places ∙ ap (λ k. starts 0 (first_runs cap q fed) ++ k ∷ []) (is.place ∙ zeroth (length (runs_bits (first_runs cap q fed)))) ∙ sym (starts-end 0 (first_runs cap q fed) run) ∙ ap (λ rs. starts 0 rs) (sym runs);
+      places = places ∙ ap (λ l. l ++ r0.writer.place ∷ []) is.places ∙ ap (λ k. starts 0 (first_runs cap q fed) ++ k ∷ []) is.place ∙ sym (starts_more (first_runs cap q fed) run) ∙ ap (λ rs. starts 0 rs) (sym runs);
       occurrences = docs-end fed o is.occurrences doc;
       few = omega (arith, e1, room_left);
     }
-  where
-    zeroth : (k : ℕ) → k ≡ 0 + k
-    zeroth k = omega arith

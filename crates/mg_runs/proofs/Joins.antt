@@ -1,7 +1,6 @@
 -- Postings that are counted and written.
 use Rattle.std.proofs.Common.{◌≡◌, ℕ, zero, suc, ◌+◌, ◌-◌, ◌*◌, ◌%◌, ◌^◌, ◌<◌, ◌≤◌, List, [], ◌∷◌, ◌++◌, length, drop, refl, sym, ap, ◌∙◌, subst, arith, Some, None, is_some, unwrap_or, ◌≢◌, append_assoc, append-nil}
 use Rattle.std.proofs.lemmas.List.{drop-drop}
-use Rattle.std.specs.List.{AllByRecursion}
 use Rattle.std.specs.Prelude.{Err}
 use Rattle.std.specs.declared.option.Option.{Option}
 use Rattle.mg_dev.specs.Files.{Files, Reads, file_at, bytes_at}
@@ -21,11 +20,11 @@ use Rattle.mg_bits.specs.Pages.{Looked}
 use Rattle.mg_bits.specs.Writer.{WroteTo}
 use Rattle.mg_bits.specs.BitWriting.{BitWriting, WroteBits, to_byte}
 use Rattle.mg_bits.proofs.BitsWritten.{bits_more, bits_none}
-use Rattle.mg_runs.specs.Decoding.{IsSmall}
 use Rattle.mg_runs.specs.Cursors.{IsRun}
 use Rattle.mg_runs.specs.Merging.{first, AreLeft}
 use Rattle.mg_runs.specs.Joins.{IsCounting, IsPutting, Passed}
 use Rattle.mg_runs.specs.declared.cursor.Cursor.{Cursor}
+use Rattle.mg_runs.proofs.CursorLaws.{after_start}
 use Rattle.mg_runs.proofs.Steps.{split_first, caused_as}
 
 some_left : (left : List TermPosting) (count : ℕ) (p : TermPosting) → count ≤ length left → Some p ≡ first (drop count left) → count + 1 ≤ length left
@@ -91,13 +90,6 @@ put_end slots cursors file f0 f1 w0 w1 last bits is e =
     let whole : is.done ++ [] ≡ bits = ap (λ xs. is.done ++ postings_bits last xs) (sym none) ∙ is.rest in
     subst (λ b. WroteBits w0 w1 f0 f1 b) (sym (append-nil is.done) ∙ whole) is.wrote
 
--- what follows a first posting, and what every run of postings follows
-after_none : (xs : List TermPosting) → AllByRecursion (λ x. IsSmall x) xs → AllAfter before_first xs
-after_none [] all = tt
-after_none (x ∷ xs) all =
-    let d = all.0.doc_some in
-    (record { term = omega arith; doc = λ q. omega arith }, after_none xs all.1)
-
 pub put_start : (slots : List (List ℕ)) (cursors : List Cursor) (file : List ℕ) (f : Option Files) (w : BitWriting) (left : List TermPosting) → AreLeft slots cursors file left → IsRun left → w.place + 256 * length left ≤ 2 ^ 61 → IsPutting slots cursors file f f w w before_first (postings_bits before_first left)
 put_start slots cursors file f w left has run room = record {
   left = left;
@@ -105,7 +97,7 @@ put_start slots cursors file f w left has run room = record {
   done = [];
   wrote = bits_none f w;
   rest = refl;
-  before = after_none left run.small;
+  before = after_start left run.small;
   run = run;
   room = room;
 }

@@ -1,6 +1,6 @@
 -- The bits of runs, how many there are, and where the runs stand among them.
 use Rattle.std.proofs.Common.{◌≡◌, ℕ, zero, suc, ◌+◌, ◌-◌, ◌*◌, ◌/◌, ◌%◌, ◌<◌, ◌≤◌, ◌^◌, List, [], ◌∷◌, ◌++◌, length, refl, sym, ap, ◌∙◌, subst, arith, take, drop, get_or, length-append, append-nil, append_assoc, length-drop, length-take}
-use Rattle.std.specs.List.{AllByRecursion, All}
+use Rattle.std.specs.List.{All}
 use Rattle.std.proofs.lemmas.List.{get_or-take, get_or-drop}
 use Rattle.std.proofs.lemmas.List.Concat.{flat_map-append}
 use Rattle.std.proofs.lemmas.List.Elements.{All-tail}
@@ -11,21 +11,14 @@ use Rattle.mg_defs.specs.Codes.{gamma}
 use Rattle.mg_defs.specs.Postings.{AllAfter}
 use Rattle.mg_defs.specs.RunBits.{posting_bits, postings_bits, before_first, run_bits, runs_bits}
 use Rattle.mg_defs.proofs.BitLaws.{length_digits}
-use Rattle.mg_runs.specs.Decoding.{IsSmall}
 use Rattle.mg_runs.specs.Cursors.{IsRun, IsRunAt}
 use Rattle.mg_runs.specs.Fed.{starts}
 use Rattle.mg_runs.specs.Merging.{AreRunsAt}
 use Rattle.mg_runs.specs.Rounds.{first_joined, all_postings, AreWritten}
 use Rattle.mg_runs.proofs.Short.{gamma_short}
 use Rattle.mg_runs.proofs.Decoding.{behind_code}
-use Rattle.mg_runs.proofs.CursorLaws.{posting_short, place_below}
+use Rattle.mg_runs.proofs.CursorLaws.{after_start, posting_short, place_below}
 use Rattle.mg_runs.proofs.Rounds.{all_groups, all_first_joined, first_joined_run, group_is, some_group}
-
-after_start : (xs : List TermPosting) → AllByRecursion (λ x. IsSmall x) xs → AllAfter before_first xs
-after_start [] all = tt
-after_start (x ∷ xs) all =
-    let d = all.0.doc_some in
-    (record { term = omega arith; doc = λ q. omega arith }, after_start xs all.1)
 
 postings_short : (last : TermPosting) (xs : List TermPosting) → AllAfter last xs → IsRun xs → length (postings_bits last xs) ≤ 198 * length xs
 postings_short last [] after run = omega arith

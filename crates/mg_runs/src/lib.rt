@@ -14,6 +14,7 @@ mod entry;
 mod group;
 mod groups;
 mod join;
+mod laws;
 mod merge;
 mod pool;
 mod posting;
@@ -24,6 +25,7 @@ mod slot;
 mod tournament;
 mod walk;
 
+pub use laws::runs_stay;
 pub use merge::Merge;
 pub use pool::Pool;
 pub use runs::Runs;

@@ -1,14 +1,14 @@
 // What no clause says: bytes of runs as they stand in a file, postings beside those of a plain
 // sort, and refusals of a store.
-ghost use Rattle.std.specs.Prelude.{◌≡◌, ◌≤◌, ◌/◌, ◌^◌, ℕ, List, IfOk, length};
+ghost use Rattle.std.specs.Prelude.{◌≡◌, ◌≤◌, ◌/◌, ◌^◌, ℕ, List, IfOk, OnOk, codes, length};
 ghost use Rattle.mg_runs.specs.Fed.{IsFed};
 ghost use Rattle.mg_runs.specs.Left.{IsMerging};
 ghost use Rattle.mg_defs.specs.declared.TermPosting.{TermPosting};
 
 use crate::join::refused;
-use crate::{Merge, Pool, Runs};
+use crate::{Merge, Pool, Runs, runs_stay};
 use mg_defs::TermPosting;
-use mg_dev::{MemStore, Part, PartErr, PutErr, Store};
+use mg_dev::{FileRef, MemStore, Part, PartErr, PutErr, Store};
 use std::alloc::{AllocError, Global};
 use std::test::Fail;
 
@@ -43,6 +43,7 @@ fn take<S: Store>(
     requires count { length sample.now ≤ 1000000 }
     ensures fed { IfOk result (λ runs. (fed : List (ℕ × ℕ)) × IsFed runs (S.files store.new) fed) }
     ensures limit { IfOk result (λ runs. runs.pool.limit ≡ budget) }
+    ensures base { IfOk result (λ runs. runs.base ≡ codes "set") }
 {
     let mut runs = Runs::start(alloc, store, "set", Pool::new(alloc, budget)?)?;
     for k in 0..sample.len() {
@@ -196,6 +197,64 @@ fn postings_are_those_of_a_sort(rt: HostRuntime) -> Result<(), Fail> {
     assert!(rt; merges_as_sorted(alloc, &mut store, 65536, 1024, &sample)?);
     assert!(rt; merges_as_sorted(alloc, &mut store, 16777216, 262144, &sample)?);
     assert_eq!(rt; store.file("set.mergea"), Some(b"".as_slice()));
+    Ok(())
+}
+
+/// The next posting of a merge, once a byte more of Post was written.
+fn next_beside_post<S: Store>(
+    merge: &mut Merge<'_>,
+    store: &mut S,
+    base: &str,
+) -> Result<Option<TermPosting>, PartErr>
+    requires left { (left : List TermPosting) × IsMerging merge.old (S.files store.old) left }
+    requires base { merge.old.base ≡ base.now }
+    ensures base { merge.new.base ≡ merge.old.base }
+    ensures left { OnOk result ((left : List TermPosting) × IsMerging merge.new (S.files store.new) left) }
+{
+    let post = FileRef {
+        base,
+        part: Part::Post,
+    };
+    match store.append(&post, b"*") {
+        Ok(()) => {}
+        Err(refusal) => return Err(refused(refusal)),
+    }
+    runs_stay();
+    merge.next(store)
+}
+
+/// Whether so many postings of two merges are the same, where Post is written between those of the
+/// second.
+fn agree_beside_post<S: Store>(
+    alone: &mut Merge<'_>,
+    store: &mut S,
+    beside: &mut Merge<'_>,
+    other: &mut S,
+    count: usize,
+) -> Result<bool, PartErr>
+    requires alone { (left : List TermPosting) × IsMerging alone.old (S.files store.old) left }
+    requires beside { (left : List TermPosting) × IsMerging beside.old (S.files other.old) left }
+    requires base { beside.old.base ≡ codes "set" }
+{
+    for _ in 0..count {
+        let expected = alone.next(store)?;
+        if next_beside_post(beside, other, "set")? != expected {
+            return Ok(false);
+        }
+    }
+    Ok(true)
+}
+
+#[test]
+fn postings_come_while_post_is_written(rt: HostRuntime) -> Result<(), Fail> {
+    let alloc = rt.alloc();
+    let sample = scattered(alloc, 1400, 97)?;
+    let mut store = MemStore::new(alloc);
+    let mut alone = take(alloc, &mut store, 4096, &sample)?.merge(&mut store)?;
+    let mut other = MemStore::new(alloc);
+    let mut beside = take(alloc, &mut other, 4096, &sample)?.merge(&mut other)?;
+    assert!(rt; agree_beside_post(&mut alone, &mut store, &mut beside, &mut other, 1400)?);
+    assert_eq!(rt; other.file("set.post").map(|bytes| bytes.len()), Some(1400));
     Ok(())
 }
 

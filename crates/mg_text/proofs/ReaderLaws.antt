@@ -23,6 +23,7 @@ use Rattle.mg_front.specs.Reading.{IsNotBad}
 use Rattle.mg_layout.specs.declared.head.Head.{Head}
 use Rattle.mg_model.specs.Damage.{AnswersLoad}
 use Rattle.mg_model.specs.Models.{IsModel, PartsStand}
+use Rattle.mg_model.proofs.Standing.{room-of}
 use Rattle.mg_text.specs.Documents.{TextHolds}
 use Rattle.mg_text.proofs.LimitLaws.{text_small}
 use Rattle.mg_text.specs.Decoding.{Ends, Stopped, Takes, WholeDoc}
@@ -126,9 +127,17 @@ doc_told result r files mid collection number from place feed f1 d0 d1 before w0
 pub models_refused : (base : List ℕ) (files mid : Option Files) (head : Head) (refusal : PartErr) → mid ≡ files → AnswersTextSizes (stored_at files base head) (Ok tt) →
     (IsSome mid → AnswersLoad head.words head.others (bytes_at mid (full_name base part.Words)) (bytes_at mid (full_name base part.Nonwords)) (Err refusal)) → IsSome files → AnswersReader (stored_at files base head) (Err refusal)
 models_refused base files mid head Device same sizes answers told = tt
-models_refused base files mid head Memory same sizes answers told = tt
+models_refused base files mid head Memory same sizes answers told =
+    (sizes, subst (λ f. AnswersLoad head.words head.others (bytes_at f (full_name base part.Words)) (bytes_at f (full_name base part.Nonwords)) (Err Memory)) same (answers (subst IsSome (sym same) told)))
 models_refused base files mid head (Bad bad) same sizes answers told =
     inr (sizes, subst (λ f. AnswersLoad head.words head.others (bytes_at f (full_name base part.Words)) (bytes_at f (full_name base part.Nonwords)) (Err (Bad bad))) same (answers (subst IsSome (sym same) told)))
+
+-- no memory was left for the reader once the models were loaded
+pub reader_refused : (base : List ℕ) (files mid : Option Files) (head : Head) (code : TextCode) → mid ≡ files → AnswersTextSizes (stored_at files base head) (Ok tt) →
+    (IsSome mid → AnswersLoad head.words head.others (bytes_at mid (full_name base part.Words)) (bytes_at mid (full_name base part.Nonwords)) (Ok code)) → IsSome files → AnswersReader (stored_at files base head) (Err Memory)
+reader_refused base files mid head code same sizes answers told =
+    let loaded = subst (λ f. AnswersLoad head.words head.others (bytes_at f (full_name base part.Words)) (bytes_at f (full_name base part.Nonwords)) (Ok code)) same (answers (subst IsSome (sym same) told)) in
+    (sizes, room-of head.words (bytes_at files (full_name base part.Words)) code.words loaded.0)
 
 -- ---- what an answer says
 

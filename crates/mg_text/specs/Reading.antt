@@ -108,11 +108,11 @@ AnswersTextSizes s r = AnswersSizes s.head.text_bytes (places_size s.head) s.tex
 abbrev pub HasSizes : Stored → Type 0
 HasSizes s = (length s.text ≡ s.head.text_bytes) × (length s.places ≡ places_size s.head)
 
--- what loading a reader answers: the first of the two sizes that differs, then what the models answer
+-- what loading a reader answers: the first of the two sizes that differs, then what the models answer; memory is wanted only where both sizes are right and Words has room for its entries
 abbrev pub AnswersReader : Stored → Result TextReading PartErr → Type 0
 AnswersReader s (Ok r) = HasSizes s × AnswersLoad s.head.words s.head.others s.words s.others (Ok r.code)
 AnswersReader s (Err Device) = Unit {0}
-AnswersReader s (Err Memory) = Unit {0}
+AnswersReader s (Err Memory) = HasSizes s × AnswersLoad s.head.words s.head.others s.words s.others (Err Memory)
 AnswersReader s (Err (Bad bad)) = AnswersTextSizes s (Err (Bad bad)) ⊎ (HasSizes s × AnswersLoad s.head.words s.head.others s.words s.others (Err (Bad bad)))
 
 -- what the parts of a base hold

@@ -80,7 +80,8 @@ fn expect_sizes<S: Store>(store: &mut S, base: &str, head: &Head) -> Result<(), 
 impl<'a, S: Store> TextReader<'a, S> {
     /// A reader of the text under this base, which the head tells of. It compares the sizes of Text
     /// and of Places, in this order, with those of the head before it reads or reserves anything,
-    /// and then loads the models; the first that is refused is told.
+    /// and then loads the models; the first that is refused is told. So memory is wanted only where
+    /// both sizes are right, and Words is no shorter than twice the head's number of words.
     pub fn load(alloc: Global, store: &mut S, base: &'a str, head: &Head) -> Result<Self, PartErr>
         requires words { head.now.words ≤ 2 ^ 22 }
         requires others { head.now.others ≤ 2 ^ 22 }
