@@ -1,46 +1,67 @@
--- A map's entries, seen as pieces with their counts, and what counting a piece does to them.
-use Rattle.std.proofs.Common.{◌≡◌, ℕ, ◌+◌, ◌-◌, ◌^◌, ◌<◌, ◌≤◌, Bool, true, false, cond, List, [], ◌∷◌, None, Some, is_some, map, length, refl, sym, subst, arith, if◌then◌else◌, ◌||◌}
-use Rattle.std.specs.List.{AllByRecursion}
+-- Pieces with their counts, and what counting a piece does to them.
+use Rattle.std.proofs.Common.{◌≡◌, ℕ, zero, suc, ◌+◌, ◌-◌, ◌^◌, ◌<◌, ◌≤◌, Bool, true, false, cond, List, [], ◌∷◌, ◌++◌, map, length, get_or, refl, sym, ap, subst, ◌∙◌, arith, if◌then◌else◌, ◌||◌, None, Some, position}
+use Rattle.std.proofs.Math.ListN.{set}
+use Rattle.std.specs.List.{AllByRecursion, list_any, zip}
 use Rattle.std.specs.Str.{bytes_eq}
-use Rattle.std.specs.Map.{lookup, set_value}
-use Rattle.std.proofs.lemmas.List.{length-map}
+use Rattle.std.proofs.lemmas.Grind.{get_or_default_zero}
+use Rattle.std.proofs.lemmas.List.Folds.{list_any_at}
+use Rattle.std.proofs.lemmas.List.Quantifiers.{position-Some}
 use Rattle.std.proofs.lemmas.List.Sums.{sum_by-cons}
-use Rattle.indexmap.specs.IndexMap.{insert_entry}
 use Rattle.mg_defs.specs.Vocabulary.{has_piece, counted, total}
-use Rattle.mg_model.specs.Vocabularies.{IsVocabulary}
+use Rattle.mg_model.specs.Vocabularies.{IsVocabulary, pieces_of, numbers_of}
+use Rattle.mg_model.proofs.Tabling.{any-none}
 
-module _ {K : Type 0} (items : K → List ℕ) (piece : List ℕ) where
-  abbrev pub shown : List (K × ℕ) → List (List ℕ × ℕ)
-  shown es = map (λ e. (items e.0, e.1)) es
+pub pieces-zip : (pieces : List (List ℕ)) (counts : List ℕ) → length counts ≡ length pieces → pieces_of (zip pieces counts) ≡ pieces
+pieces-zip [] counts h = refl
+pieces-zip (p ∷ pieces) [] h = absurd (omega arith)
+pieces-zip (p ∷ pieces) (n ∷ counts) h = ap (λ ps. p ∷ ps) (pieces-zip pieces counts (omega arith))
 
-  abbrev pub is_it : K → Bool
-  is_it k = bytes_eq piece (items k)
+pub numbers-zip : (pieces : List (List ℕ)) (counts : List ℕ) → length counts ≡ length pieces → numbers_of (zip pieces counts) ≡ counts
+numbers-zip [] [] h = refl
+numbers-zip [] (n ∷ counts) h = absurd (omega arith)
+numbers-zip (p ∷ pieces) [] h = absurd (omega arith)
+numbers-zip (p ∷ pieces) (n ∷ counts) h = ap (λ ns. n ∷ ns) (numbers-zip pieces counts (omega arith))
 
-  pub counted_there : (n : ℕ) (es : List (K × ℕ)) → lookup is_it es ≡ Some n → shown (set_value is_it es (n + 1)) ≡ counted piece (shown es)
-  counted_there n [] h = grind arith
-  counted_there n (e ∷ es) h = grind (arith, counted_there n es)
+pub length-zip : (pieces : List (List ℕ)) (counts : List ℕ) → length counts ≡ length pieces → length (zip pieces counts) ≡ length counts
+length-zip [] [] h = refl
+length-zip [] (n ∷ counts) h = absurd (omega arith)
+length-zip (p ∷ pieces) [] h = absurd (omega arith)
+length-zip (p ∷ pieces) (n ∷ counts) h = ap suc (length-zip pieces counts (omega arith))
 
-  pub there : (es : List (K × ℕ)) → has_piece (shown es) piece ≡ is_some (lookup is_it es)
-  there [] = refl
-  there (e ∷ es) = grind (arith, there es)
+pub has-zip : (piece : List ℕ) (pieces : List (List ℕ)) (counts : List ℕ) → length counts ≡ length pieces → has_piece (zip pieces counts) piece ≡ list_any (bytes_eq piece) pieces
+has-zip piece [] counts h = refl
+has-zip piece (p ∷ pieces) [] h = absurd (omega arith)
+has-zip piece (p ∷ pieces) (n ∷ counts) h = ap (λ b. bytes_eq piece p || b) (has-zip piece pieces counts (omega arith))
 
-  pub counted_new : (k : K) (es : List (K × ℕ)) → items k ≡ piece → lookup is_it es ≡ None → shown (insert_entry (λ x y. bytes_eq (items x) (items y)) es k 1) ≡ counted piece (shown es)
-  counted_new k [] e h = grind arith
-  counted_new k (x ∷ es) e h = grind (arith, counted_new k es)
+-- one more of a piece that is there
+pub counted-there : (piece : List ℕ) (pieces : List (List ℕ)) (counts : List ℕ) (place : ℕ) → length counts ≡ length pieces → place < length pieces → bytes_eq piece (get_or pieces place []) ≡ true →
+    ((k : ℕ) → k < place → bytes_eq piece (get_or pieces k []) ≡ false) → zip pieces (set counts place (get_or counts place 0 + 1)) ≡ counted piece (zip pieces counts)
+counted-there piece [] counts place h low here before = absurd (omega arith)
+counted-there piece (p ∷ pieces) [] place h low here before = absurd (omega arith)
+counted-there piece (p ∷ pieces) (n ∷ counts) zero h low here before = ap (λ b. if b then (p, n + 1) ∷ zip pieces counts else (p, n) ∷ counted piece (zip pieces counts)) (sym here)
+counted-there piece (p ∷ pieces) (n ∷ counts) (suc place) h low here before =
+    let rest = counted-there piece pieces counts place (omega arith) (omega arith) here (λ k less. before (suc k) (omega arith)) in
+    let other : bytes_eq piece p ≡ false = before 0 (omega arith) in
+    ap (λ es. (p, n) ∷ es) rest ∙ ap (λ b. if b then (p, n + 1) ∷ zip pieces counts else (p, n) ∷ counted piece (zip pieces counts)) (sym other)
 
-  pub length_shown : (es : List (K × ℕ)) → length (shown es) ≡ length es
-  length_shown es = length-map {A = K × ℕ} {B = List ℕ × ℕ} es (λ e. (items e.0, e.1))
+-- one of a piece that is not there
+pub counted-new : (piece : List ℕ) (pieces : List (List ℕ)) (counts : List ℕ) → length counts ≡ length pieces → list_any (bytes_eq piece) pieces ≡ false → zip (pieces ++ piece ∷ []) (counts ++ 1 ∷ []) ≡ counted piece (zip pieces counts)
+counted-new piece [] [] h none = refl
+counted-new piece [] (n ∷ counts) h none = absurd (omega arith)
+counted-new piece (p ∷ pieces) [] h none = absurd (omega arith)
+counted-new piece (p ∷ pieces) (n ∷ counts) h none = by (bytes_eq piece p) none (counted-new piece pieces counts (omega arith))
+  where
+    by : (b : Bool) → (b || list_any (bytes_eq piece) pieces) ≡ false → (list_any (bytes_eq piece) pieces ≡ false → zip (pieces ++ piece ∷ []) (counts ++ 1 ∷ []) ≡ counted piece (zip pieces counts)) →
+        (p, n) ∷ zip (pieces ++ piece ∷ []) (counts ++ 1 ∷ []) ≡ (if b then (p, n + 1) ∷ zip pieces counts else (p, n) ∷ counted piece (zip pieces counts))
+    by true e rest = absurd cc
+    by false e rest = ap (λ es. (p, n) ∷ es) (rest e)
 
-  pub fits : (n : ℕ) (es : List (K × ℕ)) → lookup is_it es ≡ Some n → n ≤ total (shown es)
-  fits n [] h = grind arith
-  fits n (e ∷ es) h = by (is_it e.0) (fits n es) h
-    where
-      more : total (shown (e ∷ es)) ≡ e.1 + total (shown es)
-      more = sum_by-cons (λ (x : List ℕ × ℕ). x.1) (items e.0, e.1) (shown es)
-
-      by : (b : Bool) → (lookup is_it es ≡ Some n → n ≤ total (shown es)) → cond b (Some e.1) (lookup is_it es) ≡ Some n → n ≤ total (shown (e ∷ es))
-      by true rest p = let same : e.1 ≡ n = cc in omega (arith, more)
-      by false rest p = omega (arith, more, rest p)
+-- no count is above the number of all
+pub fits : (pieces : List (List ℕ)) (counts : List ℕ) (place : ℕ) → length counts ≡ length pieces → place < length pieces → get_or counts place 0 ≤ total (zip pieces counts)
+fits [] counts place h low = absurd (omega arith)
+fits (p ∷ pieces) [] place h low = absurd (omega arith)
+fits (p ∷ pieces) (n ∷ counts) zero h low = omega (arith, sum_by-cons (λ (x : List ℕ × ℕ). x.1) (p, n) (zip pieces counts))
+fits (p ∷ pieces) (n ∷ counts) (suc place) h low = omega (arith, fits pieces counts place (omega arith) (omega arith), sum_by-cons (λ (x : List ℕ × ℕ). x.1) (p, n) (zip pieces counts))
 
 pub total-counted : (piece : List ℕ) (es : List (List ℕ × ℕ)) → total (counted piece es) ≡ total es + 1
 total-counted piece [] = refl
@@ -82,3 +103,29 @@ still piece es new is few short room same = subst IsVocabulary (sym same) (recor
   counted = some-counted piece es is.counted;
   short = short-counted piece es short is.short;
 })
+
+-- ---- a piece that was sought
+
+pub record IsFound (piece : List ℕ) (pieces : List (List ℕ)) (counts : List ℕ) (place now : ℕ) : Type 0 where
+  pub low : place < length pieces
+  pub fits : now ≤ total (zip pieces counts)
+  pub has : has_piece (zip pieces counts) piece ≡ true
+  pub counted : zip pieces (set counts place (now + 1)) ≡ counted piece (zip pieces counts)
+
+pub found : (piece : List ℕ) (pieces : List (List ℕ)) (counts : List ℕ) (place now : ℕ) → length counts ≡ length pieces → Some place ≡ position (bytes_eq piece) pieces → now ≡ get_or counts place now → IsFound piece pieces counts place now
+found piece pieces counts place now long there is =
+    let first = position-Some (bytes_eq piece) pieces place [] (sym there) in
+    let low : place < length pieces = first.0 in
+    let number : now ≡ get_or counts place 0 = is ∙ get_or_default_zero counts place now (omega arith) in
+    record {
+      low = low;
+      fits = omega (arith, number, fits pieces counts place long low);
+      has = has-zip piece pieces counts long ∙ list_any_at (bytes_eq piece) pieces place [] low first.1;
+      counted = ap (λ n. zip pieces (set counts place (n + 1))) number ∙ counted-there piece pieces counts place long low first.1 first.2;
+    }
+
+pub not-found : (piece : List ℕ) (pieces : List (List ℕ)) (counts : List ℕ) → length counts ≡ length pieces → None ≡ position (bytes_eq piece) pieces → has_piece (zip pieces counts) piece ≡ false
+not-found piece pieces counts long none = has-zip piece pieces counts long ∙ any-none piece pieces (sym none)
+
+pub counted-last : (piece : List ℕ) (pieces new : List (List ℕ)) (counts now : List ℕ) → length counts ≡ length pieces → None ≡ position (bytes_eq piece) pieces → new ≡ pieces ++ piece ∷ [] → now ≡ counts ++ 1 ∷ [] → zip new now ≡ counted piece (zip pieces counts)
+counted-last piece pieces new counts now long none e f = ap (λ ps. zip ps now) e ∙ ap (zip (pieces ++ piece ∷ [])) f ∙ counted-new piece pieces counts long (any-none piece pieces (sym none))

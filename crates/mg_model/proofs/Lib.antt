@@ -1,6 +1,9 @@
 pub mod Lists
+pub mod Chaining
+pub mod Tabling
 pub mod Counting
 pub mod Order
+pub mod Sorting
 pub mod Cutting
 pub mod Seeking
 pub mod Entries

@@ -20,7 +20,7 @@ use Rattle.mg_defs.specs.Vocabulary.{entry_count, sorted_of, counts_of}
 use Rattle.mg_defs.proofs.SortedLaws.{same-refl, sorted-rising, rising-unique, has-sorted}
 use Rattle.mg_model.specs.Vocabularies.{IsVocabulary, pieces_of, numbers_of}
 
-abbrev order : List ℕ → List ℕ → Ordering
+abbrev pub order : List ℕ → List ℕ → Ordering
 order a b = slice_cmp nat_cmp a b
 
 same-sym : (a b : List ℕ) → bytes_eq a b ≡ bytes_eq b a
@@ -98,9 +98,9 @@ module _ (es fs : List (List ℕ × ℕ)) (moved : IsPermutation es fs) where
     short = recursion_from_All (λ (e : List ℕ × ℕ). length e.0 ≤ 255) fs (All-permutation (λ (e : List ℕ × ℕ). length e.0 ≤ 255) es fs moved (All-from_recursion (λ (e : List ℕ × ℕ). length e.0 ≤ 255) es is.short));
   }
 
--- ---- a map's entries in the order of its keys
+-- ---- pieces that are not above the next, and differ
 
-less-from : (a b : List ℕ) → is_lt (order b a) ≡ false → bytes_eq a b ≡ false → order a b ≡ Less
+pub less-from : (a b : List ℕ) → is_lt (order b a) ≡ false → bytes_eq a b ≡ false → order a b ≡ Less
 less-from a b down apart = by (order a b) refl
   where
     by : (o : Ordering) → order a b ≡ o → o ≡ Less
@@ -108,59 +108,15 @@ less-from a b down apart = by (order a b) refl
     by Equal e = absurd (false≢true (sym apart ∙ (sym (is_eq-slice_cmp a b) ∙ ap is_eq e)))
     by Greater e = absurd (false≢true (sym down ∙ ap is_lt (nat_list_cmp_total.antisymm b a ∙ ap ordering_reverse e)))
 
-later : (a b : List ℕ) (ps : List (List ℕ)) → order a b ≡ Less → AllByRecursion (λ q. order b q ≡ Less) ps → AllByRecursion (λ q. order a q ≡ Less) ps
+pub later : (a b : List ℕ) (ps : List (List ℕ)) → order a b ≡ Less → AllByRecursion (λ q. order b q ≡ Less) ps → AllByRecursion (λ q. order a q ≡ Less) ps
 later a b [] l h = tt
 later a b (q ∷ ps) l h = (nat_list_cmp_total.trans a b q l h.0, later a b ps l h.1)
 
-module _ {K : Type 0} (items : K → List ℕ) where
-  abbrev pub shown : List (K × ℕ) → List (List ℕ × ℕ)
-  shown es = map (λ e. (items e.0, e.1)) es
-
-  pub distinct-shown : (es : List (K × ℕ)) → IsDistinct (λ a b. bytes_eq (items a) (items b)) (keys_of es) → IsDistinct bytes_eq (pieces_of (shown es))
-  unfolding IsDistinct
-  distinct-shown [] h = tt
-  distinct-shown (e ∷ es) h = (heads es h.0, distinct-shown es h.1)
-    where
-      heads : (fs : List (K × ℕ)) → AllByRecursion (λ b. bytes_eq (items e.0) (items b) ≡ false) (keys_of fs) → AllByRecursion (λ q. bytes_eq (items e.0) q ≡ false) (pieces_of (shown fs))
-      heads [] g = tt
-      heads (f ∷ fs) g = (g.0, heads fs g.1)
-
-  pub rising-shown : (es : List (K × ℕ)) → IsSorted (λ a b. slice_cmp nat_cmp (items a) (items b)) (keys_of es) → IsDistinct (λ a b. bytes_eq (items a) (items b)) (keys_of es) → IsStrictlySortedBy (slice_cmp nat_cmp) (pieces_of (shown es))
-  unfolding IsDistinct IsStrictlySortedBy
-  rising-shown [] sorted apart = tt
-  rising-shown (e ∷ []) sorted apart = (tt, tt)
-  rising-shown (e ∷ f ∷ es) sorted apart =
-      let next : order (items e.0) (items f.0) ≡ Less = less-from (items e.0) (items f.0) (sorted 0 e.0 (omega arith) (omega arith)) apart.0.0 in
-      let rest = rising-shown (f ∷ es) (λ k d low high. shifted k d (sorted (suc k) d (omega arith) (omega (arith, high)))) apart.1 in
-      ((next, later (items e.0) (items f.0) (pieces_of (shown es)) next rest.0), rest)
-    where
-      shifted : (k : ℕ) (d : K) → is_lt (order (items (get_or (keys_of (e ∷ f ∷ es)) (suc k + 1) d)) (items (get_or (keys_of (e ∷ f ∷ es)) (suc k) d))) ≡ false → is_lt (order (items (get_or (keys_of (f ∷ es)) (k + 1) d)) (items (get_or (keys_of (f ∷ es)) k d))) ≡ false
-      shifted k d h = let n : suc k + 1 ≡ suc (k + 1) = omega arith in subst (λ m. is_lt (order (items (get_or (keys_of (e ∷ f ∷ es)) m d)) (items (get_or (keys_of (f ∷ es)) k d))) ≡ false) n h
-
-  pub length-shown : (es : List (K × ℕ)) → length (pieces_of (shown es)) ≡ length es
-  length-shown [] = refl
-  length-shown (e ∷ es) = ap suc (length-shown es)
-
-  place-shown : (p : List ℕ) (es : List (K × ℕ)) → position_or_len (λ k. bytes_eq p (items k)) (keys_of es) ≡ position_or_len (bytes_eq p) (pieces_of (shown es))
-  place-shown p [] = refl
-  place-shown p (e ∷ es) = ap (λ n. cond (not (bytes_eq p (items e.0))) (1 + n) 0) (place-shown p es)
-
-  key-count : (es : List (K × ℕ)) → length (keys_of es) ≡ length (pieces_of (shown es))
-  key-count [] = refl
-  key-count (e ∷ es) = ap suc (key-count es)
-
-  pub position-shown : (p : List ℕ) (es : List (K × ℕ)) → position (λ k. bytes_eq p (items k)) (keys_of es) ≡ position (bytes_eq p) (pieces_of (shown es))
-  position-shown p es =
-      let place = place-shown p es in
-      let count = key-count es in
-      λ i. cond (ltb (place i) (count i)) (Some (place i)) None
-
-  pub piece-shown : (es : List (K × ℕ)) (i : ℕ) (k : K) (n : ℕ) → slice_get es i ≡ Some (k, n) → slice_get (pieces_of (shown es)) i ≡ Some (items k)
-  piece-shown [] i k n h = absurd cc
-  piece-shown (e ∷ es) zero k n h = let same : ◌≡◌ {A = K × ℕ} e (k, n) = cc in ap (λ (x : K × ℕ). Some (items x.0)) same
-  piece-shown (e ∷ es) (suc i) k n h = piece-shown es i k n h
-
-  pub number-shown : (es : List (K × ℕ)) (i : ℕ) (k : K) (n : ℕ) → slice_get es i ≡ Some (k, n) → slice_get (numbers_of (shown es)) i ≡ Some n
-  number-shown [] i k n h = absurd cc
-  number-shown (e ∷ es) zero k n h = let same : ◌≡◌ {A = K × ℕ} e (k, n) = cc in ap (λ (x : K × ℕ). Some x.1) same
-  number-shown (e ∷ es) (suc i) k n h = number-shown es i k n h
+pub distinct-rising : (ps : List (List ℕ)) → IsStrictlySortedBy (slice_cmp nat_cmp) ps → IsDistinct bytes_eq ps
+unfolding IsDistinct IsStrictlySortedBy
+distinct-rising [] h = tt
+distinct-rising (p ∷ ps) h = (heads ps h.0, distinct-rising ps h.1)
+  where
+    heads : (qs : List (List ℕ)) → AllByRecursion (λ q. order p q ≡ Less) qs → AllByRecursion (λ q. bytes_eq p q ≡ false) qs
+    heads [] g = tt
+    heads (q ∷ qs) g = (sym (is_eq-slice_cmp p q) ∙ ap is_eq g.0, heads qs g.1)

@@ -1,5 +1,8 @@
 pub mod Vocabularies
 pub mod Blocks
+pub mod Chains
+pub mod Tables
+pub mod Rows
 pub mod Pieces
 pub mod Models
 pub mod Sizes

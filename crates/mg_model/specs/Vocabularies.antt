@@ -1,6 +1,6 @@
 -- What every vocabulary keeps, and its columns.
-use Rattle.std.specs.Prelude.{ℕ, ◌^◌, ◌<◌, ◌≤◌, List, length, map}
-use Rattle.std.specs.List.{AllByRecursion}
+use Rattle.std.specs.Prelude.{◌≡◌, ℕ, ◌^◌, ◌<◌, ◌≤◌, List, length, map}
+use Rattle.std.specs.List.{AllByRecursion, zip}
 use Rattle.mg_defs.specs.Vocabulary.{total}
 
 -- Each piece has at most 255 bytes and came at least once, and there are no more pieces, and they came no more often, than a vocabulary may hold.
@@ -9,6 +9,11 @@ pub record IsVocabulary (entries : List (List ℕ × ℕ)) : Type 0 where
   pub total : total entries < 2 ^ 32
   pub counted : AllByRecursion (λ (e : List ℕ × ℕ). 1 ≤ e.1) entries
   pub short : AllByRecursion (λ (e : List ℕ × ℕ). length e.0 ≤ 255) entries
+
+-- each piece of a table has its count
+pub record IsCounted (pieces : List (List ℕ)) (counts : List ℕ) : Type 0 where
+  pub same : length counts ≡ length pieces
+  pub vocabulary : IsVocabulary (zip pieces counts)
 
 abbrev pub pieces_of : List (List ℕ × ℕ) → List (List ℕ)
 pieces_of entries = map (λ e. e.0) entries

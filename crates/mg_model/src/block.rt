@@ -1,5 +1,5 @@
 //! Pieces one after another in one block of bytes.
-ghost use Rattle.std.specs.Prelude.{◌≡◌, ℕ, List, ◌+◌, ◌<◌, ◌≤◌, ◌^◌, ◌++◌, ◌∷◌, ◌-◌, [], length, take, drop, position, slice_get, slice_index, Some, IfOk, OnOk};
+ghost use Rattle.std.specs.Prelude.{◌≡◌, ℕ, List, ◌+◌, ◌<◌, ◌≤◌, ◌^◌, ◌++◌, ◌∷◌, ◌-◌, [], length, take, drop, position, slice_get, slice_index, Some, IfOk, OnOk, OnErr};
 ghost use Rattle.std.specs.List.{AllByRecursion};
 ghost use Rattle.std.specs.List.Sorted.{IsStrictlySortedBy};
 ghost use Rattle.std.specs.Ordering.{nat_cmp};
@@ -7,6 +7,7 @@ ghost use Rattle.std.specs.Cmp.Lexicographic.{slice_cmp};
 ghost use Rattle.std.specs.Str.{bytes_eq};
 ghost use Rattle.mg_model.specs.Blocks.{start_of};
 
+use crate::room::{make_room, make_room_for};
 use std::alloc::{AllocError, Global};
 use std::cmp::Ordering;
 use std::marker::Model;
@@ -56,6 +57,16 @@ fn part(bytes: &[u8], start: u32, end: u32) -> &[u8]
 }
 
 impl PieceBlock {
+    /// A block of no piece.
+    pub fn new(alloc: Global) -> Self
+        ensures { result ≡ [] }
+    {
+        PieceBlock {
+            bytes: Vec::new(alloc),
+            ends: Vec::new(alloc),
+        }
+    }
+
     /// A block of no piece, with room for the places of so many.
     pub fn with_capacity(alloc: Global, pieces: u32) -> Result<Self, AllocError>
         ensures { IfOk result (λ block. block ≡ []) }
@@ -80,12 +91,14 @@ impl PieceBlock {
     pub fn push(&mut self, piece: &[u8]) -> Result<(), AllocError>
         requires few { length self.old < 2 ^ 22 }
         requires short { length piece.now ≤ 255 }
-        ensures { OnOk result (self.new ≡ self.old ++ piece.now ∷ []) }
+        ensures ok { OnOk result (self.new ≡ self.old ++ piece.now ∷ []) }
+        ensures err { OnErr result (self.new ≡ self.old) }
     {
-        self.bytes.reserve(piece.len())?;
+        make_room_for(&mut self.bytes, piece.len())?;
+        make_room(&mut self.ends)?;
         let end = self.bytes.len() + piece.len();
-        self.ends.push(end as u32)?;
         self.bytes.extend_from_slice(piece)?;
+        self.ends.push_reserved(end as u32);
         Ok(())
     }
 

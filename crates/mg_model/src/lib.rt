@@ -13,9 +13,14 @@
 #![tactic(auto)]
 
 mod block;
+mod chains;
 mod laws;
+mod link;
+mod piece_table;
 mod pieces;
 mod reading;
+mod room;
+mod row;
 mod stream_model;
 mod term_table;
 mod text_model;

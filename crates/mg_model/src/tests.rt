@@ -157,6 +157,97 @@ fn has_no_more(model: &TextModel) -> bool {
         && model.symbol(Stream::Words, b"zoo").is_none()
 }
 
+// Whether the digits of so many numbers stand at the places from one on, and those of the next
+// number at none.
+fn numbers_have_places(vocab: &Vocab, count: u32, from: u32) -> bool
+    requires count { count ≤ 2 ^ 24 }
+    requires from { from ≤ 2 ^ 24 }
+{
+    for number in 0..count {
+        let digits = digits_of(number);
+        let place = from + number;
+        if place >= vocab.len() {
+            return false;
+        }
+        if vocab.place_of(&digits) != Some(place) || vocab.piece(place) != digits.as_slice() {
+            return false;
+        }
+    }
+    vocab.place_of(&digits_of(count)).is_none()
+}
+
+// Whether so many pieces are found while a table is filled.
+fn table_holds(alloc: Global, count: u32) -> Result<bool, VocabErr>
+    requires { count ≤ 2 ^ 24 }
+{
+    let mut vocab = Vocab::new(alloc);
+    if vocab.place_of(b"").is_some() {
+        return Ok(false);
+    }
+    count_numbers(&mut vocab, count)?;
+    Ok(vocab.len() == count && numbers_have_places(&vocab, count, 0))
+}
+
+#[test]
+fn pieces_keep_their_places_as_the_table_grows(rt: HostRuntime) -> Result<(), Fail> {
+    for count in [1, 2, 15, 16, 17, 31, 32, 33, 64, 65, 1000] {
+        assert!(rt; table_holds(rt.alloc(), count)?);
+    }
+    Ok(())
+}
+
+fn longest() -> [u8; 255] {
+    [7; 255]
+}
+
+// A vocabulary of the empty piece, one of 255 bytes, and the digits of so many numbers.
+fn many(alloc: Global, count: u32) -> Result<Vocab, VocabErr>
+    requires { count ≤ 2 ^ 24 }
+{
+    let mut vocab = Vocab::new(alloc);
+    count_numbers(&mut vocab, count)?;
+    vocab.count(b"")?;
+    vocab.count(&longest())?;
+    vocab.count(b"")?;
+    Ok(vocab)
+}
+
+#[test]
+fn pieces_of_all_lengths_are_found(rt: HostRuntime) -> Result<(), Fail> {
+    let vocab = many(rt.alloc(), 5000)?;
+    assert!(rt; vocab.len() == 5002);
+    assert!(rt; numbers_have_places(&vocab, 5000, 0));
+    assert!(rt; vocab.place_of(b"") == Some(5000));
+    assert!(rt; vocab.place_of(&longest()) == Some(5001));
+    assert!(rt; vocab.place_of(&longest()[1..]).is_none());
+    assert!(rt; vocab.place_of(b"0000000").is_none());
+    Ok(())
+}
+
+// Whether the digits of so many numbers have the symbols from one on.
+fn numbers_have_symbols(model: &TextModel, count: u32, from: u32) -> bool
+    requires count { count ≤ 2 ^ 24 }
+    requires from { from ≤ 2 ^ 24 }
+{
+    for number in 0..count {
+        if !has_its_piece(model, Stream::Words, &digits_of(number), from + number) {
+            return false;
+        }
+    }
+    model.symbol(Stream::Words, &digits_of(count)).is_none()
+}
+
+#[test]
+fn sorted_pieces_are_found(rt: HostRuntime) -> Result<(), Fail> {
+    let alloc = rt.alloc();
+    let model = TextModel::of(alloc, many(alloc, 5000)?, many(alloc, 17)?)?;
+    assert!(rt; numbers_have_symbols(&model, 5000, 2));
+    assert!(rt; has_its_piece(&model, Stream::Words, b"", 0));
+    assert!(rt; has_its_piece(&model, Stream::Words, &longest(), 1));
+    assert!(rt; has_its_piece(&model, Stream::Others, b"000010", 18));
+    Ok(())
+}
+
 // A store with the parts of the three documents.
 fn written(alloc: Global) -> Result<MemStore, Fail> {
     let model = model_of(alloc, &WORDS, &OTHERS)?;

@@ -8,9 +8,9 @@ ghost use Rattle.mg_defs.specs.Vocabulary.{has_piece, counted, total, sorted_of,
 ghost use Rattle.mg_model.specs.Vocabularies.{IsVocabulary, pieces_of, numbers_of};
 
 use crate::VocabErr;
-use indexmap::IndexMap;
+use crate::piece_table::{PieceTable, hash_of};
+use crate::room::make_room;
 use std::alloc::{AllocError, Global};
-use std::boxed::BoxedSlice;
 use std::marker::Model;
 
 /// The most entries of a vocabulary.
@@ -19,24 +19,25 @@ const MOST_PIECES: usize = 1 << 22;
 /// The distinct pieces of a stream in the order of their first appearance, each with how often it
 /// came.
 ///
-/// A piece is kept in a block of just its length, and beside it take 28 bytes and a slot of the
-/// hash table: four bytes are enough for a count, for fewer than 2^32 pieces are counted.
+/// The pieces stand in one table; a count takes four bytes beside it, for fewer than 2^32 pieces are
+/// counted. With what they grow by, that is less than 48 bytes a piece beside its own.
 #[derive(Drop)]
 pub struct Vocab {
     alloc: Global,
-    pieces: IndexMap<BoxedSlice<u8>, u32>,
+    pieces: PieceTable,
+    counts: Vec<u32>,
 }
 
 impl Model for Vocab {
-    ghost use Rattle.std.specs.Prelude.{ℕ, List, map};
-    ghost use Rattle.std.specs.Box.{boxed_slice_items};
-    ghost use Rattle.mg_model.specs.Vocabularies.{IsVocabulary};
+    ghost use Rattle.std.specs.Prelude.{ℕ, List};
+    ghost use Rattle.std.specs.List.{zip};
+    ghost use Rattle.mg_model.specs.Vocabularies.{IsCounted};
 
     ghost Value = { List (List ℕ × ℕ) };
 
-    ghost view = { λ v. map (λ e. (boxed_slice_items e.0, e.1)) v.pieces.entries };
+    ghost view = { λ v. zip v.pieces v.counts.items };
 
-    ghost invariant = { λ v. IsVocabulary (map (λ e. (boxed_slice_items e.0, e.1)) v.pieces.entries) };
+    ghost invariant = { λ v. IsCounted v.pieces v.counts.items };
 }
 
 impl Vocab {
@@ -46,7 +47,8 @@ impl Vocab {
     {
         Vocab {
             alloc,
-            pieces: IndexMap::new(alloc),
+            pieces: PieceTable::new(alloc),
+            counts: Vec::new(alloc),
         }
     }
 
@@ -55,7 +57,7 @@ impl Vocab {
         ensures len { result ≡ length self.now }
         ensures keeps { IsVocabulary self.now }
     {
-        self.pieces.len() as u32
+        self.counts.len() as u32
     }
 
     /// Adds one to the count of a piece of at most 255 bytes, or adds the piece last. Fewer than
@@ -69,15 +71,17 @@ impl Vocab {
         ensures full { IsErrOf result VocabErr.TooMany ↔ ((has_piece self.old piece.now ≡ false) × (length self.old ≡ 2 ^ 22)) }
         ensures err { OnErr result (self.new ≡ self.old) }
     {
-        if let Some(count) = self.pieces.get_mut(piece) {
-            *count += 1;
+        let hash = hash_of(piece);
+        if let Some(place) = self.pieces.find(hash, piece) {
+            self.counts[place as usize] += 1;
             return Ok(());
         }
-        if self.pieces.len() >= MOST_PIECES {
+        if self.counts.len() >= MOST_PIECES {
             return Err(VocabErr::TooMany);
         }
-        let piece = BoxedSlice::from_slice(self.alloc, piece)?;
-        self.pieces.insert(piece, 1)?;
+        make_room(&mut self.counts)?;
+        self.pieces.push(hash, piece)?;
+        self.counts.push_reserved(1);
         Ok(())
     }
 
@@ -87,7 +91,8 @@ impl Vocab {
         ensures counts { OnOk result (numbers_of self.new ≡ counts_of self.old) }
         ensures rising { OnOk result (IsStrictlySortedBy (slice_cmp nat_cmp) (pieces_of self.new)) }
     {
-        self.pieces.sort_unstable_keys()?;
+        let counts = self.pieces.sort(&self.counts)?;
+        self.counts = counts;
         Ok(())
     }
 
@@ -96,8 +101,8 @@ impl Vocab {
         ensures counts { IfOk result (λ counts. counts.items ≡ numbers_of self.now) }
         ensures keeps { IsVocabulary self.now }
     {
-        let mut counts = Vec::with_capacity(self.alloc, self.pieces.len())?;
-        for place in 0..self.pieces.len() {
+        let mut counts = Vec::with_capacity(self.alloc, self.counts.len())?;
+        for place in 0..self.counts.len() {
             counts.push(u64::from(self.count_at(place)))?;
         }
         Ok(counts)
@@ -108,18 +113,14 @@ impl Vocab {
         requires { place < length self.now }
         ensures { slice_get (numbers_of self.now) place ≡ Some result }
     {
-        let (_, count) = self.pieces.get_index(place).unwrap();
-        *count
+        self.counts[place]
     }
 
     /// The place of a piece among the entries.
     pub(crate) fn place_of(&self, piece: &[u8]) -> Option<u32>
         ensures { result ≡ position (bytes_eq piece.now) (pieces_of self.now) }
     {
-        match self.pieces.get_index_of(piece) {
-            Some(place) => Some(place as u32),
-            None => None,
-        }
+        self.pieces.place_of(piece)
     }
 
     /// The piece at a place.
@@ -127,7 +128,6 @@ impl Vocab {
         requires { place < length self.now }
         ensures { slice_get (pieces_of self.now) place ≡ Some result.now }
     {
-        let (piece, _) = self.pieces.get_index(place as usize).unwrap();
-        piece.as_slice()
+        self.pieces.piece(place)
     }
 }

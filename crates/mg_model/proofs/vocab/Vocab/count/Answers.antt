@@ -1,54 +1,63 @@
-use Rattle.std.proofs.Common.{rules, ◌≡◌, ◌+◌, ◌≤◌, ◌^◌, ◌∙◌, length, true, false, cond, sym, ap, subst, arith, is_some}
-use Rattle.std.specs.Str.{bytes_eq}
-use Rattle.std.specs.Box.{boxed_slice_items}
-use Rattle.indexmap.specs.IndexMap.{insert_entry}
+use Rattle.std.proofs.Common.{rules, ◌≡◌, ◌<◌, ◌+◌, ◌≤◌, ◌^◌, ◌∙◌, ◌++◌, ◌∷◌, [], length, true, false, cond, sym, ap, subst, arith}
+use Rattle.std.specs.List.{zip}
+use Rattle.std.proofs.lemmas.Bool.{false≢true}
+use Rattle.std.proofs.lemmas.List.{length-set, length-append}
 use Rattle.mg_defs.specs.Vocabulary.{has_piece, counted, total}
-use Rattle.mg_model.proofs.Counting.{counted_there, there, counted_new, fits, shown, length_shown, total-counted, still}
+use Rattle.mg_model.specs.declared.vocab_err.VocabErr.TheVariants.{Memory, TooMany}
+use Rattle.mg_model.proofs.Counting.{found, not-found, counted-last, length-zip, total-counted, still}
 use Rattle.mg_model.proofs.vocab.Vocab.count.Goals as goal
 
-pub overflow_add-count : goal.overflow_add-count
-overflow_add-count c =
-    let most = fits boxed_slice_items c.args.piece.now _ c.self.inside.pieces.entries (sym c.in-Some.ensures.value) in
-    let same = ap total c.self.view_is in
-    omega (arith, most, same, c.requires.total)
+pub overflow_add-index_mut : goal.overflow_add-index_mut
+overflow_add-index_mut c =
+    let there = found c.args.piece.now c.self.inside.pieces c.self.inside.counts.items c.in-Some.place c.index_mut.result.now c.self.invariant.same c.in-Some.ensures c.index_mut.ensures.value in
+    omega (arith, there.fits, ap total c.self.view_is, c.requires.total)
 
 pub returns-in-Some-clause-counted : goal.returns-in-Some-clause-counted
 returns-in-Some-clause-counted c =
-    let w = c.get_mut.follows.holds (c.in-Some.count.now + 1) in
-    ap (shown boxed_slice_items c.args.piece.now) w.0 ∙ counted_there boxed_slice_items c.args.piece.now c.in-Some.count.now c.self.inside.pieces.entries (sym c.in-Some.ensures.value) ∙ ap (counted c.args.piece.now) c.self.view_is
+    let there = found c.args.piece.now c.self.inside.pieces c.self.inside.counts.items c.in-Some.place c.index_mut.result.now c.self.invariant.same c.in-Some.ensures c.index_mut.ensures.value in
+    there.counted ∙ ap (counted c.args.piece.now) c.self.view_is
 
 pub returns-in-Some-clause-total : goal.returns-in-Some-clause-total
 returns-in-Some-clause-total c = ap total (returns-in-Some-clause-counted c) ∙ total-counted c.args.piece.now c.args.self.now
 
 pub returns-in-Some-clause-full : goal.returns-in-Some-clause-full
 returns-in-Some-clause-full c =
-    let yes = there boxed_slice_items c.args.piece.now c.self.inside.pieces.entries in
-    let found = ap is_some c.in-Some.ensures.value in
-    rw (← c.self.view_is, yes, ← found) (grind arith)
+    let there = found c.args.piece.now c.self.inside.pieces c.self.inside.counts.items c.in-Some.place c.index_mut.result.now c.self.invariant.same c.in-Some.ensures c.index_mut.ensures.value in
+    let has : has_piece c.args.self.now c.args.piece.now ≡ true = ap (λ es. has_piece es c.args.piece.now) (sym c.self.view_is) ∙ there.has in
+    (λ h. absurd cc, λ h. absurd (false≢true (sym h.0 ∙ has)))
 
 pub invariant_of-self : goal.invariant_of-self
 invariant_of-self c =
-    let w = c.get_mut.follows.holds (c.in-Some.count.now + 1) in
-    let old = shown boxed_slice_items c.args.piece.now c.self.inside.pieces.entries in
-    let yes : has_piece old c.args.piece.now ≡ true = there boxed_slice_items c.args.piece.now c.self.inside.pieces.entries ∙ sym (ap is_some c.in-Some.ensures.value) in
-    let same = ap total c.self.view_is in
-    still c.args.piece.now old _ c.self.invariant (omega (arith, same, c.requires.total)) c.requires.short (subst (λ b. length old + cond b 0 1 ≤ 2 ^ 22) (sym yes) (omega (arith, c.self.invariant.few)))
-    (ap (shown boxed_slice_items c.args.piece.now) w.0 ∙ counted_there boxed_slice_items c.args.piece.now c.in-Some.count.now c.self.inside.pieces.entries (sym c.in-Some.ensures.value))
+    let there = found c.args.piece.now c.self.inside.pieces c.self.inside.counts.items c.in-Some.place c.index_mut.result.now c.self.invariant.same c.in-Some.ensures c.index_mut.ensures.value in
+    let old = zip c.self.inside.pieces c.self.inside.counts.items in
+    record {
+      same = length-set c.self.inside.counts.items c.in-Some.place (c.index_mut.result.now + 1) ∙ c.self.invariant.same;
+      vocabulary = still c.args.piece.now old _ c.self.invariant.vocabulary (omega (arith, ap total c.self.view_is, c.requires.total)) c.requires.short
+          (subst (λ b. length old + cond b 0 1 ≤ 2 ^ 22) (sym there.has) (omega (arith, c.self.invariant.vocabulary.few))) there.counted;
+    }
 
 pub returns-then-len-ge-MOST_PIECES-clause-full : goal.returns-then-len-ge-MOST_PIECES-clause-full
 returns-then-len-ge-MOST_PIECES-clause-full c =
-    let no : has_piece c.args.self.now c.args.piece.now ≡ false =
-    ap (λ es. has_piece es c.args.piece.now) (sym c.self.view_is) ∙ there boxed_slice_items c.args.piece.now c.self.inside.pieces.entries ∙ sym (ap is_some c.in_default.ensures.value) in
-    let same = ap (λ m. length m.entries) c.get_mut.follows.holds-at-none in
-    let len = length_shown boxed_slice_items c.args.piece.now c.self.inside.pieces.entries in
-    let was = ap length c.self.view_is in
-    (λ _. (no, omega (arith, same, len, was, c.len.ensures.len, c.self.invariant.few)), λ _. search rules)
+    let none : has_piece c.args.self.now c.args.piece.now ≡ false = ap (λ es. has_piece es c.args.piece.now) (sym c.self.view_is) ∙ not-found c.args.piece.now c.self.inside.pieces c.self.inside.counts.items c.self.invariant.same c.in_default.ensures in
+    let long = length-zip c.self.inside.pieces c.self.inside.counts.items c.self.invariant.same in
+    (λ _. (none, omega (arith, long, ap length c.self.view_is, c.len.ensures, c.self.inside.counts.ok.0, c.if-len-ge-MOST_PIECES.true, c.self.invariant.vocabulary.few)), λ _. search rules)
+
+never : TooMany ≡ Memory → ⊥
+never h = cc
+
+pub returns-in_err-make_room-clause-full : goal.returns-in_err-make_room-clause-full
+returns-in_err-make_room-clause-full c =
+    let long = length-zip c.self.inside.pieces c.self.inside.counts.items c.self.invariant.same in
+    (λ h. absurd (never (rw h at c.from_residual.ensures.1)), λ h. absurd (omega (arith, h.1, long, ap length c.self.view_is, c.len.ensures, c.self.inside.counts.ok.0, c.if-len-ge-MOST_PIECES.false)))
+
+pub returns-in_err-push-clause-full : goal.returns-in_err-push-clause-full
+returns-in_err-push-clause-full c =
+    let long = length-zip c.self.inside.pieces c.self.inside.counts.items c.self.invariant.same in
+    (λ h. absurd (never (rw h at c.from_residual-in_err-push.ensures.1)), λ h. absurd (omega (arith, h.1, long, ap length c.self.view_is, c.len.ensures, c.self.inside.counts.ok.0, c.if-len-ge-MOST_PIECES.false)))
 
 new_entries : goal.returns-clause-counted
 new_entries c =
-    let same = c.get_mut.follows.holds-at-none in
-    ap (shown boxed_slice_items c.args.piece.now) (c.in_ok-insert.ensures.entries ∙ ap (λ m. insert_entry (λ x y. bytes_eq (boxed_slice_items x) (boxed_slice_items y)) m.entries c.in_ok-piece.piece 1) same)
-    ∙ counted_new boxed_slice_items c.args.piece.now c.in_ok-piece.piece c.self.inside.pieces.entries c.in_ok-piece.ensures.ok (sym c.in_default.ensures.value)
+    counted-last c.args.piece.now c.self.inside.pieces c.push.new.self c.self.inside.counts.items c.push_reserved.new.self.items c.self.invariant.same c.in_default.ensures c.in_ok-push.ensures.ok (c.push_reserved.ensures.items ∙ ap (λ ns. ns ++ 1 ∷ []) c.in_ok-make_room.ensures.items)
     ∙ ap (counted c.args.piece.now) c.self.view_is
 
 pub returns-clause-counted : goal.returns-clause-counted
@@ -57,14 +66,21 @@ returns-clause-counted c = new_entries c
 pub returns-clause-total : goal.returns-clause-total
 returns-clause-total c = ap total (new_entries c) ∙ total-counted c.args.piece.now c.args.self.now
 
+pub returns-clause-full : goal.returns-clause-full
+returns-clause-full c =
+    let long = length-zip c.self.inside.pieces c.self.inside.counts.items c.self.invariant.same in
+    (λ h. absurd cc, λ h. absurd (omega (arith, h.1, long, ap length c.self.view_is, c.len.ensures, c.self.inside.counts.ok.0, c.if-len-ge-MOST_PIECES.false)))
+
 pub invariant_of-self-2 : goal.invariant_of-self-2
 invariant_of-self-2 c =
-    let same = c.get_mut.follows.holds-at-none in
-    let old = shown boxed_slice_items c.args.piece.now c.self.inside.pieces.entries in
-    let no : has_piece old c.args.piece.now ≡ false = there boxed_slice_items c.args.piece.now c.self.inside.pieces.entries ∙ sym (ap is_some c.in_default.ensures.value) in
-    let room = ap (λ m. length m.entries) same in
-    let len = length_shown boxed_slice_items c.args.piece.now c.self.inside.pieces.entries in
-    let few : length old + 1 ≤ 2 ^ 22 = omega (arith, room, len, c.len.ensures.len, c.if-len-ge-MOST_PIECES.false) in
-    still c.args.piece.now old _ c.self.invariant (omega (arith, ap total c.self.view_is, c.requires.total)) c.requires.short (subst (λ b. length old + cond b 0 1 ≤ 2 ^ 22) (sym no) few)
-    (ap (shown boxed_slice_items c.args.piece.now) (c.in_ok-insert.ensures.entries ∙ ap (λ m. insert_entry (λ x y. bytes_eq (boxed_slice_items x) (boxed_slice_items y)) m.entries c.in_ok-piece.piece 1) same)
-    ∙ counted_new boxed_slice_items c.args.piece.now c.in_ok-piece.piece c.self.inside.pieces.entries c.in_ok-piece.ensures.ok (sym c.in_default.ensures.value))
+    let old = zip c.self.inside.pieces c.self.inside.counts.items in
+    let none : has_piece old c.args.piece.now ≡ false = not-found c.args.piece.now c.self.inside.pieces c.self.inside.counts.items c.self.invariant.same c.in_default.ensures in
+    let long = length-zip c.self.inside.pieces c.self.inside.counts.items c.self.invariant.same in
+    let few : length old + 1 ≤ 2 ^ 22 = omega (arith, long, c.len.ensures, c.self.inside.counts.ok.0, c.if-len-ge-MOST_PIECES.false) in
+    let counts = c.push_reserved.ensures.items ∙ ap (λ ns. ns ++ 1 ∷ []) c.in_ok-make_room.ensures.items in
+    record {
+      same = omega (arith, ap length counts, ap length c.in_ok-push.ensures.ok, length-append c.self.inside.counts.items (1 ∷ []), length-append c.self.inside.pieces (c.args.piece.now ∷ []), c.self.invariant.same);
+      vocabulary = still c.args.piece.now old _ c.self.invariant.vocabulary (omega (arith, ap total c.self.view_is, c.requires.total)) c.requires.short
+          (subst (λ b. length old + cond b 0 1 ≤ 2 ^ 22) (sym none) few)
+          (counted-last c.args.piece.now c.self.inside.pieces c.push.new.self c.self.inside.counts.items c.push_reserved.new.self.items c.self.invariant.same c.in_default.ensures c.in_ok-push.ensures.ok counts);
+    }

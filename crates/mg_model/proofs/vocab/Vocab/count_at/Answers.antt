@@ -1,12 +1,14 @@
-use Rattle.std.proofs.Common.{◌∙◌, sym, ap, slice_get}
-use Rattle.std.specs.Option.{option_map}
-use Rattle.std.specs.Map.Iter.{deref_pair}
-use Rattle.std.specs.Box.{boxed_slice_items}
+use Rattle.std.proofs.Common.{arith, ◌≡◌, ◌<◌, ◌∙◌, sym, ap, length, slice_get}
 use Rattle.mg_model.specs.Vocabularies.{numbers_of}
-use Rattle.mg_model.proofs.Order.{number-shown}
+use Rattle.mg_model.proofs.Counting.{length-zip, numbers-zip}
+use Rattle.mg_model.proofs.Lists.{there-is}
 use Rattle.mg_model.proofs.vocab.Vocab.count_at.Goals as goal
+
+pub index-requires : goal.index-requires
+index-requires c = omega (arith, length-zip c.self.inside.pieces c.self.inside.counts.items c.self.invariant.same, ap length c.self.view_is, c.requires, c.self.inside.counts.ok.0)
 
 pub returns : goal.returns
 returns c =
-    let there = number-shown boxed_slice_items c.self.inside.pieces.entries c.args.place c.unwrap.result.0.now c.unwrap.result.1.now (sym c.get_index.ensures.entry ∙ ap (option_map deref_pair) c.unwrap.ensures) in
-    ap (λ es. slice_get (numbers_of es) c.args.place) (sym c.self.view_is) ∙ there
+    let low : c.args.place < length c.self.inside.counts.items = omega (arith, length-zip c.self.inside.pieces c.self.inside.counts.items c.self.invariant.same, ap length c.self.view_is, c.requires) in
+    ap (λ es. slice_get (numbers_of es) c.args.place) (sym c.self.view_is) ∙ ap (λ ns. slice_get ns c.args.place) (numbers-zip c.self.inside.pieces c.self.inside.counts.items c.self.invariant.same)
+    ∙ there-is c.self.inside.counts.items c.args.place c.index.result.now low c.index.ensures

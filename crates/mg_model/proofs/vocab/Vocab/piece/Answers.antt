@@ -1,12 +1,10 @@
-use Rattle.std.proofs.Common.{◌∙◌, sym, ap, slice_get, Some}
-use Rattle.std.specs.Option.{option_map}
-use Rattle.std.specs.Map.Iter.{deref_pair}
-use Rattle.std.specs.Box.{boxed_slice_items}
+use Rattle.std.proofs.Common.{arith, ◌∙◌, sym, ap, length, slice_get}
 use Rattle.mg_model.specs.Vocabularies.{pieces_of}
-use Rattle.mg_model.proofs.Order.{piece-shown}
+use Rattle.mg_model.proofs.Counting.{pieces-zip, length-zip}
 use Rattle.mg_model.proofs.vocab.Vocab.piece.Goals as goal
 
+pub piece-requires : goal.piece-requires
+piece-requires c = omega (arith, length-zip c.self.inside.pieces c.self.inside.counts.items c.self.invariant.same, ap length c.self.view_is, c.requires, c.self.invariant.same)
+
 pub returns : goal.returns
-returns c =
-    let there = piece-shown boxed_slice_items c.self.inside.pieces.entries c.args.place c.unwrap.result.0.now c.unwrap.result.1.now (sym c.get_index.ensures.entry ∙ ap (option_map deref_pair) c.unwrap.ensures) in
-    ap (λ es. slice_get (pieces_of es) c.args.place) (sym c.self.view_is) ∙ there ∙ ap Some (sym c.as_slice.ensures.value)
+returns c = ap (λ ps. slice_get ps c.args.place) (ap pieces_of (sym c.self.view_is) ∙ pieces-zip c.self.inside.pieces c.self.inside.counts.items c.self.invariant.same) ∙ c.piece.ensures
