@@ -1,10 +1,10 @@
-use Rattle.std.proofs.Common.{arith, ◌≡◌, ◌∙◌, ◌+◌, ◌≤◌, [], sym, ap, subst, length, IsSome}
+use Rattle.std.proofs.Common.{arith, ◌≡◌, ◌∙◌, [], sym, ap, subst, length, IsSome}
 use Rattle.mg_dev.specs.Files.{bytes_at}
 use Rattle.mg_dev.specs.Names.{full_name}
 use Rattle.mg_front.specs.Walk.{Gave}
 use Rattle.mg_defs.specs.CodedText.{piece_entries}
 use Rattle.mg_model.proofs.Entries.{code}
-use Rattle.mg_model.proofs.Walking.{all-read, first-none, first-more, once-within, once-refused}
+use Rattle.mg_model.proofs.Walking.{all-read, first-none, first-more, once-within}
 use Rattle.mg_model.proofs.reading.read_pieces.Goals as goal
 
 pub loop-walk-init : goal.loop-walk-init
