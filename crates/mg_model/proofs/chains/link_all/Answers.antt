@@ -1,4 +1,4 @@
-use Rattle.std.proofs.Common.{arith, ◌∙◌, ℕ, refl, ap, length, replicate}
+use Rattle.std.proofs.Common.{◌∙◌, refl, ap, length}
 use Rattle.std.proofs.lemmas.List.{length-replicate}
 use Rattle.mg_model.specs.Chains.{hashes_of, nexts_of}
 use Rattle.mg_model.proofs.Chaining.{linked-none}

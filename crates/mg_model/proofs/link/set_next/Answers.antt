@@ -1,4 +1,3 @@
-use Rattle.std.proofs.Common.{◌∙◌, refl, get_or}
 use Rattle.std.proofs.lemmas.List.{map-set}
 use Rattle.mg_model.specs.declared.link.Link.{Link}
 use Rattle.mg_model.proofs.Chaining.{same-hashes}

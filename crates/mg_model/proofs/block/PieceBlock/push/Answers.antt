@@ -1,4 +1,4 @@
-use Rattle.std.proofs.Common.{arith, ◌∙◌, ◌++◌, ◌∷◌, ◌+◌, ◌≡◌, ◌<◌, ◌^◌, [], ap, length, cond}
+use Rattle.std.proofs.Common.{arith, ◌∙◌, ◌++◌, ◌∷◌, ◌+◌, ◌≡◌, ◌<◌, ◌^◌, [], ap, length}
 use Rattle.mg_model.specs.Blocks.{cut}
 use Rattle.mg_model.proofs.Cutting.{ends-few, length-cut, block-push, cut-push}
 use Rattle.mg_model.proofs.block.PieceBlock.push.Goals as goal

@@ -1,4 +1,3 @@
-use Rattle.std.proofs.Common.{◌≡◌}
 use Rattle.mg_model.specs.Chains.{hashes_of}
 use Rattle.mg_model.proofs.Chaining.{IsInChain}
 use Rattle.mg_model.proofs.chains.Chains.last_below.Given as goal

@@ -1,7 +1,7 @@
-use Rattle.std.proofs.Common.{arith, ◌≡◌, ◌∙◌, sym, ap, length, position, get_or, true, false, []}
+use Rattle.std.proofs.Common.{arith, ◌∙◌, sym, ap, position, []}
 use Rattle.std.specs.Str.{bytes_eq}
 use Rattle.mg_model.proofs.Seeking.{there-or}
-use Rattle.mg_model.proofs.Tabling.{past-below, past-step, past-found, past-none, table-long}
+use Rattle.mg_model.proofs.Tabling.{past-below, past-step, past-found, past-none}
 use Rattle.mg_model.proofs.piece_table.PieceTable.find.Goals as goal
 
 pub piece-requires : goal.piece-requires

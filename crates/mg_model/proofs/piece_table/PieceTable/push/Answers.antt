@@ -1,4 +1,4 @@
-use Rattle.std.proofs.Common.{◌∙◌, ◌++◌, ◌∷◌, [], sym, ap, subst, position, None}
+use Rattle.std.proofs.Common.{◌∙◌, ◌++◌, ◌∷◌, [], sym, ap, subst, position}
 use Rattle.std.specs.Str.{bytes_eq}
 use Rattle.mg_model.specs.Tables.{IsTable}
 use Rattle.mg_model.proofs.Tabling.{table-push}

@@ -1,4 +1,4 @@
-use Rattle.std.proofs.Common.{arith, ◌≡◌, ◌<◌, ◌∙◌, sym, ap, length, slice_get}
+use Rattle.std.proofs.Common.{arith, ◌<◌, ◌∙◌, sym, ap, length, slice_get}
 use Rattle.mg_model.specs.Vocabularies.{numbers_of}
 use Rattle.mg_model.proofs.Counting.{length-zip, numbers-zip}
 use Rattle.mg_model.proofs.Lists.{there-is}

@@ -1,5 +1,4 @@
 use Rattle.std.proofs.Common.{arith, ◌∙◌, ◌++◌, ◌∷◌, [], sym, ap, length, take}
-use Rattle.std.proofs.lemmas.List.{length-map}
 use Rattle.mg_model.specs.Vocabularies.{numbers_of}
 use Rattle.mg_model.proofs.Counting.{length-zip, numbers-zip}
 use Rattle.mg_model.proofs.Lists.{take-there, take-all}

@@ -1,4 +1,4 @@
-use Rattle.std.proofs.Common.{arith, ◌∙◌, ap, length}
+use Rattle.std.proofs.Common.{arith, ap, length}
 use Rattle.mg_model.proofs.Counting.{length-zip}
 use Rattle.mg_model.proofs.vocab.Vocab.len.Goals as goal
 

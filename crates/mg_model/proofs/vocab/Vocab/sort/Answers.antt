@@ -1,9 +1,8 @@
-use Rattle.std.proofs.Common.{◌∙◌, ◌≡◌, sym, ap, subst, IsPermutation}
-use Rattle.std.specs.List.{zip, IsDistinct}
+use Rattle.std.proofs.Common.{◌∙◌, sym, ap, subst, IsPermutation}
+use Rattle.std.specs.List.{zip}
 use Rattle.std.specs.List.Sorted.{IsStrictlySortedBy}
 use Rattle.std.specs.Ordering.{nat_cmp}
 use Rattle.std.specs.Cmp.Lexicographic.{slice_cmp}
-use Rattle.std.specs.Str.{bytes_eq}
 use Rattle.mg_defs.specs.Vocabulary.{sorted_of, counts_of}
 use Rattle.mg_model.specs.Vocabularies.{pieces_of}
 use Rattle.mg_model.proofs.Counting.{pieces-zip}
