@@ -12,8 +12,8 @@ use Rattle.std.specs.declared.option.Option.{Option}
 use Rattle.std.specs.Option.{IsSome}
 use Rattle.mg_dev.specs.Files.{Files, Reads, bytes_at}
 use Rattle.mg_bits.specs.Pages.{Paging}
-use Rattle.mg_front.specs.Looks.{ReadOn, ReadTo}
-use Rattle.mg_front.proofs.ReadPages.{on_more, on_same, read_first, read_first_to}
+use Rattle.mg_front.specs.Looks.{ReadOn}
+use Rattle.mg_front.proofs.ReadPages.{on_more, on_same, read_first}
 use Rattle.mg_model.specs.Damage.{IsPart, IsWalkDamage, StandFirst}
 use Rattle.mg_model.proofs.Entries.{code, entries-long}
 
@@ -85,21 +85,9 @@ first-within feed r s place size within first =
     let r_is : r feed.part ≡ r first.start.part = ap r first.part in
     omega (arith, pages, read_first first.start feed r s place first.none first.read)
 
-pub first-refused : (feed : Paging) (r s t : Reads) (place size : ℕ) → place ≤ size → FirstRead feed r s place → ReadTo feed s t place (place + 281) → t feed.part ≤ r feed.part + div_ceil size 4096 + 1
-first-refused feed r s t place size within first refused =
-    let t_is : t feed.part ≡ t first.start.part = ap t first.part in
-    let r_is : r feed.part ≡ r first.start.part = ap r first.part in
-    omega (arith, read_first_to first.start feed r s t place size first.none first.part within first.read refused)
-
 -- the same of a walk whose part is told
 pub once-within : (w : Walking) (f now : Option Files) (r s : Reads) (es : List Entry) (part : Part) (name : List ℕ) → IsSome f → now ≡ f → w.feed.name ≡ name → w.feed.part ≡ part → Gave w now es → FirstRead w.feed r s w.place → s part ≤ r part + div_ceil (length (bytes_at f name)) 4096
 once-within w f now r s es part name told same named at gave first =
     let bytes : bytes_at now w.feed.name ≡ bytes_at f name = ap (λ g. bytes_at g w.feed.name) same ∙ ap (bytes_at f) named in
     let within : w.place ≤ length (bytes_at f name) = omega (arith, place-within w (bytes_at now w.feed.name) es (gave.given (subst IsSome (sym same) told)), ap length bytes) in
     subst (λ p. s p ≤ r p + div_ceil (length (bytes_at f name)) 4096) at (first-within w.feed r s w.place (length (bytes_at f name)) within first)
-
-pub once-refused : (w : Walking) (f now : Option Files) (r s t : Reads) (es : List Entry) (part : Part) (name : List ℕ) → IsSome f → now ≡ f → w.feed.name ≡ name → w.feed.part ≡ part → Gave w now es → FirstRead w.feed r s w.place → ReadTo w.feed s t w.place (w.place + 281) → t part ≤ r part + div_ceil (length (bytes_at f name)) 4096 + 1
-once-refused w f now r s t es part name told same named at gave first refused =
-    let bytes : bytes_at now w.feed.name ≡ bytes_at f name = ap (λ g. bytes_at g w.feed.name) same ∙ ap (bytes_at f) named in
-    let within : w.place ≤ length (bytes_at f name) = omega (arith, place-within w (bytes_at now w.feed.name) es (gave.given (subst IsSome (sym same) told)), ap length bytes) in
-    subst (λ p. t p ≤ r p + div_ceil (length (bytes_at f name)) 4096 + 1) at (first-refused w.feed r s t w.place (length (bytes_at f name)) within first refused)
