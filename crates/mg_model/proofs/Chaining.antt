@@ -30,7 +30,7 @@ pub bucket-is : (bits hash : ℕ) → hash / 2 ^ (32 - bits) ≡ bucket_of bits 
 unfolding bucket_of
 bucket-is bits hash = refl
 
-pub bucket-within : (bits hash : ℕ) → bits ≤ 23 → hash < 2 ^ 32 → hash / 2 ^ (32 - bits) < 2 ^ bits
+pub bucket-within : (bits hash : ℕ) → bits ≤ 22 → hash < 2 ^ 32 → hash / 2 ^ (32 - bits) < 2 ^ bits
 bucket-within bits hash few h =
     let whole : bits + (32 - bits) ≡ 32 = omega arith in
     let split : 2 ^ 32 ≡ 2 ^ bits * 2 ^ (32 - bits) = ap (λ n. 2 ^ n) (sym whole) ∙ pow-add 2 bits (32 - bits) in
@@ -203,7 +203,7 @@ same-hashes links place at next is = map-set_same (λ (l : Link). l.hash) links 
 
 -- ---- links and heads
 
-pub chains-of : (bits : ℕ) (links : List Link) (heads : List ℕ) (count : ℕ) → 1 ≤ bits → bits ≤ 23 → length links ≤ 2 ^ 22 → length heads ≡ 2 ^ bits → count ≡ length links → AreLinked bits (hashes_of links) (nexts_of links) heads count → AreChains bits links heads
+pub chains-of : (bits : ℕ) (links : List Link) (heads : List ℕ) (count : ℕ) → 1 ≤ bits → bits ≤ 22 → length links ≤ 2 ^ 22 → length heads ≡ 2 ^ bits → count ≡ length links → AreLinked bits (hashes_of links) (nexts_of links) heads count → AreChains bits links heads
 chains-of bits links heads count some few long sized all linked = record {
   some = some;
   few = few;

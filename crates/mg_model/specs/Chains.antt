@@ -30,7 +30,7 @@ pub record AreLinked (bits : ℕ) (hashes nexts heads : List ℕ) (count : ℕ) 
 -- all places are linked, and there are 2 ^ bits heads, or none before the first place
 pub record AreChains (bits : ℕ) (links : List Link) (heads : List ℕ) : Type 0 where
   pub some : 1 ≤ bits
-  pub few : bits ≤ 23
+  pub few : bits ≤ 22
   pub long : length links ≤ 2 ^ 22
   pub held : 1 ≤ length links → 1 ≤ length heads
   pub sized : 1 ≤ length heads → length heads ≡ 2 ^ bits

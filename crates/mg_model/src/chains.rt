@@ -8,12 +8,12 @@ use std::alloc::{AllocError, Global};
 use std::marker::Model;
 
 /// The most bits of a bucket's number.
-const MOST_BITS: u32 = 23;
+const MOST_BITS: u32 = 22;
 
 /// Hashes in the order they were added. Those of one bucket are a chain from the last to the first.
 ///
 /// It takes eight bytes a place, and up to a quarter more, and four for each of the buckets, which
-/// are doubled where there are no more than two of them for each place: so most chains are short.
+/// are doubled where there are no more of them than places.
 #[derive(Drop)]
 pub struct Chains {
     alloc: Global,
@@ -38,7 +38,7 @@ impl Model for Chains {
 /// Links one more place.
 fn link(heads: &mut Vec<u32>, links: &mut Vec<Link>, bits: u32, place: usize)
     requires some { 1 ≤ bits }
-    requires few { bits ≤ 23 }
+    requires few { bits ≤ 22 }
     requires long { vec_len links.old ≤ 2 ^ 22 }
     requires within { place < vec_len links.old }
     requires sized { length heads.old.items ≡ 2 ^ bits }
@@ -57,7 +57,7 @@ fn link(heads: &mut Vec<u32>, links: &mut Vec<Link>, bits: u32, place: usize)
 /// Links all places, where no bucket has one yet.
 fn link_all(heads: &mut Vec<u32>, links: &mut Vec<Link>, bits: u32)
     requires some { 1 ≤ bits }
-    requires few { bits ≤ 23 }
+    requires few { bits ≤ 22 }
     requires long { vec_len links.old ≤ 2 ^ 22 }
     requires empty { heads.old.items ≡ replicate (2 ^ bits) 0 }
     ensures hashes { hashes_of links.new.items ≡ hashes_of links.old.items }
@@ -71,14 +71,14 @@ fn link_all(heads: &mut Vec<u32>, links: &mut Vec<Link>, bits: u32)
 
 /// Buckets of so many bits, none of which has a place.
 fn empty_heads(alloc: Global, bits: u32) -> Result<Vec<u32>, AllocError>
-    requires { bits ≤ 23 }
+    requires { bits ≤ 22 }
     ensures { IfOk result (λ heads. heads.items ≡ replicate (2 ^ bits) 0) }
 {
     vec![in alloc; 0; 1 << bits]
 }
 
-/// Doubles the buckets where there are no more than two of them for each place, and answers their
-/// bits. After a refusal they are as before.
+/// Doubles the buckets where there are no more of them than places, and answers their bits. After a
+/// refusal they are as before.
 fn widen(
     alloc: Global,
     heads: &mut Vec<u32>,
@@ -91,7 +91,7 @@ fn widen(
     ensures sized { IfOk result (λ wide. length heads.new.items ≡ 2 ^ wide) }
     ensures err { OnErr result (AreChains bits links.new.items heads.new.items) }
 {
-    if links.len() < heads.len() / 2 {
+    if links.len() < heads.len() {
         return Ok(bits);
     }
     let wide = (bits + 1).min(MOST_BITS);

@@ -14,7 +14,7 @@ pub struct Link {
 #[inline]
 pub fn bucket_of(bits: u32, hash: u32) -> usize
     requires some { 1 ≤ bits }
-    requires few { bits ≤ 23 }
+    requires few { bits ≤ 22 }
     ensures bucket { result ≡ bucket_of bits hash }
     ensures within { result < 2 ^ bits }
 {

@@ -16,9 +16,9 @@ use std::marker::Model;
 
 /// Distinct pieces in the order they were added.
 ///
-/// Beside its own bytes a piece takes four for its end, eight for its link, and eight to sixteen for
-/// its share of the buckets. Bytes that are full grow by a thirty-second part, ends and links by a
-/// quarter, and the buckets are doubled.
+/// Beside its own bytes a piece takes four for its end, eight for its link, and four to eight for
+/// its share of the buckets. What is full grows by a sixteenth or a quarter, the buckets are
+/// doubled.
 #[derive(Drop)]
 pub struct PieceTable {
     alloc: Global,

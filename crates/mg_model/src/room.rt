@@ -15,7 +15,7 @@ pub fn make_room<T>(items: &mut Vec<T>) -> Result<(), AllocError>
     items.reserve_exact(items.len() / 4 + 4)
 }
 
-/// Makes room for so many bytes more, where there is none for a thirty-second part of the bytes at least.
+/// Makes room for so many bytes more, where there is none for a sixteenth of the bytes at least.
 pub fn make_room_for(bytes: &mut Vec<u8>, count: usize) -> Result<(), AllocError>
     ensures items { bytes.new.items ≡ bytes.old.items }
     ensures len { vec_len bytes.new ≡ vec_len bytes.old }
@@ -24,5 +24,5 @@ pub fn make_room_for(bytes: &mut Vec<u8>, count: usize) -> Result<(), AllocError
     if count <= bytes.capacity() - bytes.len() {
         return Ok(());
     }
-    bytes.reserve_exact(count.max(bytes.len() / 32 + 32))
+    bytes.reserve_exact(count.max(bytes.len() / 16 + 32))
 }
