@@ -1,12 +1,13 @@
-pub mod Places
-pub mod Ranges
-pub mod BitPieces
-pub mod Told
-pub mod WriterLaws
-pub mod BitsWritten
-pub mod Fills
-pub mod Kept
-pub mod Keeping
-pub mod Walks
-pub mod EightBytes
-pub mod ByteLaws
+pub mod CallerLemmas
+mod Places
+mod Ranges
+mod BitPieces
+mod Told
+mod WriterLaws
+mod BitsWritten
+mod Fills
+mod Kept
+mod Keeping
+mod Walks
+mod EightBytes
+mod ByteLaws

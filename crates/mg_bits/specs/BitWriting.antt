@@ -1,5 +1,5 @@
 -- What contracts see of a bit writer, and what its calls do.
-use Rattle.std.specs.Prelude.{◌≡◌, ◌+◌, ◌-◌, ◌%◌, ◌++◌, ℕ, List, length}
+use Rattle.std.specs.Prelude.{◌≡◌, ◌+◌, ◌++◌, ℕ, List, length}
 use Rattle.std.specs.Option.{IsSome}
 use Rattle.std.specs.declared.option.Option.{Option}
 use Rattle.mg_dev.specs.Files.{Files, bytes_at}
@@ -26,7 +26,3 @@ pub record WroteBits (old new : BitWriting) (files_before files_now : Option Fil
   pub name : new.name ≡ old.name
   pub place : new.place ≡ old.place + length bits
   pub told : IsSome files_before → bits_put new files_now ≡ bits_put old files_before ++ bits
-
--- how many bits go from a place to the next byte
-abbrev pub to_byte : ℕ → ℕ
-to_byte place = (8 - place % 8) % 8

@@ -3,9 +3,9 @@ ghost use Rattle.std.specs.Prelude.{◌≡◌, ◌+◌, ◌*◌, ◌/◌, ◌%�
 ghost use Rattle.mg_dev.specs.Names.{full_name};
 ghost use Rattle.mg_dev.specs.Files.{bytes_at};
 ghost use Rattle.mg_dev.specs.Causes.{HasPutCause};
-ghost use Rattle.mg_defs.specs.Bits.{digits, bits_of};
+ghost use Rattle.mg_defs.specs.Bits.{digits, bits_of, to_byte};
 ghost use Rattle.mg_bits.specs.Writer.{KeepsBytes, WroteTo};
-ghost use Rattle.mg_bits.specs.BitWriting.{Holds, WroteBits, bits_put, to_byte};
+ghost use Rattle.mg_bits.specs.BitWriting.{Holds, WroteBits, bits_put};
 
 use crate::PageWriter;
 use mg_dev::{FileRef, PutErr, Store};

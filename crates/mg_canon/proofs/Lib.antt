@@ -1,4 +1,4 @@
-pub mod Refused
-pub mod Placing
-pub mod Walks
-pub mod Decoding
+mod Refused
+mod Placing
+mod Walks
+mod Decoding

@@ -10,7 +10,7 @@ use Rattle.mg_bits.specs.CodeAnswers.{AnswersCode, OnlyPagesOf, of_bit}
 use Rattle.mg_bits.specs.declared.bit_err.BitErr.{BitErr}
 use Rattle.mg_bits.specs.declared.bit_err.BitErr.TheVariants.{Device as BitDevice, End as BitEnd}
 use Rattle.mg_bits.specs.declared.code_err.CodeErr.TheVariants.{Over}
-use Rattle.mg_bits.proofs.Ranges.{part_wider}
+use Rattle.mg_bits.proofs.CallerLemmas.{part_wider}
 
 pub walk_begun : (told : Option (List ℕ)) (start : ℕ) → FromPlace told start (Begins [])
 walk_begun None start = tt

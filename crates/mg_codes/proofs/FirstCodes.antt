@@ -9,7 +9,7 @@ use Rattle.mg_defs.specs.Codes.{ceil_log2, gamma, golomb, short, shorter, unary}
 use Rattle.mg_defs.proofs.BitLaws.{digits_mod, length_digits}
 use Rattle.mg_defs.proofs.CodeLaws.{gamma_is, golomb_is, unary_next}
 use Rattle.mg_defs.proofs.FixedLaws.{IsLog}
-use Rattle.mg_bits.proofs.EightBytes.{digits_split}
+use Rattle.mg_bits.proofs.CallerLemmas.{digits_split}
 use Rattle.mg_codes.specs.Held.{IsFirstCode, IsOnesBeforeZero}
 use Rattle.mg_codes.proofs.Instances.{with_highest}
 use Rattle.mg_codes.proofs.Written.{unary_digits}

@@ -7,7 +7,7 @@ use Rattle.std.proofs.Math.Nat.{two-pow-succ}
 use Rattle.mg_defs.specs.Bits.{Begins, Bits, FromPlace, digits}
 use Rattle.mg_defs.specs.Codes.{unary, short}
 use Rattle.mg_defs.proofs.CodeLaws.{length_unary, unary_next}
-use Rattle.mg_bits.proofs.EightBytes.{told_first}
+use Rattle.mg_bits.proofs.CallerLemmas.{told_first}
 use Rattle.mg_codes.specs.Held.{IsOnesBeforeZero}
 use Rattle.mg_codes.proofs.ShortWalk.{IsShort, high_code, low_code}
 use Rattle.mg_codes.proofs.Written.{unary_digits}

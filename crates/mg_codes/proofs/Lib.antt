@@ -1,7 +1,8 @@
-pub mod ShortWalk
-pub mod UnaryWalk
-pub mod TwoParts
-pub mod Instances
-pub mod Written
-pub mod HeldCodes
-pub mod FirstCodes
+pub mod CallerLemmas
+mod ShortWalk
+mod UnaryWalk
+mod TwoParts
+mod Instances
+mod Written
+mod HeldCodes
+mod FirstCodes

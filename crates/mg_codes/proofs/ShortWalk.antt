@@ -11,7 +11,7 @@ use Rattle.mg_defs.specs.Answers.{Below, CutShort, IsNone, IsPrefixFree}
 use Rattle.mg_defs.proofs.BitLaws.{length_digits, digits_append, take_digits}
 use Rattle.mg_defs.proofs.FrontLaws.{begins_append, begins_self, begins_whole}
 use Rattle.mg_defs.proofs.CodeLaws.{IsCeil, is_ceil, one_ceil, short_low, short_high, length_short, short_free, small_digits}
-use Rattle.mg_bits.proofs.Walks.{walk_bit}
+use Rattle.mg_bits.proofs.CallerLemmas.{walk_bit}
 use Rattle.mg_codes.specs.Remainders.{IsWholeAt, IsOpenAt, least_from, least_of}
 
 -- the greatest length of a short code, and how many have one bit less

@@ -11,7 +11,7 @@ use Rattle.mg_bits.specs.Feed.{Feeding, Device as Seen, Read, ReadsWithin}
 use Rattle.mg_bits.specs.CodeAnswers.{AnswersCode, OnlyPagesOf}
 use Rattle.mg_bits.specs.declared.code_err.CodeErr.{CodeErr}
 use Rattle.mg_bits.specs.declared.code_err.CodeErr.TheVariants.{Device, End, Over}
-use Rattle.mg_bits.proofs.Ranges.{within_wider, within_more}
+use Rattle.mg_bits.proofs.CallerLemmas.{within_wider, within_more}
 use Rattle.mg_codes.specs.Refusals.{of_whole}
 
 pub record Reaches (within : ℕ → Type 0) (lead : ℕ → ℕ) (q : ℕ) : Type 0 where

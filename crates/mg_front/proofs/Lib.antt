@@ -1,6 +1,7 @@
-pub mod ReadFacts
-pub mod WalkLaws
-pub mod WriterLaws
-pub mod ReaderLaws
-pub mod OrderLaws
-pub mod ReadPages
+pub mod CallerLemmas
+mod ReadFacts
+mod WalkLaws
+mod WriterLaws
+mod ReaderLaws
+mod OrderLaws
+mod ReadPages

@@ -12,7 +12,7 @@ use Rattle.mg_dev.specs.Files.{Files, Reads}
 use Rattle.mg_dev.specs.Names.{same_part}
 use Rattle.mg_bits.specs.Feed.{Device, ReadsWithin, held_after, lacks, page_of, to_read, of_store}
 use Rattle.mg_bits.specs.Pages.{Paging, Looked, feeding_of}
-use Rattle.mg_bits.proofs.Ranges.{held_after_more, held_after_none, held_after_some}
+use Rattle.mg_bits.proofs.CallerLemmas.{held_after_more, held_after_none, held_after_some}
 use Rattle.mg_defs.specs.Codes.{ceil_log2}
 use Rattle.mg_defs.proofs.CodeLaws.{is_ceil}
 use Rattle.mg_front.specs.Looks.{ReadOn, ReadTo, ReadLooks, halvings}

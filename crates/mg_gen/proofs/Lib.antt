@@ -1,3 +1,3 @@
-pub mod Words
-pub mod Making
-pub mod Handing
+mod Words
+mod Making
+mod Handing

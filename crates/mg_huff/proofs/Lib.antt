@@ -1,8 +1,8 @@
-pub mod Order
-pub mod Fib
-pub mod Unjoin
-pub mod Joining
-pub mod Undoing
-pub mod Places
-pub mod Listing
-pub mod Whole
+mod Order
+mod Fib
+mod Unjoin
+mod Joining
+mod Undoing
+mod Places
+mod Listing
+mod Whole

@@ -1,3 +1,3 @@
-pub mod CheckLaws
-pub mod HeadFacts
-pub mod LoadFacts
+mod CheckLaws
+mod HeadFacts
+mod LoadFacts

@@ -1,1 +1,1 @@
-pub mod LexLaws
+mod LexLaws

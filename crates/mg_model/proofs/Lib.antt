@@ -1,16 +1,17 @@
-pub mod Lists
-pub mod Chaining
-pub mod Tabling
-pub mod Counting
-pub mod Order
-pub mod Sorting
-pub mod Cutting
-pub mod Seeking
-pub mod Entries
-pub mod Damages
-pub mod Walking
-pub mod Writing
-pub mod Codes
-pub mod Standing
-pub mod Numbering
-pub mod Collections
+pub mod CallerLemmas
+mod Lists
+mod Chaining
+mod Tabling
+mod Counting
+mod Order
+mod Sorting
+mod Cutting
+mod Seeking
+mod Entries
+mod Damages
+mod Walking
+mod Writing
+mod Codes
+mod Standing
+mod Numbering
+mod Collections

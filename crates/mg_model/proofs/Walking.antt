@@ -13,7 +13,7 @@ use Rattle.std.specs.Option.{IsSome}
 use Rattle.mg_dev.specs.Files.{Files, Reads, bytes_at}
 use Rattle.mg_bits.specs.Pages.{Paging}
 use Rattle.mg_front.specs.Looks.{ReadOn}
-use Rattle.mg_front.proofs.ReadPages.{on_more, on_same, read_first}
+use Rattle.mg_front.proofs.CallerLemmas.{on_more, on_same, read_first}
 use Rattle.mg_model.specs.Damage.{IsPart, IsWalkDamage, StandFirst}
 use Rattle.mg_model.proofs.Entries.{code, entries-long}
 

@@ -1,3 +1,3 @@
-pub mod Fed
-pub mod Read
-pub mod Turned
+mod Fed
+mod Read
+mod Turned

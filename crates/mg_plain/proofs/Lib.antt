@@ -1,11 +1,11 @@
-pub mod DocumentLaws
-pub mod CountLaws
-pub mod ScanLaws
-pub mod LoadLaws
-pub mod RunLaws
-pub mod WordLaws
-pub mod RowLaws
-pub mod ScoreLaws
-pub mod RankedLaws
-pub mod RankingLaws
-pub mod ScannerLaws
+mod DocumentLaws
+mod CountLaws
+mod ScanLaws
+mod LoadLaws
+mod RunLaws
+mod WordLaws
+mod RowLaws
+mod ScoreLaws
+mod RankedLaws
+mod RankingLaws
+mod ScannerLaws

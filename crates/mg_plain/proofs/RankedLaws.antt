@@ -29,7 +29,7 @@ use Rattle.mg_defs.specs.Reply.{shown, ranking, answer_text}
 use Rattle.mg_defs.specs.declared.session.Mode.{Mode}
 use Rattle.mg_defs.specs.declared.session.Settings.{Settings}
 use Rattle.mg_reply.specs.Pending.{Passed}
-use Rattle.mg_reply.proofs.PendingLaws.{pass_nothing, pass_both, pass_cut, pass_part, pass_put, pass_refused}
+use Rattle.mg_reply.proofs.CallerLemmas.{pass_nothing, pass_both, pass_cut, pass_part, pass_put, pass_refused}
 use Rattle.mg_plain.specs.declared.order.Row.{Row}
 use Rattle.mg_plain.specs.Rows.{hit_of, hits_of}
 use Rattle.mg_plain.specs.Ranked.{shown_of, shown_rows, rows_text}

@@ -24,7 +24,7 @@ use Rattle.mg_defs.specs.Texts.{count}
 use Rattle.mg_defs.specs.Reply.{Shown, plain, found, shown, shown_as, answer_text, satisfying}
 use Rattle.mg_defs.proofs.ReplyLaws.{found-hit, found-miss, shows, shown-more, shown-full, document_at}
 use Rattle.mg_reply.specs.Pending.{Passed}
-use Rattle.mg_reply.proofs.PendingLaws.{pass_nothing, pass_both, pass_cut, pass_put}
+use Rattle.mg_reply.proofs.CallerLemmas.{pass_nothing, pass_both, pass_cut, pass_put}
 use Rattle.mg_plain.specs.Scanned.{Scanned, hit_text}
 use Rattle.mg_plain.proofs.DocumentLaws.{few_documents, short_document}
 

@@ -55,7 +55,7 @@ pub(crate) fn put_shown<O: Sink>(
 }
 
 /// Shows a document of an answer, if there is room for it after so many of them.
-#[tactic(auto, using(mg_reply::proofs::PendingLaws::pass_nothing), unfolding(crate::specs::Scanned::hit_text))]
+#[tactic(auto, using(mg_reply::proofs::CallerLemmas::pass_nothing), unfolding(crate::specs::Scanned::hit_text))]
 pub(crate) fn put_hit<O: Sink>(
     pending: &mut Pending,
     out: &mut O,

@@ -10,7 +10,7 @@ use Rattle.mg_defs.proofs.FrontLaws.{begins_length}
 use Rattle.mg_defs.proofs.ListLaws.{bits_append, rises_left, last_within}
 use Rattle.mg_bits.specs.Feed.{lacks}
 use Rattle.mg_bits.specs.Reader.{AnswersBits}
-use Rattle.mg_bits.proofs.Ranges.{lacks_next}
+use Rattle.mg_bits.proofs.CallerLemmas.{lacks_next}
 use Rattle.mg_bits.specs.declared.bit_err.BitErr.{BitErr}
 use Rattle.mg_bits.specs.declared.bit_err.BitErr.TheVariants as bits
 use Rattle.mg_post.specs.declared.refusal.Refusal.{Refusal}

@@ -6,8 +6,7 @@ use Rattle.mg_defs.specs.Codes.{golomb, gamma, log2}
 use Rattle.mg_defs.specs.Lists.{posting_bits}
 use Rattle.mg_defs.proofs.FixedLaws.{IsLog, is_log}
 use Rattle.mg_defs.proofs.CodeLaws.{length_gamma, length_golomb, length_short}
-use Rattle.mg_codes.proofs.ShortWalk.{small_ceil}
-use Rattle.mg_codes.proofs.Instances.{log_small}
+use Rattle.mg_codes.proofs.CallerLemmas.{small_ceil, log_small}
 
 pub golomb_short : (b x : ℕ) → 1 ≤ b → b < 2 ^ 48 → 1 ≤ x → length (golomb b x) ≤ x + 48
 golomb_short b x some small pos =

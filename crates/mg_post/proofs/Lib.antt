@@ -1,9 +1,9 @@
-pub mod Lengths
-pub mod WriterLaws
-pub mod ReadLaws
-pub mod FindLaws
-pub mod EnterLaws
-pub mod CursorLaws
-pub mod StandLaws
-pub mod Bounds
-pub mod Totals
+mod Lengths
+mod WriterLaws
+mod ReadLaws
+mod FindLaws
+mod EnterLaws
+mod CursorLaws
+mod StandLaws
+mod Bounds
+mod Totals

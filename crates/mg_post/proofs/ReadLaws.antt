@@ -12,7 +12,7 @@ use Rattle.mg_defs.proofs.FrontLaws.{begins_first, begins_second, one_stands}
 use Rattle.mg_defs.proofs.ListLaws.{bits_append, rises_right, last_append}
 use Rattle.mg_bits.specs.CodeAnswers.{AnswersCode, OnlyPagesOf}
 use Rattle.mg_bits.specs.Feed.{Feeding, Device as Seen, Read, ReadsWithin}
-use Rattle.mg_bits.proofs.Ranges.{within_more, within_wider}
+use Rattle.mg_bits.proofs.CallerLemmas.{within_more, within_wider}
 use Rattle.mg_bits.specs.declared.code_err.CodeErr.{CodeErr}
 use Rattle.mg_bits.specs.declared.code_err.CodeErr.TheVariants as code
 use Rattle.mg_post.specs.declared.refusal.Refusal.{Refusal}

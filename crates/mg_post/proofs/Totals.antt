@@ -1,6 +1,6 @@
 -- How many postings and skip entries the lists of a collection have in all.
-use Rattle.std.proofs.Common.{arith, ◌≡◌, ◌+◌, ◌^◌, ◌≤◌, ◌<◌, ◌==◌, ℕ, zero, suc, Bool, true, false, cond, List, [], ◌∷◌, length, map, take, sum_by, count_by, refl, sym, ap, subst, nat_lt, if◌then◌else◌}
-use Rattle.std.specs.List.{AllByRecursion, IsDistinct, list_any, enumerate_from, flat_map, onto_first}
+use Rattle.std.proofs.Common.{arith, ◌≡◌, ◌+◌, ◌^◌, ◌≤◌, ◌<◌, ℕ, zero, suc, Bool, true, false, cond, List, [], ◌∷◌, length, map, take, sum_by, count_by, refl, sym, ap, subst, nat_lt}
+use Rattle.std.specs.List.{AllByRecursion, IsDistinct, list_any, enumerate_from, flat_map}
 use Rattle.std.specs.Str.{bytes_eq}
 use Rattle.std.proofs.lemmas.List.Concat.{length-flat_map}
 use Rattle.std.proofs.lemmas.List.Sums.{count_by-le-length, length-filter, sum_by-append, sum_by-cons, sum_by-le-sum_by, sum_by-take-le}
@@ -13,6 +13,7 @@ use Rattle.mg_defs.specs.Bits.{filled}
 use Rattle.mg_defs.specs.Codes.{golomb_parameter}
 use Rattle.mg_defs.proofs.ListLaws.{terms_short}
 use Rattle.mg_defs.proofs.SortedLaws.{same-is, same-refl}
+use Rattle.mg_defs.proofs.SplitLaws.{docs_within}
 use Rattle.mg_defs.proofs.VocabularyLaws.{distinct-sorted}
 use Rattle.mg_post.proofs.Bounds.{post_short}
 use Rattle.mg_post.proofs.WriterLaws.{length_entries_to}
@@ -100,18 +101,6 @@ postings_within t n (doc ∷ ds) =
 
 length_postings : (collection t : List ℕ) → length (postings collection t) ≤ count_in (all_terms collection) t
 length_postings collection t = omega (arith, length-filter is_there (map (posting_in t) (enumerate_from 1 (documents collection))), postings_within t 1 (documents collection))
-
-onto_sum : (b n : ℕ) (ds : List (List ℕ)) → sum_by (λ d. length d) ds ≤ n → sum_by (λ d. length d) (onto_first b ds) ≤ suc n
-onto_sum b n [] le = omega arith
-onto_sum b n (d ∷ ds) le = omega (arith, le, sum_by-cons (λ (e : List ℕ). length e) d ds, sum_by-cons (λ (e : List ℕ). length e) (b ∷ d) ds)
-
-by_byte : (closes : Bool) (b n : ℕ) (ds : List (List ℕ)) → sum_by (λ d. length d) ds ≤ n → sum_by (λ d. length d) (if closes then [] ∷ ds else onto_first b ds) ≤ suc n
-by_byte true b n ds le = omega (arith, le, sum_by-cons (λ (e : List ℕ). length e) [] ds)
-by_byte false b n ds le = onto_sum b n ds le
-
-docs_within : (bytes : List ℕ) → sum_by (λ d. length d) (documents bytes) ≤ length bytes
-docs_within [] = omega arith
-docs_within (b ∷ bytes) = by_byte (b == 2) b (length bytes) (documents bytes) (docs_within bytes)
 
 terms_within : (collection : List ℕ) → length (all_terms collection) ≤ length collection
 terms_within collection =

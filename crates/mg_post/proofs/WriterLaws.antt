@@ -7,8 +7,7 @@ use Rattle.std.proofs.lemmas.List.{take-append-le, take_all}
 use Rattle.mg_dev.specs.Files.{Files, Reads, bytes_at}
 use Rattle.mg_bits.specs.Writer.{AreBytes, WroteTo}
 use Rattle.mg_bits.specs.BitWriting.{BitWriting, Holds, WroteBits, bits_put}
-use Rattle.mg_bits.proofs.BitsWritten.{bits_stay, holds_stay}
-use Rattle.mg_bits.proofs.ByteLaws.{bytes_again}
+use Rattle.mg_bits.proofs.CallerLemmas.{bits_stay, holds_stay, bytes_again}
 use Rattle.mg_defs.specs.CodedText.{as_bytes}
 use Rattle.mg_defs.specs.declared.Posting.{Posting}
 use Rattle.mg_defs.specs.Bits.{Bits, bits_of, digits, filled, to_byte}

@@ -1,4 +1,4 @@
-pub mod TermLaws
-pub mod Steps
-pub mod AheadFew
-pub mod LineSteps
+mod TermLaws
+mod Steps
+mod AheadFew
+mod LineSteps

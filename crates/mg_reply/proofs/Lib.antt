@@ -1,4 +1,5 @@
-pub mod ReadingLaws
-pub mod PendingLaws
-pub mod CommandLaws
-pub mod ServedLaws
+pub mod CallerLemmas
+mod ReadingLaws
+mod PendingLaws
+mod CommandLaws
+mod ServedLaws

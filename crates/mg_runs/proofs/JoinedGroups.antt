@@ -5,12 +5,12 @@ use Rattle.mg_dev.specs.Files.{Files}
 use Rattle.mg_dev.specs.Names.{full_name}
 use Rattle.mg_dev.specs.declared.part.Part.{Part}
 use Rattle.mg_dev.specs.declared.part.Part.TheVariants.{Run, MergeA, MergeB}
-use Rattle.mg_defs.specs.Bits.{bits_of, digits, filled}
+use Rattle.mg_defs.specs.Bits.{bits_of, digits, filled, to_byte}
 use Rattle.mg_defs.specs.Postings.{merged}
 use Rattle.mg_defs.specs.RunBits.{run_bits, runs_bits}
 use Rattle.mg_defs.specs.declared.TermPosting.{TermPosting}
-use Rattle.mg_bits.specs.BitWriting.{BitWriting, WroteBits, bits_put, to_byte}
-use Rattle.mg_bits.proofs.BitsWritten.{bits_more, bits_none}
+use Rattle.mg_bits.specs.BitWriting.{BitWriting, WroteBits, bits_put}
+use Rattle.mg_bits.proofs.CallerLemmas.{bits_more, bits_none}
 use Rattle.mg_runs.specs.Merging.{AreRunsAt}
 use Rattle.mg_runs.specs.Rounds.{AreJoined, AreStored, IsGroupAt, joined_runs}
 use Rattle.mg_runs.specs.Joins.{IsJoining, IsJoined, IsRunPart, other}

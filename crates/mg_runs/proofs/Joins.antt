@@ -10,7 +10,7 @@ use Rattle.mg_dev.specs.declared.device.PutErr.{PutErr}
 use Rattle.mg_dev.specs.declared.device.PutErr.TheVariants.{Failed}
 use Rattle.mg_dev.specs.PartCauses.{HasPartCause}
 use Rattle.mg_dev.specs.declared.part_err.PartErr.{PartErr}
-use Rattle.mg_defs.specs.Bits.{Bits, digits, filled}
+use Rattle.mg_defs.specs.Bits.{Bits, digits, filled, to_byte}
 use Rattle.mg_defs.specs.Codes.{gamma}
 use Rattle.mg_defs.proofs.BitLaws.{length_digits}
 use Rattle.mg_defs.specs.Postings.{IsBefore, AllAfter}
@@ -18,8 +18,8 @@ use Rattle.mg_defs.specs.RunBits.{before_first, posting_bits, postings_bits, run
 use Rattle.mg_defs.specs.declared.TermPosting.{TermPosting}
 use Rattle.mg_bits.specs.Pages.{Looked}
 use Rattle.mg_bits.specs.Writer.{WroteTo}
-use Rattle.mg_bits.specs.BitWriting.{BitWriting, WroteBits, to_byte}
-use Rattle.mg_bits.proofs.BitsWritten.{bits_more, bits_none}
+use Rattle.mg_bits.specs.BitWriting.{BitWriting, WroteBits}
+use Rattle.mg_bits.proofs.CallerLemmas.{bits_more, bits_none}
 use Rattle.mg_runs.specs.Cursors.{IsRun}
 use Rattle.mg_runs.specs.Merging.{first, AreLeft}
 use Rattle.mg_runs.specs.Joins.{IsCounting, IsPutting, Passed}

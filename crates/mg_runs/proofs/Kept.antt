@@ -6,7 +6,7 @@ use Rattle.mg_dev.specs.Names.{full_name}
 use Rattle.mg_dev.specs.declared.part.Part.{Part}
 use Rattle.mg_dev.specs.declared.part.Part.TheVariants.{Run}
 use Rattle.mg_defs.specs.declared.TermPosting.{TermPosting}
-use Rattle.mg_bits.proofs.BitsWritten.{bits_stay, holds_stay}
+use Rattle.mg_bits.proofs.CallerLemmas.{bits_stay, holds_stay}
 use Rattle.mg_runs.specs.Merging.{AreLeft}
 use Rattle.mg_runs.specs.Joins.{IsRunPart}
 use Rattle.mg_runs.specs.Fed.{Inverting, IsFed}

@@ -5,13 +5,13 @@ use Rattle.std.specs.declared.option.Option.{Option}
 use Rattle.std.specs.declared.result.Result.{Result}
 use Rattle.std.proofs.lemmas.Nat.{div_below}
 use Rattle.mg_dev.specs.Files.{Files, bytes_at}
-use Rattle.mg_defs.specs.Bits.{Bits, bits_of, digits, filled}
+use Rattle.mg_defs.specs.Bits.{Bits, bits_of, digits, filled, to_byte}
 use Rattle.mg_defs.specs.CodedText.{as_bytes}
 use Rattle.mg_defs.specs.Postings.{gathered}
 use Rattle.mg_defs.specs.RunBits.{run_bits, run_part_bits}
 use Rattle.mg_bits.specs.Writer.{AreBytes}
-use Rattle.mg_bits.proofs.ByteLaws.{bytes_again}
-use Rattle.mg_bits.specs.BitWriting.{BitWriting, Holds, WroteBits, bits_put, to_byte}
+use Rattle.mg_bits.proofs.CallerLemmas.{bytes_again}
+use Rattle.mg_bits.specs.BitWriting.{BitWriting, Holds, WroteBits, bits_put}
 use Rattle.mg_runs.specs.Pooled.{Pooled, used}
 use Rattle.mg_runs.specs.Fed.{Inverting, IsFed, cap_of}
 use Rattle.mg_runs.proofs.RoundsFirst.{fed_bits, fed_bits_none, finished_bits}

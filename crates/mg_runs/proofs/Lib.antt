@@ -1,24 +1,24 @@
-pub mod Chunks
-pub mod Like
-pub mod Short
-pub mod Sorting
-pub mod OnRun
-pub mod Parts
-pub mod Feeding
-pub mod Tournaments
-pub mod Decoding
-pub mod SlotLaws
-pub mod CursorLaws
-pub mod Merges
-pub mod Heads
-pub mod Steps
-pub mod Joins
-pub mod Rounds
-pub mod RoundsBits
-pub mod RoundsFed
-pub mod RoundsLoop
-pub mod RoundsFirst
-pub mod JoinedGroups
-pub mod Working
-pub mod LastRun
-pub mod Kept
+mod Chunks
+mod Like
+mod Short
+mod Sorting
+mod OnRun
+mod Parts
+mod Feeding
+mod Tournaments
+mod Decoding
+mod SlotLaws
+mod CursorLaws
+mod Merges
+mod Heads
+mod Steps
+mod Joins
+mod Rounds
+mod RoundsBits
+mod RoundsFed
+mod RoundsLoop
+mod RoundsFirst
+mod JoinedGroups
+mod Working
+mod LastRun
+mod Kept

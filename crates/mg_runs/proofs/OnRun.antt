@@ -12,7 +12,7 @@ use Rattle.mg_defs.proofs.Gathering.{Rising-gathered, added-cases}
 use Rattle.mg_defs.proofs.PostingGroups.{AllAfter-gathered}
 use Rattle.mg_bits.specs.Writer.{WroteTo}
 use Rattle.mg_bits.specs.BitWriting.{BitWriting, Holds, WroteBits}
-use Rattle.mg_bits.proofs.BitsWritten.{bits_more, to_more}
+use Rattle.mg_bits.proofs.CallerLemmas.{bits_more, to_more}
 use Rattle.mg_runs.specs.Bytes.{entry_in, number_in}
 use Rattle.mg_runs.specs.Groups.{IsGroup}
 use Rattle.mg_runs.specs.OnRun.{IsOnRun}

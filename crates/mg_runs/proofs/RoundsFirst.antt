@@ -4,11 +4,11 @@ use Rattle.std.specs.declared.option.Option.{Option}
 use Rattle.std.proofs.lemmas.Nat.{div_below}
 use Rattle.mg_dev.specs.Files.{Files}
 use Rattle.mg_defs.specs.declared.TermPosting.{TermPosting}
-use Rattle.mg_defs.specs.Bits.{Bits, bits_of, digits, filled}
+use Rattle.mg_defs.specs.Bits.{Bits, bits_of, digits, filled, to_byte}
 use Rattle.mg_defs.specs.Postings.{gathered, postings, merged}
 use Rattle.mg_defs.specs.RunBits.{run_bits, runs_bits, run_part_bits}
 use Rattle.mg_defs.specs.Runs.{first_runs, runs_of, finished}
-use Rattle.mg_bits.specs.BitWriting.{bits_put, to_byte}
+use Rattle.mg_bits.specs.BitWriting.{bits_put}
 use Rattle.mg_runs.specs.Fed.{Inverting, IsFed, cap_of, starts}
 use Rattle.mg_runs.specs.Merging.{AreLeft, StandFor}
 use Rattle.mg_runs.specs.Rounds.{AreStored}

@@ -6,7 +6,7 @@ use Rattle.std.proofs.lemmas.List.Elements.{All-nil, All-append}
 use Rattle.mg_dev.specs.Files.{Files, bytes_at}
 use Rattle.mg_dev.specs.Names.{full_name}
 use Rattle.mg_dev.specs.declared.part.Part.TheVariants.{Text}
-use Rattle.mg_bits.proofs.ByteLaws.{bits_are_bytes, same_bytes}
+use Rattle.mg_bits.proofs.CallerLemmas.{bits_are_bytes, same_bytes}
 use Rattle.mg_defs.specs.Bits.{Bits}
 use Rattle.mg_defs.specs.CodedText.{as_bytes}
 use Rattle.mg_text.specs.Writing.{DocumentsStand, text_bytes}

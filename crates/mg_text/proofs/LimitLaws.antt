@@ -1,6 +1,5 @@
 -- The size of the text of a collection that is within the limits.
 use Rattle.std.proofs.Common.{arith, ◌≡◌, ◌+◌, ◌-◌, ◌*◌, ◌^◌, ◌≤◌, ◌<◌, ◌==◌, nat_le, if◌then◌else◌, ℕ, suc, zero, Bool, true, false, List, [], ◌∷◌, ◌++◌, length, get_or, sum_by, sym, ◌∙◌, ap, length-append}
-use Rattle.std.specs.List.{onto_first}
 use Rattle.std.proofs.lemmas.List.Sums.{sum_by-cons}
 use Rattle.std.proofs.Math.Seq.{take-length}
 use Rattle.mg_defs.specs.Bits.{digits}
@@ -19,6 +18,7 @@ use Rattle.mg_defs.proofs.CanonLaws.{length-codeword}
 use Rattle.mg_defs.proofs.CodedTextLaws.{length-as_bytes, text-long}
 use Rattle.mg_defs.proofs.CodeLaws.{length_unary_after}
 use Rattle.mg_defs.proofs.ParseLaws.{parse_short}
+use Rattle.mg_defs.proofs.SplitLaws.{docs_within}
 use Rattle.std.proofs.lemmas.List.{length-map}
 use Rattle.mg_text.specs.Decoding.{IsIn, PairsIn, coded_pairs}
 use Rattle.mg_text.specs.Places.{most_text}
@@ -82,21 +82,6 @@ sizes_most : (f : List ℕ → ℕ) (docs : List (List ℕ)) → ((i : ℕ) → 
 sizes_most f [] each = omega arith
 sizes_most f (doc ∷ docs) each =
     omega (arith, sum_by-cons f doc docs, sum_by-cons (λ (d : List ℕ). length d) doc docs, each 0 (omega arith), sizes_most f docs (λ i lt. each (suc i) (omega (arith, lt))))
-
-onto_sum : (b n : ℕ) (docs : List (List ℕ)) → sum_by (λ d. length d) docs ≤ n → sum_by (λ d. length d) (onto_first b docs) ≤ suc n
-onto_sum b n [] le = omega arith
-onto_sum b n (d ∷ docs) le = omega (arith, le, sum_by-cons (λ (e : List ℕ). length e) d docs, sum_by-cons (λ (e : List ℕ). length e) (b ∷ d) docs)
-
-closed_sum : (n : ℕ) (docs : List (List ℕ)) → sum_by (λ d. length d) docs ≤ n → sum_by (λ d. length d) ([] ∷ docs) ≤ suc n
-closed_sum n docs le = omega (arith, le, sum_by-cons (λ (e : List ℕ). length e) [] docs)
-
-by_byte : (closes : Bool) (b n : ℕ) (docs : List (List ℕ)) → sum_by (λ d. length d) docs ≤ n → sum_by (λ d. length d) (if closes then [] ∷ docs else onto_first b docs) ≤ suc n
-by_byte true b n docs le = closed_sum n docs le
-by_byte false b n docs le = onto_sum b n docs le
-
-docs_within : (collection : List ℕ) → sum_by (λ d. length d) (documents collection) ≤ length collection
-docs_within [] = omega arith
-docs_within (b ∷ bytes) = by_byte (b == 2) b (length bytes) (documents bytes) (docs_within bytes)
 
 text_most : (code : TextCode) (collection : List ℕ) → IsTextCode collection code → length (text_of code collection) ≤ 17 * length (documents collection) + 12 * length collection
 text_most code collection is =

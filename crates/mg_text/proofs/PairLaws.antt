@@ -12,8 +12,7 @@ use Rattle.mg_dev.specs.declared.part_err.PartErr.{PartErr}
 use Rattle.mg_dev.specs.declared.part_err.PartErr.TheVariants as part
 use Rattle.mg_dev.specs.declared.show_err.ShowErr.TheVariants as show
 use Rattle.mg_bits.specs.Feed.{Feeding, Device as Seen, Read, ReadsWithin, Calm}
-use Rattle.mg_bits.proofs.Ranges.{read_none}
-use Rattle.mg_bits.proofs.Told.{same_told}
+use Rattle.mg_bits.proofs.CallerLemmas.{read_none, same_told}
 use Rattle.mg_defs.specs.Bits.{Bits}
 use Rattle.mg_defs.specs.Codes.{gamma}
 use Rattle.mg_defs.specs.CodedText.{StreamCode, TextCode, coded_doc, coded_pair}

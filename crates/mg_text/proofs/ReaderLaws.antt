@@ -23,7 +23,7 @@ use Rattle.mg_front.specs.Reading.{IsNotBad}
 use Rattle.mg_layout.specs.declared.head.Head.{Head}
 use Rattle.mg_model.specs.Damage.{AnswersLoad}
 use Rattle.mg_model.specs.Models.{IsModel, PartsStand}
-use Rattle.mg_model.proofs.Standing.{room-of}
+use Rattle.mg_model.proofs.CallerLemmas.{room-of}
 use Rattle.mg_text.specs.Documents.{TextHolds}
 use Rattle.mg_text.proofs.LimitLaws.{text_small}
 use Rattle.mg_text.specs.Decoding.{Ends, Stopped, Takes, WholeDoc}

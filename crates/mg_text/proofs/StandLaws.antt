@@ -8,7 +8,7 @@ use Rattle.std.proofs.lemmas.List.Sums.{sum_by-take-le, sum_by_more}
 use Rattle.std.proofs.Math.Seq.{take-append_seam, drop-append-add, take-length}
 use Rattle.mg_dev.specs.Files.{Files, bytes_at}
 use Rattle.mg_bits.specs.Feed.{told_at}
-use Rattle.mg_bits.proofs.EightBytes.{drop_bits}
+use Rattle.mg_bits.proofs.CallerLemmas.{drop_bits}
 use Rattle.mg_defs.specs.declared.Stream.{Stream}
 use Rattle.mg_defs.specs.declared.Stream.TheVariants.{Words, Others}
 use Rattle.mg_defs.specs.Bits.{Bits, Begins, bits_of, digits, filled, to_byte}

@@ -13,7 +13,7 @@ use Rattle.mg_defs.specs.Answers.{IsPrefixFree}
 use Rattle.mg_defs.proofs.FrontLaws.{begins_first, begins_second, one_stands}
 use Rattle.mg_bits.specs.CodeAnswers.{AnswersCode}
 use Rattle.mg_bits.specs.Feed.{Feeding, Device as Seen}
-use Rattle.mg_bits.proofs.Ranges.{read_more, within_more, within_wider}
+use Rattle.mg_bits.proofs.CallerLemmas.{read_more, within_more, within_wider}
 use Rattle.mg_bits.specs.declared.code_err.CodeErr.{CodeErr}
 use Rattle.mg_bits.specs.declared.code_err.CodeErr.TheVariants as code
 use Rattle.mg_text.specs.Decoding.{Added, Decoded, Ends, IsShowCaused, Shows, Shown, Stopped, Takes}

@@ -9,7 +9,7 @@ use Rattle.mg_dev.specs.Laws.{same_part_of_name}
 use Rattle.mg_dev.specs.declared.part.Part.TheVariants.{Text, Places}
 use Rattle.mg_bits.specs.Writer.{Writing, AreBytes, put_to, Wrote, WroteTo}
 use Rattle.mg_bits.specs.BitWriting.{BitWriting, Holds, WroteBits, bits_put}
-use Rattle.mg_bits.proofs.BitsWritten.{bits_stay, holds_stay}
+use Rattle.mg_bits.proofs.CallerLemmas.{bits_stay, holds_stay}
 use Rattle.mg_text.proofs.ByteLaws.{written_bytes}
 use Rattle.mg_defs.specs.Bits.{Bits, bits_of, digits, filled, to_byte}
 use Rattle.mg_defs.specs.Canon.{AreGood, codeword}
@@ -21,7 +21,7 @@ use Rattle.mg_defs.proofs.CodedTextLaws.{bits-of_as_bytes, length-as_bytes}
 use Rattle.mg_defs.proofs.CanonLaws.{length-codeword, within_short}
 use Rattle.mg_defs.proofs.CodeLaws.{length_gamma}
 use Rattle.mg_defs.proofs.FixedLaws.{IsLog, is_log}
-use Rattle.mg_codes.proofs.Instances.{log_small}
+use Rattle.mg_codes.proofs.CallerLemmas.{log_small}
 use Rattle.mg_model.specs.Models.{IsStreamCode}
 use Rattle.mg_text.specs.Writing.{TextWriting, IsOnText, DocumentsStand, text_bytes, sizes, starts, begun, as_count}
 

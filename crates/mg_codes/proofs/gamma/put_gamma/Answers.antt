@@ -1,6 +1,6 @@
 use Rattle.std.proofs.Common.{arith, ◌+◌}
 use Rattle.mg_defs.proofs.BitLaws.{length_digits}
-use Rattle.mg_bits.proofs.BitsWritten.{bits_more}
+use Rattle.mg_bits.proofs.CallerLemmas.{bits_more}
 use Rattle.mg_codes.proofs.Written.{gamma_written}
 use Rattle.mg_codes.proofs.gamma.put_gamma.Goals as goal
 

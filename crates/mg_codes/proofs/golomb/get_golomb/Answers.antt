@@ -1,4 +1,4 @@
-use Rattle.mg_bits.proofs.EightBytes.{read_held}
+use Rattle.mg_bits.proofs.CallerLemmas.{read_held}
 use Rattle.mg_codes.proofs.golomb.get_golomb.Goals as goal
 
 pub returns-in-Some-clause-read : goal.returns-in-Some-clause-read

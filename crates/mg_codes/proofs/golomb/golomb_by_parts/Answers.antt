@@ -2,8 +2,7 @@ use Rattle.std.proofs.Common.{arith, ◌≡◌, ◌+◌, ◌-◌, ◌*◌, ◌/�
 use Rattle.mg_defs.specs.Codes.{unary, golomb, short}
 use Rattle.mg_defs.specs.Answers.{UpTo}
 use Rattle.mg_defs.proofs.CodeLaws.{golomb_free, length_unary_after}
-use Rattle.mg_bits.proofs.Ranges.{read_step}
-use Rattle.mg_bits.proofs.Told.{same_told}
+use Rattle.mg_bits.proofs.CallerLemmas.{read_step, same_told}
 use Rattle.mg_codes.proofs.TwoParts.{FirstRead, first_read, first_refused, first_pages, first_stands, whole_is, second_value, second_refused, second_pages}
 use Rattle.mg_codes.proofs.Instances.{quotient_of, short_of, golomb_parts, golomb_second, top_small}
 use Rattle.mg_codes.proofs.golomb.golomb_by_parts.Goals as goal

@@ -1,6 +1,6 @@
 use Rattle.std.proofs.Common.{arith}
 use Rattle.mg_defs.proofs.CodeLaws.{golomb_is, length_unary_after}
-use Rattle.mg_bits.proofs.BitsWritten.{bits_more}
+use Rattle.mg_bits.proofs.CallerLemmas.{bits_more}
 use Rattle.mg_codes.proofs.golomb.put_golomb.Goals as goal
 
 pub put_short-requires-clause-place : goal.put_short-requires-clause-place

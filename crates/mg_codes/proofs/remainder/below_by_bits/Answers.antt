@@ -3,9 +3,7 @@ use Rattle.mg_defs.specs.Bits.{digits}
 use Rattle.mg_defs.specs.Codes.{short}
 use Rattle.mg_defs.specs.Answers.{Below}
 use Rattle.mg_defs.proofs.BitLaws.{length_digits}
-use Rattle.mg_bits.proofs.Ranges.{read_none, read_step, part_step}
-use Rattle.mg_bits.proofs.Told.{same_told, told_nothing}
-use Rattle.mg_bits.proofs.Walks.{walk_none, walk_whole, walk_refused, walk_pages, no_pages}
+use Rattle.mg_bits.proofs.CallerLemmas.{read_none, read_step, part_step, same_told, told_nothing, walk_none, walk_whole, walk_refused, walk_pages, no_pages}
 use Rattle.mg_codes.specs.Remainders.{least_of}
 use Rattle.mg_codes.proofs.ShortWalk.{IsShort, shape, walked_start, least_start, whole_code, whole_least, open_cut, walked_none, walked_bit, below_free, least_below, next_told}
 use Rattle.mg_codes.proofs.remainder.below_by_bits.Goals as goal

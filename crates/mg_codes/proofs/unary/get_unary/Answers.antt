@@ -1,5 +1,5 @@
 use Rattle.std.proofs.Common.{arith}
-use Rattle.mg_bits.proofs.EightBytes.{read_held}
+use Rattle.mg_bits.proofs.CallerLemmas.{read_held}
 use Rattle.mg_codes.proofs.HeldCodes.{unary_length}
 use Rattle.mg_codes.proofs.unary.get_unary.Goals as goal
 

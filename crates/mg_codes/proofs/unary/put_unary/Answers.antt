@@ -1,6 +1,6 @@
 use Rattle.std.proofs.Common.{arith, ◌-◌}
 use Rattle.mg_defs.proofs.CodeLaws.{length_ones}
-use Rattle.mg_bits.proofs.BitsWritten.{bits_none, bits_more, to_none, to_more}
+use Rattle.mg_bits.proofs.CallerLemmas.{bits_none, bits_more, to_none, to_more}
 use Rattle.mg_codes.proofs.Written.{ones_none, ones_next, unary_written}
 use Rattle.mg_codes.proofs.unary.put_unary.Goals as goal
 

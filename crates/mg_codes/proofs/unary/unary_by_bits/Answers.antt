@@ -2,9 +2,7 @@ use Rattle.std.proofs.Common.{arith, ◌≡◌, ◌+◌, [], ◌∷◌, ◌++◌
 use Rattle.mg_defs.specs.Codes.{ones, unary}
 use Rattle.mg_defs.specs.Answers.{UpTo}
 use Rattle.mg_defs.proofs.CodeLaws.{length_ones, length_unary, unary_next, ones_more, unary_free}
-use Rattle.mg_bits.proofs.Ranges.{read_none, read_step, part_step}
-use Rattle.mg_bits.proofs.Told.{same_told}
-use Rattle.mg_bits.proofs.Walks.{walk_begun, walk_bit, walk_none, walk_whole, walk_refused, walk_pages, no_pages}
+use Rattle.mg_bits.proofs.CallerLemmas.{read_none, read_step, part_step, same_told, walk_begun, walk_bit, walk_none, walk_whole, walk_refused, walk_pages, no_pages}
 use Rattle.mg_codes.proofs.UnaryWalk.{unary_open, unary_none}
 use Rattle.mg_codes.proofs.unary.unary_by_bits.Goals as goal
 

@@ -8,7 +8,7 @@ use Rattle.mg_front.proofs.ReadFacts.{told_as}
 use Rattle.mg_front.specs.Looks.{ReadOn}
 use Rattle.mg_front.proofs.ReadPages.{on_more, on_to, to_more, to_wider, some_of}
 use Rattle.mg_front.proofs.ReaderLaws.{stepped, never_none, if_some, scanned_more, last_read}
-use Rattle.mg_bits.proofs.Fills.{looked_twice}
+use Rattle.mg_bits.proofs.CallerLemmas.{looked_twice}
 use Rattle.mg_front.proofs.reader.scan_block.Goals as goal
 
 on_false : (b : Bool) (P : Type 0) → OnFalse b P → b ≡ false → P

@@ -1,5 +1,5 @@
 use Rattle.mg_defs.specs.Texts.{close}
-use Rattle.mg_reply.proofs.PendingLaws.{pass_more, pass_part}
+use Rattle.mg_reply.proofs.CallerLemmas.{pass_more, pass_part}
 use Rattle.mg_plain.proofs.show.put_closed.Goals as goal
 
 pub returns-in-Ok-clause-content : goal.returns-in-Ok-clause-content

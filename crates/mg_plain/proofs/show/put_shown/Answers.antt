@@ -1,6 +1,6 @@
 use Rattle.std.proofs.Common.{◌++◌}
 use Rattle.mg_defs.specs.Texts.{header, close}
-use Rattle.mg_reply.proofs.PendingLaws.{pass_nothing, pass_more, pass_part}
+use Rattle.mg_reply.proofs.CallerLemmas.{pass_nothing, pass_more, pass_part}
 use Rattle.mg_plain.proofs.show.put_shown.Goals as goal
 
 pub returns-in-Ok-clause-content : goal.returns-in-Ok-clause-content

@@ -1,6 +1,5 @@
 use Rattle.std.proofs.Common.{arith, ◌≡◌, ◌+◌, ◌*◌, ◌<◌, ◌∙◌, ap, Some, Ok, Err}
-use Rattle.mg_bits.proofs.Ranges.{calm_more}
-use Rattle.mg_bits.proofs.Told.{same_told}
+use Rattle.mg_bits.proofs.CallerLemmas.{calm_more, same_told}
 use Rattle.mg_defs.specs.Lists.{doc_before, bits_before}
 use Rattle.mg_post.specs.Finding.{entry_page}
 use Rattle.mg_post.proofs.ReadLaws.{any_refused}

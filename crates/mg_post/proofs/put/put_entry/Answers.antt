@@ -1,7 +1,7 @@
 use Rattle.std.proofs.Common.{arith}
 use Rattle.mg_defs.specs.Lists.{entry_bits}
 use Rattle.mg_defs.proofs.BitLaws.{length_digits}
-use Rattle.mg_bits.proofs.BitsWritten.{bits_more}
+use Rattle.mg_bits.proofs.CallerLemmas.{bits_more}
 use Rattle.mg_post.proofs.put.put_entry.Goals as goal
 
 pub put-requires-2-clause-place : goal.put-requires-2-clause-place

@@ -1,6 +1,6 @@
 use Rattle.std.proofs.Common.{arith}
 use Rattle.mg_defs.specs.Lists.{posting_bits}
-use Rattle.mg_bits.proofs.BitsWritten.{bits_more}
+use Rattle.mg_bits.proofs.CallerLemmas.{bits_more}
 use Rattle.mg_post.proofs.Lengths.{golomb_short, gamma_short}
 use Rattle.mg_post.proofs.put.put_posting.Goals as goal
 

@@ -1,8 +1,7 @@
 use Rattle.std.proofs.Common.{arith, ◌≡◌, ◌+◌, ◌<◌, [], ◌∷◌, ◌++◌, length, take, refl, sym, ◌∙◌, ap, Err, Ok, add_assoc, slice_set, add-zero}
 use Rattle.std.proofs.lemmas.Grind.{common_steps}
 use Rattle.std.proofs.lemmas.List.{take_more_set}
-use Rattle.mg_bits.proofs.Ranges.{read_more, read_none}
-use Rattle.mg_bits.proofs.Told.{same_told}
+use Rattle.mg_bits.proofs.CallerLemmas.{read_more, read_none, same_told}
 use Rattle.mg_defs.specs.Lists.{posting_bits, bits_after, last_doc, Rises}
 use Rattle.mg_post.proofs.ReadLaws.{next_here, next_answer, any_refused, rises_more, last_more, bits_more, block_pages_more}
 use Rattle.mg_post.proofs.read.read_block.Goals as goal

@@ -1,4 +1,4 @@
-use Rattle.mg_bits.proofs.BitsWritten.{bits_more}
+use Rattle.mg_bits.proofs.CallerLemmas.{bits_more}
 use Rattle.mg_defs.specs.RunBits.{posting_bits}
 use Rattle.mg_runs.proofs.posting.put_posting.Goals as goal
 

@@ -2,10 +2,9 @@ use Rattle.std.proofs.Common.{◌≡◌, ◌*◌, length, take, ◌/◌, ◌-◌
 use Rattle.std.specs.Simd.{first_chunks}
 use Rattle.std.proofs.lemmas.List.Sorted.{length_permutation}
 use Rattle.mg_runs.proofs.Chunks.{length-chunks}
-use Rattle.mg_defs.specs.Bits.{filled}
+use Rattle.mg_defs.specs.Bits.{filled, to_byte}
 use Rattle.mg_defs.specs.RunBits.{run_bits}
-use Rattle.mg_bits.specs.BitWriting.{to_byte}
-use Rattle.mg_bits.proofs.BitsWritten.{bits_more}
+use Rattle.mg_bits.proofs.CallerLemmas.{bits_more}
 use Rattle.mg_defs.proofs.BitLaws.{length_digits}
 use Rattle.mg_defs.specs.Postings.{gathered}
 use Rattle.mg_runs.specs.Bytes.{entries_in}

@@ -1,5 +1,5 @@
 use Rattle.std.proofs.Common.{arith, take}
-use Rattle.mg_bits.proofs.Ranges.{calm_more, calm_none}
+use Rattle.mg_bits.proofs.CallerLemmas.{calm_more, calm_none}
 use Rattle.mg_defs.specs.Parse.{text}
 use Rattle.mg_text.proofs.Steps.{added_more, added_none, ends_more}
 use Rattle.mg_text.proofs.PairLaws.{next_pair, no_pairs, pair_shows, pair_small, pairs_more, pairs_stopped}

@@ -2,7 +2,7 @@ use Rattle.std.proofs.Common.{arith, ◌≡◌, ◌-◌, ◌+◌, ap, length, re
 use Rattle.mg_defs.specs.Answers.{Below}
 use Rattle.mg_defs.specs.Canon.{codeword}
 use Rattle.mg_defs.proofs.BitLaws.{length_digits}
-use Rattle.mg_bits.proofs.EightBytes.{holds_inside, read_held, told_first}
+use Rattle.mg_bits.proofs.CallerLemmas.{holds_inside, read_held, told_first}
 use Rattle.mg_canon.proofs.Walks.{told_value}
 use Rattle.mg_canon.proofs.canon.Canon.get.Goals as goal
 

@@ -4,8 +4,7 @@ use Rattle.mg_defs.specs.Canon.{AreGood, codeword, first}
 use Rattle.mg_defs.specs.Answers.{Below}
 use Rattle.mg_defs.proofs.BitLaws.{length_digits}
 use Rattle.mg_defs.proofs.CanonLaws.{codewords_free}
-use Rattle.mg_bits.proofs.Ranges.{read_none, read_step, part_step, calm_more}
-use Rattle.mg_bits.proofs.Told.{same_told}
+use Rattle.mg_bits.proofs.CallerLemmas.{read_none, read_step, part_step, calm_more, same_told}
 use Rattle.mg_canon.specs.Tables.{count_below}
 use Rattle.mg_canon.proofs.Walks.{walk_begun, walk_bit, walk_refused, walk_pages, no_pages, told_value, told_none}
 use Rattle.mg_canon.proofs.Decoding.{Walk, tables_good, by_table, walk_start, goes_on, walk_more, cut_short, digits-more, none_found, out_of_range, found, symbol_index}
