@@ -1,5 +1,5 @@
 -- Pieces that are found by their hashes.
-use Rattle.std.proofs.Common.{◌≡◌, ◌≢◌, ℕ, zero, suc, ◌+◌, ◌<◌, ◌≤◌, ◌==◌, ◌⊎◌, if◌then◌else◌, Bool, true, false, cond, not, ◌||◌, List, [], ◌∷◌, ◌++◌, None, Some, length, map, get_or, position, refl, sym, ap, subst, ◌∙◌, arith, inl, inr, ltb}
+use Rattle.std.proofs.Common.{◌≡◌, ◌≢◌, ℕ, suc, ◌+◌, ◌-◌, ◌<◌, ◌≤◌, ◌==◌, ◌⊎◌, Bool, true, false, cond, not, ◌||◌, List, [], ◌∷◌, ◌++◌, None, Some, length, map, get_or, position, refl, sym, ap, subst, ◌∙◌, arith, inl, inr, ltb}
 use Rattle.std.specs.List.{IsDistinct, list_any, position_or_len}
 use Rattle.std.specs.Str.{bytes_eq}
 use Rattle.std.proofs.lemmas.Bool.{cases_Bool}
@@ -7,12 +7,13 @@ use Rattle.std.proofs.lemmas.Bool.Decides.{nat_tests}
 use Rattle.std.proofs.lemmas.Cmp.{nat_list_eq_equiv}
 use Rattle.std.proofs.lemmas.List.{get_or-map, length-map, map-append}
 use Rattle.std.proofs.lemmas.List.Sums.{position_or_len_is}
-use Rattle.std.proofs.lemmas.Map.Keys.{IsDistinct-push, apart_from_distinct}
+use Rattle.std.proofs.lemmas.Map.Keys.{IsDistinct-push}
 use Rattle.mg_defs.proofs.SortedLaws.{same-is, same-refl}
-use Rattle.mg_model.specs.Chains.{last_with}
+use Rattle.mg_model.specs.Chains.{first_with}
 use Rattle.mg_model.specs.Tables.{piece_hash, IsTable}
+use Rattle.mg_model.proofs.Chaining.{from-some, from-nothing}
 
--- ---- the last place that has a hash
+-- ---- the first place that has a hash
 
 same-number : (a b : ℕ) → (a == b) ≡ true → a ≡ b
 same-number a b h = grind (arith, nat_tests)
@@ -23,46 +24,25 @@ other-number a b h = grind (arith, nat_tests)
 split : (m k : ℕ) → m ≤ k → (m ≡ k) ⊎ (m < k)
 split m k h = grind (arith, nat_tests)
 
-record IsLast (hashes : List ℕ) (hash n p : ℕ) : Type 0 where
-  pub below : p < n
-  pub here : get_or hashes p 0 ≡ hash
-  pub after : (k : ℕ) → p < k → k < n → get_or hashes k 0 ≢ hash
+-- the first place from one on that has a hash
+record IsFirst (hashes : List ℕ) (hash from place : ℕ) : Type 0 where
+  pub low : from ≤ place
+  pub high : place < length hashes
+  pub here : get_or hashes place 0 ≡ hash
+  pub before : (k : ℕ) → from ≤ k → k < place → get_or hashes k 0 ≢ hash
 
-last-some : (hashes : List ℕ) (hash n p : ℕ) → last_with hashes hash n ≡ Some p → IsLast hashes hash n p
-unfolding last_with
-last-some hashes hash zero p h = absurd cc
-last-some hashes hash (suc n) p h = by (get_or hashes n 0 == hash) refl (last-some hashes hash n p) h
-  where
-    by : (t : Bool) → (get_or hashes n 0 == hash) ≡ t → (last_with hashes hash n ≡ Some p → IsLast hashes hash n p) → (if t then Some n else last_with hashes hash n) ≡ Some p → IsLast hashes hash (suc n) p
-    by true e rest g =
-        let same : n ≡ p = cc in
-        record {
-          below = omega arith;
-          here = subst (λ m. get_or hashes m 0 ≡ hash) same (same-number (get_or hashes n 0) hash e);
-          after = λ k low high. absurd (omega arith);
-        }
-    by false e rest g =
-        let is = rest g in
-        record {
-          below = omega (arith, is.below);
-          here = is.here;
-          after = λ k low high. elim (split k n (omega arith)) [
-            | inl same ↦ subst (λ m. get_or hashes m 0 ≢ hash) (sym same) (other-number (get_or hashes n 0) hash e)
-            | inr less ↦ is.after k low less
-          ];
-        }
+first-some : (hashes : List ℕ) (hash from place : ℕ) → first_with hashes hash from ≡ Some place → IsFirst hashes hash from place
+first-some hashes hash from place h =
+    let is = from-some (λ n. n == hash) hashes from place h in
+    record {
+      low = is.low;
+      high = is.high;
+      here = same-number (get_or hashes place 0) hash is.here;
+      before = λ k low high. other-number (get_or hashes k 0) hash (is.before k low high);
+    }
 
-last-nothing : (hashes : List ℕ) (hash n : ℕ) → last_with hashes hash n ≡ None → (k : ℕ) → k < n → get_or hashes k 0 ≢ hash
-unfolding last_with
-last-nothing hashes hash zero h k low = absurd (omega arith)
-last-nothing hashes hash (suc n) h k low = by (get_or hashes n 0 == hash) refl (last-nothing hashes hash n) h
-  where
-    by : (t : Bool) → (get_or hashes n 0 == hash) ≡ t → (last_with hashes hash n ≡ None → (k : ℕ) → k < n → get_or hashes k 0 ≢ hash) → (if t then Some n else last_with hashes hash n) ≡ None → get_or hashes k 0 ≢ hash
-    by true e rest g = absurd cc
-    by false e rest g = elim (split k n (omega arith)) [
-      | inl same ↦ subst (λ m. get_or hashes m 0 ≢ hash) (sym same) (other-number (get_or hashes n 0) hash e)
-      | inr less ↦ rest g k less
-    ]
+first-nothing : (hashes : List ℕ) (hash from : ℕ) → first_with hashes hash from ≡ None → (k : ℕ) → from ≤ k → k < length hashes → get_or hashes k 0 ≢ hash
+first-nothing hashes hash from h k low high = other-number (get_or hashes k 0) hash (from-nothing (λ n. n == hash) hashes from h k low high)
 
 -- ---- a piece that is sought
 
@@ -75,46 +55,52 @@ apart-hash piece pieces hashes hash k is e low other = elim (cases_Bool (bytes_e
   | inr differs ↦ differs
 ]
 
--- where a search stands: the piece is not among those from a place on
-pub record IsPast (pieces : List (List ℕ)) (hashes piece : List ℕ) (hash below : ℕ) : Type 0 where
-  pub within : below ≤ length pieces
-  pub same : below < length pieces → get_or hashes below 0 ≡ hash
-  pub absent : (k : ℕ) → below ≤ k → k < length pieces → bytes_eq piece (get_or pieces k []) ≡ false
+-- where a search stands: the piece is not among those before a place, and the one before it has the hash
+pub record IsPast (pieces : List (List ℕ)) (hashes piece : List ℕ) (hash from : ℕ) : Type 0 where
+  pub within : from ≤ length pieces
+  pub same : 0 < from → get_or hashes (from - 1) 0 ≡ hash
+  pub absent : (k : ℕ) → k < from → bytes_eq piece (get_or pieces k []) ≡ false
 
 pub table-long : (pieces : List (List ℕ)) (hashes : List ℕ) → IsTable pieces hashes → length hashes ≡ length pieces
 table-long pieces hashes is = ap length is.hashed ∙ length-map pieces piece_hash
 
-pub past-start : (pieces : List (List ℕ)) (hashes piece : List ℕ) (hash below : ℕ) → IsTable pieces hashes → below ≡ length hashes → IsPast pieces hashes piece hash below
-past-start pieces hashes piece hash below is e =
-    let long = table-long pieces hashes is in
-    record {
-      within = omega (arith, long);
-      same = λ low. absurd (omega (arith, long));
-      absent = λ k low high. absurd (omega (arith, long));
-    }
+pub past-start : (pieces : List (List ℕ)) (hashes piece : List ℕ) (hash : ℕ) → IsPast pieces hashes piece hash 0
+past-start pieces hashes piece hash = record {
+  within = omega arith;
+  same = λ low. absurd (omega (arith, low));
+  absent = λ k low. absurd (omega (arith, low));
+}
 
-pub past-below : (pieces : List (List ℕ)) (hashes piece : List ℕ) (hash below place : ℕ) → IsPast pieces hashes piece hash below → Some place ≡ last_with hashes hash below → place < below
-past-below pieces hashes piece hash below place past found = (last-some hashes hash below place (sym found)).below
+pub past-place : (pieces : List (List ℕ)) (hashes piece : List ℕ) (hash from place : ℕ) → IsTable pieces hashes → Some place ≡ first_with hashes hash from → (from ≤ place) × (place < length pieces)
+past-place pieces hashes piece hash from place is found =
+    let first = first-some hashes hash from place (sym found) in
+    (first.low, omega (arith, first.high, table-long pieces hashes is))
 
-pub past-step : (pieces : List (List ℕ)) (hashes piece : List ℕ) (hash below place : ℕ) → IsTable pieces hashes → hash ≡ piece_hash piece → IsPast pieces hashes piece hash below → Some place ≡ last_with hashes hash below → bytes_eq (get_or pieces place []) piece ≡ false → IsPast pieces hashes piece hash place
-past-step pieces hashes piece hash below place is e past found other =
-    let last = last-some hashes hash below place (sym found) in
-    record {
-      within = omega (arith, past.within, last.below);
-      same = λ _. last.here;
-      absent = λ k low high. by k high (split place k low) last;
-    }
+-- the piece is not among those before the place that is found
+absent-before : (pieces : List (List ℕ)) (hashes piece : List ℕ) (hash from place : ℕ) → IsTable pieces hashes → hash ≡ piece_hash piece → IsPast pieces hashes piece hash from → Some place ≡ first_with hashes hash from → (k : ℕ) → k < place → bytes_eq piece (get_or pieces k []) ≡ false
+absent-before pieces hashes piece hash from place is e past found k low = by (sides k)
   where
-    near : (k : ℕ) → k < length pieces → place < k → (k < below) ⊎ (below ≤ k) → IsLast hashes hash below place → bytes_eq piece (get_or pieces k []) ≡ false
-    near k high after (inl less) last = apart-hash piece pieces hashes hash k is e high (last.after k after less)
-    near k high after (inr more) last = past.absent k more high
+    sides : (m : ℕ) → (m < from) ⊎ (from ≤ m)
+    sides m = grind (arith, nat_tests)
 
-    sides : (k : ℕ) → (k < below) ⊎ (below ≤ k)
-    sides k = grind (arith, nat_tests)
+    by : (k < from) ⊎ (from ≤ k) → bytes_eq piece (get_or pieces k []) ≡ false
+    by (inl less) = past.absent k less
+    by (inr more) =
+        let first = first-some hashes hash from place (sym found) in
+        apart-hash piece pieces hashes hash k is e (omega (arith, low, first.high, table-long pieces hashes is)) (first.before k more low)
 
-    by : (k : ℕ) → k < length pieces → (place ≡ k) ⊎ (place < k) → IsLast hashes hash below place → bytes_eq piece (get_or pieces k []) ≡ false
-    by k high (inl same) last = nat_list_eq_equiv.symm piece (get_or pieces k []) ∙ subst (λ m. bytes_eq (get_or pieces m []) piece ≡ false) same other
-    by k high (inr after) last = near k high after (sides k) last
+pub past-step : (pieces : List (List ℕ)) (hashes piece : List ℕ) (hash from place : ℕ) → IsTable pieces hashes → hash ≡ piece_hash piece → IsPast pieces hashes piece hash from → Some place ≡ first_with hashes hash from → bytes_eq (get_or pieces place []) piece ≡ false → IsPast pieces hashes piece hash (place + 1)
+past-step pieces hashes piece hash from place is e past found other =
+    let first = first-some hashes hash from place (sym found) in
+    let back : place + 1 - 1 ≡ place = omega arith in
+    record {
+      within = omega (arith, first.high, table-long pieces hashes is);
+      same = λ _. ap (λ n. get_or hashes n 0) back ∙ first.here;
+      absent = λ k low. elim (split k place (omega arith)) [
+        | inl same ↦ nat_list_eq_equiv.symm piece (get_or pieces k []) ∙ subst (λ m. bytes_eq (get_or pieces m []) piece ≡ false) (sym same) other
+        | inr less ↦ absent-before pieces hashes piece hash from place is e past found k less
+      ];
+    }
 
 under : (m n : ℕ) → m < n → ltb m n ≡ true
 under m n h = grind (arith, nat_tests)
@@ -122,15 +108,12 @@ under m n h = grind (arith, nat_tests)
 itself : (n : ℕ) → ltb n n ≡ false
 itself n = grind (arith, nat_tests)
 
-pub past-found : (pieces : List (List ℕ)) (hashes piece : List ℕ) (hash below place : ℕ) → IsTable pieces hashes → IsPast pieces hashes piece hash below → Some place ≡ last_with hashes hash below → bytes_eq (get_or pieces place []) piece ≡ true → Some place ≡ position (bytes_eq piece) pieces
-past-found pieces hashes piece hash below place is past found matches =
-    let low = past-below pieces hashes piece hash below place past found in
-    let within : place < length pieces = omega (arith, past.within) in
+pub past-found : (pieces : List (List ℕ)) (hashes piece : List ℕ) (hash from place : ℕ) → IsTable pieces hashes → hash ≡ piece_hash piece → IsPast pieces hashes piece hash from → Some place ≡ first_with hashes hash from → bytes_eq (get_or pieces place []) piece ≡ true → Some place ≡ position (bytes_eq piece) pieces
+past-found pieces hashes piece hash from place is e past found matches =
+    let within : place < length pieces = (past-place pieces hashes piece hash from place is found).1 in
     let same = same-is (get_or pieces place []) piece matches in
     let first : position_or_len (bytes_eq piece) pieces ≡ place =
-    position_or_len_is (bytes_eq piece) pieces place [] (omega arith)
-    (λ k less. nat_list_eq_equiv.symm piece (get_or pieces k []) ∙ ap (bytes_eq (get_or pieces k [])) (sym same) ∙ apart_from_distinct bytes_eq pieces k place [] is.distinct less within)
-    (λ _. ap (bytes_eq piece) same ∙ same-refl piece) in
+    position_or_len_is (bytes_eq piece) pieces place [] (omega arith) (absent-before pieces hashes piece hash from place is e past found) (λ _. ap (bytes_eq piece) same ∙ same-refl piece) in
     sym (ap (λ n. cond (ltb n (length pieces)) (Some n) None) first ∙ ap (λ b. cond b (Some place) None) (under place (length pieces) within))
 
 absent-position : (piece : List ℕ) (pieces : List (List ℕ)) → ((k : ℕ) → k < length pieces → bytes_eq piece (get_or pieces k []) ≡ false) → None ≡ position (bytes_eq piece) pieces
@@ -138,15 +121,15 @@ absent-position piece pieces apart =
     let none : position_or_len (bytes_eq piece) pieces ≡ length pieces = position_or_len_is (bytes_eq piece) pieces (length pieces) [] (omega arith) apart (λ h. absurd (omega arith)) in
     sym (ap (λ n. cond (ltb n (length pieces)) (Some n) None) none ∙ ap (λ b. cond b (Some (length pieces)) None) (itself (length pieces)))
 
-pub past-none : (pieces : List (List ℕ)) (hashes piece : List ℕ) (hash below : ℕ) → IsTable pieces hashes → hash ≡ piece_hash piece → IsPast pieces hashes piece hash below → None ≡ last_with hashes hash below → None ≡ position (bytes_eq piece) pieces
-past-none pieces hashes piece hash below is e past none = absent-position piece pieces (λ k high. by k high (sides k))
+pub past-none : (pieces : List (List ℕ)) (hashes piece : List ℕ) (hash from : ℕ) → IsTable pieces hashes → hash ≡ piece_hash piece → IsPast pieces hashes piece hash from → None ≡ first_with hashes hash from → None ≡ position (bytes_eq piece) pieces
+past-none pieces hashes piece hash from is e past none = absent-position piece pieces (λ k high. by k high (sides k))
   where
-    sides : (k : ℕ) → (k < below) ⊎ (below ≤ k)
+    sides : (k : ℕ) → (k < from) ⊎ (from ≤ k)
     sides k = grind (arith, nat_tests)
 
-    by : (k : ℕ) → k < length pieces → (k < below) ⊎ (below ≤ k) → bytes_eq piece (get_or pieces k []) ≡ false
-    by k high (inl less) = apart-hash piece pieces hashes hash k is e high (last-nothing hashes hash below (sym none) k less)
-    by k high (inr more) = past.absent k more high
+    by : (k : ℕ) → k < length pieces → (k < from) ⊎ (from ≤ k) → bytes_eq piece (get_or pieces k []) ≡ false
+    by k high (inl less) = past.absent k less
+    by k high (inr more) = apart-hash piece pieces hashes hash k is e high (first-nothing hashes hash from (sym none) k more (omega (arith, high, table-long pieces hashes is)))
 
 -- ---- one piece more
 
@@ -177,16 +160,3 @@ table-push pieces hashes piece hash is e none = record {
 pub table-new : IsTable [] []
 unfolding IsDistinct
 table-new = record { distinct = tt; hashed = refl }
-
--- the hash of the last piece
-pub last-hash : (a b : List ℕ) (x y : ℕ) → a ++ x ∷ [] ≡ b ++ y ∷ [] → a ≡ b
-last-hash [] [] x y h = refl
-last-hash [] (b ∷ []) x y h = absurd cc
-last-hash [] (b ∷ c ∷ bs) x y h = absurd cc
-last-hash (a ∷ []) [] x y h = absurd cc
-last-hash (a ∷ c ∷ xs) [] x y h = absurd cc
-last-hash (a ∷ xs) (b ∷ bs) x y h =
-    let head : a ≡ b = cc in
-    let rest : xs ++ x ∷ [] ≡ bs ++ y ∷ [] = cc in
-    let tail = last-hash xs bs x y rest in
-    λ i. head i ∷ tail i

@@ -1,6 +1,6 @@
 //! Places that are found by their hashes.
-ghost use Rattle.std.specs.Prelude.{◌≡◌, ℕ, ◌+◌, ◌<◌, ◌≤◌, ◌^◌, ◌++◌, ◌∷◌, [], length, slice_index, replicate, Some, IfOk, OnOk, OnErr, vec_len};
-ghost use Rattle.mg_model.specs.Chains.{AreChains, AreLinked, hashes_of, nexts_of, last_with};
+ghost use Rattle.std.specs.Prelude.{◌≡◌, ℕ, ◌+◌, ◌-◌, ◌<◌, ◌≤◌, ◌^◌, ◌++◌, ◌∷◌, [], length, slice_index, replicate, Some, IfOk, OnOk, OnErr, vec_len};
+ghost use Rattle.mg_model.specs.Chains.{AreChains, AreLinked, IsLastIn, hashes_of, nexts_of, first_with, with_head, with_next};
 
 use crate::link::{Link, bucket_of, hash_at, next_at, set_hash, set_next};
 use crate::room::make_room;
@@ -10,7 +10,8 @@ use std::marker::Model;
 /// The most bits of a bucket's number.
 const MOST_BITS: u32 = 22;
 
-/// Hashes in the order they were added. Those of one bucket are a chain from the last to the first.
+/// Hashes in the order they were added. Those of one bucket are a chain from the first to the last:
+/// what came early is found soon, and pieces that come often mostly came early.
 ///
 /// It takes eight bytes a place, and up to a quarter more, and four for each of the buckets, which
 /// are doubled where there are no more of them than places.
@@ -18,7 +19,7 @@ const MOST_BITS: u32 = 22;
 pub struct Chains {
     alloc: Global,
     links: Vec<Link>,
-    /// One more than the last place of each bucket, or 0 where it has none.
+    /// One more than the first place of each bucket, or 0 where it has none.
     heads: Vec<u32>,
     bits: u32,
 }
@@ -35,18 +36,18 @@ impl Model for Chains {
     ghost invariant = { λ c. AreChains c.bits c.links.items c.heads.items };
 }
 
-/// Links one more place.
+/// Links a place, where those behind it are linked.
 fn link(heads: &mut Vec<u32>, links: &mut Vec<Link>, bits: u32, place: usize)
     requires some { 1 ≤ bits }
     requires few { bits ≤ 22 }
     requires long { vec_len links.old ≤ 2 ^ 22 }
     requires within { place < vec_len links.old }
     requires sized { length heads.old.items ≡ 2 ^ bits }
-    requires linked { AreLinked bits (hashes_of links.old.items) (nexts_of links.old.items) heads.old.items place }
+    requires linked { AreLinked bits (hashes_of links.old.items) (nexts_of links.old.items) heads.old.items (place + 1) }
     ensures len { vec_len links.new ≡ vec_len links.old }
     ensures hashes { hashes_of links.new.items ≡ hashes_of links.old.items }
     ensures sized { length heads.new.items ≡ 2 ^ bits }
-    ensures linked { AreLinked bits (hashes_of links.new.items) (nexts_of links.new.items) heads.new.items (place + 1) }
+    ensures linked { AreLinked bits (hashes_of links.new.items) (nexts_of links.new.items) heads.new.items place }
 {
     let bucket = bucket_of(bits, hash_at(links, place));
     let next = heads[bucket];
@@ -54,18 +55,53 @@ fn link(heads: &mut Vec<u32>, links: &mut Vec<Link>, bits: u32, place: usize)
     heads[bucket] = place as u32 + 1;
 }
 
-/// Links all places, where no bucket has one yet.
+/// Links all places from the last to the first, where no bucket has one yet.
 fn link_all(heads: &mut Vec<u32>, links: &mut Vec<Link>, bits: u32)
     requires some { 1 ≤ bits }
     requires few { bits ≤ 22 }
     requires long { vec_len links.old ≤ 2 ^ 22 }
     requires empty { heads.old.items ≡ replicate (2 ^ bits) 0 }
+    ensures len { vec_len links.new ≡ vec_len links.old }
     ensures hashes { hashes_of links.new.items ≡ hashes_of links.old.items }
     ensures sized { length heads.new.items ≡ 2 ^ bits }
-    ensures linked { AreLinked bits (hashes_of links.new.items) (nexts_of links.new.items) heads.new.items (vec_len links.new) }
+    ensures linked { AreLinked bits (hashes_of links.new.items) (nexts_of links.new.items) heads.new.items 0 }
 {
-    for place in 0..links.len() {
+    let mut place = links.len();
+    while place > 0 {
+        place -= 1;
         link(heads, links, bits, place);
+    }
+}
+
+/// One more than the last place of a bucket, or 0 where it has none.
+fn last_in(heads: &[u32], links: &[Link], bits: u32, bucket: usize) -> u32
+    requires within { bucket < length heads.now }
+    requires linked { AreLinked bits (hashes_of links.now) (nexts_of links.now) heads.now 0 }
+    ensures { IsLastIn bits (hashes_of links.now) (nexts_of links.now) heads.now bucket result }
+{
+    let mut last = 0;
+    let mut at = heads[bucket];
+    while at > 0 {
+        last = at;
+        at = next_at(links, at as usize - 1);
+    }
+    last
+}
+
+/// Links to a place behind the last one of its bucket.
+fn link_behind(heads: &mut Vec<u32>, links: &mut Vec<Link>, bucket: usize, last: u32, place: u32)
+    requires within { bucket < length heads.old.items }
+    requires last { last ≤ vec_len links.old }
+    requires few { place < 2 ^ 22 }
+    ensures len { vec_len links.new ≡ vec_len links.old }
+    ensures hashes { hashes_of links.new.items ≡ hashes_of links.old.items }
+    ensures nexts { nexts_of links.new.items ≡ with_next (nexts_of links.old.items) last (place + 1) }
+    ensures heads { heads.new.items ≡ with_head heads.old.items bucket last (place + 1) }
+{
+    if last == 0 {
+        heads[bucket] = place + 1;
+    } else {
+        set_next(links, last as usize - 1, place + 1);
     }
 }
 
@@ -140,21 +176,22 @@ impl Chains {
         hash_at(&self.links, place as usize)
     }
 
-    /// The last place below a number that has a hash. The number is that of all hashes, or a place
+    /// The first place from a number on that has a hash. The number is 0, or one more than a place
     /// that has the hash itself.
     #[inline]
-    pub fn last_below(&self, hash: u32, below: u32) -> Option<u32>
-        requires within { below ≤ length self.now }
-        requires same { below < length self.now → slice_index self.now below ≡ hash }
-        ensures { result ≡ last_with self.now hash below }
+    pub fn first_from(&self, hash: u32, from: u32) -> Option<u32>
+        requires within { from ≤ length self.now }
+        requires same { 0 < from → slice_index self.now (from - 1) ≡ hash }
+        ensures first { result ≡ first_with self.now hash from }
+        ensures few { length self.now ≤ 2 ^ 22 }
     {
-        if below == 0 {
+        if self.links.len() == 0 {
             return None;
         }
-        let mut at = if below as usize == self.links.len() {
+        let mut at = if from == 0 {
             self.heads[bucket_of(self.bits, hash)]
         } else {
-            next_at(&self.links, below as usize)
+            next_at(&self.links, from as usize - 1)
         };
         while at > 0 {
             let place = at - 1;
@@ -174,19 +211,12 @@ impl Chains {
     {
         self.bits = widen(self.alloc, &mut self.heads, &mut self.links, self.bits)?;
         make_room(&mut self.links)?;
-        let place = self.links.len();
+        let bucket = bucket_of(self.bits, hash);
+        let last = last_in(&self.heads, &self.links, self.bits, bucket);
+        let place = self.links.len() as u32;
         self.links.push_reserved(Link { hash, next: 0 });
-        link(&mut self.heads, &mut self.links, self.bits, place);
+        link_behind(&mut self.heads, &mut self.links, bucket, last, place);
         Ok(())
-    }
-
-    /// Takes the last hash away.
-    pub fn pop(&mut self)
-        requires { 0 < length self.old }
-        ensures { self.old ≡ self.new ++ slice_index self.old (length self.new) ∷ [] }
-    {
-        let last = self.links.take_last();
-        self.heads[bucket_of(self.bits, last.hash)] = last.next;
     }
 
     /// Puts as many other hashes in the place of all.

@@ -1,8 +1,8 @@
-//! Links from one place to another of the same bucket.
+//! Links from one place to the next one of the same bucket.
 ghost use Rattle.std.specs.Prelude.{◌≡◌, ◌+◌, ◌<◌, ◌≤◌, ◌^◌, length, slice_index, slice_set, vec_len};
 ghost use Rattle.mg_model.specs.Chains.{hashes_of, nexts_of, bucket_of};
 
-/// The hash that stands at a place, and the latest place before it in the same bucket.
+/// The hash that stands at a place, and the next place of the same bucket.
 #[derive(Clone, Copy)]
 pub struct Link {
     pub hash: u32,
@@ -30,7 +30,7 @@ pub fn hash_at(links: &[Link], place: usize) -> u32
     links[place].hash
 }
 
-/// One more than the place that comes before a place in its bucket, or 0.
+/// One more than the place that comes after a place in its bucket, or 0.
 #[inline]
 pub fn next_at(links: &[Link], place: usize) -> u32
     requires { place < length links.now }
@@ -39,7 +39,7 @@ pub fn next_at(links: &[Link], place: usize) -> u32
     links[place].next
 }
 
-/// Links a place to the one before it.
+/// Links a place to another.
 pub fn set_next(links: &mut Vec<Link>, place: usize, next: u32)
     requires { place < vec_len links.old }
     ensures hashes { hashes_of links.new.items ≡ hashes_of links.old.items }

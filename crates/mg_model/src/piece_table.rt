@@ -117,12 +117,12 @@ impl PieceTable {
         requires { hash ≡ piece_hash piece.now }
         ensures { result ≡ position (bytes_eq piece.now) self.now }
     {
-        let mut below = self.hashes.len();
-        while let Some(place) = self.hashes.last_below(hash, below) {
+        let mut from = 0;
+        while let Some(place) = self.hashes.first_from(hash, from) {
             if self.block.piece(place) == piece {
                 return Some(place);
             }
-            below = place;
+            from = place + 1;
         }
         None
     }
@@ -143,11 +143,11 @@ impl PieceTable {
         ensures ok { OnOk result (self.new ≡ self.old ++ piece.now ∷ []) }
         ensures err { OnErr result (self.new ≡ self.old) }
     {
-        self.hashes.push(hash)?;
-        match self.block.push(piece) {
+        self.block.push(piece)?;
+        match self.hashes.push(hash) {
             Ok(()) => Ok(()),
             Err(refusal) => {
-                self.hashes.pop();
+                self.block.pop();
                 Err(refusal)
             }
         }

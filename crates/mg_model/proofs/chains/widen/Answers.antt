@@ -5,4 +5,4 @@ use Rattle.mg_model.proofs.chains.widen.Goals as goal
 pub returns-clause-chains : goal.returns-clause-chains
 returns-clause-chains c =
     let same = same-long c.args.links.now.items c.link_all.new.links.items c.link_all.ensures.hashes in
-    chains-of c.min-wide.result c.link_all.new.links.items c.link_all.new.heads.items _ (omega (arith, c.min-wide.ensures)) (omega (arith, c.min-wide.ensures)) (omega (arith, c.requires.long, same)) c.link_all.ensures.sized c.link_all.new.links.ok.0 c.link_all.ensures.linked
+    chains-of c.min-wide.result c.link_all.new.links.items c.link_all.new.heads.items (omega (arith, c.min-wide.ensures)) (omega (arith, c.min-wide.ensures)) (omega (arith, c.requires.long, same)) c.link_all.ensures.sized c.link_all.ensures.linked

@@ -1,9 +1,0 @@
-use Rattle.mg_model.specs.Chains.{hashes_of}
-use Rattle.mg_model.proofs.Chaining.{IsInChain}
-use Rattle.mg_model.proofs.chains.Chains.last_below.Given as goal
-
-abbrev pub invariant-loop-at : goal.invariant-loop-at
-invariant-loop-at l = IsInChain l.self-inside.bits (hashes_of l.self-inside.links.items) l.hash l.below l.at
-
-abbrev pub decreases-loop-at : goal.decreases-loop-at
-decreases-loop-at l = l.at
