@@ -9,7 +9,7 @@ use Rattle.std.proofs.lemmas.List.{get_or_append_left, length-set, length-map, m
 use Rattle.std.proofs.Math.Seq.{get_or-append_seam}
 use Rattle.std.proofs.Math.Seq.{map-set_same}
 use Rattle.mg_model.specs.declared.link.Link.{Link}
-use Rattle.mg_model.specs.Chains.{bucket_of, first_such, first_from, first_with, link_to, first_in, AreLinked, AreChains, IsLastIn, hashes_of, nexts_of, with_next, with_head}
+use Rattle.mg_model.specs.Chains.{bucket_of, first_where, first_from, first_with, link_to, first_in, AreLinked, AreChains, IsLastIn, hashes_of, nexts_of, with_next, with_head}
 
 same-number : (a b : ℕ) → (a == b) ≡ true → a ≡ b
 same-number a b h = grind (arith, nat_tests)
@@ -39,52 +39,52 @@ bucket-within bits hash few h =
     let split : 2 ^ 32 ≡ 2 ^ bits * 2 ^ (32 - bits) = ap (λ n. 2 ^ n) (sym whole) ∙ pow-add 2 bits (32 - bits) in
     (div-lt_iff_lt-mul {k = 2 ^ (32 - bits)} {x = hash} {y = 2 ^ bits} (pow_pos (32 - bits))).1 (subst (λ n. hash < n) split h)
 
--- ---- the first place whose hash is such
+-- ---- the first place whose hash passes a test
 
-such-none : (such : ℕ → Bool) (hashes : List ℕ) (from : ℕ) → first_such such hashes from 0 ≡ None
-unfolding first_such
-such-none such hashes from = refl
+where-none : (test : ℕ → Bool) (hashes : List ℕ) (from : ℕ) → first_where test hashes from 0 ≡ None
+unfolding first_where
+where-none test hashes from = refl
 
-such-here : (such : ℕ → Bool) (hashes : List ℕ) (from count : ℕ) → such (get_or hashes from 0) ≡ true → first_such such hashes from (suc count) ≡ Some from
-unfolding first_such
-such-here such hashes from count h = ap (λ t. if t then Some from else first_such such hashes (suc from) count) h
+where-here : (test : ℕ → Bool) (hashes : List ℕ) (from count : ℕ) → test (get_or hashes from 0) ≡ true → first_where test hashes from (suc count) ≡ Some from
+unfolding first_where
+where-here test hashes from count h = ap (λ t. if t then Some from else first_where test hashes (suc from) count) h
 
-such-after : (such : ℕ → Bool) (hashes : List ℕ) (from count : ℕ) → such (get_or hashes from 0) ≡ false → first_such such hashes from (suc count) ≡ first_such such hashes (suc from) count
-unfolding first_such
-such-after such hashes from count h = ap (λ t. if t then Some from else first_such such hashes (suc from) count) h
+where-after : (test : ℕ → Bool) (hashes : List ℕ) (from count : ℕ) → test (get_or hashes from 0) ≡ false → first_where test hashes from (suc count) ≡ first_where test hashes (suc from) count
+unfolding first_where
+where-after test hashes from count h = ap (λ t. if t then Some from else first_where test hashes (suc from) count) h
 
--- places whose hashes are not such are passed
-such-past : (such : ℕ → Bool) (hashes : List ℕ) (passed from count : ℕ) → ((k : ℕ) → from ≤ k → k < from + passed → such (get_or hashes k 0) ≡ false) → first_such such hashes from (passed + count) ≡ first_such such hashes (from + passed) count
-such-past such hashes zero from count h =
+-- places whose hashes do not pass it are passed
+where-past : (test : ℕ → Bool) (hashes : List ℕ) (passed from count : ℕ) → ((k : ℕ) → from ≤ k → k < from + passed → test (get_or hashes k 0) ≡ false) → first_where test hashes from (passed + count) ≡ first_where test hashes (from + passed) count
+where-past test hashes zero from count h =
     let none : zero + count ≡ count = omega arith in
     let same : from ≡ from + 0 = omega arith in
-    ap (first_such such hashes from) none ∙ ap (λ n. first_such such hashes n count) same
-such-past such hashes (suc passed) from count h =
+    ap (first_where test hashes from) none ∙ ap (λ n. first_where test hashes n count) same
+where-past test hashes (suc passed) from count h =
     let some : suc passed + count ≡ suc (passed + count) = omega arith in
     let next : suc from + passed ≡ from + suc passed = omega arith in
-    ap (first_such such hashes from) some ∙ such-after such hashes from (passed + count) (h from (omega arith) (omega arith))
-    ∙ such-past such hashes passed (suc from) count (λ k low high. h k (omega (arith, low)) (omega (arith, high)))
-    ∙ ap (λ n. first_such such hashes n count) next
+    ap (first_where test hashes from) some ∙ where-after test hashes from (passed + count) (h from (omega arith) (omega arith))
+    ∙ where-past test hashes passed (suc from) count (λ k low high. h k (omega (arith, low)) (omega (arith, high)))
+    ∙ ap (λ n. first_where test hashes n count) next
 
 -- a place that is the first of so many from one on
-record IsFirst (such : ℕ → Bool) (hashes : List ℕ) (from count place : ℕ) : Type 0 where
+record IsFirst (test : ℕ → Bool) (hashes : List ℕ) (from count place : ℕ) : Type 0 where
   pub low : from ≤ place
   pub high : place < from + count
-  pub here : such (get_or hashes place 0) ≡ true
-  pub before : (k : ℕ) → from ≤ k → k < place → such (get_or hashes k 0) ≡ false
+  pub here : test (get_or hashes place 0) ≡ true
+  pub before : (k : ℕ) → from ≤ k → k < place → test (get_or hashes k 0) ≡ false
 
-such-some : (such : ℕ → Bool) (hashes : List ℕ) (from count place : ℕ) → first_such such hashes from count ≡ Some place → IsFirst such hashes from count place
-unfolding first_such
-such-some such hashes from zero place h = absurd cc
-such-some such hashes from (suc count) place h = by (such (get_or hashes from 0)) refl (such-some such hashes (suc from) count place) h
+where-some : (test : ℕ → Bool) (hashes : List ℕ) (from count place : ℕ) → first_where test hashes from count ≡ Some place → IsFirst test hashes from count place
+unfolding first_where
+where-some test hashes from zero place h = absurd cc
+where-some test hashes from (suc count) place h = by (test (get_or hashes from 0)) refl (where-some test hashes (suc from) count place) h
   where
-    by : (t : Bool) → such (get_or hashes from 0) ≡ t → (first_such such hashes (suc from) count ≡ Some place → IsFirst such hashes (suc from) count place) → (if t then Some from else first_such such hashes (suc from) count) ≡ Some place → IsFirst such hashes from (suc count) place
+    by : (t : Bool) → test (get_or hashes from 0) ≡ t → (first_where test hashes (suc from) count ≡ Some place → IsFirst test hashes (suc from) count place) → (if t then Some from else first_where test hashes (suc from) count) ≡ Some place → IsFirst test hashes from (suc count) place
     by true e rest g =
         let same : from ≡ place = cc in
         record {
           low = omega arith;
           high = omega arith;
-          here = subst (λ n. such (get_or hashes n 0) ≡ true) same e;
+          here = subst (λ n. test (get_or hashes n 0) ≡ true) same e;
           before = λ k low high. absurd (omega arith);
         }
     by false e rest g =
@@ -94,63 +94,63 @@ such-some such hashes from (suc count) place h = by (such (get_or hashes from 0)
           high = omega (arith, is.high);
           here = is.here;
           before = λ k low high. elim (same-or-other from k) [
-            | inl same ↦ subst (λ n. such (get_or hashes n 0) ≡ false) same e
+            | inl same ↦ subst (λ n. test (get_or hashes n 0) ≡ false) same e
             | inr other ↦ is.before k (omega arith) high
           ];
         }
 
-such-nothing : (such : ℕ → Bool) (hashes : List ℕ) (from count : ℕ) → first_such such hashes from count ≡ None → (k : ℕ) → from ≤ k → k < from + count → such (get_or hashes k 0) ≡ false
-unfolding first_such
-such-nothing such hashes from zero h k low high = absurd (omega arith)
-such-nothing such hashes from (suc count) h k low high = by (such (get_or hashes from 0)) refl (such-nothing such hashes (suc from) count) h (same-or-other from k)
+where-nothing : (test : ℕ → Bool) (hashes : List ℕ) (from count : ℕ) → first_where test hashes from count ≡ None → (k : ℕ) → from ≤ k → k < from + count → test (get_or hashes k 0) ≡ false
+unfolding first_where
+where-nothing test hashes from zero h k low high = absurd (omega arith)
+where-nothing test hashes from (suc count) h k low high = by (test (get_or hashes from 0)) refl (where-nothing test hashes (suc from) count) h (same-or-other from k)
   where
-    by : (t : Bool) → such (get_or hashes from 0) ≡ t → (first_such such hashes (suc from) count ≡ None → (j : ℕ) → suc from ≤ j → j < suc from + count → such (get_or hashes j 0) ≡ false) → (if t then Some from else first_such such hashes (suc from) count) ≡ None → (from ≡ k) ⊎ (from ≢ k) → such (get_or hashes k 0) ≡ false
+    by : (t : Bool) → test (get_or hashes from 0) ≡ t → (first_where test hashes (suc from) count ≡ None → (j : ℕ) → suc from ≤ j → j < suc from + count → test (get_or hashes j 0) ≡ false) → (if t then Some from else first_where test hashes (suc from) count) ≡ None → (from ≡ k) ⊎ (from ≢ k) → test (get_or hashes k 0) ≡ false
     by true e rest g side = absurd cc
-    by false e rest g (inl same) = subst (λ n. such (get_or hashes n 0) ≡ false) same e
+    by false e rest g (inl same) = subst (λ n. test (get_or hashes n 0) ≡ false) same e
     by false e rest g (inr other) = rest g k (omega arith) (omega arith)
 
 -- the same of all places from one on
-from-end : (such : ℕ → Bool) (hashes : List ℕ) (from : ℕ) → length hashes ≤ from → first_from such hashes from ≡ None
-from-end such hashes from h =
+from-end : (test : ℕ → Bool) (hashes : List ℕ) (from : ℕ) → length hashes ≤ from → first_from test hashes from ≡ None
+from-end test hashes from h =
     let none : length hashes - from ≡ 0 = omega arith in
-    ap (first_such such hashes from) none ∙ such-none such hashes from
+    ap (first_where test hashes from) none ∙ where-none test hashes from
 
-from-here : (such : ℕ → Bool) (hashes : List ℕ) (from : ℕ) → from < length hashes → such (get_or hashes from 0) ≡ true → first_from such hashes from ≡ Some from
-from-here such hashes from low h =
+from-here : (test : ℕ → Bool) (hashes : List ℕ) (from : ℕ) → from < length hashes → test (get_or hashes from 0) ≡ true → first_from test hashes from ≡ Some from
+from-here test hashes from low h =
     let some : length hashes - from ≡ suc (length hashes - suc from) = omega arith in
-    ap (first_such such hashes from) some ∙ such-here such hashes from (length hashes - suc from) h
+    ap (first_where test hashes from) some ∙ where-here test hashes from (length hashes - suc from) h
 
-from-past : (such : ℕ → Bool) (hashes : List ℕ) (from place : ℕ) → from ≤ place → place ≤ length hashes → ((k : ℕ) → from ≤ k → k < place → such (get_or hashes k 0) ≡ false) → first_from such hashes from ≡ first_from such hashes place
-from-past such hashes from place low high h =
+from-past : (test : ℕ → Bool) (hashes : List ℕ) (from place : ℕ) → from ≤ place → place ≤ length hashes → ((k : ℕ) → from ≤ k → k < place → test (get_or hashes k 0) ≡ false) → first_from test hashes from ≡ first_from test hashes place
+from-past test hashes from place low high h =
     let all : length hashes - from ≡ (place - from) + (length hashes - place) = omega arith in
     let to : from + (place - from) ≡ place = omega arith in
-    ap (first_such such hashes from) all ∙ such-past such hashes (place - from) from (length hashes - place) (λ k more less. h k more (omega (arith, less, to))) ∙ ap (λ n. first_such such hashes n (length hashes - place)) to
+    ap (first_where test hashes from) all ∙ where-past test hashes (place - from) from (length hashes - place) (λ k more less. h k more (omega (arith, less, to))) ∙ ap (λ n. first_where test hashes n (length hashes - place)) to
 
-from-after : (such : ℕ → Bool) (hashes : List ℕ) (from : ℕ) → from < length hashes → such (get_or hashes from 0) ≡ false → first_from such hashes from ≡ first_from such hashes (suc from)
-from-after such hashes from low h =
+from-after : (test : ℕ → Bool) (hashes : List ℕ) (from : ℕ) → from < length hashes → test (get_or hashes from 0) ≡ false → first_from test hashes from ≡ first_from test hashes (suc from)
+from-after test hashes from low h =
     let some : length hashes - from ≡ suc (length hashes - suc from) = omega arith in
-    ap (first_such such hashes from) some ∙ such-after such hashes from (length hashes - suc from) h
+    ap (first_where test hashes from) some ∙ where-after test hashes from (length hashes - suc from) h
 
-pub record IsFirstOf (such : ℕ → Bool) (hashes : List ℕ) (from place : ℕ) : Type 0 where
+pub record IsFirstOf (test : ℕ → Bool) (hashes : List ℕ) (from place : ℕ) : Type 0 where
   pub low : from ≤ place
   pub high : place < length hashes
-  pub here : such (get_or hashes place 0) ≡ true
-  pub before : (k : ℕ) → from ≤ k → k < place → such (get_or hashes k 0) ≡ false
+  pub here : test (get_or hashes place 0) ≡ true
+  pub before : (k : ℕ) → from ≤ k → k < place → test (get_or hashes k 0) ≡ false
 
-pub from-some : (such : ℕ → Bool) (hashes : List ℕ) (from place : ℕ) → first_from such hashes from ≡ Some place → IsFirstOf such hashes from place
-from-some such hashes from place h =
-    let is = such-some such hashes from (length hashes - from) place h in
+pub from-some : (test : ℕ → Bool) (hashes : List ℕ) (from place : ℕ) → first_from test hashes from ≡ Some place → IsFirstOf test hashes from place
+from-some test hashes from place h =
+    let is = where-some test hashes from (length hashes - from) place h in
     record { low = is.low; high = omega (arith, is.low, is.high); here = is.here; before = is.before }
 
-pub from-nothing : (such : ℕ → Bool) (hashes : List ℕ) (from : ℕ) → first_from such hashes from ≡ None → (k : ℕ) → from ≤ k → k < length hashes → such (get_or hashes k 0) ≡ false
-from-nothing such hashes from h k low high = such-nothing such hashes from (length hashes - from) h k low (omega (arith, low, high))
+pub from-nothing : (test : ℕ → Bool) (hashes : List ℕ) (from : ℕ) → first_from test hashes from ≡ None → (k : ℕ) → from ≤ k → k < length hashes → test (get_or hashes k 0) ≡ false
+from-nothing test hashes from h k low high = where-nothing test hashes from (length hashes - from) h k low (omega (arith, low, high))
 
-from-none : (such : ℕ → Bool) (hashes : List ℕ) (from : ℕ) → ((k : ℕ) → from ≤ k → k < length hashes → such (get_or hashes k 0) ≡ false) → first_from such hashes from ≡ None
-from-none such hashes from h = by (less-or-more from (length hashes))
+from-none : (test : ℕ → Bool) (hashes : List ℕ) (from : ℕ) → ((k : ℕ) → from ≤ k → k < length hashes → test (get_or hashes k 0) ≡ false) → first_from test hashes from ≡ None
+from-none test hashes from h = by (less-or-more from (length hashes))
   where
-    by : (from ≤ length hashes) ⊎ (length hashes < from) → first_from such hashes from ≡ None
-    by (inl low) = from-past such hashes from (length hashes) low (omega arith) h ∙ from-end such hashes (length hashes) (omega arith)
-    by (inr high) = from-end such hashes from (omega arith)
+    by : (from ≤ length hashes) ⊎ (length hashes < from) → first_from test hashes from ≡ None
+    by (inl low) = from-past test hashes from (length hashes) low (omega arith) h ∙ from-end test hashes (length hashes) (omega arith)
+    by (inr high) = from-end test hashes from (omega arith)
 
 -- ---- one hash more
 
@@ -162,22 +162,22 @@ branch : (t : Bool) (from : ℕ) (a b : Option ℕ) → (if t then Some from els
 branch true from a b = refl
 branch false from a b = refl
 
-such-append : (such : ℕ → Bool) (hashes : List ℕ) (h from count : ℕ) → from + count ≡ length hashes → first_such such (hashes ++ h ∷ []) from (suc count) ≡ either (first_such such hashes from count) (if such h then Some (length hashes) else None)
-unfolding first_such
-such-append such hashes h from zero e =
+where-append : (test : ℕ → Bool) (hashes : List ℕ) (h from count : ℕ) → from + count ≡ length hashes → first_where test (hashes ++ h ∷ []) from (suc count) ≡ either (first_where test hashes from count) (if test h then Some (length hashes) else None)
+unfolding first_where
+where-append test hashes h from zero e =
     let all : from ≡ length hashes = omega (arith, e) in
     let last : get_or (hashes ++ h ∷ []) from 0 ≡ h = ap (λ n. get_or (hashes ++ h ∷ []) n 0) all ∙ get_or-append_seam hashes h [] 0 in
-    ap (λ x. if such x then Some from else None) last ∙ ap (λ n. if such h then Some n else None) all
-such-append such hashes h from (suc count) e =
+    ap (λ x. if test x then Some from else None) last ∙ ap (λ n. if test h then Some n else None) all
+where-append test hashes h from (suc count) e =
     let left : get_or (hashes ++ h ∷ []) from 0 ≡ get_or hashes from 0 = get_or_append_left hashes (h ∷ []) 0 from (omega (arith, e)) in
-    ap (λ x. if such x then Some from else first_such such (hashes ++ h ∷ []) (suc from) (suc count)) left
-    ∙ ap (λ r. if such (get_or hashes from 0) then Some from else r) (such-append such hashes h (suc from) count (omega (arith, e)))
-    ∙ branch (such (get_or hashes from 0)) from (first_such such hashes (suc from) count) (if such h then Some (length hashes) else None)
+    ap (λ x. if test x then Some from else first_where test (hashes ++ h ∷ []) (suc from) (suc count)) left
+    ∙ ap (λ r. if test (get_or hashes from 0) then Some from else r) (where-append test hashes h (suc from) count (omega (arith, e)))
+    ∙ branch (test (get_or hashes from 0)) from (first_where test hashes (suc from) count) (if test h then Some (length hashes) else None)
 
-from-append : (such : ℕ → Bool) (hashes : List ℕ) (h from : ℕ) → from ≤ length hashes → first_from such (hashes ++ h ∷ []) from ≡ either (first_from such hashes from) (if such h then Some (length hashes) else None)
-from-append such hashes h from low =
+from-append : (test : ℕ → Bool) (hashes : List ℕ) (h from : ℕ) → from ≤ length hashes → first_from test (hashes ++ h ∷ []) from ≡ either (first_from test hashes from) (if test h then Some (length hashes) else None)
+from-append test hashes h from low =
     let more : length (hashes ++ h ∷ []) - from ≡ suc (length hashes - from) = omega (arith, length-append hashes (h ∷ [])) in
-    ap (first_such such (hashes ++ h ∷ []) from) more ∙ such-append such hashes h from (length hashes - from) (omega arith)
+    ap (first_where test (hashes ++ h ∷ []) from) more ∙ where-append test hashes h from (length hashes - from) (omega arith)
 
 -- ---- links within a bucket
 

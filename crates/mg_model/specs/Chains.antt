@@ -12,14 +12,14 @@ nexts_of links = map (λ l. l.next) links
 unfoldable pub bucket_of : ℕ → ℕ → ℕ
 bucket_of bits hash = hash / 2 ^ (32 - bits)
 
--- the first of so many places from one on whose hash is such
-unfoldable pub first_such : (ℕ → Bool) → List ℕ → ℕ → ℕ → Option ℕ
-first_such such hashes from zero = None
-first_such such hashes from (suc count) = if such (slice_index hashes from) then Some from else first_such such hashes (suc from) count
+-- the first of so many places from one on whose hash passes a test
+unfoldable pub first_where : (ℕ → Bool) → List ℕ → ℕ → ℕ → Option ℕ
+first_where test hashes from zero = None
+first_where test hashes from (suc count) = if test (slice_index hashes from) then Some from else first_where test hashes (suc from) count
 
 -- the first of all places from one on
 abbrev pub first_from : (ℕ → Bool) → List ℕ → ℕ → Option ℕ
-first_from such hashes from = first_such such hashes from (length hashes - from)
+first_from test hashes from = first_where test hashes from (length hashes - from)
 
 -- the first place from one on that has a hash
 abbrev pub first_with : List ℕ → ℕ → ℕ → Option ℕ
