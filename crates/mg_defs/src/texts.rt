@@ -94,8 +94,8 @@ pub fn vocabulary_grows()
 {}
 
 /// A vocabulary has exactly the pieces that came, each in one entry, and the count of a piece in it is how
-/// often the piece came. The pieces sorted are the sorted distinct ones of all pieces, and the counts are
-/// those of these.
+/// often the piece came. Its pieces sorted are all pieces sorted, each once, and its counts are how often
+/// each of these came.
 pub fn vocabulary_has_each_once()
     ensures distinct { (pieces : List (List ℕ)) →
         IsDistinct bytes_eq (map (λ (e : List ℕ × ℕ). e.0) (vocabulary pieces)) }
