@@ -1,5 +1,5 @@
 -- Laws of front coding.
-use Rattle.std.proofs.Common.{◌↔◌, arith, suc, zero, ◌≡◌, ◌+◌, ◌≤◌, ◌-◌, ◌%◌, ◌==◌, ◌&&◌, ◌||◌, ◌++◌, ℕ, Bool, false, true, List, [], ◌∷◌, length, take, drop, Some, None, refl, sym, ◌∙◌, ap, subst, length-take, length-drop, length-append, append_assoc, append-nil, cond, nat_lt, nat_le, add-one, take-append-drop}
+use Rattle.std.proofs.Common.{◌↔◌, arith, suc, zero, ◌≡◌, ◌≢◌, ◌+◌, ◌≤◌, ◌-◌, ◌%◌, ◌==◌, ◌&&◌, ◌||◌, ◌++◌, ℕ, Bool, false, true, List, [], ◌∷◌, length, take, drop, Some, None, refl, sym, ◌∙◌, ap, subst, length-take, length-drop, length-append, append_assoc, append-nil, cond, nat_lt, nat_le, add-one, take-append-drop, slice_get}
 use Rattle.std.proofs.lemmas.List.{drop-drop}
 use Rattle.std.specs.declared.option.Option.{Option}
 use Rattle.std.proofs.lemmas.Grind.{common_steps}
@@ -40,6 +40,23 @@ shared_same (x ∷ xs) (y ∷ ys) = by_test (x == y) refl (shared xs ys) (shared
     by_test : (b : Bool) → (x == y) ≡ b → (n : ℕ) → take n xs ≡ take n ys → take (cond b (n + 1) 0) (x ∷ xs) ≡ take (cond b (n + 1) 0) (y ∷ ys)
     by_test true e n h = rw (add-one n, eq_from x y e) (ap (λ t. y ∷ t) h)
     by_test false e n h = refl
+
+differ_from : (x y : ℕ) → (x == y) ≡ false → x ≢ y
+differ_from x y h = grind (arith, nat_tests)
+
+-- where both go on behind it, they differ
+pub shared_differs : (xs ys : List ℕ) (x y : ℕ) → slice_get xs (shared xs ys) ≡ Some x → slice_get ys (shared xs ys) ≡ Some y → x ≢ y
+unfolding shared
+shared_differs [] ys x y h k = absurd cc
+shared_differs (a ∷ xs) [] x y h k = absurd cc
+shared_differs (a ∷ xs) (b ∷ ys) x y h k = by_test (a == b) refl (shared xs ys) (shared_differs xs ys x y) h k
+  where
+    by_test : (t : Bool) → (a == b) ≡ t → (n : ℕ) → (slice_get xs n ≡ Some x → slice_get ys n ≡ Some y → x ≢ y) → slice_get (a ∷ xs) (cond t (n + 1) 0) ≡ Some x → slice_get (b ∷ ys) (cond t (n + 1) 0) ≡ Some y → x ≢ y
+    by_test true e n more h k = more (rw (add-one n) at h) (rw (add-one n) at k)
+    by_test false e n more h k =
+        let first : a ≡ x = cc in
+        let second : b ≡ y = cc in
+        rw (← first, ← second) (differ_from a b e)
 
 below_cons : (x y : ℕ) (xs ys : List ℕ) → is_below (x ∷ xs) (y ∷ ys) ≡ (nat_lt x y || (x == y && is_below xs ys))
 below_cons x y xs ys = by_tests (nat_lt x y) (x == y)

@@ -1,14 +1,15 @@
 -- The entries of a part are determined by its bytes, and those of a block are read from its place on.
-use Rattle.std.proofs.Common.{arith, suc, zero, ◌≡◌, ◌≢◌, ◌^◌, ◌+◌, ◌-◌, ◌*◌, ◌/◌, ◌%◌, ◌<◌, ◌==◌, ◌&&◌, ◌||◌, ◌++◌, ℕ, Bool, true, false, List, [], ◌∷◌, length, take, drop, Some, None, refl, sym, ◌∙◌, ap, subst, cond, length-append, append_assoc, append-nil, nat_le, slice_get, get_or, slice_index}
+use Rattle.std.proofs.Common.{arith, suc, zero, ◌≡◌, ◌≢◌, ◌^◌, ◌+◌, ◌-◌, ◌*◌, ◌/◌, ◌%◌, ◌<◌, ◌==◌, ◌&&◌, ◌||◌, ◌++◌, ℕ, Bool, true, false, List, [], ◌∷◌, length, take, drop, Some, None, refl, sym, ◌∙◌, ap, subst, cond, length-append, length-take, append_assoc, append-nil, take-append-drop, nat_le, slice_get, get_or, slice_index}
 use Rattle.std.specs.declared.option.Option.{Option}
 use Rattle.std.proofs.lemmas.Grind.{common_steps}
 use Rattle.std.proofs.lemmas.Bool.Decides.{nat_tests}
 use Rattle.std.proofs.lemmas.List.{drop_at, append_cancel_left}
+use Rattle.std.proofs.Math.Seq.{take-append_seam}
 use Rattle.std.proofs.lemmas.Nat.{be_bytes_4, from_be_bytes-to_be_bytes_4}
 use Rattle.std.specs.Int.{from_be_bytes, w32}
 use Rattle.mg_defs.specs.Numbers.{four}
 use Rattle.mg_defs.specs.Front.{Entry, Found, IsFront, AreEntries, entry_bytes, front, front_from, whole_at, places_from, last_string, read_entry, read_whole, read_cut, is_below, shared}
-use Rattle.mg_defs.proofs.EntryLaws.{places_append, read_written}
+use Rattle.mg_defs.proofs.EntryLaws.{front_append, places_append, read_written}
 
 entry_not_empty : (i : ℕ) (before : List ℕ) (e : Entry) (rest : List ℕ) → [] ≢ entry_bytes i before e ++ rest
 unfolding entry_bytes
@@ -65,6 +66,9 @@ places_long i before at (e ∷ es) = by_test (i % 4 == 0) refl (places_from (i +
     by_test true whole more h = let w : i % 4 ≡ 0 = grind (arith, nat_tests) in omega (arith, length-append (four at) more, four_long at, h, w)
     by_test false cut more h = let w : i % 4 ≢ 0 = grind (arith, nat_tests) in omega (arith, h, w)
 
+pub whole_long : (es : List Entry) → length (whole_at es) ≡ 4 * ((length es + 3) / 4)
+whole_long es = omega (arith, places_long 0 [] 0 es)
+
 -- the place of a whole entry stands among the places
 pub place_there : (es : List Entry) (e : Entry) (fs : List Entry) (block : ℕ) → length es ≡ 4 * block → take 4 (drop (4 * block) (whole_at (es ++ e ∷ fs))) ≡ four (length (front es))
 unfolding places_from
@@ -115,6 +119,19 @@ some_cons (e ∷ es) zero h = (e, es, refl, refl, refl)
 some_cons (e ∷ es) (suc j) h =
     let more = some_cons es j (omega arith) in
     (more.0, more.1, ap (λ t. e ∷ t) more.2, more.3, ap (λ t. e ∷ t) more.4)
+
+-- a block's place tells the bytes of the entries before it
+pub place_of_block : (es : List Entry) (block : ℕ) → 4 * block < length es → take 4 (drop (4 * block) (whole_at es)) ≡ four (length (front (take (4 * block) es)))
+place_of_block es block within =
+    let some = some_cons es (4 * block) within in
+    let long : length (take (4 * block) es) ≡ 4 * block = simp length-take (omega arith) in
+    ap (λ t. take 4 (drop (4 * block) (whole_at t))) some.2 ∙ place_there (take (4 * block) es) some.0 some.1 block long
+
+-- with which the part begins
+pub front_begins : (es : List Entry) (j : ℕ) → take (length (front (take j es))) (front es) ≡ front (take j es)
+front_begins es j =
+    let head = take j es in
+    ap (λ t. take (length (front (take j es))) (front t)) (sym (take-append-drop j es)) ∙ ap (take (length (front head))) (front_append 0 [] head (drop j es)) ∙ take-append_seam (front head) (front_from (0 + length head) (last_string [] head) (drop j es))
 
 pub last_taken : (before : List ℕ) (es : List Entry) (i j : ℕ) (e : Entry) → j ≡ suc i → slice_get es i ≡ Some e → last_string before (take j es) ≡ e.string
 last_taken before [] i j e next h = absurd cc

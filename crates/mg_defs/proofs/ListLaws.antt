@@ -3,18 +3,19 @@ use Rattle.std.proofs.Common.{arith, ◌≡◌, ◌+◌, ◌*◌, ◌≤◌, ◌
 use Rattle.std.proofs.lemmas.List.{take-append-drop, take_all}
 use Rattle.std.proofs.Math.Seq.{take-add}
 use Rattle.std.proofs.lemmas.Bool.{cases_lt, cond_both, ltb-true}
-use Rattle.std.proofs.lemmas.List.Sums.{count_by-le-length, length-filter}
+use Rattle.std.proofs.lemmas.List.Sums.{count_by-le-length}
 use Rattle.std.proofs.lemmas.List.{length-map}
 use Rattle.mg_defs.specs.Parse.{Pair, parse}
 use Rattle.mg_defs.proofs.ParseLaws.{parse_short}
-use Rattle.std.specs.Prelude.{map, filter, not, ◌==◌, ◌^◌}
+use Rattle.std.specs.Prelude.{map, filter, ◌==◌, ◌^◌}
 use Rattle.std.specs.List.{AllByRecursion, enumerate_from, onto_first}
 use Rattle.mg_defs.specs.Split.{documents}
-use Rattle.mg_defs.specs.Terms.{freq_in, same_term, terms, folded, is_empty}
+use Rattle.mg_defs.specs.Terms.{freq_in, same_term, terms}
 use Rattle.mg_defs.specs.declared.Posting.{Posting}
 use Rattle.mg_defs.specs.Bits.{Bits, Begins}
 use Rattle.mg_defs.specs.Lists.{posting_bits, bits_after, last_doc, doc_before, bits_before, block_of, block_count, InRange, Rises, from_doc, postings}
 use Rattle.mg_defs.proofs.FrontLaws.{begins_first, begins_second}
+use Rattle.mg_defs.proofs.TermLaws.{words_short}
 
 pub bits_append : (b d : ℕ) (us vs : List Posting) → bits_after b d (us ++ vs) ≡ bits_after b d us ++ bits_after b (last_doc d us) vs
 unfolding bits_after last_doc
@@ -199,9 +200,7 @@ terms_short doc =
     let words : List (List ℕ) = map (λ (p : Pair). p.word) (parse doc) in
     omega (
       arith,
-      length-map (filter (λ w. not (is_empty w)) words) folded,
-      length-filter (λ w. not (is_empty w)) words,
-      count_by-le-length (λ w. not (is_empty w)) words,
+      words_short words,
       length-map (parse doc) (λ (p : Pair). p.word),
       parse_short doc,
     )

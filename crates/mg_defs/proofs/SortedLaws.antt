@@ -1,5 +1,5 @@
 -- Laws of strings in order, each once.
-use Rattle.std.proofs.Common.{◌≡◌, ℕ, zero, suc, ◌<◌, Bool, true, false, ◌||◌, List, [], ◌∷◌, length, get_or, refl, sym, ◌∙◌, ap, arith, inl, inr, Contains, All, one-add}
+use Rattle.std.proofs.Common.{◌≡◌, ℕ, zero, suc, ◌+◌, ◌<◌, ◌≤◌, Bool, true, false, ◌||◌, List, [], ◌∷◌, length, get_or, refl, sym, ◌∙◌, ap, arith, inl, inr, Contains, All, one-add}
 use Rattle.std.specs.List.{AllByRecursion, list_any}
 use Rattle.std.specs.List.Sorted.{IsStrictlySortedBy}
 use Rattle.std.specs.Cmp.Lexicographic.{slice_cmp}
@@ -95,6 +95,20 @@ sorted-rising (s ∷ strings) = rising-insert s (sorted_distinct strings) (sorte
 pub has-sorted : (strings : List (List ℕ)) (s : List ℕ) → has (sorted_distinct strings) s ≡ has strings s
 has-sorted [] s = refl
 has-sorted (t ∷ strings) s = has-insert s t (sorted_distinct strings) ∙ ap (λ b. bytes_eq s t || b) (has-sorted strings s)
+
+with_short : (t : List ℕ) (ts : List (List ℕ)) → length (insert_key order_of ts t) ≤ length ts + 1
+with_short t [] = omega arith
+with_short t (u ∷ us) = by_order (with_short t us) (order_of t u)
+  where
+    by_order : length (insert_key order_of us t) ≤ length us + 1 → (o : Ordering) → length (match_ordering o (t ∷ u ∷ us) (u ∷ us) (u ∷ insert_key order_of us t)) ≤ length (u ∷ us) + 1
+    by_order rest Less = omega arith
+    by_order rest Equal = omega arith
+    by_order rest Greater = omega (arith, rest)
+
+-- no more than there were
+pub distinct_short : (ts : List (List ℕ)) → length (sorted_distinct ts) ≤ length ts
+distinct_short [] = omega arith
+distinct_short (t ∷ ts) = omega (arith, with_short t (sorted_distinct ts), distinct_short ts)
 
 -- ---- by membership
 

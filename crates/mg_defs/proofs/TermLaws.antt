@@ -1,16 +1,17 @@
 -- Laws of terms.
-use Rattle.std.proofs.Common.{◌≡◌, ℕ, ◌<◌, Bool, true, false, not, List, [], ◌∷◌, ◌++◌, length, get_or, refl, sym, ◌∙◌, ap, inl, inr, Contains, map, filter}
+use Rattle.std.proofs.Common.{arith, ◌≡◌, ℕ, ◌<◌, ◌≤◌, Bool, true, false, not, List, [], ◌∷◌, ◌++◌, length, get_or, refl, sym, ◌∙◌, ap, inl, inr, Contains, map, filter}
 use Rattle.std.specs.List.{list_any, flat_map}
 use Rattle.std.specs.Str.{bytes_eq}
 use Rattle.std.proofs.lemmas.Bool.{or_cases, or_left, or_right, false≢true, cases_Bool}
-use Rattle.std.proofs.lemmas.List.{map-append}
+use Rattle.std.proofs.lemmas.List.{length-map, map-append}
+use Rattle.std.proofs.lemmas.List.Sums.{count_by-le-length, length-filter}
 use Rattle.std.proofs.lemmas.List.Elements.{filter-append}
 use Rattle.mg_defs.specs.declared.Stream.TheVariants.{Words}
 use Rattle.mg_defs.specs.Split.{documents}
 use Rattle.mg_defs.specs.Sorted.{IsSortedDistinct, sorted_distinct}
 use Rattle.mg_defs.specs.Terms.{folded, is_empty, terms_of_words, terms, all_terms, dictionary, term_number}
 use Rattle.mg_defs.specs.Vocabulary.{pieces_in, all_pieces, sorted_pieces}
-use Rattle.mg_defs.proofs.SortedLaws.{same-is, same-refl, sorted-is, sorted-rising, rising-unique, has-sorted, has-from, contains-from, number-found, number-missing, number-at}
+use Rattle.mg_defs.proofs.SortedLaws.{distinct_short, same-is, same-refl, sorted-is, sorted-rising, rising-unique, has-sorted, has-from, contains-from, number-found, number-missing, number-at}
 
 abbrev has : List (List ℕ) → List ℕ → Bool
 has strings s = list_any (bytes_eq s) strings
@@ -48,6 +49,18 @@ terms-kept (w ∷ xs) ys h t i =
         | inr there ↦ later there
       ]
     ]
+
+-- no more terms than words
+pub words_short : (words : List (List ℕ)) → length (terms_of_words words) ≤ length words
+words_short words = omega (
+  arith,
+  length-map (filter (λ w. not (is_empty w)) words) folded,
+  length-filter (λ w. not (is_empty w)) words,
+  count_by-le-length (λ w. not (is_empty w)) words,
+)
+
+pub distinct-terms_short : (words : List (List ℕ)) → length (sorted_distinct (terms_of_words words)) ≤ length words
+distinct-terms_short words = omega (arith, distinct_short (terms_of_words words), words_short words)
 
 -- the dictionary is that of the distinct words
 pub dictionary-of_words : (collection : List ℕ) → dictionary collection ≡ sorted_distinct (terms_of_words (sorted_pieces Words collection))

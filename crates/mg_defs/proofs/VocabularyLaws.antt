@@ -1,5 +1,5 @@
 -- Laws of vocabularies.
-use Rattle.std.proofs.Common.{◌≡◌, ℕ, ◌+◌, ◌≤◌, Bool, true, false, not, ◌||◌, cond, List, [], ◌∷◌, ◌++◌, length, refl, sym, ◌∙◌, ap, subst, arith, inl, inr, map, filter, append_assoc, append-nil, length-append, add-zero, suc, All}
+use Rattle.std.proofs.Common.{◌↔◌, ◌≡◌, ℕ, ◌+◌, ◌≤◌, Bool, true, false, not, ◌||◌, cond, List, [], ◌∷◌, ◌++◌, length, refl, sym, ◌∙◌, ap, subst, arith, inl, inr, map, filter, append_assoc, append-nil, length-append, add-zero, suc, All, Contains}
 use Rattle.std.specs.List.{AllByRecursion, list_any, IsDistinct}
 use Rattle.std.specs.Ordering.{nat_cmp}
 use Rattle.std.specs.Cmp.Lexicographic.{slice_cmp}
@@ -16,7 +16,7 @@ use Rattle.std.proofs.lemmas.Map.Views.{any-filter_same}
 use Rattle.mg_defs.specs.declared.Stream.{Stream}
 use Rattle.mg_defs.specs.Sorted.{sorted_distinct}
 use Rattle.mg_defs.specs.Vocabulary.{count_in, first_appearances, vocabulary, has_piece, counted, entry_count, total, sorted_of, counts_of, all_pieces, sorted_pieces, piece_counts}
-use Rattle.mg_defs.proofs.SortedLaws.{same-is, same-refl, sorted-rising, rising-unique, has-sorted}
+use Rattle.mg_defs.proofs.SortedLaws.{same-is, same-refl, sorted-rising, rising-unique, has-sorted, contains-from, has-from}
 
 abbrev has : List (List ℕ) → List ℕ → Bool
 has strings s = list_any (bytes_eq s) strings
@@ -182,6 +182,13 @@ vocabulary-has pieces p = any-keys (count_in pieces) p (first_appearances pieces
     any-keys : (c : List ℕ → ℕ) (s : List ℕ) (strings : List (List ℕ)) → has_piece (entries_of c strings) s ≡ has strings s
     any-keys c s [] = refl
     any-keys c s (q ∷ strings) = ap (λ b. bytes_eq s q || b) (any-keys c s strings)
+
+-- the pieces are distinct, and just those that came
+pub distinct-keys : (pieces : List (List ℕ)) → IsDistinct bytes_eq (map (λ (e : List ℕ × ℕ). e.0) (vocabulary pieces))
+distinct-keys pieces = subst (IsDistinct bytes_eq) (sym (keys-are (count_in pieces) (first_appearances pieces))) (distinct-first pieces)
+
+pub came-exactly : (pieces : List (List ℕ)) (p : List ℕ) → (has_piece (vocabulary pieces) p ≡ true) ↔ Contains pieces p
+came-exactly pieces p = (λ h. contains-from pieces p (sym (vocabulary-has pieces p) ∙ h), λ c. vocabulary-has pieces p ∙ has-from pieces p c)
 
 pub sorted-of_vocabulary : (pieces : List (List ℕ)) → sorted_of (vocabulary pieces) ≡ sorted_distinct pieces
 sorted-of_vocabulary pieces =

@@ -1,5 +1,5 @@
 -- A document's weight is a root: the sum of the squares is below 2 ^ 64.
-use Rattle.std.proofs.Common.{ℕ, zero, suc, ◌+◌, ◌*◌, ◌/◌, ◌^◌, ◌<◌, ◌≤◌, List, [], ◌∷◌, length, arith, refl}
+use Rattle.std.proofs.Common.{ℕ, zero, suc, ◌*◌, ◌/◌, ◌^◌, ◌<◌, ◌≤◌, List, [], ◌∷◌, length, arith, refl}
 use Rattle.std.specs.List.{sum_by}
 use Rattle.std.specs.Prelude.{nat_le}
 use Rattle.std.proofs.lemmas.Bool.{cond_both}
@@ -7,15 +7,11 @@ use Rattle.std.proofs.lemmas.Nat.{mul-le}
 use Rattle.std.proofs.lemmas.List.Sums.{sum_by-cons}
 use Rattle.mg_defs.specs.Codes.{log2, log2_below}
 use Rattle.mg_defs.specs.Fixed.{lg, IsRoot}
-use Rattle.std.specs.declared.cmp.Ordering.{Ordering}
-use Rattle.std.specs.declared.cmp.Ordering.TheVariants.{Less, Equal, Greater}
-use Rattle.std.specs.Ordering.{nat_cmp, match_ordering}
-use Rattle.std.specs.Cmp.Lexicographic.{slice_cmp}
-use Rattle.std.specs.BTreeSet.{insert_key}
 use Rattle.mg_defs.specs.Terms.{terms, sorted_distinct, freq_in}
 use Rattle.mg_defs.specs.Weights.{weight_in_doc, wd, weight}
 use Rattle.mg_defs.proofs.FixedLaws.{lg-is, digits_below, isqrt_root}
 use Rattle.mg_defs.proofs.ListLaws.{terms_short}
+use Rattle.mg_defs.proofs.SortedLaws.{distinct_short}
 
 log2_small : (n x : ℕ) → log2_below (suc n) x ≤ n
 log2_small zero x = cond_both (nat_le (2 ^ 0) x) 0 (log2_below 0 x) (λ e. e ≤ 0) (λ _. omega arith) (λ _. omega arith)
@@ -24,19 +20,6 @@ log2_small (suc n) x =
 
 pub lg_small : (x : ℕ) → lg x < 2 ^ 14
 lg_small x = omega (arith, lg-is x (log2 x) refl, digits_below 8 (x * 2 ^ 31 / 2 ^ log2 x), log2_small 63 x)
-
-with_short : (t : List ℕ) (ts : List (List ℕ)) → length (insert_key (slice_cmp nat_cmp) ts t) ≤ length ts + 1
-with_short t [] = omega arith
-with_short t (u ∷ us) = by_order (with_short t us) (slice_cmp nat_cmp t u)
-  where
-    by_order : length (insert_key (slice_cmp nat_cmp) us t) ≤ length us + 1 → (o : Ordering) → length (match_ordering o (t ∷ u ∷ us) (u ∷ us) (u ∷ insert_key (slice_cmp nat_cmp) us t)) ≤ length (u ∷ us) + 1
-    by_order rest Less = omega arith
-    by_order rest Equal = omega arith
-    by_order rest Greater = omega (arith, rest)
-
-distinct_short : (ts : List (List ℕ)) → length (sorted_distinct ts) ≤ length ts
-distinct_short [] = omega arith
-distinct_short (t ∷ ts) = omega (arith, with_short t (sorted_distinct ts), distinct_short ts)
 
 square_small : (doc t : List ℕ) → wd doc t * wd doc t ≤ 2 ^ 29
 unfolding weight_in_doc

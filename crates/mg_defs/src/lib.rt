@@ -22,7 +22,9 @@ mod weights;
 
 pub use blocks::one_block;
 pub use codes::{no_code_is_a_front, one_answer, pages_of_a_range};
-pub use front::{entries_are_read, one_front, strings_rise};
+pub use front::{
+    entries_are_read, longest_shared, one_front, strings_rise, whole_entries_have_places,
+};
 pub use heads::{damage_decides, one_head};
 pub use huffman::{cost_in_any_order, first_is_exact, no_codeword_is_a_front};
 pub use lexicon::terms_are_entries;
@@ -37,7 +39,7 @@ pub use session::{Command, Mode, Settings};
 pub use texts::{
     bits_fill_bytes, closed_and_open, documents_have_places, one_byte_more, one_dictionary,
     one_order, one_parse, one_split, terms_have_numbers, test_decides, text_has_its_bits,
-    vocabulary_grows, vocabulary_tells,
+    vocabulary_grows, vocabulary_has_each_once, vocabulary_tells,
 };
 pub use weights::{logarithm_rises, one_ranking, one_root, weight_is_root};
 

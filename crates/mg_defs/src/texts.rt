@@ -1,5 +1,7 @@
 // Laws of collections, documents, pieces and terms.
-ghost use Rattle.std.specs.Prelude.{◌≡◌, ◌≢◌, ℕ, ◌+◌, ◌*◌, ◌/◌, ◌<◌, ◌≤◌, ◌↔◌, Bool, IsTrue, if◌then◌else◌, List, [], ◌∷◌, ◌++◌, length, get_or, sum_by, take, drop, Contains, All};
+ghost use Rattle.std.specs.Prelude.{◌≡◌, ◌≢◌, ℕ, ◌+◌, ◌*◌, ◌/◌, ◌<◌, ◌≤◌, ◌↔◌, Bool, IsTrue, if◌then◌else◌, List, [], ◌∷◌, ◌++◌, length, get_or, map, sum_by, take, drop, Contains, All};
+ghost use Rattle.std.specs.List.{IsDistinct};
+ghost use Rattle.std.specs.Str.{bytes_eq};
 ghost use Rattle.mg_defs.specs.Bits.{Bits, bits_of, filled, to_byte};
 ghost use Rattle.mg_defs.specs.CodedText.{IsTextCode, TextCode, as_bytes, coded_doc, coded_size, place_after, places, text_of};
 ghost use Rattle.mg_defs.specs.Parse.{Pair, IsParse, parse};
@@ -8,7 +10,7 @@ ghost use Rattle.mg_defs.specs.Sorted.{IsSortedDistinct, sorted_distinct};
 ghost use Rattle.mg_defs.specs.Split.{IsSplit, documents, has_open_end, closed_count, closed_documents, open_part};
 ghost use Rattle.mg_defs.specs.TextBits.{text_bits};
 ghost use Rattle.mg_defs.specs.Terms.{all_terms, dictionary, term_number, terms_of_words};
-ghost use Rattle.mg_defs.specs.Vocabulary.{vocabulary, counted, total, sorted_of, counts_of, all_pieces, sorted_pieces, piece_counts};
+ghost use Rattle.mg_defs.specs.Vocabulary.{vocabulary, counted, count_in, entry_count, has_piece, total, sorted_of, counts_of, all_pieces, sorted_pieces, piece_counts};
 ghost use Rattle.mg_defs.specs.declared.Stream.{Stream};
 ghost use Rattle.mg_defs.specs.declared.Stream.TheVariants.{Words};
 
@@ -52,11 +54,14 @@ pub fn one_order()
 {}
 
 /// The dictionary rises strictly and has exactly the terms, and it is that of the distinct words alone.
+/// Words have no more distinct terms than there are words.
 pub fn one_dictionary()
     ensures is { (collection : List ℕ) →
         IsSortedDistinct (all_terms collection) (dictionary collection) }
     ensures words { (collection : List ℕ) →
         dictionary collection ≡ sorted_distinct (terms_of_words (sorted_pieces Words collection)) }
+    ensures no_more { (words : List (List ℕ)) →
+        length (sorted_distinct (terms_of_words words)) ≤ length words }
 {}
 
 /// A term has the number of its place in the dictionary, and every number is that of one term.
@@ -76,7 +81,8 @@ pub fn test_decides()
     ensures { (q : Query) (doc : List ℕ) → IsTrue (satisfies q doc) ↔ Sat q doc }
 {}
 
-/// A vocabulary grows by one piece at a time, and has each distinct piece once.
+/// A vocabulary grows by one piece at a time, and has as many entries as there are distinct pieces; each
+/// count is at least 1, and together they are the number of all pieces.
 pub fn vocabulary_grows()
     ensures piece { (pieces : List (List ℕ)) (piece : List ℕ) →
         vocabulary (pieces ++ piece ∷ []) ≡ counted piece (vocabulary pieces) }
@@ -87,7 +93,23 @@ pub fn vocabulary_grows()
         All (λ (e : List ℕ × ℕ). 1 ≤ e.1) (vocabulary pieces) }
 {}
 
-/// The vocabulary of a stream has the stream's distinct pieces and their counts.
+/// A vocabulary has exactly the pieces that came, each in one entry, and the count of a piece in it is how
+/// often the piece came. Its pieces sorted are all pieces sorted, each once, and its counts are how often
+/// each of these came.
+pub fn vocabulary_has_each_once()
+    ensures distinct { (pieces : List (List ℕ)) →
+        IsDistinct bytes_eq (map (λ (e : List ℕ × ℕ). e.0) (vocabulary pieces)) }
+    ensures came { (pieces : List (List ℕ)) (piece : List ℕ) →
+        IsTrue (has_piece (vocabulary pieces) piece) ↔ Contains pieces piece }
+    ensures count { (pieces : List (List ℕ)) (piece : List ℕ) →
+        entry_count (vocabulary pieces) piece ≡ count_in pieces piece }
+    ensures sorted { (pieces : List (List ℕ)) → sorted_of (vocabulary pieces) ≡ sorted_distinct pieces }
+    ensures counts { (pieces : List (List ℕ)) →
+        counts_of (vocabulary pieces) ≡ map (count_in pieces) (sorted_distinct pieces) }
+{}
+
+/// The vocabulary of a stream has the stream's distinct pieces and their counts, in the order of the
+/// pieces' bytes.
 pub fn vocabulary_tells()
     ensures pieces { (kind : Stream) (collection : List ℕ) →
         sorted_of (vocabulary (all_pieces kind collection)) ≡ sorted_pieces kind collection }
