@@ -1,5 +1,5 @@
 -- What was written stands.
-use Rattle.std.proofs.Common.{arith, suc, zero, ◌≡◌, ◌≢◌, ◌+◌, ◌*◌, ◌/◌, ◌^◌, ◌≤◌, ◌<◌, ◌-◌, ℕ, true, List, [], ◌∷◌, ◌++◌, length, take, drop, Some, refl, sym, ◌∙◌, ap, subst, ◌⊎◌, inl, inr, length-append, append_assoc, map}
+use Rattle.std.proofs.Common.{arith, suc, zero, ◌≡◌, ◌≢◌, ◌+◌, ◌*◌, ◌/◌, ◌^◌, ◌≤◌, ◌<◌, ◌-◌, ℕ, true, List, [], ◌∷◌, ◌++◌, length, take, drop, Some, None, is_some, unwrap_or, refl, sym, ◌∙◌, ap, subst, ◌⊎◌, inl, inr, length-append, append_assoc, map}
 use Rattle.std.specs.Prelude.{flat_map, slice_get}
 use Rattle.std.proofs.lemmas.Grind.{flat_map-append}
 use Rattle.std.proofs.lemmas.List.{drop-drop}
@@ -14,8 +14,10 @@ use Rattle.mg_defs.proofs.BitLaws.{length_digits}
 use Rattle.mg_defs.proofs.ListLaws.{list_rises}
 use Rattle.mg_post.specs.Stands.{ListStands}
 use Rattle.std.specs.declared.option.Option.{Option}
-use Rattle.mg_dev.specs.Files.{Files}
-use Rattle.mg_post.specs.Cursor.{blocks_of, Cursoring, CursorStands, SameList, StandsAt}
+use Rattle.mg_dev.specs.Files.{Files, file_at}
+use Rattle.mg_bits.specs.Feed.{told_at}
+use Rattle.mg_bits.specs.Pages.{Fits, IsPageOf, Paging}
+use Rattle.mg_post.specs.Cursor.{blocks_of, CursorFits, Cursoring, CursorStands, SameList, StandsAt}
 use Rattle.mg_post.proofs.WriterLaws.{lists_whole, length_entries_to}
 use Rattle.mg_post.proofs.CursorLaws.{ended_after}
 
@@ -119,5 +121,28 @@ ended c ps some at = ended_after c.ended ps c.reached c.last c.held (by_case ps 
     by_case [] none = absurd (none refl)
     by_case (q ∷ qs) some = omega arith
 
-pub stands_same : (c d : Cursoring) (f g : Option Files) (ps : List Posting) → SameList c d → g ≡ f → CursorStands c f ps → CursorStands d g ps
-stands_same c d f g ps same is stands = record { list = rw (is, same.post, same.skip, same.post_at, same.skip_at, same.docs, same.all, same.parameter) stands.list }
+-- what is told of a file that stays as it is
+told_same : (f g : Option Files) (name : List ℕ) → is_some g ≡ is_some f → file_at g name ≡ file_at f name → told_at g name ≡ told_at f name
+told_same None None name told same = refl
+told_same None (Some g) name told same = absurd cc
+told_same (Some f) None name told same = absurd cc
+told_same (Some f) (Some g) name told same = ap (λ bytes. Some (unwrap_or bytes [])) same
+
+pub stands_same : (c d : Cursoring) (f g : Option Files) (ps : List Posting) → SameList c d → is_some g ≡ is_some f →
+    file_at g c.post.name ≡ file_at f c.post.name → file_at g c.skip.name ≡ file_at f c.skip.name → CursorStands c f ps → CursorStands d g ps
+stands_same c d f g ps same told post skip stands =
+    let post_is : told_at g d.post.name ≡ told_at f c.post.name = ap (told_at g) same.post ∙ told_same f g c.post.name told post in
+    let skip_is : told_at g d.skip.name ≡ told_at f c.skip.name = ap (told_at g) same.skip ∙ told_same f g c.skip.name told skip in
+    record { list = rw (post_is, skip_is, same.post_at, same.skip_at, same.docs, same.all, same.parameter) stands.list }
+
+-- the page that a feed holds is still one of its file
+feed_fits : (feed : Paging) (f g : Option Files) → is_some g ≡ is_some f → file_at g feed.name ≡ file_at f feed.name → Fits feed f → Fits feed g
+feed_fits feed f g told same fits = record { held = λ now. subst (λ bytes. IsPageOf feed.held feed.page (unwrap_or bytes [])) (sym same) (fits.held (sym told ∙ now)) }
+
+pub fits_same : (c : Cursoring) (f g : Option Files) → is_some g ≡ is_some f → file_at g c.post.name ≡ file_at f c.post.name → file_at g c.skip.name ≡ file_at f c.skip.name → CursorFits c f → CursorFits c g
+fits_same c f g told post skip fits = record {
+  post = feed_fits c.post f g told post fits.post;
+  skip = feed_fits c.skip f g told skip fits.skip;
+  entries = fits.entries;
+  first = fits.first;
+}

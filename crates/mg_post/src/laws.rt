@@ -1,5 +1,5 @@
 // The laws of lists that stand in Post and Skip.
-ghost use Rattle.std.specs.Prelude.{◌≡◌, ◌≢◌, ◌-◌, ◌*◌, ◌/◌, ◌^◌, ◌<◌, ◌≤◌, ℕ, List, [], Bool, true, Some, length, take, slice_get, flat_map};
+ghost use Rattle.std.specs.Prelude.{◌≡◌, ◌≢◌, ◌-◌, ◌*◌, ◌/◌, ◌^◌, ◌<◌, ◌≤◌, ℕ, List, [], Bool, true, Some, is_some, length, take, slice_get, flat_map};
 ghost use Rattle.mg_defs.specs.declared.Posting.{Posting};
 ghost use Rattle.mg_defs.specs.Bits.{bits_of};
 ghost use Rattle.mg_defs.specs.Codes.{golomb_parameter};
@@ -8,8 +8,8 @@ ghost use Rattle.mg_defs.specs.Terms.{dictionary, docs};
 ghost use Rattle.mg_defs.specs.Lists.{Rises, entry_bits, lists_bits, lists_entries, postings, post_bits, skip_bits, list_byte, first_entry};
 ghost use Rattle.mg_post.specs.Stands.{ListStands};
 ghost use Rattle.std.specs.declared.option.Option.{Option};
-ghost use Rattle.mg_dev.specs.Files.{Files};
-ghost use Rattle.mg_post.specs.Cursor.{blocks_of, Cursoring, CursorStands, SameList, StandsAt};
+ghost use Rattle.mg_dev.specs.Files.{Files, file_at};
+ghost use Rattle.mg_post.specs.Cursor.{blocks_of, CursorFits, Cursoring, CursorStands, SameList, StandsAt};
 
 /// Where two parts hold lists and their skip entries, each list stands where the lists before it
 /// end.
@@ -46,7 +46,16 @@ pub fn after_the_last()
     ensures { (c : Cursoring) (ps : List Posting) → ps ≢ [] → StandsAt c ps [] → c.ended ≡ true }
 {}
 
-/// A list that stands for a cursor stands for it after each call that keeps its list and the files.
+/// A list that stands for a cursor stands for it after each call that keeps its list and the two
+/// parts that it reads: other files may change.
 pub fn list_still_stands()
-    ensures { (c d : Cursoring) (f g : Option Files) (ps : List Posting) → SameList c d → g ≡ f → CursorStands c f ps → CursorStands d g ps }
+    ensures { (c d : Cursoring) (f g : Option Files) (ps : List Posting) → SameList c d → is_some g ≡ is_some f →
+        file_at g c.post.name ≡ file_at f c.post.name → file_at g c.skip.name ≡ file_at f c.skip.name → CursorStands c f ps → CursorStands d g ps }
+{}
+
+/// What a cursor keeps agrees with its two parts as long as these stay as they are: other files may
+/// change.
+pub fn cursor_still_fits()
+    ensures { (c : Cursoring) (f g : Option Files) → is_some g ≡ is_some f →
+        file_at g c.post.name ≡ file_at f c.post.name → file_at g c.skip.name ≡ file_at f c.skip.name → CursorFits c f → CursorFits c g }
 {}

@@ -21,7 +21,8 @@ mod writer;
 
 pub use cursor::Cursor;
 pub use laws::{
-    after_the_last, infos_fit, list_of_a_term_stands, list_still_stands, lists_stand, post_is_short,
+    after_the_last, cursor_still_fits, infos_fit, list_of_a_term_stands, list_still_stands,
+    lists_stand, post_is_short,
 };
 pub use mg_defs::Posting;
 pub use writer::ListWriter;

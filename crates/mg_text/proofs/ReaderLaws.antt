@@ -1,8 +1,8 @@
 -- What a reader of a text answers where its parts stand.
-use Rattle.std.proofs.Common.{arith, ◌≡◌, ◌+◌, ◌-◌, ◌*◌, ◌^◌, ◌≤◌, ◌<◌, inl, inr, ℕ, List, [], ◌∷◌, length, Option, Some, None, Result, Ok, Err, IsSome, refl, sym, ◌∙◌, ap, subst, length-append}
+use Rattle.std.proofs.Common.{arith, ◌≡◌, ◌+◌, ◌-◌, ◌*◌, ◌^◌, ◌≤◌, ◌<◌, inl, inr, ℕ, List, [], ◌∷◌, length, Option, Some, None, Result, Ok, Err, IsSome, is_some, unwrap_or, refl, sym, ◌∙◌, ap, subst, length-append}
 use Rattle.std.proofs.lemmas.Grind.{common_steps}
 use Rattle.std.specs.List.{flat_map}
-use Rattle.mg_dev.specs.Files.{Files, bytes_at}
+use Rattle.mg_dev.specs.Files.{Files, bytes_at, file_at}
 use Rattle.mg_dev.specs.Names.{full_name}
 use Rattle.mg_dev.specs.Streams.{AfterPut}
 use Rattle.mg_dev.specs.StreamLaws.{grew_nothing}
@@ -28,12 +28,12 @@ use Rattle.mg_text.specs.Documents.{TextHolds}
 use Rattle.mg_text.proofs.LimitLaws.{text_small}
 use Rattle.mg_text.specs.Decoding.{Ends, Stopped, Takes, WholeDoc}
 use Rattle.mg_text.specs.Places.{place_width}
-use Rattle.mg_text.specs.Reading.{AnswersDoc, AnswersReader, AnswersTextSizes, IsText, SameText, ShowIsNotBad, TextReading, TextStands, stored_at, places_size}
+use Rattle.mg_text.specs.Reading.{AnswersDoc, AnswersReader, AnswersTextSizes, IsText, SameText, ShowIsNotBad, TextFits, TextReading, TextStands, stored_at, places_size}
 use Rattle.mg_text.specs.Decoding.{PairsIn, Shows}
 use Rattle.mg_text.specs.Places.{IsPlaceAt}
 use Rattle.mg_text.proofs.StandLaws.{doc_ends, doc_pieces, doc_shown, few_pairs, place_long, place_stands, place_within, small_place}
 use Rattle.mg_bits.specs.Feed.{told_at}
-use Rattle.mg_bits.specs.Pages.{Paging, feeding_of}
+use Rattle.mg_bits.specs.Pages.{Fits, IsPageOf, Paging, feeding_of}
 use Rattle.mg_defs.specs.CodedText.{coded_doc, doc_range, place_after}
 use Rattle.mg_defs.specs.Parse.{parse}
 use Rattle.std.proofs.Common.{get_or}
@@ -166,17 +166,31 @@ answer_pages (Err show.Write) w0 w1 doc before now most h = h.1
 answer_pages (Err show.Memory) w0 w1 doc before now most h = h.1
 
 -- a reader stands as long as its parts stay as they are
-pub text_stays : (r now : TextReading) (files files_now : Option Files) (collection : List ℕ) → SameText r now → files_now ≡ files → TextStands r files collection → TextStands now files_now collection
-text_stays r now files files_now collection same e stands = record {
-  told = subst IsSome (sym e) stands.told;
+pub text_stays : (r now : TextReading) (files files_now : Option Files) (collection : List ℕ) → SameText r now → is_some files_now ≡ is_some files →
+    file_at files_now r.text.name ≡ file_at files r.text.name → file_at files_now r.places.name ≡ file_at files r.places.name → TextStands r files collection → TextStands now files_now collection
+text_stays r now files files_now collection same told text places stands = record {
+  told = told ∙ stands.told;
   model = subst IsModel (sym same.code) stands.model;
   code = subst (IsTextCode collection) (sym same.code) stands.code;
-  text = ap (λ n. bits_of (bytes_at files_now n)) same.text ∙ ap (λ f. bits_of (bytes_at f r.text.name)) e ∙ stands.text ∙ ap (λ c. bits_of (text_of c collection)) (sym same.code);
-  places = ap (bytes_at files_now) same.places ∙ ap (λ f. bytes_at f r.places.name) e ∙ stands.places ∙ ap (λ c. places_of r.version c collection) (sym same.code) ∙ ap (λ v. places_of v now.code collection) (sym same.version);
+  text = ap (λ n. bits_of (bytes_at files_now n)) same.text ∙ ap (λ bytes. bits_of (unwrap_or bytes [])) text ∙ stands.text ∙ ap (λ c. bits_of (text_of c collection)) (sym same.code);
+  places = ap (bytes_at files_now) same.places ∙ ap (λ bytes. unwrap_or bytes []) places ∙ stands.places ∙ ap (λ c. places_of r.version c collection) (sym same.code) ∙ ap (λ v. places_of v now.code collection) (sym same.version);
   size = same.size ∙ stands.size ∙ ap (λ c. length (text_of c collection)) (sym same.code);
   documents = same.documents ∙ stands.documents;
   few = stands.few;
   small = rw (same.size, same.version) stands.small;
+}
+
+-- the page that a feed holds is still one of its file
+feed_fits : (feed : Paging) (files files_now : Option Files) → is_some files_now ≡ is_some files → file_at files_now feed.name ≡ file_at files feed.name → Fits feed files → Fits feed files_now
+feed_fits feed files files_now told same fits = record {
+  held = λ now. subst (λ bytes. IsPageOf feed.held feed.page (unwrap_or bytes [])) (sym same) (fits.held (sym told ∙ now));
+}
+
+pub text_fits : (r : TextReading) (files files_now : Option Files) → is_some files_now ≡ is_some files →
+    file_at files_now r.text.name ≡ file_at files r.text.name → file_at files_now r.places.name ≡ file_at files r.places.name → TextFits r files → TextFits r files_now
+text_fits r files files_now told text places fits = record {
+  text = feed_fits r.text files files_now told text fits.text;
+  places = feed_fits r.places files files_now told places fits.places;
 }
 
 -- the parts that a writer wrote for a collection, and a head of its numbers

@@ -216,29 +216,27 @@ whole_text w files docs took =
     let e : to_byte w.text.place ≡ 0 = omega (arith, took.place) in
     ap (λ n. digits n 0) e
 
-pub text_finished : (w : TextWriting) (p o : Writing) (f g h k : Option Files) (r s t u : Reads) (docs : List Bits) → IsSome f → w.is_open ≡ false →
+-- the text and the places stand once all is written; no number of the text is above a byte's, so that its bits tell its bytes
+pub text_finished : (w : TextWriting) (p o : Writing) (q : BitWriting) (f g h k : Option Files) (r s t u : Reads) (docs : List Bits) → IsSome f → w.is_open ≡ false →
     Wrote w.places p f g (eight (w.text.place / 8)) → WroteTo w.places.name f g r s →
-    (IsSome g → bits_of (bytes_at h w.text.name) ≡ bits_put w.text g ++ digits (to_byte w.text.place) 0) → WroteTo w.text.name g h s t →
+    (IsSome g → bits_of (bytes_at h w.text.name) ≡ bits_put w.text g ++ digits (to_byte w.text.place) 0) → WroteTo w.text.name g h s t → q.name ≡ w.text.name → Holds q h →
     Wrote p o h k [] → o.buffered ≡ [] → WroteTo p.name h k t u → IsOnText w f docs [] → DocumentsStand w.base k docs
-text_finished w p o f g h k r s t u docs told closed placed placed_to file to last empty last_to took =
+text_finished w p o q f g h k r s t u docs told closed placed placed_to file to name holds last empty last_to took =
     let apart = names_apart w f docs [] took in
     let told_g : IsSome g = placed_to.told ∙ told in
     let told_h : IsSome h = to.told ∙ told_g in
     let apart_p : w.text.name ≢ p.name = λ same. apart (same ∙ placed.name) in
+    let text : bits_of (bytes_at k (full_name w.base Text)) ≡ bits_of (text_bytes docs) =
+    ap (λ n. bits_of (bytes_at k n)) (sym took.text_name) ∙ ap (λ x. bits_of (unwrap_or x [])) (last_to.others w.text.name apart_p) ∙ file told_g ∙ ap (λ l. bits_put w.text g ++ l) (whole_text w f docs took) ∙ append-nil (bits_put w.text g)
+    ∙ put_stays w.text w.places.name f g r s placed_to apart ∙ took.text told ∙ append-nil (bits_of (text_bytes docs)) in
+    let still : Holds q k = holds_stays q p.name h k t u last_to (λ same. apart_p (sym name ∙ same)) holds in
+    let fit : AreBytes (bytes_at k (full_name w.base Text)) = subst (λ n. AreBytes (bytes_at k n)) (name ∙ took.text_name) (still.bytes (last_to.told ∙ told_h)) in
     record {
-      text =
-          ap (λ n. bits_of (bytes_at k n)) (sym took.text_name) ∙ ap (λ x. bits_of (unwrap_or x [])) (last_to.others w.text.name apart_p) ∙ file told_g ∙ ap (λ l. bits_put w.text g ++ l) (whole_text w f docs took) ∙ append-nil (bits_put w.text g)
-          ∙ put_stays w.text w.places.name f g r s placed_to apart ∙ took.text told ∙ append-nil (bits_of (text_bytes docs));
+      text = text;
+      bytes = written_bytes (bytes_at k (full_name w.base Text)) docs fit text;
       places =
           ap (bytes_at k) (sym (last.name ∙ placed.name ∙ took.places_name)) ∙ sym (append-nil (bytes_at k o.name)) ∙ ap (λ l. bytes_at k o.name ++ l) (sym empty) ∙ last.bytes told_h ∙ append-nil (put_to p h)
           ∙ bytes_stay p w.text.name g h s t to (λ same. apart_p (sym same)) ∙ placed.bytes told
           ∙ ap (λ l. l ++ eight (w.text.place / 8)) (took.places told ∙ ap (λ b. flat_map eight (begun b (sizes docs))) closed)
           ∙ all_places docs (w.text.place / 8) (text_size w f docs took);
     }
-
--- and the bytes that they make, since none of its numbers is above a byte's
-pub text_exact : (base text places : List ℕ) (q : BitWriting) (h k : Option Files) (t u : Reads) (docs : List Bits) → IsSome h → q.name ≡ text → text ≢ places → text ≡ full_name base Text → Holds q h →
-    WroteTo places h k t u → DocumentsStand base k docs → bytes_at k (full_name base Text) ≡ text_bytes docs
-text_exact base text places q h k t u docs told name apart is holds to stands =
-    let still : Holds q k = holds_stays q places h k t u to (λ same. apart (sym name ∙ same)) holds in
-    written_bytes base k docs stands (subst (λ n. AreBytes (bytes_at k n)) (name ∙ is) (still.bytes (to.told ∙ told)))

@@ -90,7 +90,8 @@ pub record Ended (old new : TextWriting) : Type 0 where
   pub is_open : new.is_open ≡ false
   pub left : new.left ≡ 0
 
--- the parts of a base hold these documents and their places
+-- the parts of a base hold these documents, by their bits and by the bytes that these make, and their places
 pub record DocumentsStand (base : List ℕ) (files : Option Files) (docs : List Bits) : Type 0 where
   pub text : bits_of (bytes_at files (full_name base Text)) ≡ bits_of (text_bytes docs)
+  pub bytes : bytes_at files (full_name base Text) ≡ text_bytes docs
   pub places : bytes_at files (full_name base Places) ≡ flat_map eight (running 0 (sizes docs))

@@ -1,5 +1,5 @@
 // Laws of the coded text.
-ghost use Rattle.std.specs.Prelude.{◌≡◌, ◌+◌, ◌*◌, ◌/◌, ◌<◌, ◌≤◌, ◌^◌, ◌++◌, [], ◌∷◌, ℕ, List, All, length};
+ghost use Rattle.std.specs.Prelude.{◌≡◌, ◌+◌, ◌*◌, ◌/◌, ◌≤◌, ◌++◌, [], ◌∷◌, ℕ, List, length};
 ghost use Rattle.std.specs.declared.option.Option.{Option};
 ghost use Rattle.mg_dev.specs.Files.{Files, bytes_at};
 ghost use Rattle.mg_dev.specs.Names.{full_name};
@@ -26,7 +26,8 @@ pub fn pieces_make_documents()
 {}
 
 /// Parts to which the documents of a collection were written hold its text and its places, and the
-/// text takes at most one byte a document more than its bits.
+/// text takes at most one byte a document more than its bits. Where documents were written, Text has
+/// their bytes and no others.
 pub fn text_has_its_documents()
     ensures text { (code : TextCode) (collection : List ℕ) → text_bytes (coded_docs code collection) ≡ text_of code collection }
     ensures holds { (base : List ℕ) (files : Option Files) (code : TextCode) (collection : List ℕ) →
@@ -34,6 +35,5 @@ pub fn text_has_its_documents()
     ensures size { (base : List ℕ) (files : Option Files) (code : TextCode) (collection : List ℕ) → IsTextCode collection code →
         DocumentsStand base files (coded_docs code collection) →
         length (bytes_at files (full_name base Text)) ≤ text_bits collection / 8 + length (documents collection) }
-    ensures bytes { (base : List ℕ) (files : Option Files) (docs : List Bits) → DocumentsStand base files docs →
-        All (λ byte. byte < 2 ^ 8) (bytes_at files (full_name base Text)) → bytes_at files (full_name base Text) ≡ text_bytes docs }
+    ensures bytes { (base : List ℕ) (files : Option Files) (docs : List Bits) → DocumentsStand base files docs → bytes_at files (full_name base Text) ≡ text_bytes docs }
 {}

@@ -1,6 +1,6 @@
 //! Laws of texts that stand.
-ghost use Rattle.std.specs.Prelude.{◌≡◌, ◌≤◌, ◌<◌, ◌^◌, ℕ, List, Option, length};
-ghost use Rattle.mg_dev.specs.Files.{Files};
+ghost use Rattle.std.specs.Prelude.{◌≡◌, ◌≤◌, ◌<◌, ◌^◌, ℕ, List, Option, is_some, length};
+ghost use Rattle.mg_dev.specs.Files.{Files, file_at};
 ghost use Rattle.mg_defs.specs.CodedText.{IsTextCode, TextCode, text_of};
 ghost use Rattle.mg_defs.specs.Limits.{IsWithinLimits};
 ghost use Rattle.mg_defs.specs.Split.{documents};
@@ -8,14 +8,18 @@ ghost use Rattle.mg_layout.specs.declared.head.Head.{Head};
 ghost use Rattle.mg_model.specs.Models.{PartsStand};
 ghost use Rattle.mg_text.specs.Documents.{TextHolds};
 ghost use Rattle.mg_text.specs.Places.{most_text};
-ghost use Rattle.mg_text.specs.Reading.{IsText, SameText, TextReading, TextStands};
+ghost use Rattle.mg_text.specs.Reading.{IsText, SameText, TextFits, TextReading, TextStands};
 
 /// The places of a collection within the limits of a version fit. What a writer wrote for a
 /// collection can be read, with the models of its codes and a head of its numbers. The parts of a
-/// reader stand as long as they stay as they are.
+/// reader stand, and what it keeps agrees with them, as long as its Text and Places stay as they
+/// are: other files may change.
 pub fn texts_stand()
     ensures small { (version : ℕ) (code : TextCode) (collection : List ℕ) → IsTextCode collection code → IsWithinLimits version collection → length (text_of code collection) ≤ most_text version }
     ensures written { (base : List ℕ) (files : Option Files) (head : Head) (code : TextCode) (collection : List ℕ) → TextHolds base files code collection → PartsStand files base code head.words head.others → IsTextCode collection code →
         head.version ≡ 2 → head.text_bytes ≡ length (text_of code collection) → head.documents ≡ length (documents collection) → length collection < 2 ^ 32 → IsWithinLimits 2 collection → IsText base files head code collection }
-    ensures stays { (r now : TextReading) (files files_now : Option Files) (collection : List ℕ) → SameText r now → files_now ≡ files → TextStands r files collection → TextStands now files_now collection }
+    ensures stays { (r now : TextReading) (files files_now : Option Files) (collection : List ℕ) → SameText r now → is_some files_now ≡ is_some files →
+        file_at files_now r.text.name ≡ file_at files r.text.name → file_at files_now r.places.name ≡ file_at files r.places.name → TextStands r files collection → TextStands now files_now collection }
+    ensures fits { (r : TextReading) (files files_now : Option Files) → is_some files_now ≡ is_some files →
+        file_at files_now r.text.name ≡ file_at files r.text.name → file_at files_now r.places.name ≡ file_at files r.places.name → TextFits r files → TextFits r files_now }
 {}

@@ -1,4 +1,4 @@
-use Rattle.mg_lex.proofs.LexLaws.{entries_of_terms, lex_stays, terms_count, written_is}
+use Rattle.mg_lex.proofs.LexLaws.{entries_of_terms, lex_fits, lex_stays, terms_count, written_is}
 use Rattle.mg_lex.proofs.laws.lexicon_has_its_terms.Goals as goal
 
 pub returns-clause-entries : goal.returns-clause-entries
@@ -9,6 +9,9 @@ returns-clause-count c = terms_count
 
 pub returns-clause-stays : goal.returns-clause-stays
 returns-clause-stays c = lex_stays
+
+pub returns-clause-fits : goal.returns-clause-fits
+returns-clause-fits c = lex_fits
 
 pub returns-clause-written : goal.returns-clause-written
 returns-clause-written c = written_is

@@ -1,4 +1,3 @@
-use Rattle.mg_text.proofs.ByteLaws.{written_bytes}
 use Rattle.mg_text.proofs.DocumentLaws.{text_holds, text_is, text_within}
 use Rattle.mg_text.proofs.laws.text_has_its_documents.Goals as goal
 
@@ -12,4 +11,4 @@ pub returns-clause-size : goal.returns-clause-size
 returns-clause-size c = text_within
 
 pub returns-clause-bytes : goal.returns-clause-bytes
-returns-clause-bytes c = written_bytes
+returns-clause-bytes c base files docs stands = stands.bytes
