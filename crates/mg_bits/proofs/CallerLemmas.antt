@@ -24,3 +24,5 @@ pub use Rattle.mg_bits.proofs.BitsWritten.{bits_stay, holds_stay}
 pub use Rattle.mg_bits.proofs.ByteLaws.{bits_are_bytes, bytes_again, same_bytes}
 -- two looks at a part, one after the other
 pub use Rattle.mg_bits.proofs.Fills.{looked_twice}
+-- the page that a feed holds, where other files change
+pub use Rattle.mg_bits.proofs.HeldPages.{held_page_stays}

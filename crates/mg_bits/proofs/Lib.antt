@@ -11,3 +11,4 @@ mod Keeping
 mod Walks
 mod EightBytes
 mod ByteLaws
+mod HeldPages

@@ -1,9 +1,10 @@
-// Laws of bytes, and of what was written.
+// Laws of bytes, of what was written, and of pages that are held.
 ghost use Rattle.std.specs.Prelude.{◌≡◌, ℕ, List, Option};
 ghost use Rattle.std.specs.Option.{is_some};
 ghost use Rattle.mg_dev.specs.Files.{Files, file_at};
 ghost use Rattle.mg_defs.specs.Bits.{Bits, bits_of};
 ghost use Rattle.mg_defs.specs.CodedText.{as_bytes};
+ghost use Rattle.mg_bits.specs.Pages.{Fits, Paging};
 ghost use Rattle.mg_bits.specs.Writer.{AreBytes};
 ghost use Rattle.mg_bits.specs.BitWriting.{BitWriting, Holds, bits_put};
 
@@ -19,4 +20,10 @@ pub fn bits_tell_bytes()
 pub fn written_bits_stay()
     ensures bits { (w : BitWriting) (f g : Option Files) → file_at g w.name ≡ file_at f w.name → bits_put w g ≡ bits_put w f }
     ensures holds { (w : BitWriting) (f g : Option Files) → is_some g ≡ is_some f → file_at g w.name ≡ file_at f w.name → Holds w f → Holds w g }
+{}
+
+/// The page that a feed holds is one of its file as long as that file stays: calls that write other
+/// files don't matter.
+pub fn held_pages_stay()
+    ensures { (feed : Paging) (f g : Option Files) → is_some g ≡ is_some f → file_at g feed.name ≡ file_at f feed.name → Fits feed f → Fits feed g }
 {}

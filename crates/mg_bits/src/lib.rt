@@ -24,7 +24,7 @@ pub use bit_reader::BitReader;
 pub use bit_writer::BitWriter;
 pub use code_err::CodeErr;
 pub use feed::Feed;
-pub use laws::{bits_tell_bytes, written_bits_stay};
+pub use laws::{bits_tell_bytes, held_pages_stay, written_bits_stay};
 pub use page_feed::PageFeed;
 pub use page_writer::PageWriter;
 pub use slice_feed::{NoDev, SliceFeed};

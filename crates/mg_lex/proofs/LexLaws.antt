@@ -1,12 +1,12 @@
 -- What a lexicon's terms, entries and fields tell of each other.
-use Rattle.std.proofs.Common.{rules, arith, ◌≡◌, ◌≢◌, ◌+◌, ◌<◌, ◌≤◌, ◌^◌, ◌==◌, ◌||◌, ◌++◌, true, false, ℕ, List, [], ◌∷◌, length, map, take, drop, refl, sym, ◌∙◌, ap, subst, Some, None, slice_get, IsSome, is_some, unwrap_or, append_assoc, append-nil, length-append}
+use Rattle.std.proofs.Common.{arith, ◌≡◌, ◌≢◌, ◌+◌, ◌<◌, ◌≤◌, ◌^◌, ◌==◌, ◌||◌, ◌++◌, true, false, ℕ, List, [], ◌∷◌, length, map, take, drop, refl, sym, ◌∙◌, ap, subst, Some, None, slice_get, IsSome, is_some, unwrap_or, append_assoc, append-nil}
 use Rattle.std.specs.declared.option.Option.{Option}
 use Rattle.std.specs.List.{enumerate_from}
 use Rattle.std.proofs.lemmas.List.{length-map, drop_at}
 use Rattle.std.proofs.lemmas.List.FromFn.{length-enumerate_from}
 use Rattle.mg_dev.specs.Files.{Files, Reads, bytes_at, file_at}
 use Rattle.mg_defs.specs.Numbers.{four, eight, four_at, eight_at}
-use Rattle.mg_defs.specs.Front.{Entry, IsEntry, AreEntries, is_below, front, whole_at, front_from, places_from}
+use Rattle.mg_defs.specs.Front.{Entry, IsEntry, AreEntries, is_below, front, whole_at}
 use Rattle.mg_defs.specs.Lexicon.{TermInfo, info_bytes, info_of, lexicon}
 use Rattle.mg_defs.specs.Terms.{dictionary}
 use Rattle.mg_defs.proofs.NumberLaws.{four_back, eight_back}
@@ -21,7 +21,6 @@ use Rattle.mg_dev.specs.declared.part_err.PartErr.TheVariants.{Device, Memory, B
 use Rattle.std.specs.Prelude.{Err}
 use Rattle.mg_dev.specs.Laws.{same_part_of_name}
 use Rattle.mg_dev.specs.declared.part.Part.TheVariants.{Lex, LexAt}
-use Rattle.mg_bits.specs.Pages.{Fits, IsPageOf, Paging}
 use Rattle.mg_bits.specs.Writer.{Writing}
 use Rattle.mg_front.specs.Entries.{entry_of}
 use Rattle.mg_front.specs.Fronting.{Finished, IsOther, PlacesHold, Took}
@@ -33,6 +32,7 @@ use Rattle.mg_layout.specs.declared.term_info.TermInfo as declared
 use Rattle.mg_lex.specs.Reading.{AnswersTerm, IsInfo, IsLexicon, IsNoTerm, LexStands}
 use Rattle.mg_lex.specs.Writing.{LexWriting, TermsStand, TookTerms, places_name}
 use Rattle.mg_lex.specs.Terms.{FitsField, Term, entries_of, entry_of_term, terms_of}
+use Rattle.mg_bits.proofs.CallerLemmas.{held_page_stays}
 
 -- ---- fields
 
@@ -92,17 +92,11 @@ lex_stays lex now files files_now collection same told strings places stands = r
   few = stands.few;
 }
 
--- the page that a feed holds is still one of its file
-feed_fits : (feed : Paging) (files files_now : Option Files) → is_some files_now ≡ is_some files → file_at files_now feed.name ≡ file_at files feed.name → Fits feed files → Fits feed files_now
-feed_fits feed files files_now told same fits = record {
-  held = λ now. subst (λ bytes. IsPageOf feed.held feed.page (unwrap_or bytes [])) (sym same) (fits.held (sym told ∙ now));
-}
-
 pub lex_fits : (lex : Fronted) (files files_now : Option Files) → is_some files_now ≡ is_some files →
     file_at files_now lex.strings.name ≡ file_at files lex.strings.name → file_at files_now lex.places.name ≡ file_at files lex.places.name → FrontFits lex files → FrontFits lex files_now
 lex_fits lex files files_now told strings places fits = record {
-  strings = feed_fits lex.strings files files_now told strings fits.strings;
-  places = feed_fits lex.places files files_now told places fits.places;
+  strings = held_page_stays lex.strings files files_now told strings fits.strings;
+  places = held_page_stays lex.places files files_now told places fits.places;
 }
 
 pub lexicon_count : (collection : List ℕ) → length (lexicon collection) ≡ length (dictionary collection)

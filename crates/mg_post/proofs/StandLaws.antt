@@ -16,10 +16,10 @@ use Rattle.mg_post.specs.Stands.{ListStands}
 use Rattle.std.specs.declared.option.Option.{Option}
 use Rattle.mg_dev.specs.Files.{Files, file_at}
 use Rattle.mg_bits.specs.Feed.{told_at}
-use Rattle.mg_bits.specs.Pages.{Fits, IsPageOf, Paging}
 use Rattle.mg_post.specs.Cursor.{blocks_of, CursorFits, Cursoring, CursorStands, SameList, StandsAt}
 use Rattle.mg_post.proofs.WriterLaws.{lists_whole, length_entries_to}
 use Rattle.mg_post.proofs.CursorLaws.{ended_after}
+use Rattle.mg_bits.proofs.CallerLemmas.{held_page_stays}
 
 length_entry : (e : SkipEntry) → length (entry_bits e) ≡ 128
 unfolding entry_bits
@@ -135,14 +135,10 @@ stands_same c d f g ps same told post skip stands =
     let skip_is : told_at g d.skip.name ≡ told_at f c.skip.name = ap (told_at g) same.skip ∙ told_same f g c.skip.name told skip in
     record { list = rw (post_is, skip_is, same.post_at, same.skip_at, same.docs, same.all, same.parameter) stands.list }
 
--- the page that a feed holds is still one of its file
-feed_fits : (feed : Paging) (f g : Option Files) → is_some g ≡ is_some f → file_at g feed.name ≡ file_at f feed.name → Fits feed f → Fits feed g
-feed_fits feed f g told same fits = record { held = λ now. subst (λ bytes. IsPageOf feed.held feed.page (unwrap_or bytes [])) (sym same) (fits.held (sym told ∙ now)) }
-
 pub fits_same : (c : Cursoring) (f g : Option Files) → is_some g ≡ is_some f → file_at g c.post.name ≡ file_at f c.post.name → file_at g c.skip.name ≡ file_at f c.skip.name → CursorFits c f → CursorFits c g
 fits_same c f g told post skip fits = record {
-  post = feed_fits c.post f g told post fits.post;
-  skip = feed_fits c.skip f g told skip fits.skip;
+  post = held_page_stays c.post f g told post fits.post;
+  skip = held_page_stays c.skip f g told skip fits.skip;
   entries = fits.entries;
   first = fits.first;
 }

@@ -33,10 +33,11 @@ use Rattle.mg_text.specs.Decoding.{PairsIn, Shows}
 use Rattle.mg_text.specs.Places.{IsPlaceAt}
 use Rattle.mg_text.proofs.StandLaws.{doc_ends, doc_pieces, doc_shown, few_pairs, place_long, place_stands, place_within, small_place}
 use Rattle.mg_bits.specs.Feed.{told_at}
-use Rattle.mg_bits.specs.Pages.{Fits, IsPageOf, Paging, feeding_of}
+use Rattle.mg_bits.specs.Pages.{Paging, feeding_of}
 use Rattle.mg_defs.specs.CodedText.{coded_doc, doc_range, place_after}
 use Rattle.mg_defs.specs.Parse.{parse}
 use Rattle.std.proofs.Common.{get_or}
+use Rattle.mg_bits.proofs.CallerLemmas.{held_page_stays}
 
 -- ---- loading
 
@@ -180,17 +181,11 @@ text_stays r now files files_now collection same told text places stands = recor
   small = rw (same.size, same.version) stands.small;
 }
 
--- the page that a feed holds is still one of its file
-feed_fits : (feed : Paging) (files files_now : Option Files) → is_some files_now ≡ is_some files → file_at files_now feed.name ≡ file_at files feed.name → Fits feed files → Fits feed files_now
-feed_fits feed files files_now told same fits = record {
-  held = λ now. subst (λ bytes. IsPageOf feed.held feed.page (unwrap_or bytes [])) (sym same) (fits.held (sym told ∙ now));
-}
-
 pub text_fits : (r : TextReading) (files files_now : Option Files) → is_some files_now ≡ is_some files →
     file_at files_now r.text.name ≡ file_at files r.text.name → file_at files_now r.places.name ≡ file_at files r.places.name → TextFits r files → TextFits r files_now
 text_fits r files files_now told text places fits = record {
-  text = feed_fits r.text files files_now told text fits.text;
-  places = feed_fits r.places files files_now told places fits.places;
+  text = held_page_stays r.text files files_now told text fits.text;
+  places = held_page_stays r.places files files_now told places fits.places;
 }
 
 -- the parts that a writer wrote for a collection, and a head of its numbers
