@@ -16,6 +16,7 @@ mod walk;
 mod writer;
 
 pub use entry::FrontEntry;
+pub use put::shared;
 pub use reader::FrontReader;
 pub use walk::FrontWalk;
 pub use writer::FrontWriter;

@@ -10,7 +10,7 @@ ghost use Rattle.mg_front.specs.Entries.{string_of};
 use mg_bits::PageWriter;
 use mg_dev::{PutErr, Store};
 
-/// How many bytes two strings share at their front.
+/// How many bytes two strings share at their front: the length of their longest common prefix.
 #[tactic(auto, unfolding(mg_defs::specs::Front::shared))]
 pub fn shared(before: &[u8], string: &[u8]) -> usize
     ensures value { result ≡ shared before.now string.now }

@@ -21,7 +21,7 @@ ghost use Rattle.mg_model.specs.Read.{AnswersEntries, AnswersCode, ReadOnce, cod
 use crate::block::PieceBlock;
 use mg_canon::{Canon, CanonErr};
 use mg_dev::{Bad, FileRef, Part, PartErr, Store};
-use mg_front::{FrontEntry, FrontWalk};
+use mg_front::{FrontEntry, FrontWalk, shared};
 use std::alloc::{AllocError, Global};
 
 /// The pieces of a part in their order, each with the length of its codeword.
@@ -144,21 +144,6 @@ fn room_for(alloc: Global, count: u32) -> Result<ReadPieces, AllocError>
     let pieces = PieceBlock::with_capacity(alloc, count)?;
     let lengths = Vec::with_capacity(alloc, count as usize)?;
     Ok(ReadPieces { pieces, lengths })
-}
-
-/// How many bytes two strings share at their front.
-#[tactic(auto, unfolding(mg_defs::specs::Front::shared))]
-fn shared(before: &[u8], string: &[u8]) -> usize
-    ensures value { result ≡ shared before.now string.now }
-    ensures string { result ≤ length string.now }
-{
-    match string {
-        [] => 0,
-        [y, ys @ ..] => match before {
-            [] => 0,
-            [x, xs @ ..] => { if x == y { shared(xs, ys) + 1 } else { 0 } }
-        },
-    }
 }
 
 /// How many bytes the whole entry of a piece has.
