@@ -42,8 +42,8 @@ fn is_front(store: &MemStore, whole: &MemStore, name: &str) -> bool {
     }
 }
 
-// Whether writing is refused exactly where a call below `calls` fails, and keeps the other file, and
-// of its own two the front at most.
+// Whether writing is refused exactly where a call fails that a whole run makes, and keeps the other
+// file, and of its own two the front at most.
 fn failure_is_told(
     alloc: Global,
     model: &TextModel,
