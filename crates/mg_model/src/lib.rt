@@ -2,11 +2,12 @@
 //!
 //! A collection is read twice. The first pass counts the distinct pieces of each stream in a
 //! [`Vocab`]; then each stream's pieces are numbered by the order of their bytes and given the
-//! lengths of a Huffman code, and are a [`TextModel`]. Its counting map is kept: it is sorted in
-//! place, so that the place of a piece in it is the piece's symbol, and the second pass looks a
-//! symbol up with one hash. A model that is loaded from its two parts has no map. It keeps its
-//! pieces in one block of bytes, for it only turns symbols into pieces. A [`TermTable`] numbers the
-//! words once they are folded.
+//! lengths of a Huffman code, and are a [`TextModel`]. Its vocabularies are kept: the pieces of each
+//! are copied in their order into a second block, with 24 bytes a row meanwhile, and their hashes
+//! are kept, so that none is hashed again. Then the place of a piece is the piece's symbol, and the
+//! second pass looks a symbol up with one hash. A model that is loaded from its two parts has no
+//! hashes: it keeps the pieces of each stream in one block of bytes, and where a symbol is asked for
+//! it seeks the piece by halving. A [`TermTable`] numbers the words once they are folded.
 //!
 //! The models are the semi-static ones of Witten, Moffat and Bell, *Managing Gigabytes*, chapter 2;
 //! the parts are described in docs/FORMAT.md.

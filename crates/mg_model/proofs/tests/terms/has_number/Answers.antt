@@ -4,7 +4,7 @@ use Rattle.mg_defs.specs.Sorted.{sorted_distinct}
 use Rattle.mg_defs.specs.Terms.{terms_of_words}
 use Rattle.mg_model.specs.Terms.{term_in}
 use Rattle.mg_model.proofs.Collections.{piece-is, there-within}
-use Rattle.mg_model.proofs.tests.has_number.Goals as goal
+use Rattle.mg_model.proofs.tests.terms.has_number.Goals as goal
 
 pub term_of-requires : goal.term_of-requires
 term_of-requires c =
