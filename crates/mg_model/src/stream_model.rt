@@ -12,7 +12,7 @@ ghost use Rattle.mg_defs.specs.CodedText.{IsHuffman, pieces_part, piece_entries}
 ghost use Rattle.mg_defs.specs.Vocabulary.{sorted_of, counts_of};
 ghost use Rattle.mg_model.specs.Damage.{AnswersStream};
 ghost use Rattle.mg_model.specs.Models.{IsStreamCode};
-ghost use Rattle.mg_model.specs.Read.{ReadOnce};
+ghost use Rattle.mg_model.specs.Read.{ReadOnce, UnreadIfShort};
 
 use crate::Vocab;
 use crate::pieces::Pieces;
@@ -103,9 +103,10 @@ impl StreamModel {
         }
     }
 
-    /// Reads the model of so many pieces from a part. Memory is wanted only where the part has two
-    /// bytes for each. That the pieces rise is tested again, for the walk promises it only over a
-    /// store that tells its files.
+    /// Reads the model of so many pieces from a part. Memory is wanted, and the part is read, only
+    /// where it has two bytes for each. It reads no page twice, and one behind the part's end only
+    /// where the device fails or the entries are damaged. That the pieces rise is tested again, for
+    /// the walk promises it only over a store that tells its files.
     pub fn load<S: Store>(
         alloc: Global,
         store: &mut S,
@@ -115,7 +116,8 @@ impl StreamModel {
         requires { count ≤ 2 ^ 22 }
         ensures answer { IsSome (S.files store.old) → AnswersStream file.entry.part count (bytes_at (S.files store.old) (full_name file.entry.base.now file.entry.part)) result }
         ensures looked { Looked file.entry.part (S.files store.old) (S.files store.new) (S.reads store.old) (S.reads store.new) (S.faults store.old) (S.faults store.new) }
-        ensures once { IsSome (S.files store.old) → ReadOnce file.entry.part (bytes_at (S.files store.old) (full_name file.entry.base.now file.entry.part)) (S.reads store.old) (S.reads store.new) result }
+        ensures once { IsSome (S.files store.old) → ReadOnce file.entry.part count (bytes_at (S.files store.old) (full_name file.entry.base.now file.entry.part)) (S.reads store.old) (S.reads store.new) result }
+        ensures unread { IsSome (S.files store.old) → UnreadIfShort file.entry.part count (bytes_at (S.files store.old) (full_name file.entry.base.now file.entry.part)) (S.reads store.old) (S.reads store.new) }
         ensures cause { HasPartCause (S.faults store.old) (S.faults store.new) result }
     {
         match expect_room(store, &file, count) {
