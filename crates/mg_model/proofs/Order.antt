@@ -91,6 +91,7 @@ module _ (es fs : List (List ℕ × ℕ)) (moved : IsPermutation es fs) where
 
   pub still-sorted : IsVocabulary es → IsVocabulary fs
   still-sorted is = record {
+    distinct = IsDistinct-IsPermutation bytes_eq same-sym (pieces_of es) (pieces_of fs) keys-moved is.distinct;
     few = omega (arith, length_permutation es fs moved, is.few);
     total = omega (arith, sum_by-IsPermutation (λ (e : List ℕ × ℕ). e.1) es fs moved, is.total);
     counted = recursion_from_All (λ (e : List ℕ × ℕ). 1 ≤ e.1) fs (All-permutation (λ (e : List ℕ × ℕ). 1 ≤ e.1) es fs moved (All-from_recursion (λ (e : List ℕ × ℕ). 1 ≤ e.1) es is.counted));
