@@ -4,11 +4,12 @@ ghost use Rattle.std.specs.Str.{bytes_eq};
 ghost use Rattle.mg_defs.specs.CodedText.{IsCodeOf, StreamCode};
 ghost use Rattle.mg_defs.specs.Sorted.{number_of, sorted_distinct};
 ghost use Rattle.mg_defs.specs.Terms.{dictionary, terms_of_words};
-ghost use Rattle.mg_defs.specs.Vocabulary.{sorted_pieces};
+ghost use Rattle.mg_defs.specs.Vocabulary.{sorted_of, sorted_pieces};
 ghost use Rattle.mg_defs.specs.declared.Stream.{Stream};
 ghost use Rattle.mg_defs.specs.declared.Stream.TheVariants.{Words};
 ghost use Rattle.mg_model.specs.Models.{IsStreamCode};
 ghost use Rattle.mg_model.specs.Terms.{HasTerm, term_in, terms_and_numbers};
+ghost use Rattle.mg_model.specs.Vocabularies.{IsVocabulary};
 
 /// The piece of a symbol has that symbol, and the symbol of a piece has that piece.
 pub fn symbol_and_piece()
@@ -24,6 +25,11 @@ pub fn symbol_and_piece()
 pub fn collections_have_models()
     ensures { (kind : Stream) (collection : List ℕ) (it : StreamCode) → IsCodeOf kind collection it → length it.pieces ≤ 2 ^ 22 →
         IsStreamCode it }
+{}
+
+/// Sorting the pieces of a vocabulary takes none of them away.
+pub fn vocabularies_sort()
+    ensures { (entries : List (List ℕ × ℕ)) → IsVocabulary entries → length (sorted_of entries) ≡ length entries }
 {}
 
 /// The terms of a collection's words are its dictionary; only the empty word has no term.

@@ -110,7 +110,9 @@ impl ReadPieces {
     }
 }
 
-/// Reads the pieces of a part, and how many bits the codeword of each has.
+/// Reads the pieces of a part, and how many bits the codeword of each has. It reads no page twice,
+/// and one behind the part's end only where the device fails or the entries are damaged. The lengths
+/// are not tested.
 pub fn read_pieces<S: Store>(
     alloc: Global,
     store: &mut S,
