@@ -86,21 +86,12 @@ impl StreamModel {
         ensures wrote { WroteTo (full_name file.entry.base.now file.entry.part) (S.files store.old) (S.files store.new) (S.reads store.old) (S.reads store.new) }
         ensures cause { HasPutCause (S.faults store.old) (S.faults store.new) result }
     {
-        let mut writer = match FrontWriter::start(alloc, store, file, None, 1) {
-            Ok(writer) => writer,
-            Err(refusal) => return Err(refusal),
-        };
+        let mut writer = FrontWriter::start(alloc, store, file, None, 1)?;
         for symbol in 0..self.lengths.len() {
             let piece = self.pieces.piece(symbol as u32);
-            match writer.push(store, piece, &[self.lengths[symbol]]) {
-                Ok(()) => {}
-                Err(refusal) => return Err(refusal),
-            }
+            writer.push(store, piece, &[self.lengths[symbol]])?;
         }
-        match writer.finish(store) {
-            Ok(()) => Ok(()),
-            Err(refusal) => Err(refusal),
-        }
+        writer.finish(store)
     }
 
     /// Reads the model of so many pieces from a part. Memory is wanted, and the part is read, only
@@ -124,10 +115,7 @@ impl StreamModel {
             Ok(()) => {}
             Err(refusal) => return Err(refusal),
         }
-        let read = match read_pieces(alloc, store, file, count) {
-            Ok(read) => read,
-            Err(refusal) => return Err(refusal),
-        };
+        let read = read_pieces(alloc, store, file, count)?;
         if !read.rises() {
             return Err(PartErr::Bad(Bad {
                 part: file.part,
@@ -137,10 +125,7 @@ impl StreamModel {
                 found: 0,
             }));
         }
-        let canon = match code_of(alloc, file.part, &read) {
-            Ok(canon) => canon,
-            Err(refusal) => return Err(refusal),
-        };
+        let canon = code_of(alloc, file.part, &read)?;
         let ReadPieces {
             mut pieces,
             lengths,

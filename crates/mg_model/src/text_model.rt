@@ -68,14 +68,8 @@ impl TextModel {
             base,
             part: Part::Nonwords,
         };
-        match self.words.write(alloc, store, words) {
-            Ok(()) => {}
-            Err(refusal) => return Err(refusal),
-        }
-        match self.others.write(alloc, store, others) {
-            Ok(()) => Ok(()),
-            Err(refusal) => Err(refusal),
-        }
+        self.words.write(alloc, store, words)?;
+        self.others.write(alloc, store, others)
     }
 
     /// Reads the parts Words and Nonwords, each once. `words` and `others` are the numbers of pieces,
