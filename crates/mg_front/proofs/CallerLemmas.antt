@@ -1,4 +1,4 @@
 -- What the proofs of crates above cite of this crate's. No other module of them can be named from there.
 
 -- reads of a file from its begin: none, one after another, and how many pages they take
-pub use Rattle.mg_front.proofs.ReadPages.{on_same, on_more, read_first}
+pub use Rattle.mg_front.proofs.ReadPages.{on_same, on_more, read_first, read_first_to}

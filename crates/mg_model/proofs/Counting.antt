@@ -1,8 +1,9 @@
 -- Pieces with their counts, and what counting a piece does to them.
 use Rattle.std.proofs.Common.{◌≡◌, ℕ, zero, suc, ◌+◌, ◌-◌, ◌^◌, ◌<◌, ◌≤◌, Bool, true, false, cond, List, [], ◌∷◌, ◌++◌, length, get_or, refl, sym, ap, subst, ◌∙◌, arith, if◌then◌else◌, ◌||◌, None, Some, position}
 use Rattle.std.proofs.Math.ListN.{set}
-use Rattle.std.specs.List.{AllByRecursion, list_any, zip}
+use Rattle.std.specs.List.{AllByRecursion, IsDistinct, list_any, zip}
 use Rattle.std.specs.Str.{bytes_eq}
+use Rattle.std.proofs.lemmas.Cmp.{nat_list_eq_equiv}
 use Rattle.std.proofs.lemmas.Grind.{get_or_default_zero}
 use Rattle.std.proofs.lemmas.List.Folds.{list_any_at}
 use Rattle.std.proofs.lemmas.List.Quantifiers.{position-Some}
@@ -95,9 +96,27 @@ short-counted piece (e ∷ es) short h = by (bytes_eq piece e.0) (short-counted 
     by true rest = h
     by false rest = (h.0, rest)
 
+apart-counted : (p piece : List ℕ) (es : List (List ℕ × ℕ)) → bytes_eq p piece ≡ false → AllByRecursion (λ q. bytes_eq p q ≡ false) (pieces_of es) → AllByRecursion (λ q. bytes_eq p q ≡ false) (pieces_of (counted piece es))
+apart-counted p piece [] other h = (other, tt)
+apart-counted p piece (e ∷ es) other h = by (bytes_eq piece e.0) (apart-counted p piece es other h.1)
+  where
+    by : (b : Bool) → AllByRecursion (λ q. bytes_eq p q ≡ false) (pieces_of (counted piece es)) → AllByRecursion (λ q. bytes_eq p q ≡ false) (pieces_of (if b then (e.0, e.1 + 1) ∷ es else e ∷ counted piece es))
+    by true rest = h
+    by false rest = (h.0, rest)
+
+distinct-counted : (piece : List ℕ) (es : List (List ℕ × ℕ)) → IsDistinct bytes_eq (pieces_of es) → IsDistinct bytes_eq (pieces_of (counted piece es))
+unfolding IsDistinct
+distinct-counted piece [] h = (tt, tt)
+distinct-counted piece (e ∷ es) h = by (bytes_eq piece e.0) refl (distinct-counted piece es h.1)
+  where
+    by : (b : Bool) → bytes_eq piece e.0 ≡ b → IsDistinct bytes_eq (pieces_of (counted piece es)) → IsDistinct bytes_eq (pieces_of (if b then (e.0, e.1 + 1) ∷ es else e ∷ counted piece es))
+    by true is rest = h
+    by false isnt rest = (apart-counted e.0 piece es (nat_list_eq_equiv.symm e.0 piece ∙ isnt) h.0, rest)
+
 -- a vocabulary stays one where the piece is there, or there is room for one more
 pub still : (piece : List ℕ) (es new : List (List ℕ × ℕ)) → IsVocabulary es → total es < 2 ^ 32 - 1 → length piece ≤ 255 → length es + cond (has_piece es piece) 0 1 ≤ 2 ^ 22 → new ≡ counted piece es → IsVocabulary new
 still piece es new is few short room same = subst IsVocabulary (sym same) (record {
+  distinct = distinct-counted piece es is.distinct;
   few = omega (arith, length-counted piece es, room);
   total = omega (arith, total-counted piece es, few);
   counted = some-counted piece es is.counted;

@@ -1,4 +1,3 @@
-pub mod CallerLemmas
 mod Lists
 mod Chaining
 mod Tabling

@@ -1,5 +1,6 @@
 -- Lists of any elements.
-use Rattle.std.proofs.Common.{◌≡◌, ℕ, zero, suc, ◌+◌, ◌<◌, ◌≤◌, List, [], ◌∷◌, ◌++◌, length, take, get_or, slice_get, Some, refl, sym, ap, ◌∙◌, arith}
+use Rattle.std.proofs.Common.{◌≡◌, ℕ, zero, suc, ◌+◌, ◌<◌, ◌≤◌, List, [], ◌∷◌, ◌++◌, length, take, get_or, slice_get, Some, refl, sym, ap, subst, ◌∙◌, arith}
+use Rattle.std.specs.List.{AllByRecursion}
 
 -- one element more at the front
 pub take-there : {X : Type 0} (xs : List X) (i : ℕ) (x : X) → slice_get xs i ≡ Some x → take (i + 1) xs ≡ take i xs ++ x ∷ []
@@ -19,3 +20,8 @@ pub there-is : {X : Type 0} (xs : List X) (i : ℕ) (x : X) → i < length xs �
 there-is [] i x low h = absurd (omega arith)
 there-is (y ∷ ys) zero x low h = ap Some (sym h)
 there-is (y ∷ ys) (suc i) x low h = there-is ys i x (omega arith) h
+
+pub all-there : {X : Type 0} (P : X → Type 0) (xs : List X) (i : ℕ) (x : X) → AllByRecursion P xs → slice_get xs i ≡ Some x → P x
+all-there P [] i x all h = absurd cc
+all-there P (y ∷ ys) zero x all h = let same : y ≡ x = cc in subst P same all.0
+all-there P (y ∷ ys) (suc i) x all h = all-there P ys i x all.1 h

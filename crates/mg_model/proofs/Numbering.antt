@@ -1,5 +1,5 @@
 -- Terms of words, counted and numbered one word at a time.
-use Rattle.std.proofs.Common.{◌≡◌, ℕ, zero, suc, ◌+◌, ◌<◌, ◌≤◌, true, not, cond, List, [], ◌∷◌, ◌++◌, length, take, map, filter, slice_get, Some, None, Option, refl, sym, ap, subst, ◌∙◌, arith, ltb, append-nil}
+use Rattle.std.proofs.Common.{◌≡◌, ◌≢◌, ℕ, zero, suc, ◌+◌, ◌<◌, ◌≤◌, true, not, cond, List, [], ◌∷◌, ◌++◌, length, take, map, filter, slice_get, Some, None, Option, refl, sym, ap, subst, ◌∙◌, arith, ltb, append-nil}
 use Rattle.std.specs.Option.{option_map}
 use Rattle.std.specs.List.{AllByRecursion, list_any}
 use Rattle.std.specs.Str.{bytes_eq}
@@ -14,9 +14,9 @@ use Rattle.mg_defs.specs.Terms.{folded, is_empty, terms_of_words}
 use Rattle.mg_defs.specs.Vocabulary.{vocabulary, total, sorted_of}
 use Rattle.mg_defs.proofs.SortedLaws.{same-refl, has-sorted, number-found}
 use Rattle.mg_defs.proofs.VocabularyLaws.{vocabulary-push, total-of_vocabulary, counts-positive, sorted-of_vocabulary}
-use Rattle.mg_model.specs.Terms.{counted_term, place_in, term_in}
+use Rattle.mg_model.specs.Terms.{HasTerm, counted_term, place_in, term_in, terms_and_numbers}
 use Rattle.mg_model.specs.Vocabularies.{pieces_of}
-use Rattle.mg_model.proofs.Lists.{take-there, take-all}
+use Rattle.mg_model.proofs.Lists.{take-there, take-all, there-is}
 
 terms-push : (ws : List (List ℕ)) (w : List ℕ) → terms_of_words (ws ++ w ∷ []) ≡ terms_of_words ws ++ terms_of_words (w ∷ [])
 terms-push ws w = ap (map folded) (filter-append (λ x. not (is_empty x)) ws (w ∷ [])) ∙ map-append folded (filter (λ x. not (is_empty x)) ws) (filter (λ x. not (is_empty x)) (w ∷ []))
@@ -84,3 +84,21 @@ numbers-more ws terms i w number old new s there n e f =
 
 pub numbers-all : (ws : List (List ℕ)) (n : ℕ) (numbers : List (Option ℕ)) → numbers ≡ take n (map (term_in (sorted_distinct (terms_of_words ws))) ws) → length ws ≤ n → numbers ≡ map (term_in (sorted_distinct (terms_of_words ws))) ws
 numbers-all ws n numbers e all = e ∙ take-all (map (term_in (sorted_distinct (terms_of_words ws))) ws) n (omega (arith, length-map ws (term_in (sorted_distinct (terms_of_words ws))), all))
+
+-- ---- the term of a word
+
+pub has-number : (ws : List (List ℕ)) (i : ℕ) (w : List ℕ) → slice_get ws i ≡ Some w → w ≢ [] → HasTerm (sorted_distinct (terms_of_words ws)) w
+has-number ws i [] there some = absurd (some refl)
+has-number ws i (b ∷ bytes) there some =
+    let sorted = sorted_distinct (terms_of_words ws) in
+    let term = folded (b ∷ bytes) in
+    let found = number-found sorted term (has-sorted (terms_of_words ws) term ∙ has-term ws i b bytes there) in
+    record {
+      number = number_of sorted term;
+      number_is = refl;
+      within = found.0;
+      term_is = there-is sorted (number_of sorted term) term found.0 (sym found.1);
+    }
+
+pub number-of_symbol : (ws : List (List ℕ)) (i : ℕ) (w : List ℕ) → slice_get ws i ≡ Some w → slice_get (terms_and_numbers ws).numbers i ≡ Some (term_in (terms_and_numbers ws).terms w)
+number-of_symbol ws i w there = let term = term_in (sorted_distinct (terms_of_words ws)) in slice_get-map term ws i ∙ ap (option_map term) there

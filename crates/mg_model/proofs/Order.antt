@@ -12,7 +12,9 @@ use Rattle.std.proofs.lemmas.Cmp.{nat_list_cmp_total, nat_list_eq_equiv}
 use Rattle.std.proofs.lemmas.List.Elements.{All-from_recursion, recursion_from_All}
 use Rattle.std.proofs.lemmas.List.Sorted.{IsPermutation-map, IsPermutation-sym, length_permutation, sum_by-IsPermutation, All-permutation, list_any-IsPermutation}
 use Rattle.std.proofs.lemmas.List.Sums.{sum_by-cons}
+use Rattle.std.proofs.lemmas.List.{length-map}
 use Rattle.std.proofs.lemmas.Map.Keys.{IsDistinct-IsPermutation}
+use Rattle.std.proofs.lemmas.Map.Made.{length-from_same_keys}
 use Rattle.std.proofs.lemmas.Map.Text.{is_eq-slice_cmp}
 use Rattle.mg_defs.specs.Sorted.{sorted_distinct}
 use Rattle.mg_defs.specs.Vocabulary.{entry_count, sorted_of, counts_of}
@@ -91,6 +93,7 @@ module _ (es fs : List (List ℕ × ℕ)) (moved : IsPermutation es fs) where
 
   pub still-sorted : IsVocabulary es → IsVocabulary fs
   still-sorted is = record {
+    distinct = IsDistinct-IsPermutation bytes_eq same-sym (pieces_of es) (pieces_of fs) keys-moved is.distinct;
     few = omega (arith, length_permutation es fs moved, is.few);
     total = omega (arith, sum_by-IsPermutation (λ (e : List ℕ × ℕ). e.1) es fs moved, is.total);
     counted = recursion_from_All (λ (e : List ℕ × ℕ). 1 ≤ e.1) fs (All-permutation (λ (e : List ℕ × ℕ). 1 ≤ e.1) es fs moved (All-from_recursion (λ (e : List ℕ × ℕ). 1 ≤ e.1) es is.counted));
@@ -119,3 +122,9 @@ distinct-rising (p ∷ ps) h = (heads ps h.0, distinct-rising ps h.1)
     heads : (qs : List (List ℕ)) → AllByRecursion (λ q. order p q ≡ Less) qs → AllByRecursion (λ q. bytes_eq p q ≡ false) qs
     heads [] g = tt
     heads (q ∷ qs) g = (sym (is_eq-slice_cmp p q) ∙ ap is_eq g.0, heads qs g.1)
+
+-- sorting distinct pieces takes none away
+pub sorted-long : (es : List (List ℕ × ℕ)) → IsDistinct bytes_eq (pieces_of es) → length (sorted_of es) ≡ length es
+sorted-long es distinct =
+    let sorted = sorted_distinct (pieces_of es) in
+    sym (length-from_same_keys nat_list_eq_equiv (pieces_of es) sorted distinct (distinct-rising sorted (sorted-rising (pieces_of es))) (λ s. sym (has-sorted (pieces_of es) s))) ∙ length-map es (λ (e : List ℕ × ℕ). e.0)

@@ -16,7 +16,7 @@ use Rattle.mg_defs.specs.Front.{Entry, IsEntry, AreEntries, entry_bytes, front, 
 use Rattle.mg_defs.proofs.FrontParts.{one_front, prefix_of}
 use Rattle.mg_defs.proofs.EntryLaws.{entries_rest}
 use Rattle.mg_model.specs.Models.{IsStreamCode, PartsStand}
-use Rattle.mg_model.specs.Damage.{StandFirst, IsBroken, HasMore, IsPart, IsDamage, AnswersLoad, AnswersStanding, AnswersStream}
+use Rattle.mg_model.specs.Damage.{StandFirst, IsBroken, HasMore, IsPart, IsWholePart, IsDamage, AnswersLoad, AnswersStanding, AnswersStream}
 use Rattle.mg_model.proofs.Entries.{code, entry, entries-long}
 use Rattle.mg_model.proofs.Writing.{entries-are}
 
@@ -119,8 +119,8 @@ no-damage at count bytes it bad is good (inr (room, inr (inr d))) = good-sum it.
 
 pub standing : (words others : ℕ) (files : Option Files) (base : List ℕ) (it : TextCode) (r : Result TextCode PartErr) → PartsStand files base it words others → AnswersLoad words others (bytes_at files (full_name base part.Words)) (bytes_at files (full_name base part.Nonwords)) r → AnswersStanding r it
 standing words others files base it (Ok found) stand h =
-    let w = one-part words (bytes_at files (full_name base part.Words)) found.words it.words h.0 (part-of words _ it.words stand.model.words stand.hold.words stand.word_count) in
-    let o = one-part others (bytes_at files (full_name base part.Nonwords)) found.others it.others h.1 (part-of others _ it.others stand.model.others stand.hold.others stand.other_count) in
+    let w = one-part words (bytes_at files (full_name base part.Words)) found.words it.words h.0.part (part-of words _ it.words stand.model.words stand.hold.words stand.word_count) in
+    let o = one-part others (bytes_at files (full_name base part.Nonwords)) found.others it.others h.1.part (part-of others _ it.others stand.model.others stand.hold.others stand.other_count) in
     λ i. record { words = w i; others = o i }
 standing words others files base it (Err Device) stand h = tt
 standing words others files base it (Err Memory) stand h = tt
@@ -128,10 +128,10 @@ standing words others files base it (Err (Bad bad)) stand (inl d) = no-damage pa
 standing words others files base it (Err (Bad bad)) stand (inr (whole, d)) = no-damage part.Nonwords others (bytes_at files (full_name base part.Nonwords)) it.others bad (part-of others _ it.others stand.model.others stand.hold.others stand.other_count) stand.model.others.good d
 
 -- the damage of the second part, where the first has none
-pub second-damage : (words others : ℕ) (word_bytes other_bytes : List ℕ) (it : StreamCode) (refusal : PartErr) → (2 * words ≤ length word_bytes) × IsPart words word_bytes it → AnswersStream part.Nonwords others other_bytes (Err refusal) → AnswersLoad words others word_bytes other_bytes (Err refusal)
+pub second-damage : (words others : ℕ) (word_bytes other_bytes : List ℕ) (it : StreamCode) (refusal : PartErr) → IsWholePart words word_bytes it → AnswersStream part.Nonwords others other_bytes (Err refusal) → AnswersLoad words others word_bytes other_bytes (Err refusal)
 second-damage words others word_bytes other_bytes it Device first h = tt
-second-damage words others word_bytes other_bytes it Memory first h = first.0
-second-damage words others word_bytes other_bytes it (Bad bad) first h = inr ((it, first.0, first.1), h)
+second-damage words others word_bytes other_bytes it Memory first h = first.room
+second-damage words others word_bytes other_bytes it (Bad bad) first h = inr ((it, first), h)
 
 pub names-apart : (base : List ℕ) → full_name base part.Words ≢ full_name base part.Nonwords
 names-apart base e = words-are-not (same_part_of_name base part.Words part.Nonwords e)

@@ -1,8 +1,9 @@
 -- What a walk over the entries of a part tells of it.
-use Rattle.std.proofs.Common.{◌≡◌, ℕ, ◌+◌, ◌<◌, ◌≤◌, refl, None, length-append, Bool, false, List, [], ◌++◌, length, drop, sym, ap, subst, ◌∙◌, arith, inl, inr, Ok, Err, append-nil}
+use Rattle.std.proofs.Common.{◌≡◌, ℕ, ◌+◌, ◌<◌, ◌≤◌, refl, None, length-append, Bool, false, List, [], ◌++◌, length, drop, sym, ap, subst, ◌∙◌, arith, inl, inr, Ok, Err, Result, append-nil}
 use Rattle.mg_dev.specs.declared.bad.Bad as declared
 use Rattle.mg_dev.specs.declared.part.Part.{Part}
-use Rattle.mg_dev.specs.declared.part_err.PartErr.TheVariants.{Bad}
+use Rattle.mg_dev.specs.declared.part_err.PartErr.{PartErr}
+use Rattle.mg_dev.specs.declared.part_err.PartErr.TheVariants.{Device, Memory, Bad}
 use Rattle.mg_defs.specs.CodedText.{piece_entries}
 use Rattle.mg_defs.specs.Front.{Entry, AreEntries, NoEntry, front, last_string}
 use Rattle.mg_front.specs.Walk.{Walking, Given, Gave, AnswersNext}
@@ -12,9 +13,10 @@ use Rattle.std.specs.declared.option.Option.{Option}
 use Rattle.std.specs.Option.{IsSome}
 use Rattle.mg_dev.specs.Files.{Files, Reads, bytes_at}
 use Rattle.mg_bits.specs.Pages.{Paging}
-use Rattle.mg_front.specs.Looks.{ReadOn}
-use Rattle.mg_front.proofs.CallerLemmas.{on_more, on_same, read_first}
+use Rattle.mg_front.specs.Looks.{ReadOn, ReadTo}
+use Rattle.mg_front.proofs.CallerLemmas.{on_more, on_same, read_first, read_first_to}
 use Rattle.mg_model.specs.Damage.{IsPart, IsWalkDamage, StandFirst}
+use Rattle.mg_model.specs.Read.{ReadOnce, ReadWithin}
 use Rattle.mg_model.proofs.Entries.{code, entries-long}
 
 -- a walk that has given all entries has read a part
@@ -91,3 +93,24 @@ once-within w f now r s es part name told same named at gave first =
     let bytes : bytes_at now w.feed.name ≡ bytes_at f name = ap (λ g. bytes_at g w.feed.name) same ∙ ap (bytes_at f) named in
     let within : w.place ≤ length (bytes_at f name) = omega (arith, place-within w (bytes_at now w.feed.name) es (gave.given (subst IsSome (sym same) told)), ap length bytes) in
     subst (λ p. s p ≤ r p + div_ceil (length (bytes_at f name)) 4096) at (first-within w.feed r s w.place (length (bytes_at f name)) within first)
+
+-- and where its next step was refused, one page more at most
+pub refused-within : (w : Walking) (f now : Option Files) (r s t : Reads) (es : List Entry) (part : Part) (name : List ℕ) → IsSome f → now ≡ f → w.feed.name ≡ name → w.feed.part ≡ part → Gave w now es → FirstRead w.feed r s w.place → ReadTo w.feed s t w.place (w.place + 281) → ReadWithin part (bytes_at f name) 1 r t
+refused-within w f now r s t es part name told same named at gave first to =
+    let bytes : bytes_at now w.feed.name ≡ bytes_at f name = ap (λ g. bytes_at g w.feed.name) same ∙ ap (bytes_at f) named in
+    let within : w.place ≤ length (bytes_at f name) = omega (arith, place-within w (bytes_at now w.feed.name) es (gave.given (subst IsSome (sym same) told)), ap length bytes) in
+    let size = length (bytes_at f name) in
+    subst (λ p. t p ≤ r p + div_ceil size 4096 + 1) (sym first.part ∙ at) (read_first_to first.start w.feed r s t w.place size first.none first.part within first.read to)
+
+-- a refusal of a walk's next step
+pub once-refused : {T : Type 0} (w : Walking) (out : FrontEntry) (es : List Entry) (result : Result T PartErr) (refusal : PartErr) (part : Part) (count : ℕ) (bytes same : List ℕ) (r s : Reads) → ((y : PartErr) × (result ≡ Err y) × (y ≡ refusal)) → Given w bytes es → AnswersNext (Err refusal) w out bytes → w.width ≡ 1 → w.count ≡ count → w.feed.part ≡ part → bytes ≡ same → ReadWithin part same 1 r s → ReadOnce part count same r s result
+once-refused {T = T} w out es result refusal part count bytes same r s p given answer width counted at e within = subst (ReadOnce part count same r s) (sym (p.1 ∙ ap Err p.2)) (by refusal answer)
+  where
+    by : (x : PartErr) → AnswersNext (Err x) w out bytes → ReadOnce {T = T} part count same r s (Err x)
+    by Device a = within
+    by Memory a = absurd a
+    by (Bad bad) a = inr (walk-damage w out es part count bytes same bad given a width counted at e, within)
+
+-- a refusal for memory
+pub once-memory : {T : Type 0} (result : Result T PartErr) (part : Part) (count : ℕ) (bytes : List ℕ) (r s : Reads) → ((y : PartErr) × (result ≡ Err y) × (y ≡ Memory)) → ReadWithin part bytes 0 r s → ReadOnce part count bytes r s result
+once-memory result part count bytes r s p within = subst (ReadOnce part count bytes r s) (sym (p.1 ∙ ap Err p.2)) within

@@ -5,6 +5,7 @@ use Rattle.mg_dev.specs.declared.part.Part.TheVariants as part
 use Rattle.mg_dev.specs.declared.bad.Bad as declared
 use Rattle.mg_dev.specs.declared.part_err.PartErr.{PartErr}
 use Rattle.mg_dev.specs.declared.part_err.PartErr.TheVariants.{Device, Memory, Bad}
+use Rattle.mg_defs.specs.Canon.{AreGood}
 use Rattle.mg_defs.specs.CodedText.{StreamCode, TextCode, piece_entries}
 use Rattle.mg_defs.specs.Front.{Entry, AreEntries, IsFront, NoEntry, front, last_string}
 use Rattle.mg_front.specs.Walk.{IsBad}
@@ -41,6 +42,12 @@ pub record IsPart (count : ℕ) (bytes : List ℕ) (code : StreamCode) : Type 0 
   pub front : IsFront 1 bytes (piece_entries code)
   pub count_is : length code.pieces ≡ count
   pub each : length code.lengths ≡ length code.pieces
+
+-- the part has no damage: it has room for so many entries, its bytes are those of the pieces and lengths, and the lengths are good
+pub record IsWholePart (count : ℕ) (bytes : List ℕ) (code : StreamCode) : Type 0 where
+  pub room : 2 * count ≤ length bytes
+  pub part : IsPart count bytes code
+  pub good : AreGood code.lengths
 
 -- the place behind the field of a symbol
 abbrev pub field_end : StreamCode → ℕ → ℕ
@@ -84,18 +91,18 @@ AnswersRoom part count bytes (Err (Bad bad)) = IsTooShort part count bytes bad
 
 -- what loading the code of one stream answers; memory is wanted only where the part has room for the entries
 abbrev pub AnswersStream : Part → ℕ → List ℕ → Result StreamCode PartErr → Type 0
-AnswersStream part count bytes (Ok code) = (2 * count ≤ length bytes) × IsPart count bytes code
+AnswersStream part count bytes (Ok code) = IsWholePart count bytes code
 AnswersStream part count bytes (Err Device) = Unit {0}
 AnswersStream part count bytes (Err Memory) = 2 * count ≤ length bytes
 AnswersStream part count bytes (Err (Bad bad)) = IsDamage part count bytes bad
 
 -- the part has no damage
 abbrev pub IsWhole : ℕ → List ℕ → Type 0
-IsWhole count bytes = (code : StreamCode) × (2 * count ≤ length bytes) × IsPart count bytes code
+IsWhole count bytes = (code : StreamCode) × IsWholePart count bytes code
 
--- what loading a model answers, the words before the others; memory is wanted only where Words has room for its entries
+-- what loading a model answers: each of the three tests of Words comes before any of Nonwords; memory is wanted only where Words has room for its entries
 abbrev pub AnswersLoad : ℕ → ℕ → List ℕ → List ℕ → Result TextCode PartErr → Type 0
-AnswersLoad words others word_bytes other_bytes (Ok code) = IsPart words word_bytes code.words × IsPart others other_bytes code.others
+AnswersLoad words others word_bytes other_bytes (Ok code) = IsWholePart words word_bytes code.words × IsWholePart others other_bytes code.others
 AnswersLoad words others word_bytes other_bytes (Err Device) = Unit {0}
 AnswersLoad words others word_bytes other_bytes (Err Memory) = 2 * words ≤ length word_bytes
 AnswersLoad words others word_bytes other_bytes (Err (Bad bad)) = IsDamage part.Words words word_bytes bad ⊎ (IsWhole words word_bytes × IsDamage part.Nonwords others other_bytes bad)

@@ -1,5 +1,5 @@
 -- The numbers of the terms of words.
-use Rattle.std.specs.Prelude.{ℕ, List, Option, None, Some, map, position, if◌then◌else◌}
+use Rattle.std.specs.Prelude.{◌≡◌, ℕ, ◌<◌, List, Option, None, Some, length, map, position, slice_get, if◌then◌else◌}
 use Rattle.std.specs.Str.{bytes_eq}
 use Rattle.mg_defs.specs.Sorted.{number_of, sorted_distinct}
 use Rattle.mg_defs.specs.Terms.{folded, is_empty, terms_of_words}
@@ -13,6 +13,13 @@ pub record TermNumbers : Type 0 where
 -- the number of the term of a word; the empty word has none
 abbrev pub term_in : List (List ℕ) → List ℕ → Option ℕ
 term_in terms word = if is_empty word then None else Some (number_of terms (folded word))
+
+-- a word has a term among these: its number is that of one of them, which is the word, folded
+pub record HasTerm (terms : List (List ℕ)) (word : List ℕ) : Type 0 where
+  pub number : ℕ
+  pub number_is : term_in terms word ≡ Some number
+  pub within : number < length terms
+  pub term_is : slice_get terms number ≡ Some (folded word)
 
 -- the terms of these words, and the number of each word's term
 abbrev pub terms_and_numbers : List (List ℕ) → TermNumbers

@@ -1,10 +1,15 @@
 -- What every vocabulary keeps, and its columns.
 use Rattle.std.specs.Prelude.{◌≡◌, ℕ, ◌^◌, ◌<◌, ◌≤◌, List, length, map}
-use Rattle.std.specs.List.{AllByRecursion, zip}
+use Rattle.std.specs.List.{AllByRecursion, IsDistinct, zip}
+use Rattle.std.specs.Str.{bytes_eq}
 use Rattle.mg_defs.specs.Vocabulary.{total}
 
--- Each piece has at most 255 bytes and came at least once, and there are no more pieces, and they came no more often, than a vocabulary may hold.
+abbrev pub pieces_of : List (List ℕ × ℕ) → List (List ℕ)
+pieces_of entries = map (λ e. e.0) entries
+
+-- The pieces are distinct, each has at most 255 bytes and came at least once, and there are no more pieces, and they came no more often, than a vocabulary may hold.
 pub record IsVocabulary (entries : List (List ℕ × ℕ)) : Type 0 where
+  pub distinct : IsDistinct bytes_eq (pieces_of entries)
   pub few : length entries ≤ 2 ^ 22
   pub total : total entries < 2 ^ 32
   pub counted : AllByRecursion (λ (e : List ℕ × ℕ). 1 ≤ e.1) entries
@@ -14,9 +19,6 @@ pub record IsVocabulary (entries : List (List ℕ × ℕ)) : Type 0 where
 pub record IsCounted (pieces : List (List ℕ)) (counts : List ℕ) : Type 0 where
   pub same : length counts ≡ length pieces
   pub vocabulary : IsVocabulary (zip pieces counts)
-
-abbrev pub pieces_of : List (List ℕ × ℕ) → List (List ℕ)
-pieces_of entries = map (λ e. e.0) entries
 
 abbrev pub numbers_of : List (List ℕ × ℕ) → List ℕ
 numbers_of entries = map (λ e. e.1) entries

@@ -28,7 +28,10 @@ mod text_model;
 mod vocab;
 mod vocab_err;
 
-pub use laws::{collections_have_models, symbol_and_piece, terms_are_the_dictionary};
+pub use laws::{
+    collections_have_models, symbol_and_piece, terms_are_the_dictionary, vocabularies_sort,
+    words_have_terms,
+};
 pub use mg_defs::Stream;
 pub use term_table::TermTable;
 pub use text_model::TextModel;

@@ -110,7 +110,9 @@ impl ReadPieces {
     }
 }
 
-/// Reads the pieces of a part, and how many bits the codeword of each has.
+/// Reads the pieces of a part, and how many bits the codeword of each has. It reads no page twice,
+/// and one behind the part's end only where the device fails or the entries are damaged. The lengths
+/// are not tested.
 pub fn read_pieces<S: Store>(
     alloc: Global,
     store: &mut S,
@@ -121,7 +123,7 @@ pub fn read_pieces<S: Store>(
     ensures answer { IsSome (S.files store.old) → AnswersEntries file.entry.part count (bytes_at (S.files store.old) (full_name file.entry.base.now file.entry.part)) result }
     ensures each { IfOk result (λ read. length read.lengths.items ≡ length read.pieces) }
     ensures looked { Looked file.entry.part (S.files store.old) (S.files store.new) (S.reads store.old) (S.reads store.new) (S.faults store.old) (S.faults store.new) }
-    ensures once { IsSome (S.files store.old) → ReadOnce file.entry.part (bytes_at (S.files store.old) (full_name file.entry.base.now file.entry.part)) (S.reads store.old) (S.reads store.new) result }
+    ensures once { IsSome (S.files store.old) → ReadOnce file.entry.part count (bytes_at (S.files store.old) (full_name file.entry.base.now file.entry.part)) (S.reads store.old) (S.reads store.new) result }
     ensures cause { HasPartCause (S.faults store.old) (S.faults store.new) result }
 {
     let mut read = room_for(alloc, count)?;

@@ -12,7 +12,7 @@ ghost use Rattle.mg_defs.specs.CodedText.{IsHuffman, pieces_part, piece_entries}
 ghost use Rattle.mg_defs.specs.Vocabulary.{sorted_of, counts_of};
 ghost use Rattle.mg_model.specs.Damage.{AnswersStream};
 ghost use Rattle.mg_model.specs.Models.{IsStreamCode};
-ghost use Rattle.mg_model.specs.Read.{ReadOnce};
+ghost use Rattle.mg_model.specs.Read.{ReadOnce, UnreadIfShort};
 
 use crate::Vocab;
 use crate::pieces::Pieces;
@@ -86,26 +86,18 @@ impl StreamModel {
         ensures wrote { WroteTo (full_name file.entry.base.now file.entry.part) (S.files store.old) (S.files store.new) (S.reads store.old) (S.reads store.new) }
         ensures cause { HasPutCause (S.faults store.old) (S.faults store.new) result }
     {
-        let mut writer = match FrontWriter::start(alloc, store, file, None, 1) {
-            Ok(writer) => writer,
-            Err(refusal) => return Err(refusal),
-        };
+        let mut writer = FrontWriter::start(alloc, store, file, None, 1)?;
         for symbol in 0..self.lengths.len() {
             let piece = self.pieces.piece(symbol as u32);
-            match writer.push(store, piece, &[self.lengths[symbol]]) {
-                Ok(()) => {}
-                Err(refusal) => return Err(refusal),
-            }
+            writer.push(store, piece, &[self.lengths[symbol]])?;
         }
-        match writer.finish(store) {
-            Ok(()) => Ok(()),
-            Err(refusal) => Err(refusal),
-        }
+        writer.finish(store)
     }
 
-    /// Reads the model of so many pieces from a part. Memory is wanted only where the part has two
-    /// bytes for each. That the pieces rise is tested again, for the walk promises it only over a
-    /// store that tells its files.
+    /// Reads the model of so many pieces from a part. Memory is wanted, and the part is read, only
+    /// where it has two bytes for each. It reads no page twice, and one behind the part's end only
+    /// where the device fails or the entries are damaged. That the pieces rise is tested again, for
+    /// the walk promises it only over a store that tells its files.
     pub fn load<S: Store>(
         alloc: Global,
         store: &mut S,
@@ -115,17 +107,15 @@ impl StreamModel {
         requires { count ≤ 2 ^ 22 }
         ensures answer { IsSome (S.files store.old) → AnswersStream file.entry.part count (bytes_at (S.files store.old) (full_name file.entry.base.now file.entry.part)) result }
         ensures looked { Looked file.entry.part (S.files store.old) (S.files store.new) (S.reads store.old) (S.reads store.new) (S.faults store.old) (S.faults store.new) }
-        ensures once { IsSome (S.files store.old) → ReadOnce file.entry.part (bytes_at (S.files store.old) (full_name file.entry.base.now file.entry.part)) (S.reads store.old) (S.reads store.new) result }
+        ensures once { IsSome (S.files store.old) → ReadOnce file.entry.part count (bytes_at (S.files store.old) (full_name file.entry.base.now file.entry.part)) (S.reads store.old) (S.reads store.new) result }
+        ensures unread { IsSome (S.files store.old) → UnreadIfShort file.entry.part count (bytes_at (S.files store.old) (full_name file.entry.base.now file.entry.part)) (S.reads store.old) (S.reads store.new) }
         ensures cause { HasPartCause (S.faults store.old) (S.faults store.new) result }
     {
         match expect_room(store, &file, count) {
             Ok(()) => {}
             Err(refusal) => return Err(refusal),
         }
-        let read = match read_pieces(alloc, store, file, count) {
-            Ok(read) => read,
-            Err(refusal) => return Err(refusal),
-        };
+        let read = read_pieces(alloc, store, file, count)?;
         if !read.rises() {
             return Err(PartErr::Bad(Bad {
                 part: file.part,
@@ -135,10 +125,7 @@ impl StreamModel {
                 found: 0,
             }));
         }
-        let canon = match code_of(alloc, file.part, &read) {
-            Ok(canon) => canon,
-            Err(refusal) => return Err(refusal),
-        };
+        let canon = code_of(alloc, file.part, &read)?;
         let ReadPieces {
             mut pieces,
             lengths,

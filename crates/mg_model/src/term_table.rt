@@ -1,5 +1,8 @@
 //! The numbers of terms.
 ghost use Rattle.std.specs.Prelude.{◌≡◌, ◌+◌, ◌-◌, ◌<◌, ◌≤◌, ◌^◌, length, take, slice_get, Some, IfOk, OnOk, IsTrue, ◌↔◌};
+ghost use Rattle.std.specs.List.Sorted.{IsStrictlySortedBy};
+ghost use Rattle.std.specs.Ordering.{nat_cmp};
+ghost use Rattle.std.specs.Cmp.Lexicographic.{slice_cmp};
 ghost use Rattle.mg_defs.specs.Terms.{folded, is_empty};
 ghost use Rattle.mg_defs.specs.Vocabulary.{total};
 ghost use Rattle.mg_model.specs.Terms.{counted_term, place_in, terms_and_numbers};
@@ -23,10 +26,14 @@ impl Model for TermTable {
 
     ghost Value = { TermNumbers };
 
-    ghost use Rattle.std.specs.Prelude.{◌≤◌, ◌^◌, length};
+    ghost use Rattle.std.specs.Cmp.Lexicographic.{slice_cmp};
+    ghost use Rattle.std.specs.List.Sorted.{IsStrictlySortedBy};
+    ghost use Rattle.std.specs.Ordering.{nat_cmp};
     ghost use Rattle.mg_model.specs.Vocabularies.{pieces_of};
 
     ghost view = { λ t. record { terms = pieces_of t.terms; numbers = t.numbers.items } };
+
+    ghost invariant = { λ t. IsStrictlySortedBy (slice_cmp nat_cmp) (pieces_of t.terms) };
 }
 
 /// Whether a word is empty.
@@ -89,17 +96,20 @@ impl TermTable {
         Ok(TermTable { terms, numbers })
     }
 
-    /// The number of terms.
+    /// The number of terms, at most 2^22. They are distinct, and rise by their bytes.
     pub fn count(&self) -> u32
-        ensures { result ≡ length self.now.terms }
+        ensures count { result ≡ length self.now.terms }
+        ensures few { length self.now.terms ≤ 2 ^ 22 }
+        ensures keeps { IsStrictlySortedBy (slice_cmp nat_cmp) self.now.terms }
     {
         self.terms.len()
     }
 
-    /// The term of a number, which is below the count.
+    /// The term of a number, which is below the count. It has at most 255 bytes.
     pub fn term(&self, number: u32) -> &[u8]
         requires { number < length self.now.terms }
-        ensures { slice_get self.now.terms number ≡ Some result.now }
+        ensures term { slice_get self.now.terms number ≡ Some result.now }
+        ensures short { length result.now ≤ 255 }
     {
         self.terms.piece(number)
     }

@@ -10,7 +10,7 @@ ghost use Rattle.mg_defs.specs.Vocabulary.{sorted_of, counts_of};
 ghost use Rattle.mg_front.specs.Reading.{LookedAt};
 ghost use Rattle.mg_model.specs.Damage.{AnswersLoad, AnswersStanding};
 ghost use Rattle.mg_model.specs.Models.{IsStreamCode, PartsHold, PartsStand, code_of};
-ghost use Rattle.mg_model.specs.Read.{ReadOnce};
+ghost use Rattle.mg_model.specs.Read.{ReadBehindWhole, ReadOnce, ToldUnread, UnreadIfShort};
 
 use crate::stream_model::StreamModel;
 use crate::{Stream, Vocab};
@@ -68,22 +68,18 @@ impl TextModel {
             base,
             part: Part::Nonwords,
         };
-        match self.words.write(alloc, store, words) {
-            Ok(()) => {}
-            Err(refusal) => return Err(refusal),
-        }
-        match self.others.write(alloc, store, others) {
-            Ok(()) => Ok(()),
-            Err(refusal) => Err(refusal),
-        }
+        self.words.write(alloc, store, words)?;
+        self.others.write(alloc, store, others)
     }
 
-    /// Reads the parts Words and Nonwords, in this order, each once. `words` and `others` are the
-    /// numbers of pieces, at most 2^22 each. It compares a part's size with twice that number before
-    /// it reserves anything, walks the entries, and then tests the lengths; the first test that
-    /// fails is told. So memory is wanted only where Words is no shorter than twice `words`. It
-    /// reads no page of 4,096 bytes twice; where it is refused it may have asked for one page behind
-    /// a part's end, since an entry that breaks off is sought on there.
+    /// Reads the parts Words and Nonwords, each once. `words` and `others` are the numbers of pieces,
+    /// at most 2^22 each. Three tests are made of a part: its size is compared with twice that number
+    /// before anything is reserved or read of it, its entries are walked, and then the lengths are
+    /// tested. Each test of Words comes before any of Nonwords, and the first that fails is told. So
+    /// memory is wanted only where Words is no shorter than twice `words`, and Nonwords is read only
+    /// where Words has no damage. It reads no page of 4,096 bytes twice; it may ask for one page
+    /// behind a part's end where the device fails or that part's entries are damaged, since an entry
+    /// that breaks off is sought on there. Whatever it answers, the files stay as they were.
     pub fn load<S: Store>(
         alloc: Global,
         store: &mut S,
@@ -96,8 +92,12 @@ impl TextModel {
         ensures answer { IsSome (S.files store.old) → AnswersLoad words others (bytes_at (S.files store.old) (full_name base.now Part.Words)) (bytes_at (S.files store.old) (full_name base.now Part.Nonwords)) result }
         ensures standing { (code : TextCode) → PartsStand (S.files store.old) base.now code words others → AnswersStanding result code }
         ensures looked { LookedAt Part.Words Part.Nonwords (S.files store.old) (S.files store.new) (S.reads store.old) (S.reads store.new) (S.faults store.old) (S.faults store.new) }
-        ensures words_once { IsSome (S.files store.old) → ReadOnce Part.Words (bytes_at (S.files store.old) (full_name base.now Part.Words)) (S.reads store.old) (S.reads store.new) result }
-        ensures others_once { IsSome (S.files store.old) → ReadOnce Part.Nonwords (bytes_at (S.files store.old) (full_name base.now Part.Nonwords)) (S.reads store.old) (S.reads store.new) result }
+        ensures words_once { IsSome (S.files store.old) → ReadOnce Part.Words words (bytes_at (S.files store.old) (full_name base.now Part.Words)) (S.reads store.old) (S.reads store.new) result }
+        ensures others_once { IsSome (S.files store.old) → ReadOnce Part.Nonwords others (bytes_at (S.files store.old) (full_name base.now Part.Nonwords)) (S.reads store.old) (S.reads store.new) result }
+        ensures words_unread { IsSome (S.files store.old) → UnreadIfShort Part.Words words (bytes_at (S.files store.old) (full_name base.now Part.Words)) (S.reads store.old) (S.reads store.new) }
+        ensures others_unread { IsSome (S.files store.old) → UnreadIfShort Part.Nonwords others (bytes_at (S.files store.old) (full_name base.now Part.Nonwords)) (S.reads store.old) (S.reads store.new) }
+        ensures words_first { IsSome (S.files store.old) → ReadBehindWhole words (bytes_at (S.files store.old) (full_name base.now Part.Words)) (S.reads store.old) (S.reads store.new) }
+        ensures words_told { IsSome (S.files store.old) → ToldUnread (S.reads store.old) (S.reads store.new) result }
         ensures cause { HasPartCause (S.faults store.old) (S.faults store.new) result }
     {
         Self::load_parts(alloc, store, base, words, others)
@@ -115,8 +115,12 @@ impl TextModel {
         requires others { others ≤ 2 ^ 22 }
         ensures answer { IsSome (S.files store.old) → AnswersLoad words others (bytes_at (S.files store.old) (full_name base.now Part.Words)) (bytes_at (S.files store.old) (full_name base.now Part.Nonwords)) result }
         ensures looked { LookedAt Part.Words Part.Nonwords (S.files store.old) (S.files store.new) (S.reads store.old) (S.reads store.new) (S.faults store.old) (S.faults store.new) }
-        ensures words_once { IsSome (S.files store.old) → ReadOnce Part.Words (bytes_at (S.files store.old) (full_name base.now Part.Words)) (S.reads store.old) (S.reads store.new) result }
-        ensures others_once { IsSome (S.files store.old) → ReadOnce Part.Nonwords (bytes_at (S.files store.old) (full_name base.now Part.Nonwords)) (S.reads store.old) (S.reads store.new) result }
+        ensures words_once { IsSome (S.files store.old) → ReadOnce Part.Words words (bytes_at (S.files store.old) (full_name base.now Part.Words)) (S.reads store.old) (S.reads store.new) result }
+        ensures others_once { IsSome (S.files store.old) → ReadOnce Part.Nonwords others (bytes_at (S.files store.old) (full_name base.now Part.Nonwords)) (S.reads store.old) (S.reads store.new) result }
+        ensures words_unread { IsSome (S.files store.old) → UnreadIfShort Part.Words words (bytes_at (S.files store.old) (full_name base.now Part.Words)) (S.reads store.old) (S.reads store.new) }
+        ensures others_unread { IsSome (S.files store.old) → UnreadIfShort Part.Nonwords others (bytes_at (S.files store.old) (full_name base.now Part.Nonwords)) (S.reads store.old) (S.reads store.new) }
+        ensures words_first { IsSome (S.files store.old) → ReadBehindWhole words (bytes_at (S.files store.old) (full_name base.now Part.Words)) (S.reads store.old) (S.reads store.new) }
+        ensures words_told { IsSome (S.files store.old) → ToldUnread (S.reads store.old) (S.reads store.new) result }
         ensures cause { HasPartCause (S.faults store.old) (S.faults store.new) result }
     {
         let word_part = FileRef {

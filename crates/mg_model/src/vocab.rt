@@ -1,5 +1,5 @@
 //! A vocabulary: distinct pieces, each with its count.
-ghost use Rattle.std.specs.Prelude.{◌≡◌, ◌+◌, ◌-◌, ◌<◌, ◌≤◌, ◌^◌, ◌↔◌, [], length, map, position, slice_get, Some, false, IfOk, OnOk, OnErr, IsErrOf};
+ghost use Rattle.std.specs.Prelude.{◌≡◌, ◌+◌, ◌-◌, ◌<◌, ◌≤◌, ◌^◌, ◌↔◌, [], length, map, position, slice_get, Some, false, true, IfOk, IsOk, OnOk, OnErr, IsErrOf};
 ghost use Rattle.std.specs.List.Sorted.{IsStrictlySortedBy};
 ghost use Rattle.std.specs.Ordering.{nat_cmp};
 ghost use Rattle.std.specs.Cmp.Lexicographic.{slice_cmp};
@@ -52,7 +52,8 @@ impl Vocab {
         }
     }
 
-    /// The number of entries.
+    /// The number of entries, which have distinct pieces of at most 255 bytes: at most 2^22, each
+    /// counted at least once, and all together fewer than 2^32 times.
     pub fn len(&self) -> u32
         ensures len { result ≡ length self.now }
         ensures keeps { IsVocabulary self.now }
@@ -61,14 +62,16 @@ impl Vocab {
     }
 
     /// Adds one to the count of a piece of at most 255 bytes, or adds the piece last. Fewer than
-    /// 2^32 - 1 pieces were counted before. It refuses exactly where there are 2^22 entries and the
-    /// piece is none of them, and where there is no memory for it; then nothing changed.
+    /// 2^32 - 1 pieces were counted before. A piece that is there takes no memory, and is never
+    /// refused. Another is refused as one too many exactly where there are 2^22 entries, and else
+    /// only where there is no memory for it. After a refusal nothing changed.
     pub fn count(&mut self, piece: &[u8]) -> Result<(), VocabErr>
         requires total { total self.old < 2 ^ 32 - 1 }
         requires short { length piece.now ≤ 255 }
         ensures counted { OnOk result (self.new ≡ counted piece.now self.old) }
         ensures total { OnOk result (total self.new ≡ total self.old + 1) }
         ensures full { IsErrOf result VocabErr.TooMany ↔ ((has_piece self.old piece.now ≡ false) × (length self.old ≡ 2 ^ 22)) }
+        ensures known { has_piece self.old piece.now ≡ true → IsOk result }
         ensures err { OnErr result (self.new ≡ self.old) }
     {
         let hash = hash_of(piece);
@@ -123,10 +126,11 @@ impl Vocab {
         self.pieces.place_of(piece)
     }
 
-    /// The piece at a place.
+    /// The piece at a place, of at most 255 bytes.
     pub(crate) fn piece(&self, place: u32) -> &[u8]
         requires { place < length self.now }
-        ensures { slice_get (pieces_of self.now) place ≡ Some result.now }
+        ensures piece { slice_get (pieces_of self.now) place ≡ Some result.now }
+        ensures short { length result.now ≤ 255 }
     {
         self.pieces.piece(place)
     }

@@ -23,7 +23,6 @@ use Rattle.mg_front.specs.Reading.{IsNotBad}
 use Rattle.mg_layout.specs.declared.head.Head.{Head}
 use Rattle.mg_model.specs.Damage.{AnswersLoad}
 use Rattle.mg_model.specs.Models.{IsModel, PartsStand}
-use Rattle.mg_model.proofs.CallerLemmas.{room-of}
 use Rattle.mg_text.specs.Documents.{TextHolds}
 use Rattle.mg_text.proofs.LimitLaws.{text_small}
 use Rattle.mg_text.specs.Decoding.{Ends, Stopped, Takes, WholeDoc}
@@ -138,7 +137,7 @@ pub reader_refused : (base : List ℕ) (files mid : Option Files) (head : Head) 
     (IsSome mid → AnswersLoad head.words head.others (bytes_at mid (full_name base part.Words)) (bytes_at mid (full_name base part.Nonwords)) (Ok code)) → IsSome files → AnswersReader (stored_at files base head) (Err Memory)
 reader_refused base files mid head code same sizes answers told =
     let loaded = subst (λ f. AnswersLoad head.words head.others (bytes_at f (full_name base part.Words)) (bytes_at f (full_name base part.Nonwords)) (Ok code)) same (answers (subst IsSome (sym same) told)) in
-    (sizes, room-of head.words (bytes_at files (full_name base part.Words)) code.words loaded.0)
+    (sizes, loaded.0.room)
 
 -- ---- what an answer says
 

@@ -84,3 +84,20 @@ invariant_of-self-2 c =
           (subst (λ b. length old + cond b 0 1 ≤ 2 ^ 22) (sym none) few)
           (counted-last c.args.piece.now c.self.inside.pieces c.push.new.self c.self.inside.counts.items c.push_reserved.new.self.items c.self.invariant.same c.in_default.ensures c.in_ok-push.ensures.ok counts);
     }
+
+-- ---- a piece that is there is not refused
+
+pub returns-then-len-ge-MOST_PIECES-clause-known : goal.returns-then-len-ge-MOST_PIECES-clause-known
+returns-then-len-ge-MOST_PIECES-clause-known c = λ there.
+    let none : has_piece c.args.self.now c.args.piece.now ≡ false = ap (λ es. has_piece es c.args.piece.now) (sym c.self.view_is) ∙ not-found c.args.piece.now c.self.inside.pieces c.self.inside.counts.items c.self.invariant.same c.in_default.ensures in
+    absurd (false≢true (sym none ∙ there))
+
+pub returns-in_err-make_room-clause-known : goal.returns-in_err-make_room-clause-known
+returns-in_err-make_room-clause-known c = λ there.
+    let none : has_piece c.args.self.now c.args.piece.now ≡ false = ap (λ es. has_piece es c.args.piece.now) (sym c.self.view_is) ∙ not-found c.args.piece.now c.self.inside.pieces c.self.inside.counts.items c.self.invariant.same c.in_default.ensures in
+    absurd (false≢true (sym none ∙ there))
+
+pub returns-in_err-push-clause-known : goal.returns-in_err-push-clause-known
+returns-in_err-push-clause-known c = λ there.
+    let none : has_piece c.args.self.now c.args.piece.now ≡ false = ap (λ es. has_piece es c.args.piece.now) (sym c.self.view_is) ∙ not-found c.args.piece.now c.self.inside.pieces c.self.inside.counts.items c.self.invariant.same c.in_default.ensures in
+    absurd (false≢true (sym none ∙ there))
