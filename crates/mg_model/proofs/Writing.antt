@@ -1,5 +1,5 @@
 -- The entries of a stream's pieces, as they are written and as they rise.
-use Rattle.std.proofs.Common.{◌≡◌, ◌≢◌, ℕ, ◌+◌, ◌*◌, ◌<◌, ◌≤◌, ◌==◌, ◌||◌, Bool, true, false, List, [], ◌∷◌, length, take, get_or, slice_get, Some, None, Option, refl, sym, ap, subst, ◌∙◌, arith, Err, Result, zero-add, inr}
+use Rattle.std.proofs.Common.{◌≡◌, ◌≢◌, ℕ, ◌+◌, ◌*◌, ◌<◌, ◌≤◌, ◌==◌, ◌||◌, Bool, true, false, List, [], ◌∷◌, length, take, get_or, slice_get, Some, None, Option, refl, sym, ap, subst, ◌∙◌, arith, Err, zero-add, inr}
 use Rattle.std.specs.Option.{option_map}
 use Rattle.std.specs.List.{AllByRecursion}
 use Rattle.std.specs.List.Sorted.{IsStrictlySortedBy}
@@ -8,8 +8,6 @@ use Rattle.std.specs.declared.cmp.Ordering.{Ordering}
 use Rattle.std.specs.declared.cmp.Ordering.TheVariants.{Less, Equal, Greater}
 use Rattle.std.specs.Cmp.Lexicographic.{slice_cmp}
 use Rattle.std.proofs.lemmas.List.{get_or_default}
-use Rattle.mg_dev.specs.Causes.{HasPutCause, Rose}
-use Rattle.mg_dev.specs.declared.device.PutErr.{PutErr}
 use Rattle.mg_dev.specs.declared.part.Part.{Part}
 use Rattle.mg_dev.specs.declared.part_err.PartErr.{PartErr}
 use Rattle.mg_dev.specs.declared.part_err.PartErr.TheVariants.{Device, Memory, Bad}
@@ -81,9 +79,6 @@ entry-of-writer es n width count last e are within there w c l =
 pub is-other : (n strings : List ℕ) (places : Option Writing) → option_map (λ (p : Writing). p.name) places ≡ None → n ≢ strings → IsOther n strings places
 is-other n strings None h apart = apart
 is-other n strings (Some places) h apart = absurd cc
-
-pub put-later : (before middle now : ℕ) (r : Result (Unit {0}) PutErr) → before ≤ middle → HasPutCause middle now r → HasPutCause before now r
-put-later before middle now r h cause = record { later = omega (arith, cause.later); failed = λ e. let rose : Rose middle now = cause.failed e in omega (arith, rose) }
 
 -- ---- a part that was read
 
