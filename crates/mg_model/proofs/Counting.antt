@@ -9,7 +9,7 @@ use Rattle.std.proofs.lemmas.List.Folds.{list_any_at}
 use Rattle.std.proofs.lemmas.List.Quantifiers.{position-Some}
 use Rattle.std.proofs.lemmas.List.Sums.{sum_by-cons}
 use Rattle.mg_defs.specs.Vocabulary.{has_piece, counted, total}
-use Rattle.mg_model.specs.Vocabularies.{IsVocabulary, pieces_of, numbers_of}
+use Rattle.mg_model.specs.Vocabularies.{IsVocabulary, pieces_of, entry_counts}
 use Rattle.mg_model.proofs.Tabling.{any-none}
 
 pub pieces-zip : (pieces : List (List ℕ)) (counts : List ℕ) → length counts ≡ length pieces → pieces_of (zip pieces counts) ≡ pieces
@@ -17,7 +17,7 @@ pieces-zip [] counts h = refl
 pieces-zip (p ∷ pieces) [] h = absurd (omega arith)
 pieces-zip (p ∷ pieces) (n ∷ counts) h = ap (λ ps. p ∷ ps) (pieces-zip pieces counts (omega arith))
 
-pub numbers-zip : (pieces : List (List ℕ)) (counts : List ℕ) → length counts ≡ length pieces → numbers_of (zip pieces counts) ≡ counts
+pub numbers-zip : (pieces : List (List ℕ)) (counts : List ℕ) → length counts ≡ length pieces → entry_counts (zip pieces counts) ≡ counts
 numbers-zip [] [] h = refl
 numbers-zip [] (n ∷ counts) h = absurd (omega arith)
 numbers-zip (p ∷ pieces) [] h = absurd (omega arith)

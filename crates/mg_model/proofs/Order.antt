@@ -19,7 +19,7 @@ use Rattle.std.proofs.lemmas.Map.Text.{is_eq-slice_cmp}
 use Rattle.mg_defs.specs.Sorted.{sorted_distinct}
 use Rattle.mg_defs.specs.Vocabulary.{entry_count, sorted_of, counts_of}
 use Rattle.mg_defs.proofs.SortedLaws.{same-refl, sorted-rising, rising-unique, has-sorted}
-use Rattle.mg_model.specs.Vocabularies.{IsVocabulary, pieces_of, numbers_of}
+use Rattle.mg_model.specs.Vocabularies.{IsVocabulary, pieces_of, entry_counts}
 
 abbrev pub order : List ℕ → List ℕ → Ordering
 order a b = slice_cmp nat_cmp a b
@@ -65,7 +65,7 @@ later-counts e es (p ∷ ps) h =
     λ i. head i ∷ tail i
 
 -- each count is that of its piece
-own-counts : (es : List (List ℕ × ℕ)) → IsDistinct bytes_eq (pieces_of es) → numbers_of es ≡ map (entry_count es) (pieces_of es)
+own-counts : (es : List (List ℕ × ℕ)) → IsDistinct bytes_eq (pieces_of es) → entry_counts es ≡ map (entry_count es) (pieces_of es)
 unfolding IsDistinct
 own-counts [] h = refl
 own-counts (e ∷ es) h =
@@ -85,7 +85,7 @@ module _ (es fs : List (List ℕ × ℕ)) (moved : IsPermutation es fs) where
       rising-unique (pieces_of fs) (sorted_distinct (pieces_of es)) rising (sorted-rising (pieces_of es))
       (λ s h. has-sorted (pieces_of es) s ∙ same-has s ∙ h) (λ s h. sym (same-has s) ∙ sym (has-sorted (pieces_of es) s) ∙ h)
 
-  pub sorted-counts : IsDistinct bytes_eq (pieces_of fs) → IsStrictlySortedBy (slice_cmp nat_cmp) (pieces_of fs) → numbers_of fs ≡ counts_of es
+  pub sorted-counts : IsDistinct bytes_eq (pieces_of fs) → IsStrictlySortedBy (slice_cmp nat_cmp) (pieces_of fs) → entry_counts fs ≡ counts_of es
   sorted-counts distinct rising =
       let before : IsDistinct bytes_eq (pieces_of es) = IsDistinct-IsPermutation bytes_eq same-sym (pieces_of fs) (pieces_of es) (IsPermutation-sym (pieces_of es) (pieces_of fs) keys-moved) distinct in
       let agree : (p : List ℕ) → entry_count fs p ≡ entry_count es p = λ p. count-sum p fs distinct ∙ sum_by-IsPermutation (λ (e : List ℕ × ℕ). cond (bytes_eq p e.0) e.1 0) es fs moved ∙ sym (count-sum p es before) in

@@ -20,5 +20,5 @@ pub record IsCounted (pieces : List (List ℕ)) (counts : List ℕ) : Type 0 whe
   pub same : length counts ≡ length pieces
   pub vocabulary : IsVocabulary (zip pieces counts)
 
-abbrev pub numbers_of : List (List ℕ × ℕ) → List ℕ
-numbers_of entries = map (λ e. e.1) entries
+abbrev pub entry_counts : List (List ℕ × ℕ) → List ℕ
+entry_counts entries = map (λ e. e.1) entries

@@ -193,7 +193,7 @@ fn entry_end(pieces: &PieceBlock, symbol: u32) -> u64
 }
 
 /// The code of the lengths that were read.
-pub fn code_of(alloc: Global, part: Part, read: &ReadPieces) -> Result<Canon, PartErr>
+pub fn checked_code(alloc: Global, part: Part, read: &ReadPieces) -> Result<Canon, PartErr>
     requires each { length read.now.lengths.items ≡ length read.now.pieces }
     requires few { length read.now.pieces ≤ 2 ^ 22 }
     ensures answer { (count : ℕ) (bytes : List ℕ) → IsPart count bytes (code_read read.now) → AnswersCode part count bytes result }

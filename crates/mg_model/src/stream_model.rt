@@ -16,7 +16,7 @@ ghost use Rattle.mg_model.specs.Read.{ReadOnce, UnreadIfShort};
 
 use crate::Vocab;
 use crate::pieces::Pieces;
-use crate::reading::{ReadPieces, code_of, expect_room, read_pieces};
+use crate::reading::{ReadPieces, checked_code, expect_room, read_pieces};
 use mg_canon::Canon;
 use mg_dev::{Bad, FileRef, PartErr, PutErr, Store};
 use mg_front::FrontWriter;
@@ -125,7 +125,7 @@ impl StreamModel {
                 found: 0,
             }));
         }
-        let canon = code_of(alloc, file.part, &read)?;
+        let canon = checked_code(alloc, file.part, &read)?;
         let ReadPieces {
             mut pieces,
             lengths,

@@ -5,7 +5,7 @@ ghost use Rattle.std.specs.Ordering.{nat_cmp};
 ghost use Rattle.std.specs.Cmp.Lexicographic.{slice_cmp};
 ghost use Rattle.std.specs.Str.{bytes_eq};
 ghost use Rattle.mg_defs.specs.Vocabulary.{has_piece, counted, total, sorted_of, counts_of};
-ghost use Rattle.mg_model.specs.Vocabularies.{IsVocabulary, pieces_of, numbers_of};
+ghost use Rattle.mg_model.specs.Vocabularies.{IsVocabulary, pieces_of, entry_counts};
 
 use crate::VocabErr;
 use crate::piece_table::{PieceTable, hash_of};
@@ -91,7 +91,7 @@ impl Vocab {
     /// Sorts the entries by the bytes of their pieces.
     pub(crate) fn sort(&mut self) -> Result<(), AllocError>
         ensures pieces { OnOk result (pieces_of self.new ≡ sorted_of self.old) }
-        ensures counts { OnOk result (numbers_of self.new ≡ counts_of self.old) }
+        ensures counts { OnOk result (entry_counts self.new ≡ counts_of self.old) }
         ensures rising { OnOk result (IsStrictlySortedBy (slice_cmp nat_cmp) (pieces_of self.new)) }
     {
         let counts = self.pieces.sort(&self.counts)?;
@@ -101,7 +101,7 @@ impl Vocab {
 
     /// The counts, in the order of the entries.
     pub(crate) fn counts(&self) -> Result<Vec<u64>, AllocError>
-        ensures counts { IfOk result (λ counts. counts.items ≡ numbers_of self.now) }
+        ensures counts { IfOk result (λ counts. counts.items ≡ entry_counts self.now) }
         ensures keeps { IsVocabulary self.now }
     {
         let mut counts = Vec::with_capacity(self.alloc, self.counts.len())?;
@@ -114,7 +114,7 @@ impl Vocab {
     /// The count at a place.
     fn count_at(&self, place: usize) -> u32
         requires { place < length self.now }
-        ensures { slice_get (numbers_of self.now) place ≡ Some result }
+        ensures { slice_get (entry_counts self.now) place ≡ Some result }
     {
         self.counts[place]
     }

@@ -2,7 +2,7 @@ use Rattle.std.proofs.Common.{arith, refl, ◌≡◌, ◌-◌, ◌+◌, ◌∙�
 use Rattle.mg_canon.specs.Refusals.{IsFirstBad, IsUnfilled, most_bits}
 use Rattle.mg_model.proofs.Entries.{sizes-are}
 use Rattle.mg_model.proofs.Damages.{outside-length, outside-sum}
-use Rattle.mg_model.proofs.reading.code_of.Goals as goal
+use Rattle.mg_model.proofs.reading.checked_code.Goals as goal
 
 pub new-requires : goal.new-requires
 new-requires c = omega (arith, ap length c.deref.ensures.value, c.requires.each, c.requires.few)
