@@ -28,4 +28,6 @@ pub use mg_defs::Posting;
 pub use writer::ListWriter;
 
 #[cfg(test)]
+mod beside_tests;
+#[cfg(test)]
 mod tests;

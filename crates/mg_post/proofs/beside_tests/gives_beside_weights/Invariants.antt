@@ -3,7 +3,7 @@ use Rattle.std.specs.Prelude.{codes}
 use Rattle.mg_dev.specs.Names.{full_name}
 use Rattle.mg_dev.specs.declared.part.Part.TheVariants.{Post, Skip}
 use Rattle.mg_post.specs.Cursor.{CursorFits}
-use Rattle.mg_post.proofs.tests.gives_beside_weights.Given as goal
+use Rattle.mg_post.proofs.beside_tests.gives_beside_weights.Given as goal
 
 abbrev pub invariant-loop-posting : goal.invariant-loop-posting
 invariant-loop-posting g l = record {

@@ -8,7 +8,7 @@ use Rattle.mg_dev.specs.Files.{Files, file_at, grown}
 use Rattle.mg_dev.specs.Laws.{append-others, append-told, same_part_of_name}
 use Rattle.mg_dev.specs.Names.{full_name}
 use Rattle.mg_post.specs.Cursor.{Cursoring, SameList}
-use Rattle.mg_post.proofs.tests.next_beside_weights.Goals as goal
+use Rattle.mg_post.proofs.beside_tests.next_beside_weights.Goals as goal
 
 -- a part that is not Weights stays as it is
 stays : (old new : Option Files) (base name piece : List ℕ) (part : Part) → part ≢ Weights → name ≡ full_name base part → new ≡ grown old (full_name base Weights) piece → file_at new name ≡ file_at old name
