@@ -10,14 +10,14 @@ use Rattle.mg_bits.specs.Writer.{Writing, put_to, AreBytes, KeepsBytes, Wrote, W
 use Rattle.mg_bits.specs.BitWriting.{BitWriting, Holds, WroteBits, bits_put}
 
 -- eight bits more than were held go out as a byte
-byte_out : (rest count bits size over word : ℕ) → count + size ≡ 8 + over → bits < 2 ^ size → word ≡ rest * 2 ^ size + bits →
+pub byte_out : (rest count bits size over word : ℕ) → count + size ≡ 8 + over → bits < 2 ^ size → word ≡ rest * 2 ^ size + bits →
     digits 8 (word / 2 ^ over) ++ digits over (word % 2 ^ over) ≡ digits count rest ++ digits size bits
 byte_out rest count bits size over word same low is =
     let e : word / 2 ^ over * 2 ^ over + word % 2 ^ over ≡ word = shr_split word over in
     sym (digits_append 8 over (word / 2 ^ over) (word % 2 ^ over) (mod_below word (2 ^ over) (pow_pos over)))
     ∙ ap (digits (8 + over)) (e ∙ is) ∙ ap (λ n. digits n (rest * 2 ^ size + bits)) (sym same) ∙ digits_append count size rest bits low
 
-bits_of_one : (byte : ℕ) → bits_of (byte ∷ []) ≡ digits 8 byte
+pub bits_of_one : (byte : ℕ) → bits_of (byte ∷ []) ≡ digits 8 byte
 unfolding bits_of
 bits_of_one byte = append-nil (digits 8 byte)
 

@@ -12,3 +12,4 @@ mod Walks
 mod EightBytes
 mod ByteLaws
 mod HeldPages
+mod Growing

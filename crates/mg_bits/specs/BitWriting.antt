@@ -1,5 +1,5 @@
 -- What contracts see of a bit writer, and what its calls do.
-use Rattle.std.specs.Prelude.{◌≡◌, ◌+◌, ◌++◌, ℕ, List, length}
+use Rattle.std.specs.Prelude.{◌≡◌, ◌+◌, ◌≤◌, ◌++◌, ℕ, List, length, take}
 use Rattle.std.specs.Option.{IsSome}
 use Rattle.std.specs.declared.option.Option.{Option}
 use Rattle.mg_dev.specs.Files.{Files, bytes_at}
@@ -26,3 +26,13 @@ pub record WroteBits (old new : BitWriting) (files_before files_now : Option Fil
   pub name : new.name ≡ old.name
   pub place : new.place ≡ old.place + length bits
   pub told : IsSome files_before → bits_put new files_now ≡ bits_put old files_before ++ bits
+
+-- bits with the first of these behind them
+pub record GrewBy (old new bits : Bits) : Type 0 where
+  pub count : ℕ
+  pub within : count ≤ length bits
+  pub is : new ≡ old ++ take count bits
+
+-- the bits of the file grew by the first of these
+abbrev pub GrewBits : List ℕ → Option Files → Option Files → Bits → Type 0
+GrewBits name files_before files_now bits = IsSome files_before → GrewBy (bits_of (bytes_at files_before name)) (bits_of (bytes_at files_now name)) bits

@@ -49,6 +49,13 @@ pub record Looked (part : Part) (files_before files_now : Option Files) (reads_b
   pub later : (p : Part) → reads_before p ≤ reads_now p
   pub others : (p : Part) → same_part p part ≡ false → reads_now p ≡ reads_before p
 
+-- a call that only reads, and that reads these two parts alone
+pub record LookedAt (one other : Part) (files_before files_now : Option Files) (reads_before reads_now : Reads) (faults_before faults_now : ℕ) : Type 0 where
+  pub files : files_now ≡ files_before
+  pub faults : faults_before ≤ faults_now
+  pub later : (p : Part) → reads_before p ≤ reads_now p
+  pub others : (p : Part) → same_part p one ≡ false → same_part p other ≡ false → reads_now p ≡ reads_before p
+
 -- the buffer has the bytes from a place on, or they end before it is full
 abbrev pub IsFilled : Bool → List ℕ → ℕ → List ℕ → Type 0
 IsFilled true buf at bytes = buf ≡ take (length buf) (drop at bytes)

@@ -4,8 +4,8 @@ ghost use Rattle.mg_dev.specs.Names.{full_name};
 ghost use Rattle.mg_dev.specs.Files.{bytes_at};
 ghost use Rattle.mg_dev.specs.Causes.{HasPutCause};
 ghost use Rattle.mg_defs.specs.Bits.{digits, bits_of, to_byte};
-ghost use Rattle.mg_bits.specs.Writer.{KeepsBytes, WroteTo};
-ghost use Rattle.mg_bits.specs.BitWriting.{Holds, WroteBits, bits_put};
+ghost use Rattle.mg_bits.specs.Writer.{AfterStart, KeepsBytes, WroteTo};
+ghost use Rattle.mg_bits.specs.BitWriting.{GrewBits, Holds, WroteBits, bits_put};
 
 use crate::PageWriter;
 use mg_dev::{FileRef, PutErr, Store};
@@ -16,6 +16,7 @@ use std::marker::Model;
 ///
 /// It doesn't keep what was written: it holds back up to a page of bytes and the bits of a last
 /// byte that isn't full. What was written is the bits of the file and then those that it holds.
+/// Whatever a call answers, the file grew by the first of the bits that were held or handed over.
 #[derive(Drop)]
 pub struct BitWriter<'a> {
     bytes: PageWriter<'a>,
@@ -25,7 +26,7 @@ pub struct BitWriter<'a> {
 }
 
 impl<'a> Model for BitWriter<'a> {
-    ghost use Rattle.std.specs.Prelude.{◌≡◌, ◌<◌, ◌^◌, ◌%◌, ◌++◌};
+    ghost use Rattle.std.specs.Prelude.{◌≡◌, ◌<◌, ◌^◌, ◌%◌, ◌++◌, length};
     ghost use Rattle.mg_defs.specs.Bits.{digits, bits_of};
     ghost use Rattle.mg_bits.specs.BitWriting.{BitWriting};
 
@@ -33,7 +34,7 @@ impl<'a> Model for BitWriter<'a> {
 
     ghost view = { λ w. record { name = w.bytes.name; buffered = bits_of w.bytes.buffered ++ digits w.count w.rest; place = w.place } };
 
-    ghost invariant = { λ w. (w.count < 8) × (w.rest < 2 ^ w.count) × (w.place % 8 ≡ w.count) };
+    ghost invariant = { λ w. (w.count < 8) × (w.rest < 2 ^ w.count) × (w.place % 8 ≡ w.count) × (length w.bytes.buffered < 4096) };
 }
 
 impl<'a> BitWriter<'a> {
@@ -43,6 +44,8 @@ impl<'a> BitWriter<'a> {
         ensures empty { IsSome (S.files store.old) → IfOk result (λ w. bits_put w (S.files store.new) ≡ []) }
         ensures place { IfOk result (λ w. w.place ≡ 0) }
         ensures holds { IfOk result (λ w. Holds w (S.files store.new)) }
+        ensures held { IfOk result (λ w. length w.buffered < 32768) }
+        ensures started { AfterStart (S.files store.old) (S.files store.new) (full_name file.entry.base.now file.entry.part) result }
         ensures wrote { WroteTo (full_name file.entry.base.now file.entry.part) (S.files store.old) (S.files store.new) (S.reads store.old) (S.reads store.new) }
         ensures cause { HasPutCause (S.faults store.old) (S.faults store.new) result }
     {
@@ -71,10 +74,13 @@ impl<'a> BitWriter<'a> {
         requires count { count ≤ 64 }
         ensures holds { OnOk result (Holds self.new (S.files store.new)) }
         ensures bits { OnOk result (WroteBits self.old self.new (S.files store.old) (S.files store.new) (digits count value)) }
+        ensures grew { GrewBits self.old.name (S.files store.old) (S.files store.new) (self.old.buffered ++ digits count value) }
+        ensures held { length self.new.buffered < 32768 }
         ensures name { self.new.name ≡ self.old.name }
         ensures wrote { WroteTo self.old.name (S.files store.old) (S.files store.new) (S.reads store.old) (S.reads store.new) }
         ensures cause { HasPutCause (S.faults store.old) (S.faults store.new) result }
     {
+        let _ = &self.bytes; // opens the invariant
         let mut left = count;
         while left > 0 {
             let size = left.min(8);
@@ -90,6 +96,8 @@ impl<'a> BitWriter<'a> {
         requires place { self.old.place ≤ 2 ^ 63 + 2 ^ 62 }
         ensures holds { OnOk result (Holds self.new (S.files store.new)) }
         ensures bits { OnOk result (WroteBits self.old self.new (S.files store.old) (S.files store.new) (digits (to_byte self.old.place) 0)) }
+        ensures grew { GrewBits self.old.name (S.files store.old) (S.files store.new) (self.old.buffered ++ digits (to_byte self.old.place) 0) }
+        ensures held { length self.new.buffered < 32768 }
         ensures whole { OnOk result (self.new.place % 8 ≡ 0) }
         ensures name { self.new.name ≡ self.old.name }
         ensures wrote { WroteTo self.old.name (S.files store.old) (S.files store.new) (S.reads store.old) (S.reads store.new) }
@@ -107,6 +115,8 @@ impl<'a> BitWriter<'a> {
         requires place { self.old.place ≤ 2 ^ 63 + 2 ^ 62 }
         ensures holds { OnOk result (Holds self.new (S.files store.new)) }
         ensures bits { OnOk result (WroteBits self.old self.new (S.files store.old) (S.files store.new) (digits (to_byte self.old.place) 0)) }
+        ensures grew { GrewBits self.old.name (S.files store.old) (S.files store.new) (self.old.buffered ++ digits (to_byte self.old.place) 0) }
+        ensures held { length self.new.buffered < 32768 }
         ensures file { IsSome (S.files store.old) → OnOk result (bits_of (bytes_at (S.files store.new) self.old.name) ≡ bits_put self.old (S.files store.old) ++ digits (to_byte self.old.place) 0) }
         ensures nothing { OnOk result (self.new.buffered ≡ []) }
         ensures name { self.new.name ≡ self.old.name }
@@ -122,6 +132,8 @@ impl<'a> BitWriter<'a> {
     fn flush<S: Store>(&mut self, store: &mut S) -> Result<(), PutErr>
         requires whole { self.old.place % 8 ≡ 0 }
         ensures bits { OnOk result (WroteBits self.old self.new (S.files store.old) (S.files store.new) []) }
+        ensures grew { GrewBits self.old.name (S.files store.old) (S.files store.new) self.old.buffered }
+        ensures held { length self.new.buffered < 32768 }
         ensures nothing { OnOk result (self.new.buffered ≡ []) }
         ensures name { self.new.name ≡ self.old.name }
         ensures still { KeepsBytes self.old.name (S.files store.old) (S.files store.new) }
@@ -139,6 +151,8 @@ impl<'a> BitWriter<'a> {
         requires size { size ≤ 8 }
         requires bits { bits < 2 ^ size }
         ensures bits { OnOk result (WroteBits self.old self.new (S.files store.old) (S.files store.new) (digits size bits)) }
+        ensures grew { GrewBits self.old.name (S.files store.old) (S.files store.new) (self.old.buffered ++ digits size bits) }
+        ensures held { length self.new.buffered < 32768 }
         ensures name { self.new.name ≡ self.old.name }
         ensures still { KeepsBytes self.old.name (S.files store.old) (S.files store.new) }
         ensures wrote { WroteTo self.old.name (S.files store.old) (S.files store.new) (S.reads store.old) (S.reads store.new) }

@@ -2,8 +2,8 @@
 ghost use Rattle.std.specs.Prelude.{◌≡◌, ◌≤◌, ◌<◌, ◌+◌, ◌++◌, ◌∷◌, ℕ, List, [], IfOk, OnOk, length, take, IsSome};
 ghost use Rattle.mg_dev.specs.Names.{full_name};
 ghost use Rattle.mg_dev.specs.Causes.{HasPutCause};
-ghost use Rattle.mg_dev.specs.Files.{AfterAppend, SameReads, bytes_at};
-ghost use Rattle.mg_bits.specs.Writer.{Writing, put_to, KeepsBytes, WroteTo, Wrote};
+ghost use Rattle.mg_dev.specs.Files.{AfterAppend, GrewInPart, SameReads, bytes_at, grown};
+ghost use Rattle.mg_bits.specs.Writer.{AfterStart, Writing, put_to, KeepsBytes, WroteTo, Wrote};
 
 use mg_dev::{FileRef, PutErr, Store};
 use std::alloc::Global;
@@ -12,6 +12,9 @@ use std::marker::Model;
 const PAGE: usize = 4096;
 
 /// Writes bytes behind each other into a file.
+///
+/// It holds back fewer bytes than a page has. A call appends to its file alone, and whatever it
+/// answers the file grew by the first of the bytes that were held or handed over.
 #[derive(Drop)]
 pub struct PageWriter<'a> {
     file: FileRef<'a>,
@@ -47,6 +50,8 @@ impl<'a> PageWriter<'a> {
     pub fn start<S: Store>(alloc: Global, store: &mut S, file: FileRef<'a>) -> Result<Self, PutErr>
         ensures name { IfOk result (λ w. w.name ≡ full_name file.entry.base.now file.entry.part) }
         ensures empty { IsSome (S.files store.old) → IfOk result (λ w. put_to w (S.files store.new) ≡ []) }
+        ensures page { IfOk result (λ w. length w.buffered < 4096) }
+        ensures started { AfterStart (S.files store.old) (S.files store.new) (full_name file.entry.base.now file.entry.part) result }
         ensures wrote { WroteTo (full_name file.entry.base.now file.entry.part) (S.files store.old) (S.files store.new) (S.reads store.old) (S.reads store.new) }
         ensures cause { HasPutCause (S.faults store.old) (S.faults store.new) result }
     {
@@ -64,6 +69,8 @@ impl<'a> PageWriter<'a> {
     /// Writes one byte.
     pub fn put<S: Store>(&mut self, store: &mut S, byte: u8) -> Result<(), PutErr>
         ensures bytes { OnOk result (Wrote self.old self.new (S.files store.old) (S.files store.new) (byte ∷ [])) }
+        ensures grew { GrewInPart (S.files store.old) (S.files store.new) self.old.name (self.old.buffered ++ byte ∷ []) }
+        ensures page { length self.new.buffered < 4096 }
         ensures name { self.new.name ≡ self.old.name }
         ensures still { KeepsBytes self.old.name (S.files store.old) (S.files store.new) }
         ensures wrote { WroteTo self.old.name (S.files store.old) (S.files store.new) (S.reads store.old) (S.reads store.new) }
@@ -87,6 +94,8 @@ impl<'a> PageWriter<'a> {
     /// Writes the bytes of a piece.
     pub fn put_all<S: Store>(&mut self, store: &mut S, piece: &[u8]) -> Result<(), PutErr>
         ensures bytes { OnOk result (Wrote self.old self.new (S.files store.old) (S.files store.new) piece.now) }
+        ensures grew { GrewInPart (S.files store.old) (S.files store.new) self.old.name (self.old.buffered ++ piece.now) }
+        ensures page { length self.new.buffered < 4096 }
         ensures name { self.new.name ≡ self.old.name }
         ensures still { KeepsBytes self.old.name (S.files store.old) (S.files store.new) }
         ensures wrote { WroteTo self.old.name (S.files store.old) (S.files store.new) (S.reads store.old) (S.reads store.new) }
@@ -121,6 +130,9 @@ impl<'a> PageWriter<'a> {
     /// Appends what is held; then the file holds all bytes that were written.
     pub fn finish<S: Store>(&mut self, store: &mut S) -> Result<(), PutErr>
         ensures bytes { OnOk result (Wrote self.old self.new (S.files store.old) (S.files store.new) []) }
+        ensures sent { OnOk result (S.files store.new ≡ grown (S.files store.old) self.old.name self.old.buffered) }
+        ensures grew { GrewInPart (S.files store.old) (S.files store.new) self.old.name self.old.buffered }
+        ensures page { length self.new.buffered < 4096 }
         ensures nothing { OnOk result (self.new.buffered ≡ []) }
         ensures name { self.new.name ≡ self.old.name }
         ensures still { KeepsBytes self.old.name (S.files store.old) (S.files store.new) }

@@ -82,6 +82,15 @@ impl Canon {
         self.lengths.len() as u32
     }
 
+    /// How many bits the codeword of a symbol has.
+    pub fn length(&self, symbol: u32) -> u8
+        requires symbol { symbol < length self.now }
+        ensures is { result ≡ slice_index self.now symbol }
+        ensures codeword { result ≡ length (codeword self.now symbol) }
+    {
+        self.lengths[symbol as usize]
+    }
+
     /// Writes the codeword of a symbol.
     pub fn put<S: Store>(
         &self,

@@ -55,6 +55,7 @@ fn codewords_are_written_and_read(rt: HostRuntime) -> Result<(), Fail> {
     let alloc = rt.alloc();
     let code = Canon::new(alloc, &[3, 2, 2, 3, 2])?;
     assert_eq!(rt; code.count(), 5);
+    assert_eq!(rt; [code.length(0), code.length(1), code.length(4)], [3, 2, 2]);
     let mut store = SureStore::new(alloc);
     let mut writer = BitWriter::start(alloc, &mut store, TEXT)?;
     assert!(rt; put_each(&code, &mut writer, &mut store, 5)?);

@@ -13,13 +13,13 @@ use Rattle.mg_defs.proofs.CollectionExamples.{k}
 
 -- ---- eight bytes and an open end: each stream has one piece
 
-abbrev repeats : List ℕ
+abbrev pub repeats : List ℕ
 repeats = codes "a a a a "
 
-abbrev repeats_code : TextCode
+abbrev pub repeats_code : TextCode
 repeats_code = record { words = record { pieces = codes "a" ∷ []; lengths = 1 ∷ [] }; others = record { pieces = codes " " ∷ []; lengths = 1 ∷ [] } }
 
-repeats_is : IsTextCode repeats repeats_code
+pub repeats_is : IsTextCode repeats repeats_code
 unfolding parse
 repeats_is = (record { pieces = refl; lengths = record { each = refl; good = refl; cost = refl } }, record { pieces = refl; lengths = record { each = refl; good = refl; cost = refl } })
 
@@ -37,7 +37,7 @@ repeats_places = (refl, refl, refl)
 
 -- ---- empty documents, and blanks alone
 
-abbrev no_code : TextCode
+abbrev pub no_code : TextCode
 no_code = record { words = record { pieces = []; lengths = [] }; others = record { pieces = []; lengths = [] } }
 
 two_empty : IsTextCode (2 ∷ 2 ∷ []) no_code × (text_of no_code (2 ∷ 2 ∷ []) ≡ 0 ∷ 0 ∷ []) × (places no_code (2 ∷ 2 ∷ []) ≡ 0 ∷ 1 ∷ 2 ∷ [])

@@ -55,3 +55,15 @@ pub mod HeadLaws
 pub mod HeadExamples
 pub mod LexiconExamples
 pub mod LexiconLaws
+pub mod StandExamples
+pub mod StandCodes
+pub mod StandText
+pub mod StandLaws
+pub mod StandDocs
+pub mod StandLists
+pub mod StandSizes
+pub mod StandUse
+pub mod StandRanges
+pub mod StandGrow
+pub mod StandWhole
+pub mod StandTerms

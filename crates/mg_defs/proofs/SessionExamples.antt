@@ -10,7 +10,7 @@ use Rattle.mg_defs.specs.Weights.{weight_of_term, weight_in_doc, weight, score_o
 use Rattle.mg_defs.specs.Texts.{row, header, close, count, bad_command, line_too_long}
 use Rattle.mg_defs.specs.Commands.{start, command, words, dot_of, set_query, set_mode, set_most, set_of, value, is_most}
 use Rattle.mg_defs.specs.Reply.{answer_text, found}
-use Rattle.mg_defs.specs.Session.{session_of, replies, line_text, after_line, ends, asked, questions, questions_of}
+use Rattle.mg_defs.specs.Session.{heard_session, replies, line_text, after_line, ends, asked, questions, heard_questions, questions_of}
 use Rattle.mg_defs.specs.Limit.{ended_lines, has_quit, is_too_much}
 use Rattle.mg_defs.specs.Read.{boolean, ranked, query_of, reads}
 use Rattle.mg_defs.specs.Replies.{refusal, reply, session}
@@ -26,29 +26,29 @@ unfolding boolean query_of sign_of
 reading = refl
 
 rows : session k (codes "cat & !the\ncat dog | sat\ncat & (dog\ncat ) dog\ncat & | dog\n!zebra\nzebra\n") ≡ codes "3\n= 1\n1\n3\n= 2\n? syntax at 10\n? syntax at 4\n? syntax at 6\n1\n2\n3\n= 3\n= 0\n"
-unfolding boolean query_of sign_of refusal reply session session_of replies line_text after_line ends command words dot_of set_query set_mode set_most set_of value is_most answer_text found row count digits parse
+unfolding boolean query_of sign_of refusal reply session heard_session replies line_text after_line ends command words dot_of set_query set_mode set_most set_of value is_most answer_text found row count digits parse
 rows = refl
 
 ranked_rows : session k (codes ".set query ranked\ncat CAT cat\n.set maxdocs 1\ncat\nzebra\n\n,\n") ≡ codes "3 77451\n1 50002\n= 2\n3 77451\n= 2\n= 0\n= 0\n"
-unfolding ranked sign_of refusal reply session session_of replies line_text after_line ends command words dot_of set_query set_mode set_most set_of value is_most answer_text found row count digits parse lg isqrt digits_of digit next root_from weight_of_term weight_in_doc weight score_of
+unfolding ranked sign_of refusal reply session heard_session replies line_text after_line ends command words dot_of set_query set_mode set_most set_of value is_most answer_text found row count digits parse lg isqrt digits_of digit next root_from weight_of_term weight_in_doc weight score_of
 ranked_rows = refl
 
 commands : session k (codes "cat\r\n  \n.set  query   ranked\n.set\tquery boolean \t\nsat\n.set maxdocs 0\n.set maxdocs 1048577\n.set maxdocs 00000001\n.cat\n.quit now\n .quit\n.set maxdocs 0000001\ncat\n.set mode count\ncat\n.set mode text\n.set maxdocs all\nsat\n .set mode count\n.quit \ncat\n")
     ≡ codes "1\n3\n= 2\n1\n= 1\n? bad command\n? bad command\n? bad command\n? bad command\n? bad command\n= 0\n1\n= 2\n= 2\n-- 1\nthe cat sat\n" ++ 2 ∷ codes "\n= 1\n= 0\n"
-unfolding boolean query_of sign_of refusal reply session session_of replies line_text after_line ends command words dot_of set_query set_mode set_most set_of value is_most answer_text found row header close count bad_command digits parse
+unfolding boolean query_of sign_of refusal reply session heard_session replies line_text after_line ends command words dot_of set_query set_mode set_most set_of value is_most answer_text found row header close count bad_command digits parse
 commands = refl
 
 returns : session k (codes "cat\r\r\n") ≡ session k (codes "cat\n")
-unfolding boolean query_of sign_of refusal reply session session_of replies line_text after_line ends command words dot_of set_query set_mode set_most set_of value is_most answer_text found row count digits parse
+unfolding boolean query_of sign_of refusal reply session heard_session replies line_text after_line ends command words dot_of set_query set_mode set_most set_of value is_most answer_text found row count digits parse
 returns = refl
 
 -- a line of 1,024 bytes before its end is no line too long, one of 1,025 is, also where its last byte is a carriage return
 long_lines : (session [] (replicate 1024 32 ++ codes "\nx\n") ≡ codes "= 0\n") × (session [] (replicate 1025 32 ++ codes "\nx\n") ≡ codes "? line too long\n= 0\n") × (session [] (replicate 1024 32 ++ codes "\r\nx\n") ≡ codes "? line too long\n= 0\n")
-unfolding boolean query_of sign_of refusal reply session session_of replies line_text after_line ends command words dot_of set_query set_mode set_most set_of value is_most answer_text found row count line_too_long digits parse
+unfolding boolean query_of sign_of refusal reply session heard_session replies line_text after_line ends command words dot_of set_query set_mode set_most set_of value is_most answer_text found row count line_too_long digits parse
 long_lines = (refl, refl, refl)
 
 asks : questions_of (codes "cat\n\n.set query ranked\n.x\ndog\n.quit\nox\n") ≡ record { now = start; line = codes "cat" } ∷ record { now = record start { ranked = true }; line = codes "dog" } ∷ []
-unfolding questions_of questions asked after_line ends command words dot_of set_query set_of
+unfolding heard_questions questions asked after_line ends command words dot_of set_query set_of
 asks = refl
 
 -- up to seven bytes: the seventh ends a line, the last line has no end in them

@@ -3,32 +3,33 @@ use Rattle.std.proofs.Common.{◌≡◌, ℕ, ◌<◌, ◌≤◌, true, false, L
 use Rattle.std.proofs.lemmas.Bool.{lt-ltb, le-ltb}
 use Rattle.mg_defs.specs.Lines.{without_return}
 use Rattle.mg_defs.specs.Commands.{text_of, settings_after, stops}
-use Rattle.mg_defs.specs.Session.{replies, line_text, after_line, ends, read, Question, questions, asked, asked_by}
+use Rattle.mg_defs.specs.Session.{hears, replies, line_text, after_line, ends, read, Question, questions, asked, asked_by}
+use Rattle.mg_defs.specs.declared.session.Hearing.{Hearing}
 use Rattle.mg_defs.specs.Texts.{bad_command, line_too_long}
 use Rattle.mg_defs.specs.declared.session.Settings.{Settings}
 
 -- A line prints a text and asks some queries, and the session goes on with these settings.
-pub record Gives (reply : Settings → List ℕ → List ℕ) (now : Settings) (line text : List ℕ) (asking : List Question) (after : Settings) : Type 0 where
-  pub goes_on : (ls : List (List ℕ)) → replies reply now (line ∷ ls) ≡ text ++ replies reply after ls
-  pub asks : (ls : List (List ℕ)) → questions now (line ∷ ls) ≡ asking ++ questions after ls
+pub record Gives (hearing : Hearing) (reply : Settings → List ℕ → List ℕ) (now : Settings) (line text : List ℕ) (asking : List Question) (after : Settings) : Type 0 where
+  pub goes_on : (ls : List (List ℕ)) → replies hearing reply now (line ∷ ls) ≡ text ++ replies hearing reply after ls
+  pub asks : (ls : List (List ℕ)) → questions hearing now (line ∷ ls) ≡ asking ++ questions hearing after ls
 
-pub gives_long : (reply : Settings → List ℕ → List ℕ) (now : Settings) (line : List ℕ) → 1024 < length line → Gives reply now line line_too_long [] now
+pub gives_long : (hearing : Hearing) (reply : Settings → List ℕ → List ℕ) (now : Settings) (line : List ℕ) → 1024 < length line → Gives hearing reply now line line_too_long [] now
 unfolding replies line_text after_line ends questions asked
-gives_long reply now line long = record {
+gives_long hearing reply now line long = record {
   goes_on = λ ls. rw (lt-ltb 1024 (length line) long);
   asks = λ ls. rw (lt-ltb 1024 (length line) long);
 }
 
-pub gives_line : (reply : Settings → List ℕ → List ℕ) (now : Settings) (line : List ℕ) → length line ≤ 1024 → stops (read now line) ≡ false → Gives reply now line (text_of reply bad_command now (without_return line) (read now line)) (asked_by now (without_return line) (read now line)) (settings_after now (read now line))
+pub gives_line : (hearing : Hearing) (reply : Settings → List ℕ → List ℕ) (now : Settings) (line : List ℕ) → length line ≤ 1024 → stops (read now line) ≡ false → Gives hearing reply now line (text_of reply bad_command now (without_return line) (hears hearing (read now line))) (asked_by now (without_return line) (hears hearing (read now line))) (settings_after now (hears hearing (read now line)))
 unfolding replies line_text after_line ends questions asked
-gives_line reply now line short goes = record {
+gives_line hearing reply now line short goes = record {
   goes_on = λ ls. rw (le-ltb 1024 (length line) short, goes);
   asks = λ ls. rw (le-ltb 1024 (length line) short, goes);
 }
 
-pub gives_end : (reply : Settings → List ℕ → List ℕ) (now : Settings) (line : List ℕ) (ls : List (List ℕ)) → length line ≤ 1024 → stops (read now line) ≡ true → (replies reply now (line ∷ ls) ≡ []) × (questions now (line ∷ ls) ≡ [])
+pub gives_end : (hearing : Hearing) (reply : Settings → List ℕ → List ℕ) (now : Settings) (line : List ℕ) (ls : List (List ℕ)) → length line ≤ 1024 → stops (read now line) ≡ true → (replies hearing reply now (line ∷ ls) ≡ []) × (questions hearing now (line ∷ ls) ≡ [])
 unfolding replies line_text after_line ends questions asked
-gives_end reply now line ls short stop = (rw (le-ltb 1024 (length line) short, stop), rw (le-ltb 1024 (length line) short, stop))
+gives_end hearing reply now line ls short stop = (rw (le-ltb 1024 (length line) short, stop), rw (le-ltb 1024 (length line) short, stop))
 
 -- whether the line ends the session
 pub ends_long : (now : Settings) (line : List ℕ) → 1024 < length line → ends now line ≡ false

@@ -11,7 +11,7 @@ use Rattle.mg_defs.specs.Commands.{start, command, words, dot_of, set_query, set
 use Rattle.mg_defs.specs.declared.session.Mode.TheVariants.{Text}
 use Rattle.mg_defs.specs.declared.session.Settings.{Settings}
 use Rattle.mg_defs.specs.Reply.{answer_text, satisfying, ranking, found}
-use Rattle.mg_defs.specs.Session.{session_of, replies, line_text, after_line, ends}
+use Rattle.mg_defs.specs.Session.{session_of, heard_session, replies, line_text, after_line, ends}
 use Rattle.std.specs.Fmt.{digits}
 
 lg_rows : (lg 1 ≡ 0) × (lg 2 ≡ 256) × (lg 3 ≡ 405) × (lg 10 ≡ 850) × (lg 163840 ≡ 4434) × (lg (2 ^ 64 - 1) ≡ 16383)
@@ -50,5 +50,5 @@ abbrev word_reply : Settings → List ℕ → List ℕ
 word_reply now w = answer_text k now (satisfying k (term w))
 
 k_session : session_of word_reply (codes "cat\r\n  \n.set  mode\tcount\ncat\n.set maxdocs 0\n.quit \ncat\n") ≡ codes "1\n3\n= 2\n= 2\n? bad command\n"
-unfolding parse found answer_text row count digits bad_command session_of replies line_text after_line ends command words dot_of set_query set_mode set_most set_of value is_most
+unfolding parse found answer_text row count digits bad_command heard_session replies line_text after_line ends command words dot_of set_query set_mode set_most set_of value is_most
 k_session = refl

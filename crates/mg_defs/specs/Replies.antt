@@ -1,9 +1,10 @@
 -- The reply to a line, and the session over a collection.
-use Rattle.std.specs.Prelude.{ℕ, Bool, true, false, List, ◌++◌, codes, decimal}
+use Rattle.std.specs.Prelude.{ℕ, nat_lt, if◌then◌else◌, Bool, true, false, List, [], ◌++◌, codes, decimal, Option, Some, None}
 use Rattle.mg_defs.specs.Sat.{Query}
+use Rattle.mg_defs.specs.declared.session.Mode.{Mode}
 use Rattle.mg_defs.specs.declared.session.Settings.{Settings}
 use Rattle.mg_defs.specs.Read.{Refusal, syntax, too_deep, too_long, too_many, Reading, reads, refused, boolean, ranked}
-use Rattle.mg_defs.specs.Reply.{satisfying, ranking, answer_text}
+use Rattle.mg_defs.specs.Reply.{Shown, shown_as, satisfying, ranking, answer_text}
 use Rattle.mg_defs.specs.Session.{session_of}
 
 unfoldable pub refusal : Refusal → List ℕ
@@ -29,3 +30,14 @@ reply collection now line = reply_as now.ranked collection now line
 
 unfoldable pub session : List ℕ → List ℕ → List ℕ
 session collection input = session_of (reply collection) input
+
+-- ---- the documents of an answer, one after another
+
+-- whether one more is shown after so many
+abbrev pub shows : Option ℕ → ℕ → Bool
+shows None n = true
+shows (Some k) n = nat_lt n k
+
+-- what is printed for a document of the answer, after so many of them
+unfoldable pub hit_text : List ℕ → Mode → Option ℕ → ℕ → Shown → List ℕ
+hit_text doc mode most total hit = if shows most total then shown_as doc mode hit else []

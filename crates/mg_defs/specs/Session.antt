@@ -5,6 +5,8 @@ use Rattle.mg_defs.specs.Commands.{start, command, text_of, settings_after, stop
 use Rattle.mg_defs.specs.declared.session.Settings.{Settings}
 use Rattle.mg_defs.specs.declared.session.Command.{Command}
 use Rattle.mg_defs.specs.declared.session.Command.TheVariants.{Skip, Ask, Quit, Wrong, Set}
+use Rattle.mg_defs.specs.declared.session.Hearing.{Hearing}
+use Rattle.mg_defs.specs.declared.session.Hearing.TheVariants.{Commands, Questions}
 use Rattle.mg_defs.specs.Texts.{bad_command, line_too_long}
 
 abbrev pub is_long : List ℕ → Bool
@@ -14,23 +16,39 @@ is_long line = nat_lt 1024 (length line)
 abbrev pub read : Settings → List ℕ → Command
 read now line = command (without_return line) now
 
--- what a line prints, which settings hold after it, and whether it ends the session
-unfoldable pub line_text : (Settings → List ℕ → List ℕ) → Settings → List ℕ → List ℕ
-line_text reply now line = if is_long line then line_too_long else text_of reply bad_command now (without_return line) (read now line)
+-- a line that begins with a full stop is a question too, unless it ends the session
+abbrev pub as_question : Command → Command
+as_question Skip = Skip
+as_question Ask = Ask
+as_question Quit = Quit
+as_question Wrong = Ask
+as_question (Set changed) = Ask
 
-unfoldable pub after_line : Settings → List ℕ → Settings
-after_line now line = if is_long line then now else settings_after now (read now line)
+abbrev pub hears : Hearing → Command → Command
+hears Commands c = c
+hears Questions c = as_question c
 
+-- what a line that is heard so prints, and which settings hold after it
+unfoldable pub line_text : Hearing → (Settings → List ℕ → List ℕ) → Settings → List ℕ → List ℕ
+line_text hearing reply now line = if is_long line then line_too_long else text_of reply bad_command now (without_return line) (hears hearing (read now line))
+
+unfoldable pub after_line : Hearing → Settings → List ℕ → Settings
+after_line hearing now line = if is_long line then now else settings_after now (hears hearing (read now line))
+
+-- whether a line ends the session, however lines are heard
 unfoldable pub ends : Settings → List ℕ → Bool
 ends now line = if is_long line then false else stops (read now line)
 
 -- the replies to lines, given the reply to a query line
-unfoldable pub replies : (Settings → List ℕ → List ℕ) → Settings → List (List ℕ) → List ℕ
-replies reply now [] = []
-replies reply now (l ∷ ls) = if ends now l then [] else line_text reply now l ++ replies reply (after_line now l) ls
+unfoldable pub replies : Hearing → (Settings → List ℕ → List ℕ) → Settings → List (List ℕ) → List ℕ
+replies hearing reply now [] = []
+replies hearing reply now (l ∷ ls) = if ends now l then [] else line_text hearing reply now l ++ replies hearing reply (after_line hearing now l) ls
 
-unfoldable pub session_of : (Settings → List ℕ → List ℕ) → List ℕ → List ℕ
-session_of reply input = replies reply start (lines input)
+unfoldable pub heard_session : Hearing → (Settings → List ℕ → List ℕ) → List ℕ → List ℕ
+heard_session hearing reply input = replies hearing reply start (lines input)
+
+abbrev pub session_of : (Settings → List ℕ → List ℕ) → List ℕ → List ℕ
+session_of reply input = heard_session Commands reply input
 
 -- ---- the query lines that a session answers
 
@@ -46,12 +64,15 @@ asked_by now line Quit = []
 asked_by now line Wrong = []
 asked_by now line (Set changed) = []
 
-unfoldable pub asked : Settings → List ℕ → List Question
-asked now line = if is_long line then [] else asked_by now (without_return line) (read now line)
+unfoldable pub asked : Hearing → Settings → List ℕ → List Question
+asked hearing now line = if is_long line then [] else asked_by now (without_return line) (hears hearing (read now line))
 
-unfoldable pub questions : Settings → List (List ℕ) → List Question
-questions now [] = []
-questions now (l ∷ ls) = if ends now l then [] else asked now l ++ questions (after_line now l) ls
+unfoldable pub questions : Hearing → Settings → List (List ℕ) → List Question
+questions hearing now [] = []
+questions hearing now (l ∷ ls) = if ends now l then [] else asked hearing now l ++ questions hearing (after_line hearing now l) ls
 
-unfoldable pub questions_of : List ℕ → List Question
-questions_of input = questions start (lines input)
+unfoldable pub heard_questions : Hearing → List ℕ → List Question
+heard_questions hearing input = questions hearing start (lines input)
+
+abbrev pub questions_of : List ℕ → List Question
+questions_of input = heard_questions Commands input

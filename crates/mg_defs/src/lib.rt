@@ -17,6 +17,7 @@ mod lists;
 mod postings;
 mod queries;
 mod session;
+mod stands;
 mod texts;
 mod weights;
 
@@ -35,7 +36,11 @@ pub use queries::{
     boolean_is, one_cause, one_query, one_reading, one_term_list, ranked_is, token_runs,
     walk_decides,
 };
-pub use session::{Command, Mode, Settings};
+pub use session::{Command, Hearing, Mode, Settings};
+pub use stands::{
+    codes_are_used, collections_fit, lists_grow, one_beginning, one_code, one_collection,
+    one_meaning, ranges_join, text_goes_on,
+};
 pub use texts::{
     bits_fill_bytes, closed_and_open, documents_have_places, one_byte_more, one_dictionary,
     one_order, one_parse, one_split, terms_have_numbers, test_decides, text_has_its_bits,

@@ -51,3 +51,32 @@ pub enum Command {
     /// The settings from now on.
     Set(Settings),
 }
+
+/// How the lines of a session are heard. A line that ends the session does so in both.
+#[derive(Clone, Copy, Debug, PartialEq, Eq)]
+pub enum Hearing {
+    /// A line that begins with a full stop is a command.
+    Commands,
+    /// Each line is a question, one that begins with a full stop too.
+    Questions,
+}
+
+impl Hearing {
+    ghost use Rattle.std.specs.Prelude.{◌≡◌};
+    ghost use Rattle.mg_defs.specs.Commands.{stops as stops_spec};
+    ghost use Rattle.mg_defs.specs.Session.{hears};
+
+    /// What a line is that is so as a command.
+    pub fn hear(self, command: Command) -> Command
+        ensures is { result ≡ hears self command }
+        ensures stops { stops_spec result ≡ stops_spec command }
+    {
+        match self {
+            Hearing::Commands => command,
+            Hearing::Questions => match command {
+                Command::Wrong | Command::Set(_) => Command::Ask,
+                other => other,
+            },
+        }
+    }
+}

@@ -11,3 +11,4 @@ pub mod Mem
 pub mod Faults
 pub mod FaultLines
 pub mod PartCauses
+pub mod Bads

@@ -1,5 +1,5 @@
 // A sink in memory whose puts fail where it is told to.
-ghost use Rattle.std.specs.Prelude.{◌≡◌, ℕ, [], None, Some, IsSome, IsErr, IsErrOf, IfSome, OnOk, OnErr, take};
+ghost use Rattle.std.specs.Prelude.{◌≡◌, ◌≢◌, ℕ, [], None, Some, IsSome, IsErr, IsErrOf, IfSome, OnOk, OnErr, take};
 ghost use Rattle.mg_dev.specs.Causes.{HasPutCause, HasLack};
 ghost use Rattle.mg_dev.specs.Streams.{AfterPut, appended};
 ghost use Rattle.mg_dev.specs.Plans.{calls_of, keep_at, next_keep, AfterCall, FailsAt, SamePlan};
@@ -73,6 +73,8 @@ impl Sink for MemSink {
         ensures kept { IsErrOf result PutErr.Failed → IfSome (next_keep (sink_plan self.old)) (λ keep. ⟦<MemSink as Sink>⟧.written self.new ≡ appended (⟦<MemSink as Sink>⟧.written self.old) (take keep piece.now)) }
         ensures memory { IsErrOf result PutErr.Memory → ⟦<MemSink as Sink>⟧.written self.new ≡ ⟦<MemSink as Sink>⟧.written self.old }
         ensures counted { AfterCall (sink_plan self.old) (sink_plan self.new) }
+        ensures calm { result ≢ Err PutErr.Failed → ⟦<MemSink as Sink>⟧.faults self.new ≡ ⟦<MemSink as Sink>⟧.faults self.old }
+        ensures ample { result ≢ Err PutErr.Memory → ⟦<MemSink as Sink>⟧.lacks self.new ≡ ⟦<MemSink as Sink>⟧.lacks self.old }
     {
         match self.plan.begin() {
             None => self.inner.put(piece),

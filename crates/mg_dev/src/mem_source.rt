@@ -4,7 +4,7 @@ ghost use Rattle.std.specs.Io.{ReadsAtMost};
 ghost use Rattle.mg_dev.specs.Causes.{HasCause};
 ghost use Rattle.mg_dev.specs.Streams.{AfterRead};
 ghost use Rattle.mg_dev.specs.Plans.{calls_of, keep_at, next_keep, AfterCall, FailsAt, SamePlan};
-ghost use Rattle.mg_dev.specs.Mem.{source_plan};
+ghost use Rattle.mg_dev.specs.Mem.{source_plan, mem_step, GivesStep};
 
 use crate::failure_plan::FailurePlan;
 use crate::{Failed, Source, SureSource};
@@ -25,6 +25,7 @@ impl MemSource {
         requires { 1 ≤ step }
         ensures left { IfOk result (λ source. ⟦<MemSource as Source>⟧.left source ≡ Some bytes.now) }
         ensures faults { IfOk result (λ source. ⟦<MemSource as Source>⟧.faults source ≡ 0) }
+        ensures step { IfOk result (λ source. mem_step source ≡ step) }
         ensures calls { IfOk result (λ source. calls_of (source_plan source) ≡ 0) }
         ensures plan { IfOk result (λ source. (n : ℕ) → keep_at (source_plan source) n ≡ None) }
     {
@@ -41,6 +42,7 @@ impl MemSource {
         ensures err { OnErr result (SamePlan (source_plan self.old) (source_plan self.new)) }
         ensures left { ⟦<MemSource as Source>⟧.left self.new ≡ ⟦<MemSource as Source>⟧.left self.old }
         ensures faults { ⟦<MemSource as Source>⟧.faults self.new ≡ ⟦<MemSource as Source>⟧.faults self.old }
+        ensures step { mem_step self.new ≡ mem_step self.old }
     {
         self.plan.fail_at(call, 0)
     }
@@ -57,6 +59,9 @@ impl Source for MemSource {
         ensures cause { HasCause (⟦<MemSource as Source>⟧.faults self.old) (⟦<MemSource as Source>⟧.faults self.new) result }
         ensures planned { IsErr result ↔ IsSome (next_keep (source_plan self.old)) }
         ensures counted { AfterCall (source_plan self.old) (source_plan self.new) }
+        ensures calm { OnOk result (⟦<MemSource as Source>⟧.faults self.new ≡ ⟦<MemSource as Source>⟧.faults self.old) }
+        ensures count { GivesStep (mem_step self.old) (⟦<MemSource as Source>⟧.left self.old) buf.new result }
+        ensures step { mem_step self.new ≡ mem_step self.old }
     {
         if self.plan.begin().is_some() {
             self.faults = self.faults.saturating_add(1);

@@ -1,5 +1,5 @@
 // A store in memory whose calls fail where it is told to.
-ghost use Rattle.std.specs.Prelude.{◌≡◌, ◌≤◌, ◌↔◌, ℕ, None, Some, IsSome, IsErr, IsErrOf, IfSome, OnOk, OnErr, take};
+ghost use Rattle.std.specs.Prelude.{◌≡◌, ◌≢◌, ◌≤◌, ◌↔◌, ℕ, None, Some, IsSome, IsErr, IsErrOf, IfSome, OnOk, OnErr, take};
 ghost use Rattle.std.specs.Io.{ReadsAtMost};
 ghost use Rattle.std.specs.Option.{option_copied};
 ghost use Rattle.mg_dev.specs.Causes.{Rose, HasCause, HasPutCause};
@@ -117,6 +117,7 @@ impl Store for MemStore {
         ensures cause { HasCause (⟦<MemStore as Store>⟧.faults self.old) (⟦<MemStore as Store>⟧.faults self.new) result }
         ensures planned { IsErr result ↔ IsSome (next_keep (store_plan self.old)) }
         ensures counted { AfterCall (store_plan self.old) (store_plan self.new) }
+        ensures calm { OnOk result (⟦<MemStore as Store>⟧.faults self.new ≡ ⟦<MemStore as Store>⟧.faults self.old) }
     {
         if self.plan.begin().is_some() {
             return Err(self.failed());
@@ -132,6 +133,7 @@ impl Store for MemStore {
         ensures cause { HasCause (⟦<MemStore as Store>⟧.faults self.old) (⟦<MemStore as Store>⟧.faults self.new) result }
         ensures planned { IsErr result ↔ IsSome (next_keep (store_plan self.old)) }
         ensures counted { AfterCall (store_plan self.old) (store_plan self.new) }
+        ensures calm { OnOk result (⟦<MemStore as Store>⟧.faults self.new ≡ ⟦<MemStore as Store>⟧.faults self.old) }
     {
         if self.plan.begin().is_some() {
             self.inner.count_failed_read(file.part);
@@ -147,6 +149,7 @@ impl Store for MemStore {
         ensures planned { IsErrOf result PutErr.Failed ↔ IsSome (next_keep (store_plan self.old)) }
         ensures err { OnErr result (⟦<MemStore as Store>⟧.files self.new ≡ ⟦<MemStore as Store>⟧.files self.old) }
         ensures counted { AfterCall (store_plan self.old) (store_plan self.new) }
+        ensures calm { result ≢ Err PutErr.Failed → ⟦<MemStore as Store>⟧.faults self.new ≡ ⟦<MemStore as Store>⟧.faults self.old }
     {
         if self.plan.begin().is_some() {
             self.failed();
@@ -166,6 +169,7 @@ impl Store for MemStore {
         ensures kept { IsErrOf result PutErr.Failed → IfSome (next_keep (store_plan self.old)) (λ keep. ⟦<MemStore as Store>⟧.files self.new ≡ kept (⟦<MemStore as Store>⟧.files self.old) (full_name file.now.base.now file.now.part) (take keep piece.now)) }
         ensures memory { IsErrOf result PutErr.Memory → ⟦<MemStore as Store>⟧.files self.new ≡ ⟦<MemStore as Store>⟧.files self.old }
         ensures counted { AfterCall (store_plan self.old) (store_plan self.new) }
+        ensures calm { result ≢ Err PutErr.Failed → ⟦<MemStore as Store>⟧.faults self.new ≡ ⟦<MemStore as Store>⟧.faults self.old }
     {
         match self.plan.begin() {
             None => self.inner.append(file, piece),

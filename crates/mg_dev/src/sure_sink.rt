@@ -1,5 +1,5 @@
 // A sink in memory that never fails.
-ghost use Rattle.std.specs.Prelude.{◌≡◌, ◌≢◌, [], Some, OnErr};
+ghost use Rattle.std.specs.Prelude.{◌≡◌, ◌≢◌, [], Some, OnOk, OnErr};
 ghost use Rattle.mg_dev.specs.Causes.{HasPutCause, HasLack};
 ghost use Rattle.mg_dev.specs.Streams.{AfterPut};
 
@@ -47,6 +47,7 @@ impl Sink for SureSink {
         ensures cause { HasPutCause (⟦<SureSink as Sink>⟧.faults self.old) (⟦<SureSink as Sink>⟧.faults self.new) result }
         ensures lack { HasLack (⟦<SureSink as Sink>⟧.lacks self.old) (⟦<SureSink as Sink>⟧.lacks self.new) result }
         ensures sure { result ≢ Err PutErr.Failed }
+        ensures calm { OnOk result (⟦<SureSink as Sink>⟧.lacks self.new ≡ ⟦<SureSink as Sink>⟧.lacks self.old) }
         ensures err { OnErr result (⟦<SureSink as Sink>⟧.written self.new ≡ ⟦<SureSink as Sink>⟧.written self.old) }
     {
         match self.bytes.extend_from_slice(piece) {

@@ -5,3 +5,4 @@ mod WriterLaws
 mod ReaderLaws
 mod OrderLaws
 mod ReadPages
+mod Stays

@@ -1,13 +1,12 @@
 -- What the steps of reading an entry tell.
-use Rattle.std.proofs.Common.{rules, arith, suc, zero, ◌≡◌, ◌+◌, ◌-◌, ◌≤◌, ◌<◌, ◌==◌, ◌&&◌, ◌||◌, ◌++◌, ℕ, Bool, false, true, not, ◌⊎◌, inl, inr, List, [], ◌∷◌, length, take, drop, Some, None, refl, sym, ◌∙◌, ap, subst, length-drop, length-take, cond, nat_le, slice_get, IsSome, get_or, add-one}
+use Rattle.std.proofs.Common.{arith, ◌≡◌, ◌+◌, ◌≤◌, ◌<◌, ◌==◌, ◌&&◌, ◌||◌, ◌++◌, ℕ, Bool, false, true, not, ◌⊎◌, inl, inr, List, [], ◌∷◌, length, take, drop, Some, None, refl, sym, ◌∙◌, ap, subst, length-drop, length-take, cond, nat_le, slice_get, IsSome}
 use Rattle.std.specs.declared.option.Option.{Option}
-use Rattle.std.proofs.lemmas.Grind.{common_steps}
 use Rattle.std.proofs.lemmas.Bool.Decides.{nat_tests}
 use Rattle.std.proofs.lemmas.List.{drop_more, drop_all, drop-drop, take-take, drop_at}
 use Rattle.std.proofs.lemmas.Option.{slice_get_within, get_or_from_slice_get, slice_get-get_or}
 use Rattle.std.proofs.lemmas.Bool.{cases_lt}
 use Rattle.mg_dev.specs.Files.{Files, bytes_at}
-use Rattle.mg_defs.specs.Front.{Entry, Found, is_below, rises, read_whole, read_cut, read_entry}
+use Rattle.mg_defs.specs.Front.{Found, is_below, rises, read_whole, read_cut}
 use Rattle.mg_front.specs.Entries.{IsPut}
 
 -- a told fact, at the files and the name of an earlier step

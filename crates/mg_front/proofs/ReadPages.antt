@@ -1,16 +1,16 @@
 -- How many pages the steps of a reading call read.
-use Rattle.std.proofs.Common.{rules, arith, suc, zero, ◌≡◌, ◌+◌, ◌-◌, ◌*◌, ◌/◌, ◌%◌, ◌^◌, ◌≤◌, ◌<◌, ◌==◌, ◌⊎◌, inl, inr, ℕ, Bool, true, false, Some, None, refl, sym, ◌∙◌, ap, subst, lit<}
+use Rattle.std.proofs.Common.{arith, suc, zero, ◌≡◌, ◌+◌, ◌-◌, ◌*◌, ◌/◌, ◌%◌, ◌^◌, ◌≤◌, ◌<◌, ◌⊎◌, inl, inr, ℕ, false, Some, None, refl, sym, ◌∙◌, ap, subst, lit<}
 use Rattle.std.proofs.Math.Nat.{two-pow-succ}
 use Rattle.std.specs.declared.option.Option.{Option}
 use Rattle.std.specs.Option.{IfSome, OnSome}
 use Rattle.std.specs.Int.{div_ceil}
 use Rattle.std.proofs.lemmas.Grind.{common_steps}
-use Rattle.std.proofs.lemmas.Bool.{cases_lt, lt-ltb, le-ltb}
+use Rattle.std.proofs.lemmas.Bool.{cases_lt}
 use Rattle.std.proofs.lemmas.Bool.Decides.{nat_tests}
 use Rattle.mg_dev.specs.declared.part.Part.{Part}
 use Rattle.mg_dev.specs.Files.{Files, Reads}
 use Rattle.mg_dev.specs.Names.{same_part}
-use Rattle.mg_bits.specs.Feed.{Device, ReadsWithin, held_after, lacks, page_of, to_read, of_store}
+use Rattle.mg_bits.specs.Feed.{ReadsWithin, held_after, lacks, page_of, to_read, of_store}
 use Rattle.mg_bits.specs.Pages.{Paging, Looked, feeding_of}
 use Rattle.mg_bits.proofs.CallerLemmas.{held_after_more, held_after_none, held_after_some}
 use Rattle.mg_defs.specs.Codes.{ceil_log2}

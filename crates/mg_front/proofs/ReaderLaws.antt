@@ -1,12 +1,9 @@
 -- The places of whole entries, and entries read from a whole one on.
-use Rattle.std.proofs.Common.{rules, arith, suc, zero, ◌≡◌, ◌≢◌, ◌^◌, ◌+◌, ◌-◌, ◌*◌, ◌/◌, ◌%◌, ◌≤◌, ◌<◌, ◌==◌, ◌&&◌, ◌||◌, ◌++◌, ℕ, Bool, true, false, List, [], ◌∷◌, length, take, drop, Some, None, refl, sym, ◌∙◌, ap, subst, cond, length-append, length-take, length-drop, take-append-drop, nat_le, slice_get, get_or, slice_index, IfSome, IsSome, ◌⊎◌, inl, inr}
+use Rattle.std.proofs.Common.{arith, suc, ◌≡◌, ◌≢◌, ◌^◌, ◌+◌, ◌-◌, ◌*◌, ◌%◌, ◌≤◌, ◌<◌, ◌==◌, ◌++◌, ℕ, Bool, true, false, List, [], ◌∷◌, length, take, drop, Some, None, refl, sym, ◌∙◌, ap, subst, cond, length-append, length-take, length-drop, slice_get, IfSome, ◌⊎◌, inl, inr}
 use Rattle.std.specs.declared.option.Option.{Option}
-use Rattle.std.proofs.lemmas.Grind.{common_steps}
-use Rattle.std.proofs.lemmas.Bool.Decides.{nat_tests}
-use Rattle.std.proofs.lemmas.List.{drop_at}
 use Rattle.mg_defs.specs.Numbers.{four}
-use Rattle.mg_defs.specs.Front.{IsEntry, shared, Entry, Found, IsFront, AreEntries, entry_bytes, front, front_from, whole_at, places_from, last_string, read_entry, read_whole, read_cut, is_below}
-use Rattle.mg_defs.proofs.EntryLaws.{shared_within, places_append, read_next, front_more, front_append}
+use Rattle.mg_defs.specs.Front.{IsEntry, shared, Entry, Found, IsFront, AreEntries, entry_bytes, front, front_from, whole_at, last_string, read_entry}
+use Rattle.mg_defs.proofs.EntryLaws.{shared_within, read_next, front_more, front_append}
 use Rattle.mg_dev.specs.Files.{Files, bytes_at}
 use Rattle.mg_defs.proofs.FrontParts.{places_long, place_there, read_first, read_later, some_cons, last_taken, four_same}
 use Rattle.mg_dev.specs.Files.{Reads}
@@ -18,8 +15,6 @@ use Rattle.mg_dev.specs.declared.part_err.PartErr.TheVariants.{Device, Memory, B
 use Rattle.std.specs.Prelude.{Err}
 use Rattle.mg_front.specs.Reading.{AnswersPlaces, Fronted, FrontStands, IsNotBad, LookedAt, NoneAmong, places_size}
 use Rattle.std.proofs.lemmas.Bool.{cases_lt}
-use Rattle.std.proofs.lemmas.Nat.{be_bytes_4, from_be_bytes-to_be_bytes_4}
-use Rattle.std.specs.Int.{from_be_bytes, w32}
 use Rattle.std.proofs.lemmas.Option.{same_Some}
 use Rattle.mg_front.specs.Entries.{entry_of, found_of}
 use Rattle.mg_front.specs.declared.entry.FrontEntry.{FrontEntry}

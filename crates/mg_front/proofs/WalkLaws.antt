@@ -1,17 +1,16 @@
 -- What a walk over entries gives.
-use Rattle.std.proofs.Common.{rules, arith, suc, zero, ◌≡◌, ◌≢◌, ◌+◌, ◌-◌, ◌≤◌, ◌<◌, ◌++◌, ◌⊎◌, inl, inr, ℕ, Bool, false, true, List, [], ◌∷◌, length, take, drop, Some, None, refl, sym, ◌∙◌, ap, subst, length-drop, length-append, append_assoc, IsSome, append-nil, cond, ◌%◌, ◌==◌, ◌*◌, Ok, Err, Result, slice_get}
-use Rattle.std.proofs.lemmas.List.{append_cancel_left}
+use Rattle.std.proofs.Common.{arith, ◌≡◌, ◌+◌, ◌<◌, ◌++◌, ◌⊎◌, inl, inr, ℕ, Bool, false, true, List, [], ◌∷◌, length, take, drop, Some, None, sym, ◌∙◌, ap, subst, length-append, append_assoc, IsSome, append-nil, Ok, Err, Result, slice_get}
 use Rattle.mg_dev.specs.declared.part_err.PartErr.{PartErr}
 use Rattle.mg_dev.specs.declared.part_err.PartErr.TheVariants.{Device, Memory, Bad}
 use Rattle.std.specs.declared.option.Option.{Option}
-use Rattle.std.proofs.lemmas.List.{drop-drop, drop_at}
+use Rattle.std.proofs.lemmas.List.{drop-drop}
 use Rattle.mg_dev.specs.Files.{Files, bytes_at}
 use Rattle.mg_bits.specs.Pages.{Fits}
-use Rattle.mg_defs.specs.Front.{Entry, Found, IsEntry, AreEntries, entry_bytes, front, front_from, last_string, read_entry, shared, IsFront}
+use Rattle.mg_defs.specs.Front.{Entry, IsEntry, AreEntries, entry_bytes, front, front_from, last_string, read_entry, IsFront}
 use Rattle.mg_front.specs.Entries.{string_of, entry_of, found_of}
 use Rattle.mg_defs.proofs.FrontParts.{prefix_of, same_entry, slice_get-behind}
 use Rattle.mg_defs.specs.Front.{NoEntry}
-use Rattle.mg_front.specs.Walk.{Walking, Given, Gave, BeginsWith, IsBad, AnswersNext, AnswersAmong}
+use Rattle.mg_front.specs.Walk.{Walking, Given, Gave, BeginsWith, AnswersNext, AnswersAmong}
 use Rattle.mg_front.specs.declared.entry.FrontEntry.{FrontEntry}
 use Rattle.mg_defs.specs.Front.{StandsFirst}
 use Rattle.mg_defs.proofs.EntryLaws.{read_stands, read_written, entries_rest, none_stands, front_more, entries_more, last_append}

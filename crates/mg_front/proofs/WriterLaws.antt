@@ -1,5 +1,5 @@
 -- What a push does to the entries that a writer took.
-use Rattle.std.proofs.Common.{rules, arith, append-nil, true, ◌≡◌, ◌≢◌, ◌+◌, ◌%◌, ◌==◌, ◌++◌, ℕ, Bool, List, [], ◌∷◌, length, Some, None, refl, sym, ◌∙◌, ap, subst, cond, unwrap_or, IsSome, is_some, length-append}
+use Rattle.std.proofs.Common.{arith, append-nil, true, ◌≡◌, ◌≢◌, ◌+◌, ◌%◌, ◌==◌, ◌++◌, ℕ, List, [], ◌∷◌, length, Some, None, refl, sym, ◌∙◌, ap, subst, cond, unwrap_or, IsSome, is_some, length-append}
 use Rattle.std.specs.declared.option.Option.{Option}
 use Rattle.mg_dev.specs.Files.{Files, Reads, bytes_at, file_at}
 use Rattle.mg_bits.specs.Writer.{Writing, put_to, WroteTo, Wrote}

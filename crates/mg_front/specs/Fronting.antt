@@ -1,11 +1,10 @@
 -- A writer of front-coded entries: what contracts see of it, and which entries it took.
-use Rattle.std.specs.Prelude.{◌≡◌, ◌≢◌, ◌≤◌, ◌<◌, ◌+◌, ◌++◌, ℕ, List, [], ◌∷◌, length, None, Some}
-use Rattle.std.specs.Option.{IsSome, is_some}
+use Rattle.std.specs.Prelude.{◌≡◌, ◌≢◌, ℕ, List, [], length, None, Some}
+use Rattle.std.specs.Option.{IsSome}
 use Rattle.std.specs.declared.option.Option.{Option}
-use Rattle.mg_dev.specs.declared.part.Part.{Part}
-use Rattle.mg_dev.specs.Files.{Files, Reads, SameReads, file_at, bytes_at}
+use Rattle.mg_dev.specs.Files.{Files, Reads, SameReads, bytes_at, written}
 use Rattle.mg_bits.specs.Writer.{Writing, put_to, WroteTo, Wrote}
-use Rattle.mg_defs.specs.Front.{Entry, IsEntry, AreEntries, front, front_from, whole_at, places_from, last_string}
+use Rattle.mg_defs.specs.Front.{Entry, AreEntries, front, whole_at, last_string}
 
 pub record Fronting : Type 0 where
   pub strings : Writing
@@ -52,6 +51,11 @@ StartedPlaces None None before now = Unit {0}
 StartedPlaces (Some name) (Some places) before now = (places.name ≡ name) × (IsSome before → put_to places now ≡ [])
 StartedPlaces None (Some places) before now = ⊥
 StartedPlaces (Some name) None before now = ⊥
+
+-- the file that was asked for is there and empty, where one was
+abbrev pub with_empty : Option Files → Option (List ℕ) → Option Files
+with_empty files None = files
+with_empty files (Some name) = written files name []
 
 -- only the file that was asked for was written, where one was
 abbrev pub WroteToAsked : Option (List ℕ) → Option Files → Option Files → Reads → Reads → Type 0

@@ -3,15 +3,16 @@ use Rattle.std.specs.Prelude.{false, true, ◌≡◌, ◌≢◌, ◌≤◌, ◌<
 use Rattle.std.specs.Option.{IsSome}
 use Rattle.std.specs.declared.option.Option.{Option}
 use Rattle.std.specs.Int.{div_ceil}
-use Rattle.mg_dev.specs.Files.{Files, Reads, bytes_at}
-use Rattle.mg_dev.specs.Names.{same_part}
+use Rattle.mg_dev.specs.Files.{Files, bytes_at}
 use Rattle.mg_dev.specs.declared.part.Part.{Part}
 use Rattle.mg_bits.specs.Pages.{Paging, Fits}
+pub use Rattle.mg_bits.specs.Pages.{LookedAt}
+pub use Rattle.mg_dev.specs.Bads.{IsNotBad}
 use Rattle.mg_defs.specs.Numbers.{four}
-use Rattle.mg_front.specs.Walk.{IsBad}
+use Rattle.mg_dev.specs.Bads.{IsBad}
 use Rattle.mg_front.specs.declared.reader.Scan.{Scan}
 use Rattle.mg_front.specs.declared.reader.Scan.TheVariants.{Found, Absent, Damaged}
-use Rattle.mg_defs.specs.Front.{is_below, Entry, IsFront, front, front_from, whole_at, places_from}
+use Rattle.mg_defs.specs.Front.{is_below, Entry, IsFront, whole_at}
 use Rattle.mg_front.specs.Entries.{entry_of}
 use Rattle.mg_front.specs.declared.entry.FrontEntry.{FrontEntry}
 use Rattle.mg_dev.specs.declared.part_err.PartErr.{PartErr}
@@ -68,13 +69,6 @@ AnswersFind (Err Device) width string out es = Unit {0}
 AnswersFind (Err Memory) width string out es = ⊥
 AnswersFind (Err (Bad bad)) width string out es = ⊥
 
--- a call that only reads, and that reads these two parts alone
-pub record LookedAt (strings places : Part) (files_before files_now : Option Files) (reads_before reads_now : Reads) (faults_before faults_now : ℕ) : Type 0 where
-  pub files : files_now ≡ files_before
-  pub faults : faults_before ≤ faults_now
-  pub later : (p : Part) → reads_before p ≤ reads_now p
-  pub others : (p : Part) → same_part p strings ≡ false → same_part p places ≡ false → reads_now p ≡ reads_before p
-
 -- ---- loading
 
 -- a reader of these files
@@ -90,18 +84,12 @@ pub record IsReader (r : Fronted) (strings : List ℕ) (strings_part : Part) (pl
 abbrev pub places_size : ℕ → ℕ
 places_size count = 4 * div_ceil count 4
 
--- what comparing the size of the places answers: a place for each whole entry, or else the two sizes
+-- what comparing the size of the places answers: a place for each whole entry, or else the two sizes; memory is asked for only where the size is right
 abbrev pub AnswersPlaces : {T : Type 0} → Part → ℕ → List ℕ → Result T PartErr → Type 0
 AnswersPlaces part wanted bytes (Ok value) = length bytes ≡ wanted
 AnswersPlaces part wanted bytes (Err Device) = Unit {0}
-AnswersPlaces part wanted bytes (Err Memory) = Unit {0}
+AnswersPlaces part wanted bytes (Err Memory) = length bytes ≡ wanted
 AnswersPlaces part wanted bytes (Err (Bad bad)) = (length bytes ≢ wanted) × IsBad bad part 0 wanted wanted (length bytes)
-
--- a refusal that does not say that a part is bad
-abbrev pub IsNotBad : PartErr → Type 0
-IsNotBad Device = Unit {0}
-IsNotBad Memory = Unit {0}
-IsNotBad (Bad bad) = ⊥
 
 -- ---- looking a string up
 

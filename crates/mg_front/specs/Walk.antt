@@ -1,16 +1,14 @@
 -- A walk over front-coded entries: what contracts see of it, which entries it gave, and what its next call answers.
-use Rattle.std.specs.Prelude.{◌≡◌, ◌≢◌, ◌≤◌, ◌<◌, ◌+◌, ◌++◌, ◌⊎◌, ℕ, Bool, true, false, List, [], ◌∷◌, length, take, drop, None, Some, Result, Ok, Err, slice_get}
+use Rattle.std.specs.Prelude.{◌≡◌, ◌<◌, ◌+◌, ◌++◌, ◌⊎◌, ℕ, Bool, true, false, List, [], ◌∷◌, length, drop, Some, Result, Ok, Err, slice_get}
 use Rattle.std.specs.Option.{IsSome}
 use Rattle.std.specs.declared.option.Option.{Option}
-use Rattle.mg_dev.specs.declared.part.Part.{Part}
 use Rattle.mg_dev.specs.Files.{Files, Reads, bytes_at}
-use Rattle.mg_dev.specs.Causes.{Rose}
 use Rattle.mg_bits.specs.Pages.{Paging, Fits}
-use Rattle.mg_defs.specs.Front.{NoEntry, Entry, IsEntry, AreEntries, entry_bytes, front, front_from, last_string}
+use Rattle.mg_defs.specs.Front.{NoEntry, Entry, IsEntry, AreEntries, entry_bytes, front, last_string}
 use Rattle.mg_front.specs.Entries.{entry_of}
 use Rattle.mg_front.specs.Looks.{ReadOn, ReadTo}
 use Rattle.mg_front.specs.declared.entry.FrontEntry.{FrontEntry}
-use Rattle.mg_dev.specs.declared.bad.Bad as declared
+pub use Rattle.mg_dev.specs.Bads.{IsBad}
 use Rattle.mg_dev.specs.declared.part_err.PartErr.{PartErr}
 use Rattle.mg_dev.specs.declared.part_err.PartErr.TheVariants.{Device, Memory, Bad}
 
@@ -50,13 +48,6 @@ pub record SameWalk (old new : Walking) : Type 0 where
 pub record BeginsWith (width i : ℕ) (before bytes : List ℕ) (e : Entry) : Type 0 where
   pub entry : IsEntry width i before e
   pub rest : bytes ≡ entry_bytes i before e ++ drop (length (entry_bytes i before e)) bytes
-
-pub record IsBad (bad : declared.Bad) (part : Part) (at low high found : ℕ) : Type 0 where
-  pub part_is : bad.part ≡ part
-  pub at_is : bad.at ≡ at
-  pub low_is : bad.low ≡ low
-  pub high_is : bad.high ≡ high
-  pub found_is : bad.found ≡ found
 
 -- what the next call answers: an entry, the end, or where the part is no front coding
 abbrev pub AnswersNext : Result Bool PartErr → Walking → FrontEntry → List ℕ → Type 0

@@ -10,12 +10,14 @@
 #![tactic(auto)]
 
 mod entry;
+mod laws;
 mod put;
 mod reader;
 mod walk;
 mod writer;
 
 pub use entry::FrontEntry;
+pub use laws::fronts_stay;
 pub use put::shared;
 pub use reader::FrontReader;
 pub use walk::FrontWalk;

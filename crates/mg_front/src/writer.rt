@@ -1,12 +1,12 @@
 // Entries into a part, in order.
 ghost use Rattle.std.specs.Prelude.{◌≡◌, ◌≢◌, ◌≤◌, ◌<◌, ◌+◌, ◌++◌, ◌∷◌, ◌^◌, List, ℕ, [], IfOk, OnOk, IsSome, length, take, None, Some};
 ghost use Rattle.std.specs.Option.{is_some, option_map, ForSome};
-ghost use Rattle.mg_dev.specs.Files.{bytes_at, file_at, SameReads};
+ghost use Rattle.mg_dev.specs.Files.{bytes_at, file_at, written, SameReads};
 ghost use Rattle.mg_dev.specs.Names.{full_name};
 ghost use Rattle.mg_dev.specs.Causes.{HasPutCause};
 ghost use Rattle.mg_defs.specs.Front.{Entry, IsEntry, front, whole_at};
 ghost use Rattle.mg_bits.specs.Writer.{put_to};
-ghost use Rattle.mg_front.specs.Fronting.{Took, IsOther, StartedPlaces, WroteToAsked, IsNotAsked, Finished, HoldsNothing, PlaceWrote, WroteToPlaces};
+ghost use Rattle.mg_front.specs.Fronting.{Took, IsOther, StartedPlaces, WroteToAsked, IsNotAsked, Finished, HoldsNothing, PlaceWrote, WroteToPlaces, with_empty};
 
 use crate::put::{put_entry, put_place};
 use mg_bits::PageWriter;
@@ -52,6 +52,7 @@ fn start_places<'a, S: Store>(
     places: Option<FileRef<'a>>,
 ) -> Result<Option<PageWriter<'a>>, PutErr>
     ensures started { IfOk result (λ writer. StartedPlaces (option_map (λ file. full_name file.base.now file.part) places.entry) writer (S.files store.old) (S.files store.new)) }
+    ensures empty { OnOk result (S.files store.new ≡ with_empty (S.files store.old) (option_map (λ file. full_name file.base.now file.part) places.entry)) }
     ensures wrote { WroteToAsked (option_map (λ file. full_name file.base.now file.part) places.entry) (S.files store.old) (S.files store.new) (S.reads store.old) (S.reads store.new) }
     ensures cause { HasPutCause (S.faults store.old) (S.faults store.new) result }
 {
@@ -78,8 +79,8 @@ fn finish_places<S: Store>(places: &mut Option<PageWriter<'_>>, store: &mut S) -
 }
 
 impl<'a> FrontWriter<'a> {
-    /// A writer of entries whose fields have this width, from 0 to 24 bytes. It empties the file of
-    /// the strings, and that of the places where there is one; their full names differ.
+    /// A writer of entries whose fields have this width, from 0 to 24 bytes. The file of the strings,
+    /// and that of the places where there is one, are there and empty then; their full names differ.
     pub fn start<S: Store>(
         alloc: Global,
         store: &mut S,
@@ -90,6 +91,7 @@ impl<'a> FrontWriter<'a> {
         requires width { width ≤ 24 }
         requires apart { ForSome (option_map (λ file. full_name file.base.now file.part) places) (λ name. name ≢ full_name strings.base.now strings.part) }
         ensures took { IfOk result (λ writer. Took writer (S.files store.new) []) }
+        ensures empty { OnOk result (S.files store.new ≡ with_empty (written (S.files store.old) (full_name strings.entry.base.now strings.entry.part) []) (option_map (λ file. full_name file.base.now file.part) places.entry)) }
         ensures name { IfOk result (λ writer. writer.strings.name ≡ full_name strings.entry.base.now strings.entry.part) }
         ensures places { IfOk result (λ writer. option_map (λ places. places.name) writer.places ≡ option_map (λ file. full_name file.base.now file.part) places.entry) }
         ensures width { IfOk result (λ writer. writer.width ≡ width) }

@@ -1,3 +1,5 @@
 mod CheckLaws
 mod HeadFacts
 mod LoadFacts
+mod ContentLaws
+pub mod CallerLemmas

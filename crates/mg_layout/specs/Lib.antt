@@ -1,3 +1,5 @@
 pub mod HeadAnswers
 pub mod Sizes
 pub mod Infos
+pub mod Stands
+pub mod Contents

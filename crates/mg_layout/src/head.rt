@@ -10,13 +10,13 @@ ghost use Rattle.mg_layout.specs.HeadAnswers.{fields_of, AnswersBack, AnswersHea
 
 use crate::field_writer::FieldWriter;
 use crate::read::parse;
-use crate::version::{BUILT, FIRST, LAST};
+use crate::version::{FIRST, LAST};
 use mg_dev::{Bad, FileRef, Part, PartErr, PutErr, Store};
 
 /// The head of a set: its version, and the numbers of the collection and of the other parts.
 #[derive(Clone, Copy, Debug, PartialEq, Eq)]
 pub struct Head {
-    /// 1 or 2, or [`crate::BUILT`].
+    /// 1 or 2; sets that are built have [`crate::BUILT`].
     pub version: u8,
     pub documents: u32,
     /// How many distinct words there are, and how many distinct others.
@@ -37,7 +37,7 @@ pub struct Head {
 }
 
 impl Head {
-    /// Appends the head's bytes, 64 in version 1 and 80 in the others, in one append.
+    /// Appends the head's bytes, 64 in version 1 and 80 in version 2, in one append.
     pub fn write<S: Store>(&self, store: &mut S, base: &str) -> Result<(), PutErr>
         requires within { defs.IsWithin (fields_of self.now) }
         ensures content { AfterAppend (S.files store.old) (S.files store.new) (full_name base.now part.Head) (defs.head_bytes (fields_of self.now)) result }
@@ -122,18 +122,6 @@ impl Head {
         ensures cause { HasPartCause (S.faults store.old) (S.faults store.new) result }
     {
         load_from(store, base, FIRST, LAST)
-    }
-
-    /// The same for a head of the version that `mg build` writes, and no other.
-    pub fn load_built<S: Store>(store: &mut S, base: &str) -> Result<Option<Head>, PartErr>
-        ensures answer { IsSome (S.files store.old) → AnswersHead BUILT BUILT (bytes_at (S.files store.old) (full_name base.now part.Head)) result }
-        ensures back { IsSome (S.files store.old) → (h : defs.Head) → defs.IsHead BUILT BUILT (bytes_at (S.files store.old) (full_name base.now part.Head)) h → AnswersBack h result }
-        ensures within { AnswersWithin result }
-        ensures files { S.files store.new ≡ S.files store.old }
-        ensures reads { SameReads (S.reads store.old) (S.reads store.new) ⊎ OneRead (S.reads store.old) (S.reads store.new) part.Head }
-        ensures cause { HasPartCause (S.faults store.old) (S.faults store.new) result }
-    {
-        load_from(store, base, BUILT, BUILT)
     }
 }
 

@@ -7,15 +7,19 @@
 #![tactic(auto)]
 
 mod check;
+mod contents;
 mod field_writer;
 mod head;
 pub mod numbers;
 mod read;
+mod sets;
 mod size;
 mod term_info;
 mod version;
 
+pub use contents::expect_bytes;
 pub use head::Head;
+pub use sets::{heads_tell_sets, sets_stand};
 pub use size::expect_size;
 pub use term_info::TermInfo;
 pub use version::BUILT;

@@ -1,5 +1,5 @@
 // What no clause says: the bytes of real heads, the damages by their numbers, and that calls succeed.
-use crate::{BUILT, Head, TermInfo, expect_size};
+use crate::{BUILT, Head, TermInfo, expect_bytes, expect_size};
 use mg_dev::{FileRef, MemStore, Part, PartErr};
 use std::alloc::Global;
 use std::test::Fail;
@@ -35,22 +35,6 @@ const SECOND: [u8; 80] = [
 
 const WIDE: Head = Head {
     version: 2,
-    documents: 1,
-    words: 1,
-    others: 1,
-    terms: 1,
-    cap: 1_398_101,
-    open_end: true,
-    collection: 8,
-    occurrences: 4,
-    runs: 1,
-    text_bytes: 2,
-    post_bytes: 1,
-    skip_count: 1,
-};
-
-const UNFINISHED: Head = Head {
-    version: BUILT,
     documents: 1,
     words: 1,
     others: 1,
@@ -254,14 +238,11 @@ fn a_failing_store_is_no_damage(rt: HostRuntime) -> Result<(), Fail> {
 }
 
 #[test]
-fn a_head_that_is_built_has_another_magic(rt: HostRuntime) -> Result<(), Fail> {
-    let mut store = MemStore::new(rt.alloc());
-    UNFINISHED.write(&mut store, "set")?;
-    assert!(rt;
-        store.file("set.head").and_then(|bytes| bytes.get(..8)) == Some(b"MGROWv0\n".as_slice())
-    );
-    assert_eq!(rt; Head::load_built(&mut store, "set")?, Some(UNFINISHED));
-    assert!(rt; Head::load(&mut store, "set").is_err());
+fn sets_are_built_in_version_2_and_no_version_0_is_read(rt: HostRuntime) -> Result<(), Fail> {
+    assert_eq!(rt; BUILT, 2);
+    let alloc = rt.alloc();
+    let bytes = changed(alloc, &SECOND, 6, 1, 0x30)?;
+    assert_eq!(rt; damage(alloc, &bytes), Some((6, 49, 50, 48)));
     Ok(())
 }
 
@@ -286,6 +267,46 @@ fn a_size_is_compared(rt: HostRuntime) -> Result<(), Fail> {
         ),
         _ => assert!(rt; false, "another size is refused"),
     }
+    Ok(())
+}
+
+// The refusal of other bytes, as place, range and number.
+fn refused(alloc: Global, stored: &[u8], at: u64, wanted: &[u8]) -> Option<(u64, u64, u64, u64)> {
+    if at > 10_000 || wanted.len() > 10_000 {
+        return None;
+    }
+    let mut store = MemStore::new(alloc);
+    store.put_file("set.text", stored).ok()?;
+    let text = FileRef {
+        base: "set",
+        part: Part::Text,
+    };
+    match expect_bytes(&mut store, text, at, wanted) {
+        Err(PartErr::Bad(bad)) => Some((bad.at, bad.low, bad.high, bad.found)),
+        _ => None,
+    }
+}
+
+#[test]
+fn bytes_are_compared_from_a_place_on(rt: HostRuntime) -> Result<(), Fail> {
+    let alloc = rt.alloc();
+    let mut long = vec![in alloc; 7u8; 9000]?;
+    for (at, wanted, told) in [
+        (0, b"abc".as_slice(), None),
+        (1, b"bc".as_slice(), None),
+        (3, b"".as_slice(), None),
+        (9, b"".as_slice(), None),
+        (1, b"bd".as_slice(), Some((2, 100, 100, 99))),
+        (2, b"cd".as_slice(), Some((2, 2, 2, 1))),
+    ] {
+        assert_eq!(rt; refused(alloc, b"abc", at, wanted), told, "at {at}");
+    }
+    let whole = long.to_vec(alloc)?;
+    assert_eq!(rt; refused(alloc, &whole, 0, &long), None);
+    if let Some(byte) = long.get_mut(8999) {
+        *byte = 8;
+    }
+    assert_eq!(rt; refused(alloc, &whole, 0, &long), Some((8999, 8, 8, 7)));
     Ok(())
 }
 

@@ -1,5 +1,5 @@
 -- What a lexicon's terms, entries and fields tell of each other.
-use Rattle.std.proofs.Common.{arith, ◌≡◌, ◌≢◌, ◌+◌, ◌<◌, ◌≤◌, ◌^◌, ◌==◌, ◌||◌, ◌++◌, true, false, ℕ, List, [], ◌∷◌, length, map, take, drop, refl, sym, ◌∙◌, ap, subst, Some, None, slice_get, IsSome, is_some, unwrap_or, append_assoc, append-nil}
+use Rattle.std.proofs.Common.{arith, ◌≡◌, ◌≢◌, ◌<◌, ◌≤◌, ◌^◌, ◌==◌, ◌||◌, ◌++◌, true, false, ℕ, List, [], ◌∷◌, length, map, take, drop, refl, sym, ◌∙◌, ap, subst, Some, None, slice_get, IsSome, is_some, unwrap_or, append_assoc, append-nil}
 use Rattle.std.specs.declared.option.Option.{Option}
 use Rattle.std.specs.List.{enumerate_from}
 use Rattle.std.proofs.lemmas.List.{length-map, drop_at}
@@ -33,6 +33,7 @@ use Rattle.mg_lex.specs.Reading.{AnswersTerm, IsInfo, IsLexicon, IsNoTerm, LexSt
 use Rattle.mg_lex.specs.Writing.{LexWriting, TermsStand, TookTerms, places_name}
 use Rattle.mg_lex.specs.Terms.{FitsField, Term, entries_of, entry_of_term, terms_of}
 use Rattle.mg_bits.proofs.CallerLemmas.{held_page_stays}
+use Rattle.mg_front.proofs.CallerLemmas.{took_stays}
 
 -- ---- fields
 
@@ -188,3 +189,17 @@ finished_terms w f g ts took done = record {
     by_places : (p : Option Writing) → option_map (λ (q : Writing). q.name) p ≡ Some (full_name w.base LexAt) → PlacesHold p g (entries_of ts) → bytes_at g (full_name w.base LexAt) ≡ whole_at (entries_of ts)
     by_places None is holds = absurd cc
     by_places (Some p) is holds = ap (bytes_at g) (sym (same_Some p.name (full_name w.base LexAt) is)) ∙ holds
+
+-- what a writer took stays where its parts stay
+pub terms_are_kept : (w : LexWriting) (f g : Option Files) (ts : List Term) → is_some g ≡ is_some f → file_at g (full_name w.base Lex) ≡ file_at f (full_name w.base Lex) → file_at g (full_name w.base LexAt) ≡ file_at f (full_name w.base LexAt) → TookTerms w f ts → TookTerms w g ts
+terms_are_kept w f g ts told lex lex_at is = record {
+  took = took_stays w.front f g (entries_of ts) told (ap (λ n. file_at g n) is.strings ∙ lex ∙ ap (λ n. file_at f n) (sym is.strings)) (λ places there. by_name places (sym (ap (option_map (λ (p : Writing). p.name)) there) ∙ is.places)) is.took;
+  width = is.width;
+  strings = is.strings;
+  places = is.places;
+}
+  where
+    by_name : (p : Writing) → Some p.name ≡ Some (full_name w.base LexAt) → file_at g p.name ≡ file_at f p.name
+    by_name p is =
+        let name : p.name ≡ full_name w.base LexAt = same_Some p.name (full_name w.base LexAt) is in
+        ap (λ n. file_at g n) name ∙ lex_at ∙ ap (λ n. file_at f n) (sym name)

@@ -1,1 +1,2 @@
 mod LexLaws
+mod InfoLaws

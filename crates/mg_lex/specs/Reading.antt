@@ -9,7 +9,7 @@ use Rattle.mg_dev.specs.declared.part.Part.TheVariants.{Lex, LexAt}
 use Rattle.mg_dev.specs.declared.part_err.PartErr.{PartErr}
 use Rattle.mg_dev.specs.declared.part_err.PartErr.TheVariants.{Device, Memory, Bad}
 use Rattle.mg_defs.specs.Lexicon as defs
-use Rattle.mg_defs.specs.Terms.{dictionary}
+use Rattle.mg_defs.specs.Terms.{dictionary, docs}
 use Rattle.mg_front.specs.Reading.{Fronted}
 use Rattle.mg_layout.specs.Infos.{info_of}
 use Rattle.mg_layout.specs.declared.term_info.TermInfo.{TermInfo}
@@ -46,3 +46,16 @@ AnswersTerm (Ok None) collection t = IsNoTerm collection t
 AnswersTerm (Err Device) collection t = Unit {0}
 AnswersTerm (Err Memory) collection t = ⊥
 AnswersTerm (Err (Bad bad)) collection t = ⊥
+
+-- what stands of a term of the collection: its number, how many documents have it, where its list begins, and its first skip entry
+pub record IsInfoOf (collection t : List ℕ) (info : TermInfo) : Type 0 where
+  pub number : slice_get (dictionary collection) info.number ≡ Some t
+  pub is : info_of info ≡ defs.info_of collection info.number t
+
+-- where the parts stand for a collection within the limits: what stands of the term, or none exactly where no document has it
+abbrev pub AnswersInfo : Result (Option TermInfo) PartErr → List ℕ → List ℕ → Type 0
+AnswersInfo (Ok (Some info)) collection t = IsInfoOf collection t info
+AnswersInfo (Ok None) collection t = docs collection t ≡ 0
+AnswersInfo (Err Device) collection t = Unit {0}
+AnswersInfo (Err Memory) collection t = ⊥
+AnswersInfo (Err (Bad bad)) collection t = ⊥

@@ -5,7 +5,7 @@ use Rattle.std.specs.Option.{option_map}
 use Rattle.mg_dev.specs.Files.{Files, bytes_at}
 use Rattle.mg_dev.specs.Names.{full_name}
 use Rattle.mg_dev.specs.declared.part.Part.TheVariants.{Lex, LexAt}
-use Rattle.mg_defs.specs.Front.{front, whole_at, front_from, places_from}
+use Rattle.mg_defs.specs.Front.{front, whole_at}
 use Rattle.mg_front.specs.Fronting.{Fronting, Took}
 use Rattle.mg_lex.specs.Terms.{Term, entries_of}
 

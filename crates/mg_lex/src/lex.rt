@@ -5,10 +5,12 @@ ghost use Rattle.mg_dev.specs.Names.{full_name};
 ghost use Rattle.mg_dev.specs.PartCauses.{HasPartCause};
 ghost use Rattle.mg_dev.specs.declared.part.Part.TheVariants as part;
 ghost use Rattle.mg_defs.specs.Lexicon.{info_bytes};
+ghost use Rattle.mg_defs.specs.Limits.{IsWithinLimits};
 ghost use Rattle.mg_front.specs.Looks.{ReadLooks, looks};
 ghost use Rattle.mg_front.specs.Reading.{AnswersPlaces, FrontFits, IsNotBad, IsReader, LookedAt, SameParts, places_size};
 ghost use Rattle.mg_layout.specs.Infos.{info_of};
-ghost use Rattle.mg_lex.specs.Reading.{AnswersTerm, IsLexicon, LexStands};
+ghost use Rattle.mg_lex.specs.Reading.{AnswersInfo, AnswersTerm, IsLexicon, LexStands};
+ghost use Rattle.mg_lex.specs.Terms.{FitsField};
 
 use mg_dev::{FileRef, Part, PartErr, Store};
 use mg_front::{FrontEntry, FrontReader};
@@ -63,13 +65,15 @@ impl<'a, S: Store> Lex<'a, S> {
         }
     }
 
-    /// What stands of a term; None where it is no term.
+    /// What stands of a term: its number, how many documents have it, and where its list and its first
+    /// skip entry stand. None where no document has it.
     pub fn find(&mut self, store: &mut S, term: &[u8]) -> Result<Option<TermInfo>, PartErr>
         requires fits { FrontFits self.old (S.files store.old) }
         ensures fits { FrontFits self.new (S.files store.new) }
         ensures same { SameParts self.old self.new }
         ensures looked { LookedAt part.Lex part.LexAt (S.files store.old) (S.files store.new) (S.reads store.old) (S.reads store.new) (S.faults store.old) (S.faults store.new) }
         ensures found { (collection : List ℕ) → LexStands self.old (S.files store.old) collection → AnswersTerm result collection term.now }
+        ensures info { (version : ℕ) (collection : List ℕ) → IsWithinLimits version collection → LexStands self.old (S.files store.old) collection → AnswersInfo result collection term.now }
         ensures reads { ReadLooks part.Lex part.LexAt (S.reads store.old) (S.reads store.new) (looks self.old.count) }
         ensures memory { result ≢ Err PartErr.Memory }
         ensures cause { HasPartCause (S.faults store.old) (S.faults store.new) result }
@@ -88,6 +92,7 @@ impl<'a, S: Store> Lex<'a, S> {
 fn told_by(number: u32, entry: &FrontEntry) -> TermInfo
     ensures number { result.number ≡ number }
     ensures field { info_bytes (info_of result) ≡ take 16 entry.now.field }
+    ensures fits { FitsField (info_of result) }
 {
     let mut field = [0u8; 16];
     field.copy_from_slice(&entry.field[..16]);

@@ -13,7 +13,7 @@ mod laws;
 mod lex;
 mod lex_writer;
 
-pub use laws::{fields_tell, lexicon_has_its_terms};
+pub use laws::{fields_tell, lexicon_has_its_terms, terms_stay};
 pub use lex::Lex;
 pub use lex_writer::LexWriter;
 

@@ -14,7 +14,8 @@ use Rattle.mg_defs.specs.Terms.{folded, is_empty, terms_of_words}
 use Rattle.mg_defs.specs.Vocabulary.{vocabulary, total, sorted_of}
 use Rattle.mg_defs.proofs.SortedLaws.{same-refl, has-sorted, number-found}
 use Rattle.mg_defs.proofs.VocabularyLaws.{vocabulary-push, total-of_vocabulary, counts-positive, sorted-of_vocabulary}
-use Rattle.mg_model.specs.Terms.{HasTerm, counted_term, place_in, term_in, terms_and_numbers}
+use Rattle.mg_defs.specs.Marks.{term_in}
+use Rattle.mg_model.specs.Terms.{HasTerm, counted_term, place_in, terms_and_numbers}
 use Rattle.mg_model.specs.Vocabularies.{pieces_of}
 use Rattle.mg_model.proofs.Lists.{take-there, take-all, there-is}
 

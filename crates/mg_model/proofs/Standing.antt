@@ -15,10 +15,11 @@ use Rattle.mg_defs.specs.CodedText.{StreamCode, TextCode, piece_entries, pieces_
 use Rattle.mg_defs.specs.Front.{Entry, IsEntry, AreEntries, entry_bytes, front, front_from, last_string, shared}
 use Rattle.mg_defs.proofs.FrontParts.{one_front, prefix_of}
 use Rattle.mg_defs.proofs.EntryLaws.{entries_rest}
-use Rattle.mg_model.specs.Models.{IsStreamCode, PartsStand}
+use Rattle.mg_defs.specs.Means.{IsStreamCode}
+use Rattle.mg_model.specs.Models.{PartsStand}
 use Rattle.mg_model.specs.Damage.{StandFirst, IsBroken, HasMore, IsPart, IsWholePart, IsDamage, AnswersLoad, AnswersStanding, AnswersStream}
 use Rattle.mg_model.proofs.Entries.{code, entry, entries-long}
-use Rattle.mg_model.proofs.Writing.{entries-are}
+use Rattle.mg_defs.proofs.StandCodes.{entries-are}
 
 -- ---- one code
 

@@ -1,7 +1,6 @@
 -- The entries of a stream's pieces, as they are written and as they rise.
-use Rattle.std.proofs.Common.{◌≡◌, ◌≢◌, ℕ, ◌+◌, ◌*◌, ◌<◌, ◌≤◌, ◌==◌, ◌||◌, Bool, true, false, List, [], ◌∷◌, length, take, get_or, slice_get, Some, None, Option, refl, sym, ap, subst, ◌∙◌, arith, Err, zero-add, inr}
+use Rattle.std.proofs.Common.{◌≡◌, ◌≢◌, ℕ, ◌+◌, ◌*◌, ◌<◌, ◌≤◌, true, List, [], ◌∷◌, length, take, get_or, slice_get, Some, None, Option, refl, sym, ap, subst, ◌∙◌, arith, Err, zero-add, inr}
 use Rattle.std.specs.Option.{option_map}
-use Rattle.std.specs.List.{AllByRecursion}
 use Rattle.std.specs.List.Sorted.{IsStrictlySortedBy}
 use Rattle.std.specs.Ordering.{nat_cmp, is_lt}
 use Rattle.std.specs.declared.cmp.Ordering.{Ordering}
@@ -13,40 +12,17 @@ use Rattle.mg_dev.specs.declared.part_err.PartErr.{PartErr}
 use Rattle.mg_dev.specs.declared.part_err.PartErr.TheVariants.{Device, Memory, Bad}
 use Rattle.mg_bits.specs.Writer.{Writing}
 use Rattle.mg_defs.specs.CodedText.{StreamCode, piece_entries}
-use Rattle.mg_defs.specs.Front.{Entry, IsEntry, AreEntries, is_below, last_string}
+use Rattle.mg_defs.specs.Front.{Entry, IsEntry, AreEntries, last_string}
 use Rattle.mg_defs.proofs.EntryLaws.{entries_rest}
 use Rattle.mg_defs.proofs.FrontOrder.{rising}
 use Rattle.mg_defs.proofs.FrontParts.{some_cons}
 use Rattle.mg_front.specs.Fronting.{IsOther}
-use Rattle.mg_model.specs.Models.{IsStreamCode}
 use Rattle.mg_model.specs.Damage.{IsPart, AnswersStream}
 use Rattle.mg_model.specs.Read.{AnswersCode}
 use Rattle.mg_model.proofs.Entries.{code, entry, entry-there}
 use Rattle.mg_model.proofs.Seeking.{order, there-or, rise-from}
 
--- ---- entries of pieces that rise
-
-entries-from : (i : ℕ) (before : List ℕ) (pieces : List (List ℕ)) (lengths : List ℕ) → AllByRecursion (λ (u : List ℕ). (i == 0 || is_below before u) ≡ true) (take 1 pieces) → IsStrictlySortedBy (slice_cmp nat_cmp) pieces → AllByRecursion (λ (p : List ℕ). length p ≤ 255) pieces → length lengths ≡ length pieces → AreEntries 1 i before (piece_entries (code pieces lengths))
-unfolding IsStrictlySortedBy
-entries-from i before [] lengths first up short e = tt
-entries-from i before (p ∷ pieces) [] first up short e = absurd (omega (arith, e))
-entries-from i before (p ∷ pieces) (b ∷ lengths) first up short e =
-    (record { short = short.0; field = refl; above = first.0 }, entries-from (i + 1) p pieces lengths (next pieces up.0) up.1 short.1 (omega (arith, e)))
-  where
-    or_true : (b : Bool) → (b || true) ≡ true
-    or_true true = refl
-    or_true false = refl
-
-    next : (qs : List (List ℕ)) → AllByRecursion (λ u. slice_cmp nat_cmp p u ≡ Less) qs → AllByRecursion (λ (u : List ℕ). (i + 1 == 0 || is_below p u) ≡ true) (take 1 qs)
-    next [] h = tt
-    next (q ∷ qs) h = (ap (λ o. i + 1 == 0 || is_lt o) h.0 ∙ or_true (i + 1 == 0), tt)
-
-pub entries-are : (it : StreamCode) → IsStreamCode it → AreEntries 1 0 [] (piece_entries it)
-entries-are it is = entries-from 0 [] it.pieces it.lengths (any it.pieces) is.rising is.short is.each
-  where
-    any : (ps : List (List ℕ)) → AllByRecursion (λ (u : List ℕ). (0 == 0 || is_below [] u) ≡ true) (take 1 ps)
-    any [] = tt
-    any (p ∷ ps) = (refl, tt)
+-- ---- entries that rise
 
 less-of : (o : Ordering) → is_lt o ≡ true → o ≡ Less
 less-of Less h = refl

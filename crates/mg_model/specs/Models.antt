@@ -1,35 +1,15 @@
--- What every model keeps, and what stands in the parts.
-use Rattle.std.specs.Prelude.{◌≡◌, ℕ, ◌^◌, ◌≤◌, List, length}
-use Rattle.std.specs.List.{AllByRecursion}
+-- What stands in the parts of models.
+use Rattle.std.specs.Prelude.{◌≡◌, ℕ, List, length}
 use Rattle.std.specs.Option.{IsSome}
 use Rattle.std.specs.declared.option.Option.{Option}
-use Rattle.std.specs.List.Sorted.{IsStrictlySortedBy}
-use Rattle.std.specs.Ordering.{nat_cmp}
-use Rattle.std.specs.Cmp.Lexicographic.{slice_cmp}
 use Rattle.mg_dev.specs.Files.{Files, bytes_at}
 use Rattle.mg_dev.specs.Names.{full_name}
 use Rattle.mg_dev.specs.declared.part.Part.{Part}
 use Rattle.mg_dev.specs.declared.part.Part.TheVariants as part
 use Rattle.mg_defs.specs.declared.Stream.{Stream}
 use Rattle.mg_defs.specs.declared.Stream.TheVariants.{Words, Others}
-use Rattle.mg_defs.specs.Canon.{AreGood}
-use Rattle.mg_defs.specs.CodedText.{StreamCode, TextCode, pieces_part}
-
--- The pieces rise and have at most 255 bytes each, there are at most 2^22, and each has a length, of lengths that are good.
-pub record IsStreamCode (code : StreamCode) : Type 0 where
-  pub rising : IsStrictlySortedBy (slice_cmp nat_cmp) code.pieces
-  pub short : AllByRecursion (λ (p : List ℕ). length p ≤ 255) code.pieces
-  pub few : length code.pieces ≤ 2 ^ 22
-  pub each : length code.lengths ≡ length code.pieces
-  pub good : AreGood code.lengths
-
-pub record IsModel (code : TextCode) : Type 0 where
-  pub words : IsStreamCode code.words
-  pub others : IsStreamCode code.others
-
-abbrev pub code_of : Stream → TextCode → StreamCode
-code_of Words code = code.words
-code_of Others code = code.others
+use Rattle.mg_defs.specs.CodedText.{TextCode, pieces_part}
+use Rattle.mg_defs.specs.Means.{IsModel}
 
 abbrev pub part_of : Stream → Part
 part_of Words = part.Words

@@ -1,7 +1,8 @@
 -- The numbers of the terms of words.
 use Rattle.std.specs.Prelude.{◌≡◌, ℕ, ◌<◌, List, Option, None, Some, length, map, position, slice_get, if◌then◌else◌}
 use Rattle.std.specs.Str.{bytes_eq}
-use Rattle.mg_defs.specs.Sorted.{number_of, sorted_distinct}
+use Rattle.mg_defs.specs.Marks.{term_in}
+use Rattle.mg_defs.specs.Sorted.{sorted_distinct}
 use Rattle.mg_defs.specs.Terms.{folded, is_empty, terms_of_words}
 use Rattle.mg_defs.specs.Vocabulary.{counted}
 
@@ -9,10 +10,6 @@ use Rattle.mg_defs.specs.Vocabulary.{counted}
 pub record TermNumbers : Type 0 where
   pub terms : List (List ℕ)
   pub numbers : List (Option ℕ)
-
--- the number of the term of a word; the empty word has none
-abbrev pub term_in : List (List ℕ) → List ℕ → Option ℕ
-term_in terms word = if is_empty word then None else Some (number_of terms (folded word))
 
 -- a word has a term among these: its number is that of one of them, which is the word, folded
 pub record HasTerm (terms : List (List ℕ)) (word : List ℕ) : Type 0 where

@@ -7,8 +7,9 @@ ghost use Rattle.mg_defs.specs.Terms.{dictionary, terms_of_words};
 ghost use Rattle.mg_defs.specs.Vocabulary.{sorted_of, sorted_pieces};
 ghost use Rattle.mg_defs.specs.declared.Stream.{Stream};
 ghost use Rattle.mg_defs.specs.declared.Stream.TheVariants.{Words};
-ghost use Rattle.mg_model.specs.Models.{IsStreamCode};
-ghost use Rattle.mg_model.specs.Terms.{HasTerm, term_in, terms_and_numbers};
+ghost use Rattle.mg_defs.specs.Means.{IsStreamCode};
+ghost use Rattle.mg_defs.specs.Marks.{term_in};
+ghost use Rattle.mg_model.specs.Terms.{HasTerm, terms_and_numbers};
 ghost use Rattle.mg_model.specs.Vocabularies.{IsVocabulary};
 
 /// The piece of a symbol has that symbol, and the symbol of a piece has that piece.

@@ -11,7 +11,7 @@ ghost use Rattle.mg_defs.specs.Canon.{AreGood};
 ghost use Rattle.mg_defs.specs.CodedText.{IsHuffman, pieces_part, piece_entries};
 ghost use Rattle.mg_defs.specs.Vocabulary.{sorted_of, counts_of};
 ghost use Rattle.mg_model.specs.Damage.{AnswersStream};
-ghost use Rattle.mg_model.specs.Models.{IsStreamCode};
+ghost use Rattle.mg_defs.specs.Means.{IsStreamCode};
 ghost use Rattle.mg_model.specs.Read.{ReadOnce, UnreadIfShort};
 
 use crate::Vocab;
@@ -37,7 +37,7 @@ impl Model for StreamModel {
     ghost Value = { StreamCode };
 
     ghost use Rattle.std.specs.Prelude.{◌≡◌};
-    ghost use Rattle.mg_model.specs.Models.{IsStreamCode};
+    ghost use Rattle.mg_defs.specs.Means.{IsStreamCode};
     ghost use Rattle.mg_model.specs.Pieces.{pieces_in};
 
     ghost view = { λ m. record { pieces = pieces_in m.pieces; lengths = m.lengths.items } };

@@ -9,7 +9,9 @@ ghost use Rattle.mg_defs.specs.CodedText.{IsHuffman, TextCode};
 ghost use Rattle.mg_defs.specs.Vocabulary.{sorted_of, counts_of};
 ghost use Rattle.mg_front.specs.Reading.{LookedAt};
 ghost use Rattle.mg_model.specs.Damage.{AnswersLoad, AnswersStanding};
-ghost use Rattle.mg_model.specs.Models.{IsStreamCode, PartsHold, PartsStand, code_of};
+ghost use Rattle.mg_defs.specs.Marks.{code_of};
+ghost use Rattle.mg_defs.specs.Means.{IsStreamCode};
+ghost use Rattle.mg_model.specs.Models.{PartsHold, PartsStand};
 ghost use Rattle.mg_model.specs.Read.{ReadBehindWhole, ReadOnce, ToldUnread, UnreadIfShort};
 
 use crate::stream_model::StreamModel;

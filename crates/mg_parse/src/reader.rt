@@ -1,5 +1,5 @@
 // The pieces of a document that comes one byte at a time.
-ghost use Rattle.std.specs.Prelude.{◌≡◌, ℕ, List, [], ◌∷◌, ◌++◌, length};
+ghost use Rattle.std.specs.Prelude.{◌≡◌, ◌≤◌, ℕ, List, [], ◌∷◌, ◌++◌, length};
 ghost use Rattle.mg_defs.specs.Pieces.{Reads, other_kind as other_kind_spec, left_at_end, pieces};
 ghost use Rattle.mg_parse.specs.Offered.{Offered, Ends};
 
@@ -78,10 +78,11 @@ impl PieceReader {
         }
     }
 
-    /// The current piece.
+    /// The current piece, of at most 255 bytes.
     #[inline]
     pub fn piece(&self) -> &[u8]
-        ensures { result.now ≡ self.now.piece }
+        ensures value { result.now ≡ self.now.piece }
+        ensures short { length result.now ≤ 255 }
     {
         &self.buffer[..self.len]
     }

@@ -1,16 +1,15 @@
 -- Laws of counting terms.
-use Rattle.std.proofs.Common.{◌≡◌, ℕ, zero, suc, ◌+◌, ◌<◌, ◌≤◌, Bool, true, false, not, cond, ◌&&◌, ◌||◌, ◌==◌, List, [], ◌∷◌, ◌++◌, length, take, drop, map, get_or, refl, sym, ◌∙◌, ap, subst, arith, add-one, one-add, zero-add, inl, inr, append_assoc, append-nil}
+use Rattle.std.proofs.Common.{◌≡◌, ℕ, suc, ◌+◌, ◌<◌, ◌≤◌, Bool, true, false, not, cond, ◌&&◌, ◌||◌, ◌==◌, List, [], ◌∷◌, length, drop, map, get_or, refl, sym, ◌∙◌, ap, arith, add-one, zero-add, inl, inr}
 use Rattle.std.specs.Prelude.{count_by, nat_lt, filter}
 use Rattle.std.specs.List.{list_any}
 use Rattle.std.proofs.Math.Seq.{drop-cons}
-use Rattle.std.proofs.lemmas.Bool.{cases_Bool, ne_eqb, and_right, lt-ltb, false≢true}
+use Rattle.std.proofs.lemmas.Bool.{cases_Bool, ne_eqb, and_right, lt-ltb}
 use Rattle.std.proofs.lemmas.List.Sums.{sum_by-cons, count_by-le-length}
 use Rattle.mg_defs.specs.Parse.{Pair, parse}
 use Rattle.mg_defs.specs.Terms.{folded, fold_byte, same_term, is_empty, terms, freq_in}
-use Rattle.mg_defs.specs.Sat.{Query, term, both, either, without, satisfies}
-use Rattle.mg_defs.specs.QueryTerms.{query_terms}
 use Rattle.mg_defs.proofs.ParseLaws.{parse_short}
-use Rattle.mg_plain.specs.Counts.{is_hit, hits_in, AreCounts, holds}
+use Rattle.mg_query.specs.Holds.{AreThere}
+use Rattle.mg_plain.specs.Counts.{is_hit, hits_in, AreCounts}
 
 -- ---- a word and a term
 
@@ -85,28 +84,12 @@ some-freq doc t = any (terms doc)
           | inr other ↦ ap (nat_lt 0) (count-cons (same_term t) u ts ∙ ap (λ b. cond b 1 0 + count_by (same_term t) ts) other ∙ zero-add (count_by (same_term t) ts)) ∙ any ts ∙ sym (ap (λ b. b || list_any (same_term t) ts) other)
         ]
 
--- the counts of terms and of more terms behind them
-first-counts : (of : List ℕ → ℕ) (xs ys : List (List ℕ)) (counts : List ℕ) → AreCounts of (xs ++ ys) counts → AreCounts of ys (drop (length xs) counts)
-first-counts of [] ys counts c = c
-first-counts of (x ∷ xs) ys [] c = absurd (omega (arith, c.size))
-first-counts of (x ∷ xs) ys (n ∷ counts) c = first-counts of xs ys counts (record { size = omega (arith, c.size); each = λ k lt. c.each (suc k) (omega (arith, lt)) })
-
-pub holds-front : (doc : List ℕ) (q : Query) (more : List (List ℕ)) (counts : List ℕ) → AreCounts (freq_in doc) (query_terms q ++ more) counts → holds q counts ≡ satisfies q doc
-holds-front doc (term t) more counts c = ap (nat_lt 0) (c.each 0 (omega arith)) ∙ some-freq doc t
-holds-front doc (both p q) more counts c =
-    let whole = subst (λ ts. AreCounts (freq_in doc) ts counts) (append_assoc (query_terms p) (query_terms q) more) c in
-    let left = holds-front doc p (query_terms q ++ more) counts whole in
-    let right = holds-front doc q more (drop (length (query_terms p)) counts) (first-counts (freq_in doc) (query_terms p) (query_terms q ++ more) counts whole) in
-    ap (λ b. b && holds q (drop (length (query_terms p)) counts)) left ∙ ap (λ b. satisfies p doc && b) right
-holds-front doc (either p q) more counts c =
-    let whole = subst (λ ts. AreCounts (freq_in doc) ts counts) (append_assoc (query_terms p) (query_terms q) more) c in
-    let left = holds-front doc p (query_terms q ++ more) counts whole in
-    let right = holds-front doc q more (drop (length (query_terms p)) counts) (first-counts (freq_in doc) (query_terms p) (query_terms q ++ more) counts whole) in
-    ap (λ b. b || holds q (drop (length (query_terms p)) counts)) left ∙ ap (λ b. satisfies p doc || b) right
-holds-front doc (without q) more counts c = ap not (holds-front doc q more counts c)
-
-pub holds-is : (doc : List ℕ) (q : Query) (counts : List ℕ) → AreCounts (freq_in doc) (query_terms q) counts → holds q counts ≡ satisfies q doc
-holds-is doc q counts c = holds-front doc q [] counts (subst (λ ts. AreCounts (freq_in doc) ts counts) (sym (append-nil (query_terms q))) c)
+-- the terms are there that are counted at all
+pub counted_there : (doc : List ℕ) (ts : List (List ℕ)) (counts : List ℕ) (there : List Bool) → AreCounts (freq_in doc) ts counts → length there ≡ length counts → ((k : ℕ) → k < length counts → get_or there k true ≡ nat_lt 0 (get_or counts k 0)) → AreThere doc ts there
+counted_there doc ts counts there c size each = record {
+  size = size ∙ c.size;
+  each = λ k lt. each k (omega (arith, lt, c.size)) ∙ ap (nat_lt 0) (c.each k lt) ∙ some-freq doc (get_or ts k []);
+}
 
 -- ---- one pair after another
 

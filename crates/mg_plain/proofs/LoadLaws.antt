@@ -1,5 +1,5 @@
 -- Laws of loading.
-use Rattle.std.proofs.Common.{◌≡◌, ℕ, ◌+◌, ◌-◌, ◌≤◌, min, List, [], ◌++◌, length, take, drop, Some, None, IsSome, unwrap_or, refl, sym, ◌∙◌, ap, subst, arith, length-drop}
+use Rattle.std.proofs.Common.{◌≡◌, ℕ, ◌≤◌, List, [], ◌++◌, length, take, drop, Some, None, IsSome, unwrap_or, refl, sym, ◌∙◌, ap, subst, arith}
 use Rattle.std.specs.Option.{option_map}
 use Rattle.std.specs.declared.option.Option.{Option}
 use Rattle.std.proofs.Math.Seq.{take-length}
@@ -42,5 +42,5 @@ none_there files name full same missing told = subst (λ x. file_at files x ≡ 
     gone (Some b) e = cc
 
 -- what stands in a vector after a write to all of its places
-pub vec_front : (n : ℕ) (buf items : List ℕ) → n ≡ length buf → take n (buf ++ drop (length buf) items) ≡ buf
+pub vec_front : {X : Type 0} (n : ℕ) (buf items : List X) → n ≡ length buf → take n (buf ++ drop (length buf) items) ≡ buf
 vec_front n buf items e = ap (λ k. take k (buf ++ drop (length buf) items)) e ∙ take-append-le (length buf) buf (drop (length buf) items) (omega arith) ∙ take-length buf

@@ -1,12 +1,9 @@
 -- Laws of a scan.
-use Rattle.std.proofs.Common.{◌≡◌, ℕ, zero, suc, ◌+◌, ◌-◌, ◌<◌, ◌≤◌, ◌^◌, true, false, inl, inr, List, [], ◌∷◌, ◌++◌, length, take, Some, None, Err, refl, sym, ◌∙◌, ap, subst, arith, append_assoc, append-nil, length-append}
+use Rattle.std.proofs.Common.{◌≡◌, ℕ, ◌+◌, ◌≤◌, ◌^◌, true, false, List, [], ◌∷◌, ◌++◌, length, Err, refl, sym, ◌∙◌, ap, subst, arith, append_assoc, append-nil, length-append}
 use Rattle.std.specs.Prelude.{flat_map, IfSome}
 use Rattle.std.specs.declared.option.Option.{Option}
 use Rattle.std.specs.declared.result.Result.{Result}
-use Rattle.std.proofs.lemmas.Bool.{cases_Bool, cases_lt, cond-true, cond-false}
-use Rattle.std.proofs.Math.Seq.{take-append-add}
-use Rattle.std.proofs.lemmas.List.{take-append-le, take_all}
-use Rattle.mg_dev.specs.Streams.{appended, GrewByPrefix, AfterPut}
+use Rattle.mg_dev.specs.Streams.{GrewByPrefix, AfterPut}
 use Rattle.mg_dev.specs.StreamLaws.{grew_first, grew_nothing}
 use Rattle.mg_dev.specs.declared.device.PutErr.{PutErr}
 use Rattle.mg_dev.specs.declared.device.PutErr.TheVariants as put
@@ -21,59 +18,13 @@ use Rattle.mg_defs.specs.Sat.{Query, satisfies}
 use Rattle.mg_defs.specs.declared.session.Settings.{Settings}
 use Rattle.mg_defs.specs.Weights.{first}
 use Rattle.mg_defs.specs.Texts.{count}
-use Rattle.mg_defs.specs.Reply.{Shown, plain, found, shown, shown_as, answer_text, satisfying}
-use Rattle.mg_defs.proofs.ReplyLaws.{found-hit, found-miss, shows, shown-more, shown-full, document_at}
+use Rattle.mg_defs.specs.Reply.{plain, found, shown, answer_text, satisfying}
+use Rattle.mg_defs.specs.Replies.{hit_text}
+use Rattle.mg_defs.proofs.ReplyLaws.{none_first, hit_adds, reply-front, found-hit, found-miss, document_at}
 use Rattle.mg_reply.specs.Pending.{Passed}
 use Rattle.mg_reply.proofs.CallerLemmas.{pass_nothing, pass_both, pass_cut, pass_put}
-use Rattle.mg_plain.specs.Scanned.{Scanned, hit_text}
+use Rattle.mg_plain.specs.Scanned.{Scanned}
 use Rattle.mg_plain.proofs.DocumentLaws.{few_documents, short_document}
-
--- ---- showing the documents of an answer, one after another
-
-none_first : (most : Option ℕ) → first {X = Shown} most [] ≡ []
-none_first None = refl
-none_first (Some zero) = refl
-none_first (Some (suc k)) = refl
-
--- what is printed for one more
-pub hit_adds : (collection : List ℕ) (now : Settings) (doc : List ℕ) (so_far : List Shown) (hit : Shown) (total : ℕ) → document collection hit.number ≡ doc → length so_far ≡ total → flat_map (shown collection now.mode) (first now.most (so_far ++ hit ∷ [])) ≡ flat_map (shown collection now.mode) (first now.most so_far) ++ hit_text doc now.mode now.most total hit
-unfolding hit_text
-hit_adds collection now doc so_far hit total is_doc size =
-    elim (cases_Bool (shows now.most total)) [
-      | inl shown_too ↦
-          shown-more (shown collection now.mode) now.most so_far hit (ap (shows now.most) size ∙ shown_too)
-          ∙ ap (λ d. flat_map (shown collection now.mode) (first now.most so_far) ++ shown_as d now.mode hit) is_doc
-          ∙ ap (λ t. flat_map (shown collection now.mode) (first now.most so_far) ++ t) (sym (cond-true (shows now.most total) (shown_as doc now.mode hit) [] shown_too))
-      | inr full ↦
-          shown-full (shown collection now.mode) now.most so_far hit (ap (shows now.most) size ∙ full)
-          ∙ sym (append-nil (flat_map (shown collection now.mode) (first now.most so_far)))
-          ∙ ap (λ t. flat_map (shown collection now.mode) (first now.most so_far) ++ t) (sym (cond-false (shows now.most total) (shown_as doc now.mode hit) [] full))
-    ]
-
-first-front : (most : Option ℕ) (xs ys : List Shown) → (zs : List Shown) × (first most (xs ++ ys) ≡ first most xs ++ zs)
-first-front None xs ys = (ys, refl)
-first-front (Some k) xs ys =
-    elim (cases_lt k (length xs)) [
-      | inl lt ↦ ([], take-append-le k xs ys (omega (arith, lt)) ∙ sym (append-nil (take k xs)))
-      | inr ge ↦
-          let n = k - length xs in
-          let e : k ≡ length xs + n = omega (arith, ge) in
-          (take n ys, ap (λ j. take j (xs ++ ys)) e ∙ take-append-add xs ys n ∙ ap (λ t. t ++ take n ys) (sym (take_all k xs ge)))
-    ]
-
-flat_map-append : (f : Shown → List ℕ) (xs ys : List Shown) → flat_map f (xs ++ ys) ≡ flat_map f xs ++ flat_map f ys
-flat_map-append f [] ys = refl
-flat_map-append f (x ∷ xs) ys = ap (λ t. f x ++ t) (flat_map-append f xs ys) ∙ sym (append_assoc (f x) (flat_map f xs) (flat_map f ys))
-
--- what was printed for the first of them begins the reply
-pub reply-front : (collection : List ℕ) (now : Settings) (xs ys : List Shown) → (more : List ℕ) × (answer_text collection now (xs ++ ys) ≡ flat_map (shown collection now.mode) (first now.most xs) ++ more)
-unfolding answer_text
-reply-front collection now xs ys =
-    let f = first-front now.most xs ys in
-    let g = shown collection now.mode in (
-      flat_map g f.0 ++ count (length (xs ++ ys)),
-      ap (λ zs. flat_map g zs ++ count (length (xs ++ ys))) f.1 ∙ ap (λ t. t ++ count (length (xs ++ ys))) (flat_map-append g (first now.most xs) f.0) ∙ append_assoc (flat_map g (first now.most xs)) (flat_map g f.0) (count (length (xs ++ ys))),
-    )
 
 -- ---- one document after another
 

@@ -1,9 +1,7 @@
 -- How often each of some terms comes.
-use Rattle.std.specs.Prelude.{◌≡◌, ℕ, ◌<◌, Bool, not, nat_lt, ◌&&◌, ◌||◌, List, [], length, get_or, take, drop, count_by}
+use Rattle.std.specs.Prelude.{◌≡◌, ℕ, ◌<◌, Bool, not, ◌&&◌, List, [], length, get_or, count_by}
 use Rattle.mg_defs.specs.Parse.{Pair}
 use Rattle.mg_defs.specs.Terms.{folded, same_term, is_empty}
-use Rattle.mg_defs.specs.Sat.{Query, term, both, either, without}
-use Rattle.mg_defs.specs.QueryTerms.{query_terms}
 
 -- whether the pair's word is the term
 abbrev pub is_hit : List ℕ → Pair → Bool
@@ -17,10 +15,3 @@ hits_in t pairs = count_by (is_hit t) pairs
 pub record AreCounts (of : List ℕ → ℕ) (terms : List (List ℕ)) (counts : List ℕ) : Type 0 where
   pub size : length counts ≡ length terms
   pub each : (k : ℕ) → k < length terms → get_or counts k 0 ≡ of (get_or terms k [])
-
--- whether the query holds where its terms come so often, from left to right
-abbrev pub holds : Query → List ℕ → Bool
-holds (term t) counts = nat_lt 0 (get_or counts 0 0)
-holds (both p q) counts = holds p counts && holds q (drop (length (query_terms p)) counts)
-holds (either p q) counts = holds p counts || holds q (drop (length (query_terms p)) counts)
-holds (without q) counts = not (holds q counts)

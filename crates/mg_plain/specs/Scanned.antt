@@ -1,18 +1,12 @@
 -- A scan that is under way.
-use Rattle.std.specs.Prelude.{◌≡◌, ℕ, ◌+◌, if◌then◌else◌, List, [], ◌++◌, length, flat_map}
+use Rattle.std.specs.Prelude.{◌≡◌, ℕ, ◌+◌, List, [], ◌++◌, length, flat_map}
 use Rattle.std.specs.declared.option.Option.{Option}
 use Rattle.mg_defs.specs.Split.{documents}
 use Rattle.mg_defs.specs.Sat.{Query}
-use Rattle.mg_defs.specs.declared.session.Mode.{Mode}
 use Rattle.mg_defs.specs.declared.session.Settings.{Settings}
 use Rattle.mg_defs.specs.Weights.{first}
-use Rattle.mg_defs.specs.Reply.{Shown, found, shown, shown_as}
-use Rattle.mg_defs.proofs.ReplyLaws.{shows}
+use Rattle.mg_defs.specs.Reply.{Shown, found, shown}
 use Rattle.mg_reply.specs.Pending.{Passed}
-
--- what is printed for a document of the answer, after so many of them
-unfoldable pub hit_text : List ℕ → Mode → Option ℕ → ℕ → Shown → List ℕ
-hit_text doc mode most total hit = if shows most total then shown_as doc mode hit else []
 
 -- So many documents were read, and those of them that satisfy the query were shown.
 pub record Scanned (collection : List ℕ) (q : Query) (now : Settings) (before after : Option (List ℕ)) (waiting : List ℕ) (number total : ℕ) (rest : List (List ℕ)) : Type 0 where

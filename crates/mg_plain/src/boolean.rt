@@ -1,34 +1,42 @@
 // Boolean lines.
-ghost use Rattle.std.specs.Prelude.{◌≡◌, ◌≤◌, ◌^◌, length, vec_len, IfOk, IfSome};
+ghost use Rattle.std.specs.Prelude.{◌≡◌, ◌≤◌, ◌^◌, length, vec_len, IfOk};
 ghost use Rattle.mg_defs.specs.Sat.{satisfies};
 ghost use Rattle.mg_defs.specs.QueryTerms.{query_terms};
 ghost use Rattle.mg_dev.specs.Causes.{HasPutCause};
 ghost use Rattle.mg_dev.specs.Streams.{AfterPut};
 ghost use Rattle.mg_defs.specs.Reply.{satisfying, answer_text};
-ghost use Rattle.mg_defs.specs.Replies.{boolean_reply, refusal};
-ghost use Rattle.mg_query.specs.RefusalOf.{refusal_of};
+ghost use Rattle.mg_defs.specs.Replies.{boolean_reply};
 ghost use Rattle.mg_defs.specs.Read.{boolean};
 ghost use Rattle.mg_query.specs.QueryOf.{query_of};
 
-use crate::counts::{count_terms, holds};
+use crate::counts::{count_terms, mark_counted};
 use crate::docs::Docs;
-use crate::show::put_hit;
 use mg_defs::Settings;
 use mg_dev::{PutErr, Sink};
-use mg_query::{Query, QueryErr, Terms, parse_boolean};
-use mg_reply::{Pending, put_refusal};
+use mg_query::{Query, Terms, parse_boolean};
+use mg_reply::{Pending, pass_hit, put_refused};
 use std::alloc::{AllocError, Global};
 
-/// Whether a document satisfies a query with these terms. The counts are left from the last one.
-fn is_satisfied(query: &Query, doc: &[u8], terms: &Terms, counts: &mut Vec<u32>) -> bool
+/// Whether a document satisfies a query with these terms. What is counted and what is there is left
+/// from the last one.
+fn is_satisfied(
+    query: &Query,
+    doc: &[u8],
+    terms: &Terms,
+    counts: &mut Vec<u32>,
+    there: &mut Vec<bool>,
+) -> bool
     requires terms { terms.now ≡ query_terms (query_of query.now) }
     requires size { vec_len counts.old ≡ length (query_terms (query_of query.now)) }
+    requires there { vec_len there.old ≡ length (query_terms (query_of query.now)) }
     requires small { length doc.now ≤ 2 ^ 28 }
     ensures value { result ≡ satisfies (query_of query.now) doc.now }
     ensures size { vec_len counts.new ≡ length (query_terms (query_of query.now)) }
+    ensures there { vec_len there.new ≡ length (query_terms (query_of query.now)) }
 {
     count_terms(doc, terms.as_slice(), counts);
-    holds(query, counts)
+    mark_counted(counts, there);
+    query.holds(there)
 }
 
 /// A count of nothing for each term.
@@ -36,6 +44,13 @@ fn no_counts(alloc: Global, terms: &Terms) -> Result<Vec<u32>, AllocError>
     ensures { IfOk result (λ counts. vec_len counts ≡ length terms.now) }
 {
     vec![in alloc; 0; terms.len()]
+}
+
+/// None of the terms is there.
+fn none_there(alloc: Global, terms: &Terms) -> Result<Vec<bool>, AllocError>
+    ensures { IfOk result (λ there. vec_len there ≡ length terms.now) }
+{
+    vec![in alloc; false; terms.len()]
 }
 
 /// Writes the reply to a query: the documents that satisfy it, rising.
@@ -53,16 +68,17 @@ pub(crate) fn answer_query<O: Sink>(
 {
     let terms = query.terms(alloc)?;
     let mut counts = no_counts(alloc, &terms)?;
+    let mut there = none_there(alloc, &terms)?;
     let mut pending = Pending::new();
     let mut docs = Docs::new(bytes);
     let mut number = 0u32;
     let mut total = 0u32;
     'docs: while let Some(doc) = docs.next_doc() {
         number += 1;
-        if !is_satisfied(query, doc, &terms, &mut counts) {
+        if !is_satisfied(query, doc, &terms, &mut counts, &mut there) {
             continue;
         }
-        match put_hit(&mut pending, out, now, total, number, None, doc) {
+        match pass_hit(&mut pending, out, now, total, number, None, doc) {
             Ok(()) => {}
             Err(error) => return Err(error),
         }
@@ -91,16 +107,4 @@ pub(crate) fn answer_boolean<O: Sink>(
         Ok(query) => answer_query(alloc, bytes, &query, now, out),
         Err(why) => put_refused(out, why),
     }
-}
-
-/// Writes why a line is no query, or answers that memory was wanted.
-pub(crate) fn put_refused<O: Sink>(out: &mut O, why: QueryErr) -> Result<(), PutErr>
-    ensures content { IfSome (refusal_of why) (λ refused. AfterPut (O.written out.old) (O.written out.new) (refusal refused) result) }
-    ensures memory { why ≡ QueryErr.Memory → (result ≡ Err PutErr.Memory) × (O.written out.new ≡ O.written out.old) }
-    ensures cause { HasPutCause (O.faults out.old) (O.faults out.new) result }
-{
-    if let QueryErr::Memory = why {
-        return Err(PutErr::Memory);
-    }
-    put_refusal(out, &why)
 }

@@ -1,12 +1,10 @@
 // How often the terms of a query come in a document.
-ghost use Rattle.std.specs.Prelude.{◌≡◌, ℕ, ◌+◌, ◌^◌, ◌<◌, ◌≤◌, [], length, get_or, drop, cond};
+ghost use Rattle.std.specs.Prelude.{◌≡◌, ℕ, ◌+◌, ◌^◌, ◌<◌, ◌≤◌, [], length, get_or, true, nat_lt, cond};
 ghost use Rattle.mg_defs.specs.Terms.{same_term, folded, freq_in};
-ghost use Rattle.mg_defs.specs.QueryTerms.{query_terms};
-ghost use Rattle.mg_query.specs.QueryOf.{query_of};
-ghost use Rattle.mg_plain.specs.Counts.{AreCounts, holds as holds_spec};
+ghost use Rattle.mg_plain.specs.Counts.{AreCounts};
 
 use mg_parse::Pairs;
-use mg_query::{Query, Term};
+use mg_query::Term;
 
 /// Whether a word is the term, once it is folded.
 #[inline]
@@ -55,37 +53,13 @@ pub(crate) fn count_terms(doc: &[u8], terms: &[Term], counts: &mut [u32])
     }
 }
 
-/// Whether a document satisfies a query whose terms come so often in it, from left to right; and the
-/// counts behind those.
-fn holds_from<'a>(query: &Query, counts: &'a [u32]) -> (bool, &'a [u32])
-    ensures value { result.0 ≡ holds_spec (query_of query.now) counts.now }
-    ensures rest { result.1.now ≡ drop (length (query_terms (query_of query.now))) counts.now }
+/// Marks the terms that are counted at all.
+pub(crate) fn mark_counted(counts: &[u32], there: &mut [bool])
+    requires { length there.old ≡ length counts.now }
+    ensures size { length there.new ≡ length counts.now }
+    ensures each { (k : ℕ) → k < length counts.now → get_or there.new k true ≡ nat_lt 0 (get_or counts.now k 0) }
 {
-    match query {
-        Query::Term(_) => match counts.split_first() {
-            Some((count, rest)) => (*count > 0, rest),
-            None => (false, counts),
-        },
-        Query::And(left, right) => {
-            let (left, rest) = holds_from(left, counts);
-            let (right, rest) = holds_from(right, rest);
-            (left && right, rest)
-        }
-        Query::Or(left, right) => {
-            let (left, rest) = holds_from(left, counts);
-            let (right, rest) = holds_from(right, rest);
-            (left || right, rest)
-        }
-        Query::Not(inner) => {
-            let (inner, rest) = holds_from(inner, counts);
-            (!inner, rest)
-        }
+    for (i, count) in counts.iter().enumerate() {
+        there[i] = *count > 0;
     }
-}
-
-/// Whether a document satisfies a query whose terms come so often in it, from left to right.
-pub(crate) fn holds(query: &Query, counts: &[u32]) -> bool
-    ensures { result ≡ holds_spec (query_of query.now) counts.now }
-{
-    holds_from(query, counts).0
 }

@@ -17,7 +17,6 @@ mod ranked;
 mod rows;
 mod scanner;
 mod score;
-mod show;
 #[cfg(test)]
 mod tests;
 mod weigh;

@@ -12,15 +12,13 @@ ghost use Rattle.mg_plain.specs.Inside.{is_inside};
 ghost use Rattle.mg_plain.specs.Rows.{IsPlaced};
 ghost use Rattle.mg_plain.specs.Ranked.{shown_of, shown_rows, rows_text};
 
-use crate::boolean::put_refused;
 use crate::docs::doc_len;
 use crate::order::{Row, sort_rows};
 use crate::rows::rows_of;
-use crate::show::put_shown;
 use mg_defs::{Mode, Settings};
 use mg_dev::{PutErr, Sink};
 use mg_query::{Terms, parse_ranked};
-use mg_reply::Pending;
+use mg_reply::{Pending, pass_shown, put_refused};
 use std::alloc::Global;
 
 /// The document that begins at a place.
@@ -49,7 +47,7 @@ fn put_row<O: Sink>(
         Mode::Docnums => &[],
         Mode::Count => &[],
     };
-    put_shown(pending, out, mode, row.number, Some(row.score), doc)
+    pass_shown(pending, out, mode, row.number, Some(row.score), doc)
 }
 
 /// Passes on what a reply shows of rows, one after another.

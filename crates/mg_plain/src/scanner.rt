@@ -1,7 +1,7 @@
 // A session over a collection, from its name to its last reply.
-ghost use Rattle.std.specs.Prelude.{◌≡◌, ◌≢◌, ◌⊎◌, ◌≤◌, ◌<◌, ◌^◌, ℕ, false, None, IsSome, OnOk, IfErr, IsErrOf, length, refl};
+ghost use Rattle.std.specs.Prelude.{◌≡◌, ◌≢◌, ◌⊎◌, ◌≤◌, ◌<◌, ◌^◌, ℕ, List, false, None, IsSome, OnOk, IfErr, IsErrOf, length, refl};
 ghost use Rattle.std.specs.Option.{ForSome};
-ghost use Rattle.std.proofs.Common.{◌∙◌, ap};
+ghost use Rattle.std.proofs.Common.{◌∙◌, ap, sym};
 ghost use Rattle.mg_dev.specs.Causes.{Rose};
 ghost use Rattle.mg_dev.specs.Files.{file_at, bytes_at};
 ghost use Rattle.mg_dev.specs.Streams.{appended, GrewByPrefix};
@@ -16,8 +16,12 @@ use crate::PlainText;
 use crate::answer::answer_query_line;
 use mg_defs::Settings;
 use mg_dev::{Fault, ShowErr, Sink, Source, Store};
-use mg_reply::{Answerer, ServeErr, serve_lines};
+use mg_reply::{Answerer, Hearing, ServeErr, serve_lines};
 use std::alloc::Global;
+
+/// The device of a scan, which reads none once its text is held.
+#[derive(Drop)]
+struct NoDev;
 
 /// Answers the query lines of a session from a plain text, which stays as it is.
 #[derive(Drop)]
@@ -27,14 +31,23 @@ struct Scanner {
 }
 
 impl Answerer for Scanner {
-    ghost reply = { λ s. reply_spec s.text };
+    type Dev = NoDev;
 
-    ghost after = { λ s t _. t.text ≡ s.text };
+    ghost State = { List ℕ };
+
+    ghost state = { λ s _. s.text };
+
+    ghost fits = { λ _. Unit {0} };
+
+    ghost answers = { λ s reply. reply ≡ reply_spec s };
+
+    ghost after = { λ s t _. t ≡ s };
 
     ghost may_stop = { λ _ _ _. ⊥ };
 
     fn answer_line<O: Sink>(
         &mut self,
+        _dev: &mut NoDev,
         line: &[u8],
         now: &Settings,
         out: &mut O,
@@ -49,7 +62,7 @@ impl Answerer for Scanner {
 
     ghost after_more = { λ _ _ _ _ _ first more. more ∙ first };
 
-    ghost same_reply = { λ _ _ _ same. ap reply_spec same };
+    ghost same_reply = { λ _ _ _ _ same answers. answers ∙ sym (ap reply_spec same) };
 
     ghost stops_later = { λ _ _ _ _ _ _ stops. stops };
 }
@@ -100,7 +113,7 @@ pub fn scan<S: Store, I: Source, O: Sink>(
         Err(fault) => return Err(fault),
     };
     let mut scanner = Scanner { alloc, text };
-    match serve_lines(&mut scanner, input, out) {
+    match serve_lines(Hearing::Commands, &mut scanner, &mut NoDev, input, out) {
         Ok(()) => Ok(()),
         Err(error) => Err(fault_of(error)),
     }

@@ -272,7 +272,7 @@ ended_after false ps reached last (p ∷ held) some w = absurd (let e : p ∷ (h
 
 -- ---- the parts
 
-is_told : (files : Option Files) (n : List ℕ) → IsSome files → told_at files n ≡ Some (bytes_at files n)
+pub is_told : (files : Option Files) (n : List ℕ) → IsSome files → told_at files n ≡ Some (bytes_at files n)
 is_told None n told = absurd cc
 is_told (Some f) n told = refl
 

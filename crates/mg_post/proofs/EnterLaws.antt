@@ -66,7 +66,7 @@ block_is : (count docs k : ℕ) (ps : List Posting) → count ≡ min (docs - 64
 block_is count docs k ps counted whole = ap (λ n. take n (drop (64 * k) ps)) counted ∙ take_block docs k ps whole
 
 -- the answer of a block's read
-pub block_answer : (told : Option (List ℕ)) (post_at all b place before count docs k : ℕ) (ps held : List Posting) (result : Result (Unit {0}) Refusal) → count ≡ min (docs - 64 * k) 64 → docs ≡ length ps →
+pub block_answer : (told : Option (List ℕ)) (post_at all b place before count docs k : ℕ) (ps held : List Posting) (result : Result ℕ Refusal) → count ≡ min (docs - 64 * k) 64 → docs ≡ length ps →
     before ≡ doc_before (64 * k) ps → place ≡ post_at + bits_before b (64 * k) ps → Rises all 0 ps → Shows told post_at (bits_after b 0 ps) → post_at + length (bits_after b 0 ps) ≤ 2 ^ 63 →
     ((qs : List Posting) → Rises all before qs → count ≤ length qs → place + length (bits_after b before qs) ≤ 2 ^ 63 → Shows told place (bits_after b before qs) → OrDevice result (λ u. held ≡ take count qs)) →
     OrDevice result (λ u. held ≡ block_of k ps)
@@ -82,6 +82,11 @@ head_none (q ∷ qs) h = absurd cc
 pub found_some : (all b blocks doc k before last at : ℕ) (ps : List Posting) → Rises all 0 ps → IsFoundAt b ps blocks doc k before last at → 0 < length (from_doc doc (block_of k ps))
 found_some all b blocks doc k before last at ps rises found =
     from_some all (doc_before (64 * k) ps) doc (block_of k ps) (block_rises all k ps rises) found.range.after (rw doc_next at found.range.within)
+
+-- a block that was read ends with the document that was found
+pub block_ends : (b blocks doc k before last at end : ℕ) (ps held : List Posting) → IsFoundAt b ps blocks doc k before last at → held ≡ block_of k ps → end ≡ last_doc before held → end ≡ last
+block_ends b blocks doc k before last at end ps held found is ends =
+    ends ∙ ap (λ d. last_doc d held) found.from ∙ ap (last_doc (doc_before (64 * k) ps)) is ∙ sym (doc_next k ps) ∙ sym found.to
 
 -- ---- pages
 

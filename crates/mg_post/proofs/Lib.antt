@@ -1,9 +1,10 @@
-mod Lengths
 mod WriterLaws
 mod ReadLaws
 mod FindLaws
 mod EnterLaws
 mod CursorLaws
 mod StandLaws
-mod Bounds
 mod Totals
+mod SoundLaws
+mod LifeLaws
+mod TermLaws

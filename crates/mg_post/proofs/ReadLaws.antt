@@ -19,7 +19,7 @@ use Rattle.mg_post.specs.declared.refusal.Refusal.{Refusal}
 use Rattle.mg_post.specs.declared.refusal.Refusal.TheVariants.{Device, Damaged}
 use Rattle.mg_post.specs.Stands.{Shows}
 use Rattle.mg_post.specs.Answers.{IsGot, OrDevice, of_code}
-use Rattle.mg_post.proofs.Lengths.{length_posting}
+use Rattle.mg_defs.proofs.StandLists.{length_posting}
 
 -- the answer of a reader of a code where the code of a value stands
 code_got : (within : ℕ → Type 0) (words : ℕ → Bits) (free : IsPrefixFree within words) (result : Result ℕ CodeErr) (limit place y : ℕ) (s : Bits) → within y → Begins (words y) s → AnswersCode result within words limit place s → IsGot result y

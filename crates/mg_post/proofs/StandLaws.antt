@@ -19,7 +19,8 @@ use Rattle.mg_bits.specs.Feed.{told_at}
 use Rattle.mg_post.specs.Cursor.{blocks_of, CursorFits, Cursoring, CursorStands, SameList, StandsAt}
 use Rattle.mg_post.proofs.WriterLaws.{lists_whole, length_entries_to}
 use Rattle.mg_post.proofs.CursorLaws.{ended_after}
-use Rattle.mg_bits.proofs.CallerLemmas.{held_page_stays}
+use Rattle.mg_bits.proofs.CallerLemmas.{bits_stay, held_page_stays, holds_stay}
+use Rattle.mg_post.specs.Writing.{Listing, Took}
 
 length_entry : (e : SkipEntry) → length (entry_bits e) ≡ 128
 unfolding entry_bits
@@ -141,4 +142,28 @@ fits_same c f g told post skip fits = record {
   skip = held_page_stays c.skip f g told skip fits.skip;
   entries = fits.entries;
   first = fits.first;
+}
+
+pub took_stays : (w : Listing) (f g : Option Files) (lists : List (List Posting)) (ps : List Posting) → is_some g ≡ is_some f → file_at g w.post.name ≡ file_at f w.post.name → file_at g w.skip.name ≡ file_at f w.skip.name → Took w f lists ps → Took w g lists ps
+took_stays w f g lists ps told post skip is = record {
+  apart = is.apart;
+  post_holds = holds_stay w.post f g told post is.post_holds;
+  skip_holds = holds_stay w.skip f g told skip is.skip_holds;
+  post_bits = λ t. bits_stay w.post f g post ∙ is.post_bits (sym told ∙ t);
+  skip_bits = λ t. bits_stay w.skip f g skip ∙ is.skip_bits (sym told ∙ t);
+  start = is.start;
+  place = is.place;
+  first = is.first;
+  skip_place = is.skip_place;
+  pushed = is.pushed;
+  last = is.last;
+  full = is.full;
+  rest = is.rest;
+  block_at = is.block_at;
+  parameter = is.parameter;
+  docs = is.docs;
+  all = is.all;
+  bound = is.bound;
+  room = is.room;
+  total = is.total;
 }

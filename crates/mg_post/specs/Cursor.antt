@@ -1,13 +1,14 @@
 -- A cursor over a list: what contracts see of it, and where it stands in its list.
-use Rattle.std.specs.Prelude.{◌≡◌, ◌≢◌, ℕ, ◌+◌, ◌-◌, ◌*◌, ◌/◌, ◌^◌, ◌<◌, ◌≤◌, Bool, true, false, List, [], ◌∷◌, ◌++◌, length, take, drop, min, max, Option, Some, None, Result, Ok, Err}
+use Rattle.std.specs.Prelude.{◌≡◌, ◌≢◌, ℕ, ◌+◌, ◌-◌, ◌*◌, ◌/◌, ◌^◌, ◌<◌, ◌≤◌, ◌⊎◌, Bool, true, false, List, [], ◌∷◌, ◌++◌, length, take, drop, min, max, Option, Some, None, Result, Ok, Err}
 use Rattle.mg_dev.specs.Files.{Files, Reads}
 use Rattle.mg_dev.specs.declared.part.Part.{Part}
 use Rattle.mg_dev.specs.declared.part.Part.TheVariants as part
 use Rattle.mg_dev.specs.declared.part_err.PartErr.{PartErr}
+use Rattle.mg_dev.specs.declared.part_err.PartErr.TheVariants as err
 use Rattle.mg_bits.specs.Feed.{told_at, raised}
 use Rattle.mg_bits.specs.Pages.{Paging, Fits}
 use Rattle.mg_defs.specs.declared.Posting.{Posting}
-use Rattle.mg_defs.specs.Lists.{from_doc, block_of, block_pages, InRange, doc_before}
+use Rattle.mg_defs.specs.Lists.{from_doc, block_of, block_pages, InRange, Rises, doc_before, last_doc}
 use Rattle.mg_post.specs.Stands.{ListStands}
 use Rattle.mg_post.specs.Finding.{SkipReads}
 
@@ -137,6 +138,25 @@ pub record IsOver (c : Cursoring) (post skip : List ℕ) (post_byte first_entry 
   pub docs_is : c.docs ≡ count
   pub all_is : c.all ≡ documents
 
+-- ---- what holds whatever the parts have
+
+-- a posting from the document asked for on, of one of so many documents
+pub record IsFrom (doc all : ℕ) (p : Posting) : Type 0 where
+  pub from : doc ≤ p.doc
+  pub within : p.doc ≤ all
+  pub some : 1 ≤ p.freq
+
+-- postings of rising documents, none behind the last one
+pub record HeldRises (all last : ℕ) (held : List Posting) : Type 0 where
+  pub rises : Rises all 0 held
+  pub within : last_doc 0 held ≤ last
+
+-- the part that a refusal names is one of the two
+abbrev pub NamesItsPart : PartErr → Type 0
+NamesItsPart err.Device = Unit {0}
+NamesItsPart err.Memory = Unit {0}
+NamesItsPart (err.Bad bad) = (bad.part ≡ part.Post) ⊎ (bad.part ≡ part.Skip)
+
 -- ---- what a call reads
 
 -- the counts of Post and Skip rise by as much as the first and the third number, unless these stand at their end; no other count rises
@@ -148,29 +168,30 @@ pub record ReadsTwo (old new : Cursoring) (before now : Reads) : Type 0 where
   pub post : post_pages new < 2 ^ 64 - 1 → now part.Post ≡ raised (before part.Post) (post_pages new - post_pages old)
   pub skip : skip_pages new < 2 ^ 64 - 1 → now part.Skip ≡ raised (before part.Skip) (skip_pages new - skip_pages old)
 
--- the block whose range holds the document was entered, and the cursor stood before it
-pub record EntersBlock (ps : List Posting) (c : Cursoring) (doc now : ℕ) : Type 0 where
+-- the block whose range holds the document was entered, and is the last that was reached; the cursor stood before it
+pub record EntersBlock (ps : List Posting) (c : Cursoring) (doc : ℕ) (v : Cursoring) : Type 0 where
   pub block : ℕ
   pub range : InRange block ps doc
   pub before : c.reached ≤ block
-  pub pages : now ≡ min (entered_pages c + block_pages c.parameter (8 * c.post_at) block ps) (2 ^ 64 - 1)
+  pub reached : v.reached ≡ block + 1
+  pub pages : entered_pages v ≡ min (entered_pages c + block_pages c.parameter (8 * c.post_at) block ps) (2 ^ 64 - 1)
 
 -- reading that block was refused
-pub record ReadsBlock (ps : List Posting) (c : Cursoring) (doc now : ℕ) : Type 0 where
+pub record ReadsBlock (ps : List Posting) (c : Cursoring) (doc : ℕ) (v : Cursoring) : Type 0 where
   pub block : ℕ
   pub range : InRange block ps doc
   pub before : c.reached ≤ block
-  pub least : entered_pages c ≤ now
-  pub most : now ≤ min (entered_pages c + block_pages c.parameter (8 * c.post_at) block ps) (2 ^ 64 - 1)
+  pub least : entered_pages c ≤ entered_pages v
+  pub most : entered_pages v ≤ min (entered_pages c + block_pages c.parameter (8 * c.post_at) block ps) (2 ^ 64 - 1)
 
-abbrev pub EntersFor : Option Posting → List Posting → Cursoring → ℕ → ℕ → Type 0
-EntersFor None ps c doc now = now ≡ entered_pages c
-EntersFor (Some p) ps c doc now = EntersBlock ps c doc now
+abbrev pub EntersFor : Option Posting → List Posting → Cursoring → ℕ → Cursoring → Type 0
+EntersFor None ps c doc v = entered_pages v ≡ entered_pages c
+EntersFor (Some p) ps c doc v = EntersBlock ps c doc v
 
-abbrev pub MayRead : List Posting → Cursoring → ℕ → ℕ → Type 0
-MayRead ps c doc now = entered_pages c < now → ReadsBlock ps c doc now
+abbrev pub MayRead : List Posting → Cursoring → ℕ → Cursoring → Type 0
+MayRead ps c doc v = entered_pages c < entered_pages v → ReadsBlock ps c doc v
 
 -- how the second number rises in a call that asks for a document: not within the block at hand; else by the pages of the block whose range holds the document, or not at all where no block's does
-abbrev pub Enters : Result (Option Posting) PartErr → List Posting → Cursoring → ℕ → ℕ → Type 0
-Enters (Ok found) ps c doc now = (doc ≤ c.last → now ≡ entered_pages c) × (c.last < doc → EntersFor found ps c doc now)
-Enters (Err refusal) ps c doc now = (entered_pages c ≤ now) × MayRead ps c doc now
+abbrev pub Enters : Result (Option Posting) PartErr → List Posting → Cursoring → ℕ → Cursoring → Type 0
+Enters (Ok found) ps c doc v = (doc ≤ c.last → entered_pages v ≡ entered_pages c) × (c.last < doc → EntersFor found ps c doc v)
+Enters (Err refusal) ps c doc v = (entered_pages c ≤ entered_pages v) × MayRead ps c doc v

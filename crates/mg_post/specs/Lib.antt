@@ -2,4 +2,5 @@ pub mod Answers
 pub mod Cursor
 pub mod Finding
 pub mod Stands
+pub mod TermLists
 pub mod Writing

@@ -3,7 +3,7 @@ ghost use Rattle.std.specs.Prelude.{◌≡◌, ◌+◌, ◌-◌, ◌*◌, ◌<�
 ghost use Rattle.std.specs.Bool.{OnTrue, OnFalse};
 ghost use Rattle.mg_bits.specs.Feed.{Calm, Read, ReadsWithin};
 ghost use Rattle.mg_defs.specs.declared.Posting.{Posting};
-ghost use Rattle.mg_defs.specs.Lists.{bits_after, Rises, from_doc};
+ghost use Rattle.mg_defs.specs.Lists.{bits_after, Rises, from_doc, last_doc};
 ghost use Rattle.mg_post.specs.Stands.{Shows};
 ghost use Rattle.mg_post.specs.Cursor.{head_of, GoesOn};
 ghost use Rattle.mg_post.specs.Answers.{OrDevice, RefusalCause};
@@ -98,7 +98,7 @@ impl Block {
         self.index = first_from(&self.postings, self.len, self.index, doc);
     }
 
-    /// Reads so many postings that stand after a document.
+    /// Reads so many postings that stand after a document. Answers the last document.
     pub fn fill<F: Feed>(
         &mut self,
         r: &mut BitReader<F>,
@@ -107,7 +107,7 @@ impl Block {
         count: usize,
         before: u32,
         all: u32,
-    ) -> Result<(), Refusal>
+    ) -> Result<u32, Refusal>
         requires fits { F.fits r.old.feed (F.device dev.old).files }
         requires before { before ≤ all }
         requires parameter { 1 ≤ parameter }
@@ -119,16 +119,18 @@ impl Block {
         ensures pages { OnErr result ((ps : List Posting) → Rises all before ps → count ≤ length ps → r.old.place + length (bits_after parameter before ps) ≤ 2 ^ 63 →
             Shows ((F.feeding r.old.feed).source (F.device dev.old).files) r.old.place (bits_after parameter before ps) →
             ReadsWithin (F.feeding r.old.feed) (F.feeding r.new.feed) (F.device dev.old) (F.device dev.new) r.old.place (r.old.place + length (bits_after parameter before (take count ps)))) }
+        ensures rises { OnOk result (Rises all before self.new) }
+        ensures last { IfOk result (λ last. last ≡ last_doc before self.new) }
         ensures place { MatchResult result (λ _. r.new.place ≡ r.old.place + length (bits_after parameter before self.new)) (λ _. r.new.place ≡ r.old.place) }
         ensures told { (ps : List Posting) → Rises all before ps → count ≤ length ps → r.old.place + length (bits_after parameter before ps) ≤ 2 ^ 63 →
             Shows ((F.feeding r.old.feed).source (F.device dev.old).files) r.old.place (bits_after parameter before ps) → OrDevice result (λ _. self.new ≡ take count ps) }
         ensures cause { RefusalCause result (F.device dev.old).faults (F.device dev.new).faults }
     {
         match read_block(r, dev, parameter, count, before, all, &mut self.postings) {
-            Ok(()) => {
+            Ok(last) => {
                 self.len = count;
                 self.index = 0;
-                Ok(())
+                Ok(last)
             }
             Err(refusal) => Err(refusal),
         }

@@ -1,5 +1,5 @@
 // A cursor over a list.
-ghost use Rattle.std.specs.Prelude.{◌≡◌, ◌≢◌, ◌+◌, ◌*◌, ◌/◌, ◌<◌, ◌≤◌, ◌^◌, ℕ, List, [], true, Option, None, Ok, Err, IfOk, OnOk, OnErr};
+ghost use Rattle.std.specs.Prelude.{◌≡◌, ◌≢◌, ◌+◌, ◌*◌, ◌/◌, ◌<◌, ◌≤◌, ◌^◌, ℕ, List, [], length, true, Option, Some, None, Ok, Err, IfOk, IfErr, IfSome, OnOk, OnErr};
 ghost use Rattle.mg_dev.specs.Files.{Files};
 ghost use Rattle.mg_dev.specs.Names.{full_name};
 ghost use Rattle.mg_dev.specs.PartCauses.{HasPartCause};
@@ -7,9 +7,12 @@ ghost use Rattle.mg_dev.specs.declared.part.Part.TheVariants as part;
 ghost use Rattle.mg_defs.specs.declared.Posting.{Posting};
 ghost use Rattle.mg_defs.specs.Codes.{golomb_parameter};
 ghost use Rattle.mg_defs.specs.Lists.{from_doc};
+ghost use Rattle.mg_defs.specs.PageBounds.{pages_for};
+ghost use Rattle.mg_defs.specs.Split.{documents};
 ghost use Rattle.mg_post.specs.Answers.{AnswersList};
 ghost use Rattle.mg_post.specs.Finding.{entries_pages};
-ghost use Rattle.mg_post.specs.Cursor.{head_of, after, next_doc, blocks_of, post_pages, entered_pages, skip_pages, CursorFits, CursorStands, SameList, SamePlace, StandsAt, IsOver, ReadsTwo, Enters};
+ghost use Rattle.mg_post.specs.Cursor.{head_of, after, next_doc, blocks_of, post_pages, entered_pages, skip_pages, CursorFits, CursorStands, SameList, SamePlace, StandsAt, IsFrom, IsOver, NamesItsPart, ReadsTwo, Enters};
+ghost use Rattle.mg_post.specs.TermLists.{AnswersAsk, CursorFor, IsInfoOf, MayAsk, PagesWithin, ReadsLists};
 
 use crate::block::Block;
 use crate::enter::enter;
@@ -52,13 +55,13 @@ pub struct Cursor<'a, S: Store> {
 impl<'a, S: Store> Model for Cursor<'a, S> {
     ghost use Rattle.std.specs.Prelude.{◌≡◌, ◌≤◌, ◌<◌, ◌^◌, true, []};
     ghost use Rattle.mg_dev.specs.declared.part.Part.TheVariants as part;
-    ghost use Rattle.mg_post.specs.Cursor.{Cursoring, blocks_of};
+    ghost use Rattle.mg_post.specs.Cursor.{Cursoring, HeldRises, blocks_of};
 
     ghost Value = { Cursoring };
 
     ghost view = { λ c. record { post = c.post.feed; skip = c.skip.feed; post_at = c.post_at; skip_at = c.skip_at; docs = c.docs; all = c.all; parameter = c.parameter; reached = c.reached; last = c.last; held = c.block; ended = c.ended; passed = c.passed } };
 
-    ghost invariant = { λ c. (1 ≤ c.parameter) × (c.parameter < 2 ^ 48) × (c.last ≤ c.all) × (c.reached ≤ blocks_of c.docs) × (c.post.feed.part ≡ part.Post) × (c.skip.feed.part ≡ part.Skip) × (c.passed < 2 ^ 64) × (c.ended ≡ true → c.block ≡ []) };
+    ghost invariant = { λ c. (1 ≤ c.parameter) × (c.parameter < 2 ^ 48) × (c.last ≤ c.all) × (c.reached ≤ blocks_of c.docs) × (c.post.feed.part ≡ part.Post) × (c.skip.feed.part ≡ part.Skip) × (c.passed < 2 ^ 64) × (c.ended ≡ true → c.block ≡ []) × HeldRises c.all c.last c.block };
 }
 
 /// How many blocks so many postings have.
@@ -92,6 +95,8 @@ impl<'a, S: Store> Cursor<'a, S> {
         ensures over { IfOk result (λ c. IsOver c (full_name base.entry.now part.Post) (full_name base.entry.now part.Skip) info.entry.now.post_at info.entry.now.skip_at info.entry.now.docs all) }
         ensures parameter { IfOk result (λ c. 1 ≤ info.entry.now.docs → c.parameter ≡ golomb_parameter all info.entry.now.docs) }
         ensures fits { IfOk result (λ c. (files : Option Files) → CursorFits c files) }
+        ensures term { IfOk result (λ c. (collection asked t : List ℕ) (n : ℕ) → IsInfoOf collection t info.entry.now → all ≡ length (documents collection) →
+            CursorFor base.entry.now collection asked t n c) }
         ensures at { IfOk result (λ c. (ps : List Posting) → StandsAt c ps ps) }
         ensures before { IfOk result (λ c. c.held ≡ []) }
         ensures nothing { IfOk result (λ c. (post_pages c ≡ 0) × (entered_pages c ≡ 0) × (skip_pages c ≡ 0)) }
@@ -141,12 +146,16 @@ impl<'a, S: Store> Cursor<'a, S> {
         ensures same { SameList self.old self.new }
         ensures answer { (ps left : List Posting) → CursorStands self.old (S.files store.old) ps → StandsAt self.old ps left →
             AnswersList result (λ found. (found ≡ head_of (from_doc doc left)) × StandsAt self.new ps (from_doc doc left)) }
-        ensures entered { (ps left : List Posting) → CursorStands self.old (S.files store.old) ps → StandsAt self.old ps left → Enters result ps self.old doc (entered_pages self.new) }
+        ensures entered { (ps left : List Posting) → CursorStands self.old (S.files store.old) ps → StandsAt self.old ps left → Enters result ps self.old doc self.new }
         ensures first { post_pages self.new ≤ entered_pages self.new }
         ensures third { skip_pages self.new ≤ entries_pages self.new.skip_at (blocks_of self.new.docs) }
         ensures reads { ReadsTwo self.old self.new (S.reads store.old) (S.reads store.new) }
         ensures ended { self.old.ended ≡ true → (result ≡ Ok None) × (self.new ≡ self.old) × (store.new ≡ store.old) }
         ensures current { IfOk result (λ found. found ≡ head_of self.new.held) }
+        ensures sound { IfOk result (λ found. IfSome found (IsFrom doc self.old.all)) }
+        ensures stays { (p : Posting) → head_of self.old.held ≡ Some p → doc ≤ p.doc → (result ≡ Ok (Some p)) × SamePlace self.old self.new }
+        ensures forward { self.old.reached ≤ self.new.reached }
+        ensures part { IfErr result NamesItsPart }
         ensures kept { OnErr result (SamePlace self.old self.new) }
         ensures files { S.files store.new ≡ S.files store.old }
         ensures memory { result ≢ Err PartErr.Memory }
@@ -210,12 +219,15 @@ impl<'a, S: Store> Cursor<'a, S> {
         ensures same { SameList self.old self.new }
         ensures answer { (ps left : List Posting) → CursorStands self.old (S.files store.old) ps → StandsAt self.old ps left →
             AnswersList result (λ found. (found ≡ head_of (after self.old.held left)) × StandsAt self.new ps (after self.old.held left)) }
-        ensures entered { (ps left : List Posting) → CursorStands self.old (S.files store.old) ps → StandsAt self.old ps left → Enters result ps self.old (next_doc self.old.held) (entered_pages self.new) }
+        ensures entered { (ps left : List Posting) → CursorStands self.old (S.files store.old) ps → StandsAt self.old ps left → Enters result ps self.old (next_doc self.old.held) self.new }
         ensures first { post_pages self.new ≤ entered_pages self.new }
         ensures third { skip_pages self.new ≤ entries_pages self.new.skip_at (blocks_of self.new.docs) }
         ensures reads { ReadsTwo self.old self.new (S.reads store.old) (S.reads store.new) }
         ensures ended { self.old.ended ≡ true → (result ≡ Ok None) × (self.new ≡ self.old) × (store.new ≡ store.old) }
         ensures current { IfOk result (λ found. found ≡ head_of self.new.held) }
+        ensures sound { IfOk result (λ found. IfSome found (IsFrom (next_doc self.old.held) self.old.all)) }
+        ensures forward { self.old.reached ≤ self.new.reached }
+        ensures part { IfErr result NamesItsPart }
         ensures kept { OnErr result (SamePlace self.old self.new) }
         ensures files { S.files store.new ≡ S.files store.old }
         ensures memory { result ≢ Err PartErr.Memory }
@@ -240,5 +252,28 @@ impl<'a, S: Store> Cursor<'a, S> {
                 self.advance_to(store, last + 1)
             }
         }
+    }
+
+    /// As `advance_to`, of the list of a term of a collection. The collection's documents that are
+    /// asked over the cursor's life bound what it reads of Post: each block is read at most once, and
+    /// only where its range holds one of them.
+    pub fn ask(&mut self, store: &mut S, doc: u32) -> Result<Option<Posting>, PartErr>
+        requires fits { CursorFits self.old (S.files store.old) }
+        requires some { 1 ≤ doc }
+        ensures fits { OnOk result (CursorFits self.new (S.files store.new)) }
+        ensures same { SameList self.old self.new }
+        ensures answer { (base collection asked t : List ℕ) → MayAsk base collection asked t doc (S.files store.old) self.old →
+            AnswersList result (λ found. AnswersAsk base collection asked t doc found self.new) }
+        ensures pages { (base collection asked t : List ℕ) → MayAsk base collection asked t doc (S.files store.old) self.old →
+            PagesWithin (pages_for collection asked t) (post_pages self.old) (post_pages self.new) (S.reads store.old) (S.reads store.new) }
+        ensures third { skip_pages self.new ≤ entries_pages self.new.skip_at (blocks_of self.new.docs) }
+        ensures reads { ReadsLists (S.reads store.old) (S.reads store.new) }
+        ensures sound { IfOk result (λ found. IfSome found (IsFrom doc self.old.all)) }
+        ensures part { IfErr result NamesItsPart }
+        ensures files { S.files store.new ≡ S.files store.old }
+        ensures memory { result ≢ Err PartErr.Memory }
+        ensures cause { HasPartCause (S.faults store.old) (S.faults store.new) result }
+    {
+        self.advance_to(store, doc)
     }
 }

@@ -6,7 +6,7 @@ ghost use Rattle.mg_defs.specs.declared.Posting.{Posting};
 ghost use Rattle.mg_defs.specs.Lists.{bits_after, Rises, from_doc, block_pages};
 ghost use Rattle.mg_post.specs.Stands.{Shows};
 ghost use Rattle.mg_post.specs.Finding.{IsFoundAt};
-ghost use Rattle.mg_post.specs.Cursor.{head_of, Entered, IsPlace};
+ghost use Rattle.mg_post.specs.Cursor.{head_of, Entered, IsFrom, IsPlace, HeldRises};
 ghost use Rattle.mg_post.specs.Answers.{OrDevice, RefusalCause};
 
 use crate::block::Block;
@@ -44,7 +44,8 @@ fn place_of(byte: u64, bits: u64) -> Option<u64>
 }
 
 /// Reads the block that was found of a list which begins at a byte of the part, and goes to its
-/// first posting whose document is at least `doc`.
+/// first posting whose document is at least `doc`. A block that doesn't end with the document that
+/// its skip entry tells is refused, so that documents rise from block to block over any parts.
 pub fn enter<F: Feed>(
     r: &mut BitReader<F>,
     dev: &mut F::Dev,
@@ -64,6 +65,8 @@ pub fn enter<F: Feed>(
     requires limit { parameter < 2 ^ 48 }
     ensures fits { F.fits r.new.feed (F.device dev.new).files }
     ensures calm { Calm (F.feeding r.old.feed) (F.feeding r.new.feed) (F.device dev.old) (F.device dev.new) }
+    ensures sound { OnOk result (HeldRises all found.last block.new) }
+    ensures from { IfOk result (λ i. IsFrom doc all i.posting) }
     ensures count { IfOk result (λ i. (F.feeding r.new.feed).count ≤ (F.feeding r.old.feed).count + i.pages) }
     ensures current { IfOk result (λ i. head_of block.new ≡ Some i.posting) }
     ensures told { (ps : List Posting) (blocks : ℕ) → Rises all 0 ps → docs ≡ length ps → Shows ((F.feeding r.old.feed).source (F.device dev.old).files) (8 * post_at) (bits_after parameter 0 ps) →
@@ -80,7 +83,10 @@ pub fn enter<F: Feed>(
     r.seek(place);
     let left = (docs - 64 * found.block) as usize;
     match block.fill(r, dev, parameter, left.min(64), found.before, all) {
-        Ok(()) => {
+        Ok(last) => {
+            if last != found.last {
+                return Err(Refusal::Damaged { at: place });
+            }
             block.forward(doc);
             match block.current() {
                 Some(posting) => {

@@ -1,5 +1,5 @@
 // The laws of lists that stand in Post and Skip.
-ghost use Rattle.std.specs.Prelude.{◌≡◌, ◌≢◌, ◌-◌, ◌*◌, ◌/◌, ◌^◌, ◌<◌, ◌≤◌, ℕ, List, [], Bool, true, Some, is_some, length, take, slice_get, flat_map};
+ghost use Rattle.std.specs.Prelude.{◌≡◌, ◌≢◌, ◌+◌, ◌-◌, ◌*◌, ◌/◌, ◌^◌, ◌<◌, ◌≤◌, ℕ, List, [], Bool, true, Some, Ok, Result, is_some, Contains, length, take, slice_get, flat_map};
 ghost use Rattle.mg_defs.specs.declared.Posting.{Posting};
 ghost use Rattle.mg_defs.specs.Bits.{bits_of};
 ghost use Rattle.mg_defs.specs.Codes.{golomb_parameter};
@@ -9,7 +9,15 @@ ghost use Rattle.mg_defs.specs.Lists.{Rises, entry_bits, lists_bits, lists_entri
 ghost use Rattle.mg_post.specs.Stands.{ListStands};
 ghost use Rattle.std.specs.declared.option.Option.{Option};
 ghost use Rattle.mg_dev.specs.Files.{Files, file_at};
-ghost use Rattle.mg_post.specs.Cursor.{blocks_of, CursorFits, Cursoring, CursorStands, SameList, StandsAt};
+ghost use Rattle.mg_dev.specs.Files.{Reads};
+ghost use Rattle.mg_dev.specs.declared.part.Part.TheVariants as part;
+ghost use Rattle.mg_dev.specs.declared.part_err.PartErr.{PartErr};
+ghost use Rattle.mg_defs.specs.Lists.{block_count};
+ghost use Rattle.mg_defs.specs.PageBounds.{met_pages, pages_for};
+ghost use Rattle.mg_post.specs.Cursor.{blocks_of, CursorFits, Cursoring, CursorStands, Enters, ReadsTwo, SameList, StandsAt, entered_pages, post_pages};
+ghost use Rattle.mg_post.specs.Finding.{entries_pages};
+ghost use Rattle.mg_post.specs.TermLists.{CursorFor, EnteredFor, IsAmong};
+ghost use Rattle.mg_post.specs.Writing.{Listing, Took};
 
 /// Where two parts hold lists and their skip entries, each list stands where the lists before it
 /// end.
@@ -58,4 +66,42 @@ pub fn list_still_stands()
 pub fn cursor_still_fits()
     ensures { (c : Cursoring) (f g : Option Files) → is_some g ≡ is_some f →
         file_at g c.post.name ≡ file_at f c.post.name → file_at g c.skip.name ≡ file_at f c.skip.name → CursorFits c f → CursorFits c g }
+{}
+
+/// Over its life a cursor enters no blocks but those whose range holds a document that it is asked
+/// for, each of them once: where `asked` has the documents of all calls, each call that is answered
+/// keeps to it, and one that is refused comes to no more than the pages of all such blocks. Where the
+/// parts stand, these are fewer than 2^50 and so are those of the skip entries, so that no number
+/// comes to its end, and the reads of Post rise by no more than the cursor's.
+pub fn blocks_are_entered_once()
+    ensures start { (asked : List ℕ) (ps : List Posting) (c : Cursoring) → entered_pages c ≡ 0 → EnteredFor asked ps c }
+    ensures more { (asked : List ℕ) (ps : List Posting) (c v : Cursoring) (doc : ℕ) (found : Option Posting) → IsAmong asked ps doc → SameList c v → c.reached ≤ v.reached →
+        Enters (Ok found) ps c doc v → EnteredFor asked ps c → EnteredFor asked ps v }
+    ensures most { (asked : List ℕ) (ps : List Posting) (c v : Cursoring) (doc : ℕ) (result : Result (Option Posting) PartErr) → IsAmong asked ps doc → Enters result ps c doc v →
+        EnteredFor asked ps c → entered_pages v ≤ met_pages asked c.parameter (8 * c.post_at) (block_count ps) ps }
+    ensures few { (asked : List ℕ) (ps : List Posting) (files : Option Files) (c : Cursoring) → CursorStands c files ps → met_pages asked c.parameter (8 * c.post_at) (block_count ps) ps < 2 ^ 50 }
+    ensures skip { (skip_at docs : ℕ) → docs < 2 ^ 32 → entries_pages skip_at (blocks_of docs) < 2 ^ 50 }
+    ensures reads { (c v : Cursoring) (before now : Reads) → ReadsTwo c v before now → entered_pages v < 2 ^ 64 - 1 → now part.Post + post_pages c ≤ before part.Post + post_pages v }
+{}
+
+/// A document that is one of those asked may be asked of every list.
+pub fn documents_are_among()
+    ensures { (asked : List ℕ) (ps : List Posting) (doc : ℕ) → Contains asked doc → IsAmong asked ps doc }
+{}
+
+/// A cursor that was asked for no document past one was asked for none past a later one.
+pub fn cursor_for_later()
+    ensures { (base collection asked t : List ℕ) (m n : ℕ) (c : Cursoring) → m ≤ n → CursorFor base collection asked t m c → CursorFor base collection asked t n c }
+{}
+
+/// What a cursor over the list of a term has read is within the pages that may be read.
+pub fn cursor_pages_are_within()
+    ensures { (base collection asked t : List ℕ) (n : ℕ) (c : Cursoring) → CursorFor base collection asked t n c → post_pages c ≤ pages_for collection asked t }
+{}
+
+/// What a writer took stays, and it may write on, as long as its two files do: calls that write
+/// other files don't matter.
+pub fn lists_stay()
+    ensures { (w : Listing) (f g : Option Files) (lists : List (List Posting)) (ps : List Posting) → is_some g ≡ is_some f →
+        file_at g w.post.name ≡ file_at f w.post.name → file_at g w.skip.name ≡ file_at f w.skip.name → Took w f lists ps → Took w g lists ps }
 {}

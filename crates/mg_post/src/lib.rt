@@ -21,8 +21,9 @@ mod writer;
 
 pub use cursor::Cursor;
 pub use laws::{
-    after_the_last, cursor_still_fits, infos_fit, list_of_a_term_stands, list_still_stands,
-    lists_stand, post_is_short,
+    after_the_last, blocks_are_entered_once, cursor_for_later, cursor_pages_are_within,
+    cursor_still_fits, documents_are_among, infos_fit, list_of_a_term_stands, list_still_stands,
+    lists_stand, lists_stay, post_is_short,
 };
 pub use mg_defs::Posting;
 pub use writer::ListWriter;

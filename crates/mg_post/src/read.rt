@@ -61,7 +61,7 @@ pub fn read_posting<F: Feed>(
     }
 }
 
-/// Reads so many postings after a document to the front of `out`.
+/// Reads so many postings after a document to the front of `out`. Answers the last document.
 pub fn read_block<F: Feed>(
     r: &mut BitReader<F>,
     dev: &mut F::Dev,
@@ -70,7 +70,7 @@ pub fn read_block<F: Feed>(
     before: u32,
     all: u32,
     out: &mut Vec<Posting>,
-) -> Result<(), Refusal>
+) -> Result<u32, Refusal>
     requires fits { F.fits r.old.feed (F.device dev.old).files }
     requires before { before ≤ all }
     requires parameter { 1 ≤ parameter }
@@ -84,6 +84,7 @@ pub fn read_block<F: Feed>(
         Shows ((F.feeding r.old.feed).source (F.device dev.old).files) r.old.place (bits_after parameter before ps) →
         ReadsWithin (F.feeding r.old.feed) (F.feeding r.new.feed) (F.device dev.old) (F.device dev.new) r.old.place (r.old.place + length (bits_after parameter before (take count ps)))) }
     ensures place { MatchResult result (λ _. r.new.place ≡ r.old.place + length (bits_after parameter before (take count out.new.items))) (λ _. r.new.place ≡ r.old.place) }
+    ensures last { IfOk result (λ last. last ≡ last_doc before (take count out.new.items)) }
     ensures rises { OnOk result (Rises all before (take count out.new.items)) }
     ensures told { (ps : List Posting) → Rises all before ps → count ≤ length ps → r.old.place + length (bits_after parameter before ps) ≤ 2 ^ 63 →
         Shows ((F.feeding r.old.feed).source (F.device dev.old).files) r.old.place (bits_after parameter before ps) → OrDevice result (λ _. take count out.new.items ≡ take count ps) }
@@ -103,5 +104,5 @@ pub fn read_block<F: Feed>(
             }
         }
     }
-    Ok(())
+    Ok(last)
 }

@@ -2,3 +2,4 @@ mod TermLaws
 mod Steps
 mod AheadFew
 mod LineSteps
+mod HoldLaws

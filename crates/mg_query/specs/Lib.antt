@@ -5,3 +5,4 @@ pub mod TokensLeft
 pub mod AheadOf
 pub mod Ahead
 pub mod Parsed
+pub mod Holds

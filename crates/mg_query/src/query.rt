@@ -1,8 +1,9 @@
 //! A Boolean query.
-ghost use Rattle.std.specs.Prelude.{◌≡◌, ◌++◌, IfOk, OnOk};
+ghost use Rattle.std.specs.Prelude.{◌≡◌, ◌++◌, ℕ, List, length, drop, IfOk, OnOk};
 ghost use Rattle.mg_defs.specs.QueryTerms.{query_terms};
-ghost use Rattle.mg_defs.specs.Sat.{both, either};
+ghost use Rattle.mg_defs.specs.Sat.{both, either, satisfies};
 ghost use Rattle.mg_defs.specs.Read.{negated};
+ghost use Rattle.mg_query.specs.Holds.{AreThere, holds as holds_spec};
 ghost use Rattle.mg_query.specs.QueryOf.{query_of};
 
 use crate::term::Term;
@@ -73,5 +74,42 @@ impl Query {
             negated = Query::Not(Box::new(alloc, negated)?);
         }
         Ok(negated)
+    }
+
+    /// Whether it holds where those of its terms are there, from left to right; and what stands
+    /// behind these.
+    fn holds_first<'a>(&self, there: &'a [bool]) -> (bool, &'a [bool])
+        ensures value { result.0 ≡ holds_spec (query_of self.now) there.now }
+        ensures rest { result.1.now ≡ drop (length (query_terms (query_of self.now))) there.now }
+    {
+        match self {
+            Query::Term(_) => match there.split_first() {
+                Some((first, rest)) => (*first, rest),
+                None => (false, there),
+            },
+            Query::And(left, right) => {
+                let (left, rest) = left.holds_first(there);
+                let (right, rest) = right.holds_first(rest);
+                (left && right, rest)
+            }
+            Query::Or(left, right) => {
+                let (left, rest) = left.holds_first(there);
+                let (right, rest) = right.holds_first(rest);
+                (left || right, rest)
+            }
+            Query::Not(inner) => {
+                let (inner, rest) = inner.holds_first(there);
+                (!inner, rest)
+            }
+        }
+    }
+
+    /// Whether a document satisfies it that has those of its terms, from left to right, which are
+    /// there.
+    pub fn holds(&self, there: &[bool]) -> bool
+        ensures value { result ≡ holds_spec (query_of self.now) there.now }
+        ensures satisfied { (doc : List ℕ) → AreThere doc (query_terms (query_of self.now)) there.now → result ≡ satisfies (query_of self.now) doc }
+    {
+        self.holds_first(there).0
     }
 }

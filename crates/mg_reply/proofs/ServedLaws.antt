@@ -1,5 +1,5 @@
 -- Laws of a session that is under way.
-use Rattle.std.proofs.Common.{◌≡◌, ◌==◌, ℕ, zero, suc, ◌+◌, ◌-◌, ◌<◌, ◌≤◌, ◌⊎◌, inl, inr, Bool, true, false, not, ◌&&◌, ◌||◌, List, [], ◌∷◌, ◌++◌, length, take, refl, sym, ◌∙◌, ap, subst, arith, Some, IsSome, IsTrue, append_assoc, append-nil, length-append}
+use Rattle.std.proofs.Common.{◌≡◌, ◌==◌, ℕ, zero, suc, ◌+◌, ◌-◌, ◌<◌, ◌≤◌, inl, inr, Bool, true, false, not, ◌||◌, List, [], ◌∷◌, ◌++◌, length, take, refl, sym, ◌∙◌, ap, subst, arith, Some, None, IsSome, append_assoc, append-nil, length-append}
 use Rattle.std.specs.List.{list_any}
 use Rattle.std.specs.declared.option.Option.{Option}
 use Rattle.std.proofs.Math.Seq.{take-length, take-append-add}
@@ -14,18 +14,20 @@ use Rattle.mg_defs.specs.declared.session.Command.TheVariants.{Skip, Ask, Quit, 
 use Rattle.mg_defs.specs.Commands.{start, command, text_of, settings_after, stops}
 use Rattle.mg_defs.specs.Texts.{bad_command}
 use Rattle.mg_defs.specs.Lines.{lines, HasNoEnd, without_return}
-use Rattle.mg_defs.specs.Session.{replies, session_of, read, ends, Question, questions, questions_of, asked_by}
-use Rattle.mg_defs.specs.Limit.{is_quit, ended_lines, has_quit, is_too_much, input_limit, IsReadEnough}
+use Rattle.mg_defs.specs.declared.session.Hearing.{Hearing}
+use Rattle.mg_defs.specs.declared.session.Hearing.TheVariants.{Commands, Questions}
+use Rattle.mg_defs.specs.Session.{hears, replies, heard_session, read, Question, questions, heard_questions, asked_by}
+use Rattle.mg_defs.specs.Limit.{is_quit, ended_lines, has_quit, is_too_much, input_limit}
 use Rattle.mg_defs.proofs.SessionLaws.{Gives, gives_end, gives_line, ends_long, ends_short}
 use Rattle.mg_defs.proofs.LimitLaws.{ends_always, ended-line, ended-none}
 use Rattle.mg_reply.specs.Reading.{IsFirst, RunsOn}
-use Rattle.mg_reply.specs.Served.{Served, Rests, Used, Counted, AnsweredSome, LeftEnough}
+use Rattle.mg_reply.specs.Served.{Served, Counted, AnsweredSome, LeftEnough}
 use Rattle.mg_reply.proofs.ReadingLaws.{first_line, left_now, empty}
 
 -- ---- what was printed and answered
 
-pub served_start : {A : Type 0} (After : A → A → List Question → Type 0) (a : A) (reply : Settings → List ℕ → List ℕ) (left written : Option (List ℕ)) → After a a [] → Served After a a reply left left written written start
-served_start After a reply left written none = record {
+pub served_start : {A : Type 0} (hearing : Hearing) (After : A → A → List Question → Type 0) (a : A) (reply : Settings → List ℕ → List ℕ) (left written : Option (List ℕ)) → After a a [] → Served hearing After a a reply left left written written start
+served_start hearing After a reply left written none = record {
   done = [];
   answered = [];
   given = sym (appended-nil written);
@@ -33,13 +35,18 @@ served_start After a reply left written none = record {
   goes_on = λ all told. record { rest = all; told = told; goes_on = refl; asks = refl };
 }
 
+-- where nothing is told, nothing is told after
+pub none_appended : (text : List ℕ) → None ≡ appended None text
+unfolding appended
+none_appended text = refl
+
 -- answers between two states, and then between the second and a third
 abbrev pub Joins : {A : Type 0} → (A → A → List Question → Type 0) → Type 0
 Joins {A} After = (s t u : A) (xs ys : List Question) → After s t xs → After t u ys → After s u (xs ++ ys)
 
 -- a line more
-pub served_line : {A : Type 0} (After : A → A → List Question → Type 0) (old new next : A) (reply : Settings → List ℕ → List ℕ) (before left left2 w0 w1 w2 : Option (List ℕ)) (now after : Settings) (line text : List ℕ) (asking : List Question) (size : ℕ) → Joins After → Served After old new reply before left w0 w1 now → IsFirst line size left left2 → Gives reply now line text asking after → After new next asking → w2 ≡ appended w1 text → Served After old next reply before left2 w0 w2 after
-served_line After old new next reply before left left2 w0 w1 w2 now after line text asking size joins s first gives step given = record {
+pub served_line : {A : Type 0} (hearing : Hearing) (After : A → A → List Question → Type 0) (old new next : A) (reply : Settings → List ℕ → List ℕ) (before left left2 w0 w1 w2 : Option (List ℕ)) (now after : Settings) (line text : List ℕ) (asking : List Question) (size : ℕ) → Joins After → Served hearing After old new reply before left w0 w1 now → IsFirst line size left left2 → Gives hearing reply now line text asking after → After new next asking → w2 ≡ appended w1 text → Served hearing After old next reply before left2 w0 w2 after
+served_line hearing After old new next reply before left left2 w0 w1 w2 now after line text asking size joins s first gives step given = record {
   done = s.done ++ text;
   answered = s.answered ++ asking;
   given = given ∙ ap (λ w. appended w text) s.given ∙ appended-appended w0 s.done text;
@@ -50,35 +57,35 @@ served_line After old new next reply before left left2 w0 w1 w2 now after line t
       record {
         rest = f.0;
         told = f.1;
-        goes_on = r.goes_on ∙ ap (λ ls. s.done ++ replies reply now ls) f.2 ∙ ap (λ t. s.done ++ t) (gives.goes_on (lines f.0)) ∙ sym (append_assoc s.done text (replies reply after (lines f.0)));
-        asks = r.asks ∙ ap (λ ls. s.answered ++ questions now ls) f.2 ∙ ap (λ t. s.answered ++ t) (gives.asks (lines f.0)) ∙ sym (append_assoc s.answered asking (questions after (lines f.0)));
+        goes_on = r.goes_on ∙ ap (λ ls. s.done ++ replies hearing reply now ls) f.2 ∙ ap (λ t. s.done ++ t) (gives.goes_on (lines f.0)) ∙ sym (append_assoc s.done text (replies hearing reply after (lines f.0)));
+        asks = r.asks ∙ ap (λ ls. s.answered ++ questions hearing now ls) f.2 ∙ ap (λ t. s.answered ++ t) (gives.asks (lines f.0)) ∙ sym (append_assoc s.answered asking (questions hearing after (lines f.0)));
       };
 }
 
 -- a part of a line's text
-pub served_part : {A : Type 0} (After : A → A → List Question → Type 0) (old new : A) (reply : Settings → List ℕ → List ℕ) (before left next w0 w1 w2 : Option (List ℕ)) (now after : Settings) (line text : List ℕ) (asking : List Question) (size : ℕ) → Served After old new reply before left w0 w1 now → IsFirst line size left next → Gives reply now line text asking after → GrewByPrefix w1 w2 text → (all : List ℕ) → before ≡ Some all → GrewByPrefix w0 w2 (session_of reply all)
-unfolding session_of
-served_part After old new reply before left next w0 w1 w2 now after line text asking size s first gives grew all told =
+pub served_part : {A : Type 0} (hearing : Hearing) (After : A → A → List Question → Type 0) (old new : A) (reply : Settings → List ℕ → List ℕ) (before left next w0 w1 w2 : Option (List ℕ)) (now after : Settings) (line text : List ℕ) (asking : List Question) (size : ℕ) → Served hearing After old new reply before left w0 w1 now → IsFirst line size left next → Gives hearing reply now line text asking after → GrewByPrefix w1 w2 text → (all : List ℕ) → before ≡ Some all → GrewByPrefix w0 w2 (heard_session hearing reply all)
+unfolding heard_session
+served_part hearing After old new reply before left next w0 w1 w2 now after line text asking size s first gives grew all told =
     let r = s.goes_on all told in
     let f = first_line line r.rest size left next first r.told in
-    let e : replies reply start (lines all) ≡ s.done ++ (text ++ replies reply after (lines f.0)) =
-    r.goes_on ∙ ap (λ ls. s.done ++ replies reply now ls) f.2 ∙ ap (λ t. s.done ++ t) (gives.goes_on (lines f.0)) in
-    subst (GrewByPrefix w0 w2) (sym e) (grew_second w0 w1 w2 s.done (text ++ replies reply after (lines f.0)) s.given (grew_first w1 w2 text (replies reply after (lines f.0)) grew))
+    let e : replies hearing reply start (lines all) ≡ s.done ++ (text ++ replies hearing reply after (lines f.0)) =
+    r.goes_on ∙ ap (λ ls. s.done ++ replies hearing reply now ls) f.2 ∙ ap (λ t. s.done ++ t) (gives.goes_on (lines f.0)) in
+    subst (GrewByPrefix w0 w2) (sym e) (grew_second w0 w1 w2 s.done (text ++ replies hearing reply after (lines f.0)) s.given (grew_first w1 w2 text (replies hearing reply after (lines f.0)) grew))
 
 -- what was printed so far
-pub served_some : {A : Type 0} (After : A → A → List Question → Type 0) (old new : A) (reply : Settings → List ℕ → List ℕ) (before left w0 w1 : Option (List ℕ)) (now : Settings) → Served After old new reply before left w0 w1 now → (all : List ℕ) → before ≡ Some all → GrewByPrefix w0 w1 (session_of reply all)
-unfolding session_of
-served_some After old new reply before left w0 w1 now s all told =
+pub served_some : {A : Type 0} (hearing : Hearing) (After : A → A → List Question → Type 0) (old new : A) (reply : Settings → List ℕ → List ℕ) (before left w0 w1 : Option (List ℕ)) (now : Settings) → Served hearing After old new reply before left w0 w1 now → (all : List ℕ) → before ≡ Some all → GrewByPrefix w0 w1 (heard_session hearing reply all)
+unfolding heard_session
+served_some hearing After old new reply before left w0 w1 now s all told =
     let r = s.goes_on all told in
-    subst (GrewByPrefix w0 w1) (sym r.goes_on) (grew_second w0 w1 w1 s.done (replies reply now (lines r.rest)) s.given (grew_nothing w1 (replies reply now (lines r.rest))))
+    subst (GrewByPrefix w0 w1) (sym r.goes_on) (grew_second w0 w1 w1 s.done (replies hearing reply now (lines r.rest)) s.given (grew_nothing w1 (replies hearing reply now (lines r.rest))))
 
 -- the queries answered so far
-pub served_asked : {A : Type 0} (After : A → A → List Question → Type 0) (old new : A) (reply : Settings → List ℕ → List ℕ) (before left w0 w1 : Option (List ℕ)) (now : Settings) → Served After old new reply before left w0 w1 now → AnsweredSome After old new before
-unfolding questions_of
-served_asked After old new reply before left w0 w1 now s = record {
+pub served_asked : {A : Type 0} (hearing : Hearing) (After : A → A → List Question → Type 0) (old new : A) (reply : Settings → List ℕ → List ℕ) (before left w0 w1 : Option (List ℕ)) (now : Settings) → Served hearing After old new reply before left w0 w1 now → AnsweredSome hearing After old new before
+unfolding heard_questions
+served_asked hearing After old new reply before left w0 w1 now s = record {
   answered = s.answered;
   after = s.after;
-  first = λ all told. let r = s.goes_on all told in (questions now (lines r.rest), r.asks);
+  first = λ all told. let r = s.goes_on all told in (questions hearing now (lines r.rest), r.asks);
 }
 
 -- nothing is left of a told input at its end
@@ -88,21 +95,21 @@ nothing left rest told end =
     let e = sym told ∙ end is_told in cc
 
 -- the input is at its end
-pub served_all : {A : Type 0} (After : A → A → List Question → Type 0) (old new : A) (reply : Settings → List ℕ → List ℕ) (before left w0 w1 : Option (List ℕ)) (now : Settings) → Served After old new reply before left w0 w1 now → IsAtEnd left → (all : List ℕ) → before ≡ Some all → w1 ≡ appended w0 (session_of reply all)
-unfolding session_of replies
-served_all After old new reply before left w0 w1 now s end all told =
+pub served_all : {A : Type 0} (hearing : Hearing) (After : A → A → List Question → Type 0) (old new : A) (reply : Settings → List ℕ → List ℕ) (before left w0 w1 : Option (List ℕ)) (now : Settings) → Served hearing After old new reply before left w0 w1 now → IsAtEnd left → (all : List ℕ) → before ≡ Some all → w1 ≡ appended w0 (heard_session hearing reply all)
+unfolding heard_session replies
+served_all hearing After old new reply before left w0 w1 now s end all told =
     let r = s.goes_on all told in
     let none = nothing left r.rest r.told end in
-    s.given ∙ ap (appended w0) (sym (r.goes_on ∙ ap (λ x. s.done ++ replies reply now (lines x)) none ∙ append-nil s.done))
+    s.given ∙ ap (appended w0) (sym (r.goes_on ∙ ap (λ x. s.done ++ replies hearing reply now (lines x)) none ∙ append-nil s.done))
 
 -- a line ends it
-pub served_quit : {A : Type 0} (After : A → A → List Question → Type 0) (old new : A) (reply : Settings → List ℕ → List ℕ) (before left next w0 w1 : Option (List ℕ)) (now : Settings) (line : List ℕ) (size : ℕ) → Served After old new reply before left w0 w1 now → IsFirst line size left next → length line ≤ 1024 → stops (read now line) ≡ true → (all : List ℕ) → before ≡ Some all → w1 ≡ appended w0 (session_of reply all)
-unfolding session_of
-served_quit After old new reply before left next w0 w1 now line size s first short quits all told =
+pub served_quit : {A : Type 0} (hearing : Hearing) (After : A → A → List Question → Type 0) (old new : A) (reply : Settings → List ℕ → List ℕ) (before left next w0 w1 : Option (List ℕ)) (now : Settings) (line : List ℕ) (size : ℕ) → Served hearing After old new reply before left w0 w1 now → IsFirst line size left next → length line ≤ 1024 → stops (read now line) ≡ true → (all : List ℕ) → before ≡ Some all → w1 ≡ appended w0 (heard_session hearing reply all)
+unfolding heard_session
+served_quit hearing After old new reply before left next w0 w1 now line size s first short quits all told =
     let r = s.goes_on all told in
     let f = first_line line r.rest size left next first r.told in
-    let none = gives_end reply now line (lines f.0) short quits in
-    s.given ∙ ap (appended w0) (sym (r.goes_on ∙ ap (λ ls. s.done ++ replies reply now ls) f.2 ∙ ap (λ t. s.done ++ t) none.0 ∙ append-nil s.done))
+    let none = gives_end hearing reply now line (lines f.0) short quits in
+    s.given ∙ ap (appended w0) (sym (r.goes_on ∙ ap (λ ls. s.done ++ replies hearing reply now ls) f.2 ∙ ap (λ t. s.done ++ t) none.0 ∙ append-nil s.done))
 
 -- ---- what is said of a line's answer
 
@@ -113,6 +120,15 @@ no_text reply wrong now line Quit h = (refl, refl)
 no_text reply wrong now line Wrong h = absurd (false≢true h)
 no_text reply wrong now line (Set changed) h = (refl, refl)
 
+-- how lines are heard does not change which of them ends the session
+stops_heard : (hearing : Hearing) (c : Command) → stops (hears hearing c) ≡ stops c
+stops_heard Commands c = refl
+stops_heard Questions Skip = refl
+stops_heard Questions Ask = refl
+stops_heard Questions Quit = refl
+stops_heard Questions Wrong = refl
+stops_heard Questions (Set changed) = refl
+
 -- A line of an input, without a last carriage return, is answered by a state with this reply.
 pub record Answered (reply answering : Settings → List ℕ → List ℕ) (now : Settings) (line cut : List ℕ) : Type 0 where
   pub same : answering ≡ reply
@@ -120,34 +136,37 @@ pub record Answered (reply answering : Settings → List ℕ → List ℕ) (now 
   pub short : length line ≤ 1024
 
 -- the text of a line's answer
-abbrev pub answer : (Settings → List ℕ → List ℕ) → Settings → List ℕ → List ℕ
-answer answering now cut = text_of answering bad_command now cut (command cut now)
+abbrev pub heard : Hearing → Settings → List ℕ → Command
+heard hearing now cut = hears hearing (command cut now)
 
-pub answered_gives : (reply answering : Settings → List ℕ → List ℕ) (now : Settings) (line cut : List ℕ) → Answered reply answering now line cut → stops (command cut now) ≡ false → Gives reply now line (answer answering now cut) (asked_by now cut (command cut now)) (settings_after now (command cut now))
-answered_gives reply answering now line cut a goes =
-    let P : (Settings → List ℕ → List ℕ) → List ℕ → Type 0 = λ r l. Gives reply now line (answer r now l) (asked_by now l (command l now)) (settings_after now (command l now)) in
+abbrev pub answer : Hearing → (Settings → List ℕ → List ℕ) → Settings → List ℕ → List ℕ
+answer hearing answering now cut = text_of answering bad_command now cut (heard hearing now cut)
+
+pub answered_gives : (hearing : Hearing) (reply answering : Settings → List ℕ → List ℕ) (now : Settings) (line cut : List ℕ) → Answered reply answering now line cut → stops (command cut now) ≡ false → Gives hearing reply now line (answer hearing answering now cut) (asked_by now cut (heard hearing now cut)) (settings_after now (heard hearing now cut))
+answered_gives hearing reply answering now line cut a goes =
+    let P : (Settings → List ℕ → List ℕ) → List ℕ → Type 0 = λ r l. Gives hearing reply now line (answer hearing r now l) (asked_by now l (heard hearing now l)) (settings_after now (heard hearing now l)) in
     let goes2 : stops (read now line) ≡ false = ap (λ l. stops (command l now)) (sym a.cut_is) ∙ goes in
-    subst (λ r. P r cut) (sym a.same) (subst (λ l. P reply l) (sym a.cut_is) (gives_line reply now line a.short goes2))
+    subst (λ r. P r cut) (sym a.same) (subst (λ l. P reply l) (sym a.cut_is) (gives_line hearing reply now line a.short goes2))
 
-pub answered_quits : {A : Type 0} (After : A → A → List Question → Type 0) (old new : A) (reply answering : Settings → List ℕ → List ℕ) (before left next w0 w1 w2 : Option (List ℕ)) (now : Settings) (line cut : List ℕ) (size : ℕ) → Served After old new reply before left w0 w1 now → IsFirst line size left next → Answered reply answering now line cut → stops (command cut now) ≡ true → w2 ≡ appended w1 (answer answering now cut) → (all : List ℕ) → before ≡ Some all → w2 ≡ appended w0 (session_of reply all)
-answered_quits After old new reply answering before left next w0 w1 w2 now line cut size s first a quits given all told =
+pub answered_quits : {A : Type 0} (hearing : Hearing) (After : A → A → List Question → Type 0) (old new : A) (reply answering : Settings → List ℕ → List ℕ) (before left next w0 w1 w2 : Option (List ℕ)) (now : Settings) (line cut : List ℕ) (size : ℕ) → Served hearing After old new reply before left w0 w1 now → IsFirst line size left next → Answered reply answering now line cut → stops (command cut now) ≡ true → w2 ≡ appended w1 (answer hearing answering now cut) → (all : List ℕ) → before ≡ Some all → w2 ≡ appended w0 (heard_session hearing reply all)
+answered_quits hearing After old new reply answering before left next w0 w1 w2 now line cut size s first a quits given all told =
     let quits2 : stops (read now line) ≡ true = ap (λ l. stops (command l now)) (sym a.cut_is) ∙ quits in
-    given ∙ ap (appended w1) ((no_text answering bad_command now cut (command cut now) quits).0) ∙ appended-nil w1 ∙ served_quit After old new reply before left next w0 w1 now line size s first a.short quits2 all told
+    given ∙ ap (appended w1) ((no_text answering bad_command now cut (heard hearing now cut) (stops_heard hearing (command cut now) ∙ quits)).0) ∙ appended-nil w1 ∙ served_quit hearing After old new reply before left next w0 w1 now line size s first a.short quits2 all told
 
 -- all of it is a prefix of it
 pub all_grew : (w0 w1 : Option (List ℕ)) (text : List ℕ) → w1 ≡ appended w0 text → GrewByPrefix w0 w1 text
 all_grew w0 w1 text e = record { count = length text; within = omega arith; is = e ∙ ap (appended w0) (sym (take-length text)) }
 
 -- a refused answer: it printed a part of its text, whatever the line was to do
-pub answered_part : {A : Type 0} (After : A → A → List Question → Type 0) (old new : A) (reply answering : Settings → List ℕ → List ℕ) (before left next w0 w1 w2 : Option (List ℕ)) (now : Settings) (line cut : List ℕ) (size : ℕ) → Served After old new reply before left w0 w1 now → IsFirst line size left next → Answered reply answering now line cut → GrewByPrefix w1 w2 (answer answering now cut) → (all : List ℕ) → before ≡ Some all → GrewByPrefix w0 w2 (session_of reply all)
-answered_part After old new reply answering before left next w0 w1 w2 now line cut size s first a grew all told =
+pub answered_part : {A : Type 0} (hearing : Hearing) (After : A → A → List Question → Type 0) (old new : A) (reply answering : Settings → List ℕ → List ℕ) (before left next w0 w1 w2 : Option (List ℕ)) (now : Settings) (line cut : List ℕ) (size : ℕ) → Served hearing After old new reply before left w0 w1 now → IsFirst line size left next → Answered reply answering now line cut → GrewByPrefix w1 w2 (answer hearing answering now cut) → (all : List ℕ) → before ≡ Some all → GrewByPrefix w0 w2 (heard_session hearing reply all)
+answered_part hearing After old new reply answering before left next w0 w1 w2 now line cut size s first a grew all told =
     elim (cases_Bool (stops (command cut now))) [
       | inl quits ↦
-          let none : answer answering now cut ≡ [] = (no_text answering bad_command now cut (command cut now) quits).0 in
+          let none : answer hearing answering now cut ≡ [] = (no_text answering bad_command now cut (heard hearing now cut) (stops_heard hearing (command cut now) ∙ quits)).0 in
           let g : GrewByPrefix w1 w2 [] = subst (GrewByPrefix w1 w2) none grew in
           let same : w2 ≡ w1 = g.is ∙ ap (appended w1) (take-none g.count) ∙ appended-nil w1 in
-          subst (λ w. GrewByPrefix w0 w (session_of reply all)) (sym same) (served_some After old new reply before left w0 w1 now s all told)
-      | inr goes ↦ served_part After old new reply before left next w0 w1 w2 now (settings_after now (command cut now)) line (answer answering now cut) (asked_by now cut (command cut now)) size s first (answered_gives reply answering now line cut a goes) grew all told
+          subst (λ w. GrewByPrefix w0 w (heard_session hearing reply all)) (sym same) (served_some hearing After old new reply before left w0 w1 now s all told)
+      | inr goes ↦ served_part hearing After old new reply before left next w0 w1 w2 now (settings_after now (heard hearing now cut)) line (answer hearing answering now cut) (asked_by now cut (heard hearing now cut)) size s first (answered_gives hearing reply answering now line cut a goes) grew all told
     ]
   where
     take-none : (n : ℕ) → take {A = ℕ} n [] ≡ []
@@ -155,22 +174,22 @@ answered_part After old new reply answering before left next w0 w1 w2 now line c
     take-none (suc n) = refl
 
 -- the queries answered, those of the line that was answered last among them
-pub answered_asked : {A : Type 0} (After : A → A → List Question → Type 0) (old new next : A) (reply answering : Settings → List ℕ → List ℕ) (before left left2 w0 w1 : Option (List ℕ)) (now : Settings) (line cut : List ℕ) (size : ℕ) → Joins After → Served After old new reply before left w0 w1 now → IsFirst line size left left2 → Answered reply answering now line cut → After new next (asked_by now cut (command cut now)) → AnsweredSome After old next before
-unfolding questions_of
-answered_asked After old new next reply answering before left left2 w0 w1 now line cut size joins s first a step = record {
-  answered = s.answered ++ asked_by now cut (command cut now);
-  after = joins old new next s.answered (asked_by now cut (command cut now)) s.after step;
+pub answered_asked : {A : Type 0} (hearing : Hearing) (After : A → A → List Question → Type 0) (old new next : A) (reply answering : Settings → List ℕ → List ℕ) (before left left2 w0 w1 : Option (List ℕ)) (now : Settings) (line cut : List ℕ) (size : ℕ) → Joins After → Served hearing After old new reply before left w0 w1 now → IsFirst line size left left2 → Answered reply answering now line cut → After new next (asked_by now cut (heard hearing now cut)) → AnsweredSome hearing After old next before
+unfolding heard_questions
+answered_asked hearing After old new next reply answering before left left2 w0 w1 now line cut size joins s first a step = record {
+  answered = s.answered ++ asked_by now cut (heard hearing now cut);
+  after = joins old new next s.answered (asked_by now cut (heard hearing now cut)) s.after step;
   first = λ all told.
       let r = s.goes_on all told in
       let f = first_line line r.rest size left left2 first r.told in
-      let whole : questions start (lines all) ≡ s.answered ++ questions now (line ∷ lines f.0) = r.asks ∙ ap (λ ls. s.answered ++ questions now ls) f.2 in
+      let whole : questions hearing start (lines all) ≡ s.answered ++ questions hearing now (line ∷ lines f.0) = r.asks ∙ ap (λ ls. s.answered ++ questions hearing now ls) f.2 in
       elim (cases_Bool (stops (command cut now))) [
         | inl quits ↦
-            let none : asked_by now cut (command cut now) ≡ [] = (no_text answering bad_command now cut (command cut now) quits).1 in
-            (questions now (line ∷ lines f.0), whole ∙ ap (λ x. x ++ questions now (line ∷ lines f.0)) (sym (append-nil s.answered) ∙ ap (λ x. s.answered ++ x) (sym none)))
+            let none : asked_by now cut (heard hearing now cut) ≡ [] = (no_text answering bad_command now cut (heard hearing now cut) (stops_heard hearing (command cut now) ∙ quits)).1 in
+            (questions hearing now (line ∷ lines f.0), whole ∙ ap (λ x. x ++ questions hearing now (line ∷ lines f.0)) (sym (append-nil s.answered) ∙ ap (λ x. s.answered ++ x) (sym none)))
         | inr goes ↦
-            let gives = answered_gives reply answering now line cut a goes in
-            (questions (settings_after now (command cut now)) (lines f.0), whole ∙ ap (λ x. s.answered ++ x) (gives.asks (lines f.0)) ∙ sym (append_assoc s.answered (asked_by now cut (command cut now)) (questions (settings_after now (command cut now)) (lines f.0))))
+            let gives = answered_gives hearing reply answering now line cut a goes in
+            (questions hearing (settings_after now (heard hearing now cut)) (lines f.0), whole ∙ ap (λ x. s.answered ++ x) (gives.asks (lines f.0)) ∙ sym (append_assoc s.answered (asked_by now cut (heard hearing now cut)) (questions hearing (settings_after now (heard hearing now cut)) (lines f.0))))
       ];
 }
 

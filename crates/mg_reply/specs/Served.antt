@@ -1,5 +1,5 @@
 -- A session that is under way, and one that is over.
-use Rattle.std.specs.Prelude.{◌≡◌, ℕ, ◌<◌, false, List, ◌++◌, length, Some}
+use Rattle.std.specs.Prelude.{◌≡◌, ℕ, ◌<◌, false, List, [], ◌++◌, length, Some}
 use Rattle.std.specs.List.{list_any}
 use Rattle.std.specs.declared.option.Option.{Option}
 use Rattle.mg_dev.specs.Streams.{appended}
@@ -11,7 +11,8 @@ use Rattle.mg_dev.specs.declared.show_err.ShowErr.TheVariants as show
 use Rattle.mg_defs.specs.declared.session.Settings.{Settings}
 use Rattle.mg_defs.specs.Commands.{start}
 use Rattle.mg_defs.specs.Lines.{lines}
-use Rattle.mg_defs.specs.Session.{replies, Question, questions, questions_of}
+use Rattle.mg_defs.specs.declared.session.Hearing.{Hearing}
+use Rattle.mg_defs.specs.Session.{replies, Question, questions, heard_questions}
 use Rattle.mg_defs.specs.Limit.{is_quit, ended_lines, IsReadEnough}
 use Rattle.mg_reply.specs.declared.serve.ServeErr.{ServeErr}
 use Rattle.mg_reply.specs.declared.serve.ServeErr.TheVariants as serve
@@ -19,10 +20,10 @@ use Rattle.mg_reply.specs.declared.serve.ServeErr.TheVariants as serve
 -- ---- what is said of a session
 
 -- Some query lines were answered between two states; they are the first of those of the input, where it is told.
-pub record AnsweredSome {A : Type 0} (After : A → A → List Question → Type 0) (old new : A) (input : Option (List ℕ)) : Type 0 where
+pub record AnsweredSome {A : Type 0} (hearing : Hearing) (After : A → A → List Question → Type 0) (old new : A) (input : Option (List ℕ)) : Type 0 where
   pub answered : List Question
   pub after : After old new answered
-  pub first : (all : List ℕ) → input ≡ Some all → (more : List Question) × (questions_of all ≡ answered ++ more)
+  pub first : (all : List ℕ) → input ≡ Some all → (more : List Question) × (heard_questions hearing all ≡ answered ++ more)
 
 -- What is left of a told input after a session.
 abbrev pub LeftEnough : List ℕ → Option (List ℕ) → Type 0
@@ -50,19 +51,19 @@ EndsFor Read Write TooMuch Stops (serve.Show show.Memory) = Unit {0}
 -- ---- what holds from line to line
 
 -- Of what was told to be left there is this left; the session prints what was printed and then the replies to that, and answers what was answered and then the queries of that.
-pub record Rests (reply : Settings → List ℕ → List ℕ) (now : Settings) (done : List ℕ) (answered : List Question) (all : List ℕ) (left : Option (List ℕ)) : Type 0 where
+pub record Rests (hearing : Hearing) (reply : Settings → List ℕ → List ℕ) (now : Settings) (done : List ℕ) (answered : List Question) (all : List ℕ) (left : Option (List ℕ)) : Type 0 where
   pub rest : List ℕ
   pub told : left ≡ Some rest
-  pub goes_on : replies reply start (lines all) ≡ done ++ replies reply now (lines rest)
-  pub asks : questions start (lines all) ≡ answered ++ questions now (lines rest)
+  pub goes_on : replies hearing reply start (lines all) ≡ done ++ replies hearing reply now (lines rest)
+  pub asks : questions hearing start (lines all) ≡ answered ++ questions hearing now (lines rest)
 
 -- So much was printed and answered, whatever was told.
-pub record Served {A : Type 0} (After : A → A → List Question → Type 0) (old new : A) (reply : Settings → List ℕ → List ℕ) (before left written_old written : Option (List ℕ)) (now : Settings) : Type 0 where
+pub record Served {A : Type 0} (hearing : Hearing) (After : A → A → List Question → Type 0) (old new : A) (reply : Settings → List ℕ → List ℕ) (before left written_old written : Option (List ℕ)) (now : Settings) : Type 0 where
   pub done : List ℕ
   pub answered : List Question
   pub given : written ≡ appended written_old done
   pub after : After old new answered
-  pub goes_on : (all : List ℕ) → before ≡ Some all → Rests reply now done answered all left
+  pub goes_on : (all : List ℕ) → before ≡ Some all → Rests hearing reply now done answered all left
 
 -- So many bytes were used of what was told, the rest is left, and no line among the first ended the session.
 pub record Used (left : Option (List ℕ)) (used : ℕ) (all : List ℕ) : Type 0 where
@@ -77,3 +78,7 @@ pub record Used (left : Option (List ℕ)) (used : ℕ) (all : List ℕ) : Type 
 
 pub record Counted (before left : Option (List ℕ)) (used : ℕ) : Type 0 where
   pub goes_on : (all : List ℕ) → before ≡ Some all → Used left used all
+
+-- the replies of one who says nothing: what is asked is known whatever is printed
+abbrev pub silent : Settings → List ℕ → List ℕ
+silent now line = []

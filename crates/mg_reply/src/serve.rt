@@ -8,46 +8,62 @@ ghost use Rattle.mg_dev.specs.declared.show_err.ShowErr.TheVariants.{Write};
 ghost use Rattle.mg_defs.specs.declared.session.Settings.{Settings};
 ghost use Rattle.mg_defs.specs.Commands.{command, text_of, settings_after, stops as stops_spec};
 ghost use Rattle.mg_defs.specs.Texts.{bad_command};
-ghost use Rattle.mg_defs.specs.Session.{session_of, Question, asked_by};
+ghost use Rattle.mg_defs.specs.Session.{heard_session, hears, Question, asked_by};
 ghost use Rattle.mg_defs.specs.Limit.{is_too_much, input_limit};
 ghost use Rattle.mg_reply.specs.Served.{AnsweredSome, LeftEnough, shown_put, PartStops, EndsFor};
 
 use crate::{LineErr, LineEvent, LineReader, put_too_long, put_wrong, read_command};
-use mg_defs::{Command, Settings};
+use mg_defs::{Command, Hearing, Settings};
 use mg_dev::{PutErr, ShowErr, Sink, Source};
 
-/// Answers the query lines of a session.
+/// Answers the query lines of a session. Its calls take the device that it reads from.
 pub trait Answerer {
-    /// The reply to a query line.
-    ghost reply: { Self → Settings → List ℕ → List ℕ };
+    /// What it reads from.
+    type Dev;
+
+    /// What contracts see of an answerer and its device.
+    ghost State: { Type 0 };
+
+    /// The state that the two are in.
+    ghost state: { Self → Self.Dev → State };
+
+    /// What a state keeps from line to line.
+    ghost fits: { State → Type 0 };
+
+    /// A state answers by this reply function.
+    ghost answers: { State → (Settings → List ℕ → List ℕ) → Type 0 };
 
     /// What holds between two states where these queries were answered in between.
-    ghost after: { Self → Self → List Question → Type 0 };
+    ghost after: { State → State → List Question → Type 0 };
 
     /// Why a part may be refused between two states.
-    ghost may_stop: { Self → Self → PartErr → Type 0 };
+    ghost may_stop: { State → State → PartErr → Type 0 };
 
     /// Writes the reply to a query line.
     fn answer_line<O: Sink>(
         &mut self,
+        dev: &mut Self::Dev,
         line: &[u8],
         now: &Settings,
         out: &mut O,
     ) -> Result<(), ShowErr>
-        requires { length line.now ≤ 1024 }
-        ensures content { AfterPut (O.written out.old) (O.written out.new) (reply self.old now.now line.now) result }
-        ensures after { after self.old self.new (record { now = now.now; line = line.now } ∷ []) }
+        requires short { length line.now ≤ 1024 }
+        requires fits { fits (state self.old dev.old) }
+        ensures fits { fits (state self.new dev.new) }
+        ensures content { (reply : Settings → List ℕ → List ℕ) → answers (state self.old dev.old) reply →
+            AfterPut (O.written out.old) (O.written out.new) (reply now.now line.now) result }
+        ensures after { after (state self.old dev.old) (state self.new dev.new) (record { now = now.now; line = line.now } ∷ []) }
         ensures later { O.faults out.old ≤ O.faults out.new }
         ensures write { IsErrOf result Write → Rose (O.faults out.old) (O.faults out.new) }
-        ensures part { IfErr result (PartStops (may_stop self.old self.new)) };
+        ensures part { IfErr result (PartStops (may_stop (state self.old dev.old) (state self.new dev.new))) };
 
-    ghost after_none: { (s : Self) → after s s [] };
+    ghost after_none: { (s : State) → after s s [] };
 
-    ghost after_more: { (s t u : Self) (xs ys : List Question) → after s t xs → after t u ys → after s u (xs ++ ys) };
+    ghost after_more: { (s t u : State) (xs ys : List Question) → after s t xs → after t u ys → after s u (xs ++ ys) };
 
-    ghost same_reply: { (s t : Self) (xs : List Question) → after s t xs → reply t ≡ reply s };
+    ghost same_reply: { (s t : State) (xs : List Question) (reply : Settings → List ℕ → List ℕ) → after s t xs → answers s reply → answers t reply };
 
-    ghost stops_later: { (s t u : Self) (xs : List Question) (error : PartErr) → after s t xs → may_stop t u error → may_stop s u error };
+    ghost stops_later: { (s t u : State) (xs : List Question) (error : PartErr) → after s t xs → may_stop t u error → may_stop s u error };
 }
 
 /// Why a session stopped.
@@ -72,21 +88,26 @@ fn of_put(error: PutErr) -> ShowErr
 
 /// Answers one line, and says whether it ends the session.
 fn serve_line<O: Sink, A: Answerer>(
+    hearing: Hearing,
     answerer: &mut A,
+    dev: &mut A::Dev,
     line: &[u8],
     now: &mut Settings,
     out: &mut O,
 ) -> Result<bool, ShowErr>
-    requires { length line.now ≤ 1024 }
-    ensures after { A.after answerer.old answerer.new (asked_by now.old line.now (command line.now now.old)) }
-    ensures text { AfterPut (O.written out.old) (O.written out.new) (text_of (A.reply answerer.old) bad_command now.old line.now (command line.now now.old)) result }
-    ensures settings { OnOk result (now.new ≡ settings_after now.old (command line.now now.old)) }
+    requires short { length line.now ≤ 1024 }
+    requires fits { A.fits (A.state answerer.old dev.old) }
+    ensures fits { A.fits (A.state answerer.new dev.new) }
+    ensures after { A.after (A.state answerer.old dev.old) (A.state answerer.new dev.new) (asked_by now.old line.now (hears hearing (command line.now now.old))) }
+    ensures text { (reply : Settings → List ℕ → List ℕ) → A.answers (A.state answerer.old dev.old) reply →
+        AfterPut (O.written out.old) (O.written out.new) (text_of reply bad_command now.old line.now (hears hearing (command line.now now.old))) result }
+    ensures settings { OnOk result (now.new ≡ settings_after now.old (hears hearing (command line.now now.old))) }
     ensures stops { IfOk result (λ stop. stop ≡ stops_spec (command line.now now.old)) }
     ensures later { O.faults out.old ≤ O.faults out.new }
     ensures write { IsErrOf result Write → Rose (O.faults out.old) (O.faults out.new) }
-    ensures part { IfErr result (PartStops (A.may_stop answerer.old answerer.new)) }
+    ensures part { IfErr result (PartStops (A.may_stop (A.state answerer.old dev.old) (A.state answerer.new dev.new))) }
 {
-    match read_command(line, now) {
+    match hearing.hear(read_command(line, now)) {
         Command::Skip => Ok(false),
         Command::Quit => Ok(true),
         Command::Set(changed) => {
@@ -97,7 +118,7 @@ fn serve_line<O: Sink, A: Answerer>(
             Ok(()) => Ok(false),
             Err(error) => Err(of_put(error)),
         },
-        Command::Ask => match answerer.answer_line(line, now, out) {
+        Command::Ask => match answerer.answer_line(dev, line, now, out) {
             Ok(()) => Ok(false),
             Err(error) => Err(error),
         },
@@ -108,24 +129,30 @@ fn serve_line<O: Sink, A: Answerer>(
 ///
 /// It reads ahead, so bytes of the input behind a line `.quit` may be taken too. Where the input is
 /// told, it is too long exactly where it has more than 2^32 bytes and no line `.quit` ends within
-/// the first 2^32; the lines up to there are answered.
+/// the first 2^32; the lines up to there are answered. Nothing else ends a session, however its
+/// lines are heard.
 pub fn serve_lines<I: Source, O: Sink, A: Answerer>(
+    hearing: Hearing,
     answerer: &mut A,
+    dev: &mut A::Dev,
     input: &mut I,
     out: &mut O,
 ) -> Result<(), ServeErr>
-    ensures all { ForSome (I.left input.old) (λ bytes. OnOk result (O.written out.new ≡ appended (O.written out.old) (session_of (A.reply answerer.old) bytes))) }
-    ensures prefix { ForSome (I.left input.old) (λ bytes. GrewByPrefix (O.written out.old) (O.written out.new) (session_of (A.reply answerer.old) bytes)) }
+    requires { A.fits (A.state answerer.old dev.old) }
+    ensures all { (reply : Settings → List ℕ → List ℕ) → A.answers (A.state answerer.old dev.old) reply →
+        ForSome (I.left input.old) (λ bytes. OnOk result (O.written out.new ≡ appended (O.written out.old) (heard_session hearing reply bytes))) }
+    ensures prefix { (reply : Settings → List ℕ → List ℕ) → A.answers (A.state answerer.old dev.old) reply →
+        ForSome (I.left input.old) (λ bytes. GrewByPrefix (O.written out.old) (O.written out.new) (heard_session hearing reply bytes)) }
     ensures left { ForSome (I.left input.old) (λ bytes. OnOk result (LeftEnough bytes (I.left input.new))) }
     ensures within { ForSome (I.left input.old) (λ bytes. OnOk result (is_too_much input_limit bytes ≡ false)) }
-    ensures answered { AnsweredSome A.after answerer.old answerer.new (I.left input.old) }
+    ensures answered { AnsweredSome hearing A.after (A.state answerer.old dev.old) (A.state answerer.new dev.new) (I.left input.old) }
     ensures read_later { I.faults input.old ≤ I.faults input.new }
     ensures write_later { O.faults out.old ≤ O.faults out.new }
     ensures cause { IfErr result (EndsFor
         (Rose (I.faults input.old) (I.faults input.new))
         (Rose (O.faults out.old) (O.faults out.new))
         (ForSome (I.left input.old) (λ bytes. is_too_much input_limit bytes ≡ true))
-        (A.may_stop answerer.old answerer.new)) }
+        (A.may_stop (A.state answerer.old dev.old) (A.state answerer.new dev.new))) }
 {
     let mut reader = LineReader::new();
     let mut now = Settings::start();
@@ -141,7 +168,14 @@ pub fn serve_lines<I: Source, O: Sink, A: Answerer>(
                 Ok(()) => {}
                 Err(error) => return Err(ServeErr::Show(of_put(error))),
             },
-            LineEvent::Line => match serve_line(answerer, reader.line(), &mut now, out) {
+            LineEvent::Line => match serve_line(
+                hearing,
+                answerer,
+                dev,
+                reader.line(),
+                &mut now,
+                out,
+            ) {
                 Ok(false) => {}
                 Ok(true) => return Ok(()),
                 Err(error) => return Err(ServeErr::Show(error)),

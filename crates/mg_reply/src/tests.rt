@@ -1,20 +1,34 @@
 // Lines, commands, texts and sessions, on whole examples.
-ghost use Rattle.std.specs.Prelude.{⊤, refl};
+ghost use Rattle.std.specs.Prelude.{◌≡◌, ℕ, List, ⊤, refl};
+ghost use Rattle.mg_defs.specs.declared.session.Settings.{Settings};
 
 use crate::{
-    Answerer, Command, LineErr, LineEvent, LineReader, Mode, ServeErr, Settings, put_close,
-    put_count, put_refusal, put_row, put_shown, put_too_long, put_wrong, read_command, serve_lines,
+    Answerer, Command, Hearing, LineErr, LineEvent, LineReader, Mode, ServeErr, Settings,
+    put_close, put_count, put_refusal, put_row, put_shown, put_too_long, put_wrong, read_command,
+    serve_lines,
 };
 use mg_dev::{MemSink, MemSource, ShowErr, Sink, SureSink, SureSource};
 use mg_query::QueryErr;
 use std::test::Fail;
+
+/// Nothing that is read.
+#[derive(Drop)]
+struct NoDev;
 
 /// Repeats each query line.
 #[derive(Drop)]
 struct Echo;
 
 impl Answerer for Echo {
-    ghost reply = { λ _ _ line. line };
+    type Dev = NoDev;
+
+    ghost State = { ⊤ };
+
+    ghost state = { λ _ _. tt };
+
+    ghost fits = { λ _. ⊤ };
+
+    ghost answers = { λ _ reply. (now : Settings) (line : List ℕ) → reply now line ≡ line };
 
     ghost after = { λ _ _ _. ⊤ };
 
@@ -22,6 +36,7 @@ impl Answerer for Echo {
 
     fn answer_line<O: Sink>(
         &mut self,
+        _dev: &mut NoDev,
         line: &[u8],
         _now: &Settings,
         out: &mut O,
@@ -36,7 +51,7 @@ impl Answerer for Echo {
 
     ghost after_more = { λ _ _ _ _ _ _ _. tt };
 
-    ghost same_reply = { λ _ _ _ _. refl };
+    ghost same_reply = { λ _ _ _ _ _ answers. answers };
 
     ghost stops_later = { λ _ _ _ _ _ _ stops. stops };
 }
@@ -149,9 +164,31 @@ fn a_session_ends_at_quit(rt: HostRuntime) -> Result<(), Fail> {
     for step in [1usize, 5, 4096] {
         let mut input = SureSource::new(rt.alloc(), LINES, step)?;
         let mut out = SureSink::new(rt.alloc());
-        assert_eq!(rt; serve_lines(&mut Echo, &mut input, &mut out), Ok(()));
+        assert_eq!(rt;
+            serve_lines(
+                Hearing::Commands,
+                &mut Echo,
+                &mut NoDev,
+                &mut input,
+                &mut out
+            ),
+            Ok(())
+        );
         assert!(rt; out.bytes() == b"a? bad command\nb".as_slice());
     }
+    let mut input = SureSource::new(rt.alloc(), LINES, 5)?;
+    let mut out = SureSink::new(rt.alloc());
+    assert_eq!(rt;
+        serve_lines(
+            Hearing::Questions,
+            &mut Echo,
+            &mut NoDev,
+            &mut input,
+            &mut out
+        ),
+        Ok(())
+    );
+    assert!(rt; out.bytes() == b"a.xb.set mode count".as_slice());
     Ok(())
 }
 
@@ -162,14 +199,26 @@ fn a_failure_leaves_a_prefix(rt: HostRuntime) -> Result<(), Fail> {
         let mut input = SureSource::new(rt.alloc(), LINES, 4096)?;
         let mut out = MemSink::new(rt.alloc());
         out.fail_at(call, 1)?;
-        let ended = serve_lines(&mut Echo, &mut input, &mut out);
+        let ended = serve_lines(
+            Hearing::Commands,
+            &mut Echo,
+            &mut NoDev,
+            &mut input,
+            &mut out,
+        );
         assert_eq!(rt; ended, Err(ServeErr::Show(ShowErr::Write)));
         assert!(rt; whole.starts_with(out.bytes()));
         let mut input = MemSource::new(rt.alloc(), LINES, 5)?;
         input.fail_at(call)?;
         let mut out = SureSink::new(rt.alloc());
         assert_eq!(rt;
-            serve_lines(&mut Echo, &mut input, &mut out),
+            serve_lines(
+                Hearing::Commands,
+                &mut Echo,
+                &mut NoDev,
+                &mut input,
+                &mut out
+            ),
             Err(ServeErr::Read)
         );
         assert!(rt; whole.starts_with(out.bytes()));

@@ -1,5 +1,5 @@
 // The texts of replies.
-ghost use Rattle.std.specs.Prelude.{◌≢◌, ◌++◌, decimal, codes, IfSome};
+ghost use Rattle.std.specs.Prelude.{◌≡◌, ◌≢◌, ◌++◌, decimal, codes, IfSome};
 ghost use Rattle.mg_dev.specs.Causes.{HasPutCause, HasLack};
 ghost use Rattle.mg_dev.specs.Streams.{AfterPut};
 ghost use Rattle.mg_defs.specs.Texts.{row as row_text, header as header_text, close as close_text, count as count_text, bad_command, line_too_long};
@@ -74,6 +74,18 @@ pub fn put_refusal<O: Sink>(out: &mut O, why: &QueryErr) -> Result<(), PutErr>
         QueryErr::TooManyTerms { at } => put_place(out, b"? too many words at ", *at),
         QueryErr::Memory => unreachable!(),
     }
+}
+
+/// Writes why a line is no query, or answers that memory was wanted.
+pub fn put_refused<O: Sink>(out: &mut O, why: QueryErr) -> Result<(), PutErr>
+    ensures content { IfSome (refusal_of why) (λ refused. AfterPut (O.written out.old) (O.written out.new) (refusal refused) result) }
+    ensures memory { why ≡ QueryErr.Memory → (result ≡ Err PutErr.Memory) × (O.written out.new ≡ O.written out.old) }
+    ensures cause { HasPutCause (O.faults out.old) (O.faults out.new) result }
+{
+    if let QueryErr::Memory = why {
+        return Err(PutErr::Memory);
+    }
+    put_refusal(out, &why)
 }
 
 /// Writes a reason and its place.

@@ -12,13 +12,14 @@ use Rattle.mg_defs.specs.Bits.{Bits, bits_of}
 use Rattle.mg_defs.specs.Codes.{gamma}
 use Rattle.mg_defs.specs.CodedText.{TextCode, IsTextCode, as_bytes, coded_pair, coded_doc, coded_size, running, places_of, text_of}
 use Rattle.mg_defs.specs.Numbers.{eight}
+use Rattle.mg_defs.specs.Marks.{piece_bits}
 use Rattle.mg_defs.specs.Parse.{Pair, parse}
 use Rattle.mg_defs.specs.Pieces.{pieces, other_kind}
 use Rattle.mg_defs.specs.Split.{documents}
 use Rattle.mg_defs.specs.TextBits.{text_bits}
 use Rattle.mg_defs.proofs.BitLaws.{length_bits_of}
 use Rattle.mg_defs.proofs.TextBitsLaws.{text-within}
-use Rattle.mg_text.specs.Documents.{TextHolds, coded_docs, piece_bits, pieces_bits}
+use Rattle.mg_text.specs.Documents.{TextHolds, coded_docs, pieces_bits}
 use Rattle.mg_text.specs.Writing.{DocumentsStand, text_bytes, sizes, turn}
 
 -- ---- pieces in turn

@@ -3,7 +3,6 @@ use Rattle.std.proofs.Common.{arith, ◌≡◌, ◌+◌, ◌^◌, ◌≤◌, ◌
 use Rattle.std.proofs.lemmas.Option.{slice_get_within}
 use Rattle.std.proofs.lemmas.List.{take_more}
 use Rattle.std.proofs.lemmas.Grind.{flat_map-append}
-use Rattle.mg_dev.specs.Streams.{appended, GrewByPrefix}
 use Rattle.mg_dev.specs.StreamLaws.{grew_first}
 use Rattle.mg_dev.specs.Faults.{show_of_put}
 use Rattle.mg_dev.specs.declared.device.PutErr.{PutErr}
@@ -19,8 +18,9 @@ use Rattle.mg_defs.specs.CodedText.{StreamCode, TextCode, coded_doc, coded_pair}
 use Rattle.mg_defs.specs.Parse.{Pair, parse, text}
 use Rattle.mg_defs.specs.Sorted.{number_of}
 use Rattle.mg_defs.proofs.ParseLaws.{parse-is}
-use Rattle.mg_text.specs.Decoding.{Decoded, Ends, IsIn, PairIn, PairsIn, Shows, Shown, Stopped, Takes, WholeDoc, coded_pairs}
-use Rattle.mg_text.proofs.Steps.{decoded_more, shown_all, shown_grew, shown_none, shown_prefix, shown_sent, shows_left, shows_right, stopped_more, stopped_wider}
+use Rattle.mg_text.specs.Decoding.{Decoded, Ends, IsIn, PairIn, PairsIn, Shows, Shown, Stopped, Takes, coded_pairs}
+use Rattle.mg_text.proofs.Shows.{shown_prefix}
+use Rattle.mg_text.proofs.Steps.{decoded_more, shows_left, shows_right, stopped_more, stopped_wider}
 
 -- ---- a piece
 
@@ -127,32 +127,36 @@ pair_small a place code ps i next at small =
     omega (arith, long, at, small)
 
 -- one pair more was decoded
-pub pairs_more : (f0 f1 f2 : Feeding) (d0 d1 d2 : Seen) (a p q : ℕ) (code : TextCode) (ps : List Pair) (i : ℕ) (w0 w1 w2 : Option (List ℕ)) (held1 held2 : List ℕ) → 0 < f0.page → (next : NextPair code ps i) →
-    Decoded f0 f1 d0 d1 a (a + length (coded_pairs code (take i ps))) p w0 w1 held1 (text (take i ps)) →
-    Decoded f1 f2 d1 d2 p (p + length (coded_pair code next.pair)) q w0 w2 held2 (text (take i ps) ++ (next.pair.word ++ next.pair.other)) →
-    Decoded f0 f2 d0 d2 a (a + length (coded_pairs code (take (i + 1) ps))) q w0 w2 held2 (text (take (i + 1) ps))
-pairs_more f0 f1 f2 d0 d1 d2 a p q code ps i w0 w1 w2 held1 held2 some next first second =
-    let both = both_decoded f0 f1 f2 d0 d1 d2 a p q (coded_pairs code (take i ps)) (coded_pair code next.pair) w0 w1 w2 held1 held2 [] (text (take i ps)) (next.pair.word ++ next.pair.other) some first second in
-    subst (λ t. Decoded f0 f2 d0 d2 a (a + length (coded_pairs code (take (i + 1) ps))) q w0 w2 held2 t) (sym (text_more code ps i next))
-    (subst (λ b. Decoded f0 f2 d0 d2 a (a + length b) q w0 w2 held2 (text (take i ps) ++ (next.pair.word ++ next.pair.other))) (sym (bits_more code ps i next)) both)
+pub pairs_more : (f0 f1 f2 : Feeding) (d0 d1 d2 : Seen) (a p q : ℕ) (code : TextCode) (ps : List Pair) (i : ℕ) (w0 w1 w2 : Option (List ℕ)) (held1 held2 bytes : List ℕ) → 0 < f0.page → (next : NextPair code ps i) →
+    Decoded f0 f1 d0 d1 a (a + length (coded_pairs code (take i ps))) p w0 w1 held1 (bytes ++ text (take i ps)) →
+    Decoded f1 f2 d1 d2 p (p + length (coded_pair code next.pair)) q w0 w2 held2 (bytes ++ text (take i ps) ++ (next.pair.word ++ next.pair.other)) →
+    Decoded f0 f2 d0 d2 a (a + length (coded_pairs code (take (i + 1) ps))) q w0 w2 held2 (bytes ++ text (take (i + 1) ps))
+pairs_more f0 f1 f2 d0 d1 d2 a p q code ps i w0 w1 w2 held1 held2 bytes some next first second =
+    let both = both_decoded f0 f1 f2 d0 d1 d2 a p q (coded_pairs code (take i ps)) (coded_pair code next.pair) w0 w1 w2 held1 held2 bytes (text (take i ps)) (next.pair.word ++ next.pair.other) some first second in
+    subst (λ t. Decoded f0 f2 d0 d2 a (a + length (coded_pairs code (take (i + 1) ps))) q w0 w2 held2 (bytes ++ t)) (sym (text_more code ps i next))
+    (subst (λ b. Decoded f0 f2 d0 d2 a (a + length b) q w0 w2 held2 (bytes ++ (text (take i ps) ++ (next.pair.word ++ next.pair.other)))) (sym (bits_more code ps i next)) both)
 
 -- a pair was refused
-pub pairs_stopped : (f0 f1 f2 : Feeding) (d0 d1 d2 : Seen) (a p : ℕ) (code : TextCode) (ps : List Pair) (i : ℕ) (w0 w1 w2 : Option (List ℕ)) (held1 : List ℕ) → 0 < f0.page → (next : NextPair code ps i) →
-    Decoded f0 f1 d0 d1 a (a + length (coded_pairs code (take i ps))) p w0 w1 held1 (text (take i ps)) →
-    Stopped f1 f2 d1 d2 p (p + length (coded_pair code next.pair)) w0 w2 (text (take i ps) ++ (next.pair.word ++ next.pair.other)) →
-    Stopped f0 f2 d0 d2 a (a + length (coded_pairs code ps)) w0 w2 (text ps)
-pairs_stopped f0 f1 f2 d0 d1 d2 a p code ps i w0 w1 w2 held1 some next first second =
+pub pairs_stopped : (f0 f1 f2 : Feeding) (d0 d1 d2 : Seen) (a p : ℕ) (code : TextCode) (ps : List Pair) (i : ℕ) (w0 w1 w2 : Option (List ℕ)) (held1 bytes : List ℕ) → 0 < f0.page → (next : NextPair code ps i) →
+    Decoded f0 f1 d0 d1 a (a + length (coded_pairs code (take i ps))) p w0 w1 held1 (bytes ++ text (take i ps)) →
+    Stopped f1 f2 d1 d2 p (p + length (coded_pair code next.pair)) w0 w2 (bytes ++ text (take i ps) ++ (next.pair.word ++ next.pair.other)) →
+    Stopped f0 f2 d0 d2 a (a + length (coded_pairs code ps)) w0 w2 (bytes ++ text ps)
+pairs_stopped f0 f1 f2 d0 d1 d2 a p code ps i w0 w1 w2 held1 bytes some next first second =
     let one = text (take i ps) in
     let two = next.pair.word ++ next.pair.other in
-    let both : Stopped f0 f2 d0 d2 a (a + length (coded_pairs code (take i ps) ++ coded_pair code next.pair)) w0 w2 (one ++ two) =
-    second_stopped f0 f1 f2 d0 d1 d2 a p (coded_pairs code (take i ps)) (coded_pair code next.pair) w0 w1 w2 held1 [] one two some first second in
-    let wide : Stopped f0 f2 d0 d2 a (a + length ((coded_pairs code (take i ps) ++ coded_pair code next.pair) ++ coded_pairs code next.rest)) w0 w2 ([] ++ ((one ++ two) ++ text next.rest)) =
-    first_stopped f0 f2 d0 d2 a (coded_pairs code (take i ps) ++ coded_pair code next.pair) (coded_pairs code next.rest) w0 w2 [] (one ++ two) (text next.rest) some both in
-    subst (λ t. Stopped f0 f2 d0 d2 a (a + length (coded_pairs code ps)) w0 w2 t) (append_assoc one two (text next.rest) ∙ sym (text_whole code ps i next))
-    (subst (λ b. Stopped f0 f2 d0 d2 a (a + length b) w0 w2 ((one ++ two) ++ text next.rest)) (append_assoc (coded_pairs code (take i ps)) (coded_pair code next.pair) (coded_pairs code next.rest) ∙ sym (bits_whole code ps i next)) wide)
+    let both : Stopped f0 f2 d0 d2 a (a + length (coded_pairs code (take i ps) ++ coded_pair code next.pair)) w0 w2 (bytes ++ (one ++ two)) =
+    second_stopped f0 f1 f2 d0 d1 d2 a p (coded_pairs code (take i ps)) (coded_pair code next.pair) w0 w1 w2 held1 bytes one two some first second in
+    let wide : Stopped f0 f2 d0 d2 a (a + length ((coded_pairs code (take i ps) ++ coded_pair code next.pair) ++ coded_pairs code next.rest)) w0 w2 (bytes ++ ((one ++ two) ++ text next.rest)) =
+    first_stopped f0 f2 d0 d2 a (coded_pairs code (take i ps) ++ coded_pair code next.pair) (coded_pairs code next.rest) w0 w2 bytes (one ++ two) (text next.rest) some both in
+    subst (λ t. Stopped f0 f2 d0 d2 a (a + length (coded_pairs code ps)) w0 w2 (bytes ++ t)) (append_assoc one two (text next.rest) ∙ sym (text_whole code ps i next))
+    (subst (λ b. Stopped f0 f2 d0 d2 a (a + length b) w0 w2 (bytes ++ ((one ++ two) ++ text next.rest))) (append_assoc (coded_pairs code (take i ps)) (coded_pair code next.pair) (coded_pairs code next.rest) ∙ sym (bits_whole code ps i next)) wide)
 
-pub no_pairs : (f : Feeding) (d : Seen) (a : ℕ) (w : Option (List ℕ)) → Decoded f f d d a (a + 0) a w w [] []
-no_pairs f d a w = record { at_end = omega arith; read = subst (λ n. Read f f d d a n) (omega arith) (read_none f d a); shown = shown_none w }
+pub no_pairs : (f : Feeding) (d : Seen) (a : ℕ) (w0 w1 : Option (List ℕ)) (held bytes : List ℕ) → Shown w0 w1 held bytes → Decoded f f d d a (a + 0) a w0 w1 held (bytes ++ [])
+no_pairs f d a w0 w1 held bytes shown = record {
+  at_end = omega arith;
+  read = subst (λ n. Read f f d d a n) (omega arith) (read_none f d a);
+  shown = subst (Shown w0 w1 held) (sym (append-nil bytes)) shown;
+}
 
 -- ---- a document
 
@@ -160,41 +164,26 @@ pub parse_text : (doc : List ℕ) → text (parse doc) ≡ doc
 parse_text doc = (parse-is doc).whole
 
 -- its head was read and its pairs decoded
-pub doc_decoded : (f0 f1 f2 : Feeding) (d0 d1 d2 : Seen) (a p q : ℕ) (code : TextCode) (doc : List ℕ) (w0 w1 w2 : Option (List ℕ)) (held : List ℕ) → 0 < f0.page → p ≡ a + length (gamma (length (parse doc) + 1)) →
-    Read f0 f1 d0 d1 a (a + length (gamma (length (parse doc) + 1))) → Decoded f1 f2 d1 d2 p (p + length (coded_pairs code (parse doc))) q w0 w1 held (text (parse doc)) → w2 ≡ appended w1 held →
-    WholeDoc f0 f2 d0 d2 a (a + length (coded_doc code doc)) w0 w2 doc
-doc_decoded f0 f1 f2 d0 d1 d2 a p q code doc w0 w1 w2 held some at head pairs sent =
-    let first : Decoded f0 f1 d0 d1 a (a + length (gamma (length (parse doc) + 1))) p w0 w0 [] [] = record { at_end = at; read = head; shown = shown_none w0 } in
-    let both = both_decoded f0 f1 f2 d0 d1 d2 a p q (gamma (length (parse doc) + 1)) (coded_pairs code (parse doc)) w0 w0 w1 [] held [] [] (text (parse doc)) some first pairs in
-    record {
-      pages = both.read.pages;
-      grew = subst (λ t. w2 ≡ appended w0 t) (parse_text doc) (shown_all w0 w2 (text (parse doc)) (shown_sent w0 w1 w2 held (text (parse doc)) both.shown sent));
-    }
+pub doc_decoded : (f0 f1 f2 : Feeding) (d0 d1 d2 : Seen) (a p q : ℕ) (code : TextCode) (doc : List ℕ) (w0 w1 w2 : Option (List ℕ)) (held1 held2 bytes : List ℕ) → 0 < f0.page → p ≡ a + length (gamma (length (parse doc) + 1)) →
+    Shown w0 w1 held1 bytes → Read f0 f1 d0 d1 a (a + length (gamma (length (parse doc) + 1))) → Decoded f1 f2 d1 d2 p (p + length (coded_pairs code (parse doc))) q w0 w2 held2 (bytes ++ text (parse doc)) →
+    Decoded f0 f2 d0 d2 a (a + length (coded_doc code doc)) q w0 w2 held2 (bytes ++ doc)
+doc_decoded f0 f1 f2 d0 d1 d2 a p q code doc w0 w1 w2 held1 held2 bytes some at shown head pairs =
+    let first : Decoded f0 f1 d0 d1 a (a + length (gamma (length (parse doc) + 1))) p w0 w1 held1 bytes = record { at_end = at; read = head; shown = shown } in
+    subst (λ t. Decoded f0 f2 d0 d2 a (a + length (coded_doc code doc)) q w0 w2 held2 (bytes ++ t)) (parse_text doc)
+    (both_decoded f0 f1 f2 d0 d1 d2 a p q (gamma (length (parse doc) + 1)) (coded_pairs code (parse doc)) w0 w1 w2 held1 held2 [] bytes (text (parse doc)) some first pairs)
 
 -- its head was read, and its pairs were refused
-pub doc_stopped : (f0 f1 f2 : Feeding) (d0 d1 d2 : Seen) (a p : ℕ) (code : TextCode) (doc : List ℕ) (w0 w1 : Option (List ℕ)) → 0 < f0.page → p ≡ a + length (gamma (length (parse doc) + 1)) →
-    Read f0 f1 d0 d1 a (a + length (gamma (length (parse doc) + 1))) → Stopped f1 f2 d1 d2 p (p + length (coded_pairs code (parse doc))) w0 w1 (text (parse doc)) →
-    Stopped f0 f2 d0 d2 a (a + length (coded_doc code doc)) w0 w1 doc
-doc_stopped f0 f1 f2 d0 d1 d2 a p code doc w0 w1 some at head pairs =
-    let first : Decoded f0 f1 d0 d1 a (a + length (gamma (length (parse doc) + 1))) p w0 w0 [] [] = record { at_end = at; read = head; shown = shown_none w0 } in
-    subst (Stopped f0 f2 d0 d2 a (a + length (coded_doc code doc)) w0 w1) (parse_text doc)
-    (second_stopped f0 f1 f2 d0 d1 d2 a p (gamma (length (parse doc) + 1)) (coded_pairs code (parse doc)) w0 w0 w1 [] [] [] (text (parse doc)) some first pairs)
+pub doc_stopped : (f0 f1 f2 : Feeding) (d0 d1 d2 : Seen) (a p : ℕ) (code : TextCode) (doc : List ℕ) (w0 w1 w2 : Option (List ℕ)) (held1 bytes : List ℕ) → 0 < f0.page → p ≡ a + length (gamma (length (parse doc) + 1)) →
+    Shown w0 w1 held1 bytes → Read f0 f1 d0 d1 a (a + length (gamma (length (parse doc) + 1))) → Stopped f1 f2 d1 d2 p (p + length (coded_pairs code (parse doc))) w0 w2 (bytes ++ text (parse doc)) →
+    Stopped f0 f2 d0 d2 a (a + length (coded_doc code doc)) w0 w2 (bytes ++ doc)
+doc_stopped f0 f1 f2 d0 d1 d2 a p code doc w0 w1 w2 held1 bytes some at shown head pairs =
+    let first : Decoded f0 f1 d0 d1 a (a + length (gamma (length (parse doc) + 1))) p w0 w1 held1 bytes = record { at_end = at; read = head; shown = shown } in
+    subst (λ t. Stopped f0 f2 d0 d2 a (a + length (coded_doc code doc)) w0 w2 (bytes ++ t)) (parse_text doc)
+    (second_stopped f0 f1 f2 d0 d1 d2 a p (gamma (length (parse doc) + 1)) (coded_pairs code (parse doc)) w0 w1 w2 held1 [] bytes (text (parse doc)) some first pairs)
 
 -- its head was refused
-pub head_stopped : (f0 f1 : Feeding) (d0 d1 : Seen) (a : ℕ) (code : TextCode) (doc : List ℕ) (w : Option (List ℕ)) → 0 < f0.page →
-    ReadsWithin f0 f1 d0 d1 a (a + length (gamma (length (parse doc) + 1))) → Stopped f0 f1 d0 d1 a (a + length (coded_doc code doc)) w w doc
-head_stopped f0 f1 d0 d1 a code doc w some pages =
-    let first : Stopped f0 f1 d0 d1 a (a + length (gamma (length (parse doc) + 1))) w w ([] ++ []) = record { pages = pages; grew = shown_prefix w w [] [] (shown_none w) } in
-    first_stopped f0 f1 d0 d1 a (gamma (length (parse doc) + 1)) (coded_pairs code (parse doc)) w w [] [] doc some first
-
--- its bytes were decoded, and the last of them were refused
-pub flush_stopped : (f0 f1 f2 : Feeding) (d0 d1 d2 : Seen) (a p q : ℕ) (code : TextCode) (doc : List ℕ) (w0 w1 w2 : Option (List ℕ)) (held : List ℕ) → 0 < f0.page → p ≡ a + length (gamma (length (parse doc) + 1)) →
-    Read f0 f1 d0 d1 a (a + length (gamma (length (parse doc) + 1))) → Decoded f1 f2 d1 d2 p (p + length (coded_pairs code (parse doc))) q w0 w1 held (text (parse doc)) → GrewByPrefix w1 w2 held →
-    Stopped f0 f2 d0 d2 a (a + length (coded_doc code doc)) w0 w2 doc
-flush_stopped f0 f1 f2 d0 d1 d2 a p q code doc w0 w1 w2 held some at head pairs grew =
-    let first : Decoded f0 f1 d0 d1 a (a + length (gamma (length (parse doc) + 1))) p w0 w0 [] [] = record { at_end = at; read = head; shown = shown_none w0 } in
-    let both = both_decoded f0 f1 f2 d0 d1 d2 a p q (gamma (length (parse doc) + 1)) (coded_pairs code (parse doc)) w0 w0 w1 [] held [] [] (text (parse doc)) some first pairs in
-    record {
-      pages = both.read.pages;
-      grew = subst (GrewByPrefix w0 w2) (parse_text doc) (shown_grew w0 w1 w2 held (text (parse doc)) both.shown grew);
-    }
+pub head_stopped : (f0 f1 : Feeding) (d0 d1 : Seen) (a : ℕ) (code : TextCode) (doc : List ℕ) (w0 w1 : Option (List ℕ)) (held bytes : List ℕ) → 0 < f0.page → Shown w0 w1 held bytes →
+    ReadsWithin f0 f1 d0 d1 a (a + length (gamma (length (parse doc) + 1))) → Stopped f0 f1 d0 d1 a (a + length (coded_doc code doc)) w0 w1 (bytes ++ doc)
+head_stopped f0 f1 d0 d1 a code doc w0 w1 held bytes some shown pages =
+    let first : Stopped f0 f1 d0 d1 a (a + length (gamma (length (parse doc) + 1))) w0 w1 bytes = record { pages = pages; grew = shown_prefix w0 w1 held bytes shown } in
+    first_stopped f0 f1 d0 d1 a (gamma (length (parse doc) + 1)) (coded_pairs code (parse doc)) w0 w1 [] bytes doc some first

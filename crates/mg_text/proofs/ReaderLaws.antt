@@ -1,11 +1,10 @@
 -- What a reader of a text answers where its parts stand.
-use Rattle.std.proofs.Common.{arith, ◌≡◌, ◌+◌, ◌-◌, ◌*◌, ◌^◌, ◌≤◌, ◌<◌, inl, inr, ℕ, List, [], ◌∷◌, length, Option, Some, None, Result, Ok, Err, IsSome, is_some, unwrap_or, refl, sym, ◌∙◌, ap, subst, length-append}
+use Rattle.std.proofs.Common.{arith, ◌≡◌, ◌≢◌, ◌==◌, ◌+◌, ◌-◌, ◌*◌, ◌^◌, ◌≤◌, ◌<◌, inl, inr, ℕ, Bool, true, false, if◌then◌else◌, List, [], ◌∷◌, ◌++◌, length, Option, Some, None, Result, Ok, Err, IsSome, is_some, unwrap_or, refl, sym, ◌∙◌, ap, subst, length-append}
 use Rattle.std.proofs.lemmas.Grind.{common_steps}
 use Rattle.std.specs.List.{flat_map}
 use Rattle.mg_dev.specs.Files.{Files, bytes_at, file_at}
 use Rattle.mg_dev.specs.Names.{full_name}
-use Rattle.mg_dev.specs.Streams.{AfterPut}
-use Rattle.mg_dev.specs.StreamLaws.{grew_nothing}
+use Rattle.mg_dev.specs.StreamLaws.{grew_first, grew_nothing}
 use Rattle.mg_dev.specs.declared.part.Part.TheVariants as part
 use Rattle.mg_dev.specs.declared.part_err.PartErr.{PartErr}
 use Rattle.mg_dev.specs.declared.part_err.PartErr.TheVariants.{Device, Memory, Bad}
@@ -22,12 +21,18 @@ use Rattle.mg_defs.proofs.CodedTextLaws.{places-long}
 use Rattle.mg_front.specs.Reading.{IsNotBad}
 use Rattle.mg_layout.specs.declared.head.Head.{Head}
 use Rattle.mg_model.specs.Damage.{AnswersLoad}
-use Rattle.mg_model.specs.Models.{IsModel, PartsStand}
+use Rattle.mg_defs.specs.Means.{IsModel}
+use Rattle.mg_model.specs.Models.{PartsStand}
 use Rattle.mg_text.specs.Documents.{TextHolds}
-use Rattle.mg_text.proofs.LimitLaws.{text_small}
-use Rattle.mg_text.specs.Decoding.{Ends, Stopped, Takes, WholeDoc}
+use Rattle.mg_text.proofs.TextSizes.{text_small}
+use Rattle.mg_defs.proofs.StandDocs.{most}
+use Rattle.mg_defs.specs.Numbers.{eight, four}
+use Rattle.std.proofs.lemmas.Bool.Decides.{nat_tests}
+use Rattle.mg_text.proofs.Shows.{shown_prefix}
+use Rattle.mg_text.proofs.Steps.{ends_map, ends_read}
+use Rattle.mg_text.specs.Decoding.{Decoded, Ends, Shown, Stopped, Takes, WholeDoc}
 use Rattle.mg_text.specs.Places.{place_width}
-use Rattle.mg_text.specs.Reading.{AnswersDoc, AnswersReader, AnswersTextSizes, IsText, SameText, ShowIsNotBad, TextFits, TextReading, TextStands, stored_at, places_size}
+use Rattle.mg_text.specs.Reading.{AnswersDoc, AnswersGathered, AnswersReader, AnswersTextSizes, IsText, SameText, TextFits, TextReading, TextStands, stored_at, places_size}
 use Rattle.mg_text.specs.Decoding.{PairsIn, Shows}
 use Rattle.mg_text.specs.Places.{IsPlaceAt}
 use Rattle.mg_text.proofs.StandLaws.{doc_ends, doc_pieces, doc_shown, few_pairs, place_long, place_stands, place_within, small_place}
@@ -37,6 +42,17 @@ use Rattle.mg_defs.specs.CodedText.{coded_doc, doc_range, place_after}
 use Rattle.mg_defs.specs.Parse.{parse}
 use Rattle.std.proofs.Common.{get_or}
 use Rattle.mg_bits.proofs.CallerLemmas.{held_page_stays}
+
+-- every version but 1 has places of one width
+wide_places : (version : ℕ) (code : TextCode) (collection : List ℕ) → version ≢ 1 → places_of 2 code collection ≡ places_of version code collection
+wide_places version code collection other = one_width (version == 1) (places code collection) (narrow_is version other)
+  where
+    narrow_is : (v : ℕ) → v ≢ 1 → (v == 1) ≡ false
+    narrow_is v h = grind (arith, nat_tests)
+
+    one_width : (b : Bool) (ps : List ℕ) → b ≡ false → flat_map (place_bytes 2) ps ≡ flat_map (λ (p : ℕ). if b then four p else eight p) ps
+    one_width true ps e = absurd cc
+    one_width false ps e = refl
 
 -- ---- loading
 
@@ -78,18 +94,23 @@ text_reads f0 f1 d0 d1 from to more page own le within =
 
 pub doc_answered : (result : Result (Unit {0}) ShowErr) (f0 f1 : Feeding) (d0 d1 : Seen) (from to more before : ℕ) (w0 w1 : Option (List ℕ)) (doc : List ℕ) → f0.page ≡ 4096 → f0.part ≡ Some part.Text → to ≤ more → d0.reads part.Text ≡ before →
     Ends result (WholeDoc f0 f1 d0 d1 from to w0 w1 doc) (Stopped f0 f1 d0 d1 from to w0 w1 doc) → AnswersDoc result w0 w1 doc before (d1.reads part.Text) (pages from more)
-doc_answered (Ok done) f0 f1 d0 d1 from to more before w0 w1 doc page own le e h = (h.grew, rw (← e) (text_reads f0 f1 d0 d1 from to more page own le h.pages))
-doc_answered (Err (show.Part Device)) f0 f1 d0 d1 from to more before w0 w1 doc page own le e h = (h.grew, rw (← e) (text_reads f0 f1 d0 d1 from to more page own le h.pages))
-doc_answered (Err (show.Part Memory)) f0 f1 d0 d1 from to more before w0 w1 doc page own le e h = h
-doc_answered (Err (show.Part (Bad bad))) f0 f1 d0 d1 from to more before w0 w1 doc page own le e h = h
-doc_answered (Err show.Write) f0 f1 d0 d1 from to more before w0 w1 doc page own le e h = (h.grew, rw (← e) (text_reads f0 f1 d0 d1 from to more page own le h.pages))
-doc_answered (Err show.Memory) f0 f1 d0 d1 from to more before w0 w1 doc page own le e h = (h.grew, rw (← e) (text_reads f0 f1 d0 d1 from to more page own le h.pages))
+doc_answered result f0 f1 d0 d1 from to more before w0 w1 doc page own le e ends =
+    ends_map result _ _ _ _ (λ (h : WholeDoc f0 f1 d0 d1 from to w0 w1 doc). (h.grew, rw (← e) (text_reads f0 f1 d0 d1 from to more page own le h.pages)))
+    (λ (h : Stopped f0 f1 d0 d1 from to w0 w1 doc). (h.grew, rw (← e) (text_reads f0 f1 d0 d1 from to more page own le h.pages))) ends
+
+gather_answered : (result : Result (Unit {0}) ShowErr) (f0 f1 : Feeding) (d0 d1 : Seen) (from to place more before : ℕ) (w0 w1 : Option (List ℕ)) (held bytes : List ℕ) → f0.page ≡ 4096 → f0.part ≡ Some part.Text → to ≤ more → d0.reads part.Text ≡ before →
+    Ends result (Decoded f0 f1 d0 d1 from to place w0 w1 held bytes) (Stopped f0 f1 d0 d1 from to w0 w1 bytes) → AnswersGathered result w0 w1 held bytes before (d1.reads part.Text) (pages from more)
+gather_answered result f0 f1 d0 d1 from to place more before w0 w1 held bytes page own le e ends =
+    ends_map result _ _ _ _ (λ (h : Decoded f0 f1 d0 d1 from to place w0 w1 held bytes). (h.shown, rw (← e) (text_reads f0 f1 d0 d1 from to more page own le h.read.pages)))
+    (λ (h : Stopped f0 f1 d0 d1 from to w0 w1 bytes). (h.grew, rw (← e) (text_reads f0 f1 d0 d1 from to more page own le h.pages))) ends
 
 -- the place was refused
 pub place_refused : (T : Type 0) (refusal : PartErr) (whole : T → Type 0) (w : Option (List ℕ)) (doc : List ℕ) (before now most : ℕ) → now ≡ before → Takes {T = T} (Err refusal) whole (Unit {0}) → AnswersDoc (Err (show.Part refusal)) w w doc before now most
-place_refused T Device whole w doc before now most same h = (grew_nothing w doc, omega (arith, same))
-place_refused T Memory whole w doc before now most same h = h
-place_refused T (Bad bad) whole w doc before now most same h = h
+place_refused T refusal whole w doc before now most same takes = ends_read refusal whole (Unit {0}) _ _ (λ u. (grew_nothing w doc, omega (arith, same))) takes
+
+pub gather_refused : (T : Type 0) (refusal : PartErr) (whole : T → Type 0) (w0 w1 : Option (List ℕ)) (held bytes doc : List ℕ) (before now most : ℕ) → now ≡ before → Shown w0 w1 held bytes → Takes {T = T} (Err refusal) whole (Unit {0}) →
+    AnswersGathered (Err (show.Part refusal)) w0 w1 held (bytes ++ doc) before now most
+gather_refused T refusal whole w0 w1 held bytes doc before now most same shown takes = ends_read refusal whole (Unit {0}) _ _ (λ u. (grew_first w0 w1 bytes doc (shown_prefix w0 w1 held bytes shown), omega (arith, same))) takes
 
 -- where the place of a document stands
 pub place_wanted : (r : TextReading) (files : Option Files) (collection : List ℕ) (number : ℕ) → TextStands r files collection → 1 ≤ number → number ≤ r.documents →
@@ -100,13 +121,17 @@ place_wanted r files collection number stands some within = (
   small_place r files collection (number - 1) stands,
 )
 
--- what is shown from the place of a document
-pub doc_told : (result : Result (Unit {0}) ShowErr) (r : TextReading) (files mid : Option Files) (collection : List ℕ) (number from place : ℕ) (feed : Paging) (f1 : Feeding) (d0 d1 : Seen) (before : ℕ) (w0 w1 : Option (List ℕ)) →
-    TextStands r files collection → 1 ≤ number → number ≤ r.documents → mid ≡ files → from ≡ place_after r.code collection (number - 1) → place ≡ 8 * from → feed ≡ r.text → r.text.part ≡ part.Text → d0.reads part.Text ≡ before →
-    ((doc : List ℕ) → PairsIn r.code (parse doc) → length (parse doc) < 2 ^ 32 → place + length (coded_doc r.code doc) ≤ 2 ^ 63 → Shows (told_at mid feed.name) place (coded_doc r.code doc) →
-    Ends result (WholeDoc (feeding_of 4096 feed) f1 d0 d1 place (place + length (coded_doc r.code doc)) w0 w1 doc) (Stopped (feeding_of 4096 feed) f1 d0 d1 place (place + length (coded_doc r.code doc)) w0 w1 doc)) →
-    AnswersDoc result w0 w1 (get_or (documents collection) (number - 1) []) before (d1.reads part.Text) (pages (doc_range r.code collection number).from (doc_range r.code collection number).to)
-doc_told result r files mid collection number from place feed f1 d0 d1 before w0 w1 stands some within same at place_is fed own e told =
+-- what stands from the place of a document on, as far as the next one
+record DocAt (code : TextCode) (source : Option (List ℕ)) (place end : ℕ) (doc : List ℕ) : Type 0 where
+  pairs : PairsIn code (parse doc)
+  few : length (parse doc) < 2 ^ 32
+  small : place + length (coded_doc code doc) ≤ 2 ^ 63
+  shows : Shows source place (coded_doc code doc)
+  ends : place + length (coded_doc code doc) ≤ end
+
+doc_at : (r : TextReading) (files mid : Option Files) (collection : List ℕ) (number from place : ℕ) (feed : Paging) → TextStands r files collection → 1 ≤ number → number ≤ r.documents → mid ≡ files →
+    from ≡ place_after r.code collection (number - 1) → place ≡ 8 * from → feed ≡ r.text → DocAt r.code (told_at mid feed.name) place (8 * place_after r.code collection number) (get_or (documents collection) (number - 1) [])
+doc_at r files mid collection number from place feed stands some within same at place_is fed =
     let i = number - 1 in
     let doc = get_or (documents collection) i [] in
     let lt : i < length (documents collection) = omega (arith, stands.documents, some, within) in
@@ -114,14 +139,43 @@ doc_told result r files mid collection number from place feed f1 d0 d1 before w0
     let next : i + 1 ≡ number = omega (arith, some) in
     let ends : place + length (coded_doc r.code doc) ≤ 8 * place_after r.code collection number =
     subst (λ n. place + length (coded_doc r.code doc) ≤ 8 * place_after r.code collection n) next (omega (arith, here, doc_ends r collection i lt)) in
-    let small : place + length (coded_doc r.code doc) ≤ 2 ^ 63 = omega (arith, ends, small_place r files collection number stands) in
-    let shows : Shows (told_at mid feed.name) place (coded_doc r.code doc) =
-    subst (λ f. Shows (told_at mid f.name) place (coded_doc r.code doc)) (sym fed)
-    (subst (λ f. Shows (told_at f r.text.name) place (coded_doc r.code doc)) (sym same)
-    (subst (λ n. Shows (told_at files r.text.name) n (coded_doc r.code doc)) (sym here) (doc_shown r files collection i stands lt))) in
-    let answered = told doc (doc_pieces r.code collection i stands.code lt) (few_pairs collection i stands.few) small shows in
+    record {
+      pairs = doc_pieces r.code collection i stands.code lt;
+      few = few_pairs collection i stands.few;
+      small = omega (arith, ends, small_place r files collection number stands);
+      shows = subst (λ f. Shows (told_at mid f.name) place (coded_doc r.code doc)) (sym fed)
+          (subst (λ f. Shows (told_at f r.text.name) place (coded_doc r.code doc)) (sym same)
+          (subst (λ n. Shows (told_at files r.text.name) n (coded_doc r.code doc)) (sym here) (doc_shown r files collection i stands lt)));
+      ends = ends;
+    }
+
+-- what is shown from the place of a document
+pub doc_told : (result : Result (Unit {0}) ShowErr) (r : TextReading) (files mid : Option Files) (collection : List ℕ) (number from place : ℕ) (feed : Paging) (f1 : Feeding) (d0 d1 : Seen) (before : ℕ) (w0 w1 : Option (List ℕ)) →
+    TextStands r files collection → 1 ≤ number → number ≤ r.documents → mid ≡ files → from ≡ place_after r.code collection (number - 1) → place ≡ 8 * from → feed ≡ r.text → r.text.part ≡ part.Text → d0.reads part.Text ≡ before →
+    ((doc : List ℕ) → PairsIn r.code (parse doc) → length (parse doc) < 2 ^ 32 → place + length (coded_doc r.code doc) ≤ 2 ^ 63 → Shows (told_at mid feed.name) place (coded_doc r.code doc) →
+    Ends result (WholeDoc (feeding_of 4096 feed) f1 d0 d1 place (place + length (coded_doc r.code doc)) w0 w1 doc) (Stopped (feeding_of 4096 feed) f1 d0 d1 place (place + length (coded_doc r.code doc)) w0 w1 doc)) →
+    AnswersDoc result w0 w1 (get_or (documents collection) (number - 1) []) before (d1.reads part.Text) (pages (doc_range r.code collection number).from (doc_range r.code collection number).to)
+doc_told result r files mid collection number from place feed f1 d0 d1 before w0 w1 stands some within same at place_is fed own e told =
+    let doc = get_or (documents collection) (number - 1) [] in
+    let stood = doc_at r files mid collection number from place feed stands some within same at place_is fed in
+    let here : place ≡ 8 * place_after r.code collection (number - 1) = omega (arith, at, place_is) in
     subst (λ n. AnswersDoc result w0 w1 doc before (d1.reads part.Text) (pages n (8 * place_after r.code collection number))) here
-    (doc_answered result (feeding_of 4096 feed) f1 d0 d1 place (place + length (coded_doc r.code doc)) (8 * place_after r.code collection number) before w0 w1 doc refl (ap (λ (f : Paging). Some f.part) fed ∙ ap Some own) ends e answered)
+    (doc_answered result (feeding_of 4096 feed) f1 d0 d1 place (place + length (coded_doc r.code doc)) (8 * place_after r.code collection number) before w0 w1 doc refl (ap (λ (f : Paging). Some f.part) fed ∙ ap Some own) stood.ends e
+    (told doc stood.pairs stood.few stood.small stood.shows))
+
+-- what is gathered from the place of a document
+pub gather_told : (result : Result (Unit {0}) ShowErr) (r : TextReading) (files mid : Option Files) (collection : List ℕ) (number from place next : ℕ) (feed : Paging) (f1 : Feeding) (d0 d1 : Seen) (before : ℕ) (w0 w1 w2 : Option (List ℕ)) (held0 held bytes : List ℕ) →
+    TextStands r files collection → 1 ≤ number → number ≤ r.documents → mid ≡ files → from ≡ place_after r.code collection (number - 1) → place ≡ 8 * from → feed ≡ r.text → r.text.part ≡ part.Text → d0.reads part.Text ≡ before → Shown w0 w1 held0 bytes →
+    ((w : Option (List ℕ)) (bytes doc : List ℕ) → PairsIn r.code (parse doc) → length (parse doc) < 2 ^ 32 → place + length (coded_doc r.code doc) ≤ 2 ^ 63 → Shows (told_at mid feed.name) place (coded_doc r.code doc) → Shown w w1 held0 bytes →
+    Ends result (Decoded (feeding_of 4096 feed) f1 d0 d1 place (place + length (coded_doc r.code doc)) next w w2 held (bytes ++ doc)) (Stopped (feeding_of 4096 feed) f1 d0 d1 place (place + length (coded_doc r.code doc)) w w2 (bytes ++ doc))) →
+    AnswersGathered result w0 w2 held (bytes ++ get_or (documents collection) (number - 1) []) before (d1.reads part.Text) (pages (doc_range r.code collection number).from (doc_range r.code collection number).to)
+gather_told result r files mid collection number from place next feed f1 d0 d1 before w0 w1 w2 held0 held bytes stands some within same at place_is fed own e shown told =
+    let doc = get_or (documents collection) (number - 1) [] in
+    let stood = doc_at r files mid collection number from place feed stands some within same at place_is fed in
+    let here : place ≡ 8 * place_after r.code collection (number - 1) = omega (arith, at, place_is) in
+    subst (λ n. AnswersGathered result w0 w2 held (bytes ++ doc) before (d1.reads part.Text) (pages n (8 * place_after r.code collection number))) here
+    (gather_answered result (feeding_of 4096 feed) f1 d0 d1 place (place + length (coded_doc r.code doc)) next (8 * place_after r.code collection number) before w0 w2 held (bytes ++ doc) refl (ap (λ (f : Paging). Some f.part) fed ∙ ap Some own) stood.ends e
+    (told w0 bytes doc stood.pairs stood.few stood.small stood.shows shown))
 
 -- the models were refused once the sizes were found to be right
 pub models_refused : (base : List ℕ) (files mid : Option Files) (head : Head) (refusal : PartErr) → mid ≡ files → AnswersTextSizes (stored_at files base head) (Ok tt) →
@@ -138,32 +192,6 @@ pub reader_refused : (base : List ℕ) (files mid : Option Files) (head : Head) 
 reader_refused base files mid head code same sizes answers told =
     let loaded = subst (λ f. AnswersLoad head.words head.others (bytes_at f (full_name base part.Words)) (bytes_at f (full_name base part.Nonwords)) (Ok code)) same (answers (subst IsSome (sym same) told)) in
     (sizes, loaded.0.room)
-
--- ---- what an answer says
-
-pub answer_content : (result : Result (Unit {0}) ShowErr) (w0 w1 : Option (List ℕ)) (doc : List ℕ) (before now most : ℕ) → AnswersDoc result w0 w1 doc before now most → AfterPut w0 w1 doc result
-answer_content (Ok done) w0 w1 doc before now most h = h.0
-answer_content (Err (show.Part Device)) w0 w1 doc before now most h = h.0
-answer_content (Err (show.Part Memory)) w0 w1 doc before now most h = absurd h
-answer_content (Err (show.Part (Bad bad))) w0 w1 doc before now most h = absurd h
-answer_content (Err show.Write) w0 w1 doc before now most h = h.0
-answer_content (Err show.Memory) w0 w1 doc before now most h = h.0
-
-pub answer_bad : (result : Result (Unit {0}) ShowErr) (w0 w1 : Option (List ℕ)) (doc : List ℕ) (before now most : ℕ) → AnswersDoc result w0 w1 doc before now most → ShowIsNotBad result
-answer_bad (Ok done) w0 w1 doc before now most h = tt
-answer_bad (Err (show.Part Device)) w0 w1 doc before now most h = tt
-answer_bad (Err (show.Part Memory)) w0 w1 doc before now most h = tt
-answer_bad (Err (show.Part (Bad bad))) w0 w1 doc before now most h = h
-answer_bad (Err show.Write) w0 w1 doc before now most h = tt
-answer_bad (Err show.Memory) w0 w1 doc before now most h = tt
-
-pub answer_pages : (result : Result (Unit {0}) ShowErr) (w0 w1 : Option (List ℕ)) (doc : List ℕ) (before now most : ℕ) → AnswersDoc result w0 w1 doc before now most → now ≤ before + most
-answer_pages (Ok done) w0 w1 doc before now most h = h.1
-answer_pages (Err (show.Part Device)) w0 w1 doc before now most h = h.1
-answer_pages (Err (show.Part Memory)) w0 w1 doc before now most h = absurd h
-answer_pages (Err (show.Part (Bad bad))) w0 w1 doc before now most h = absurd h
-answer_pages (Err show.Write) w0 w1 doc before now most h = h.1
-answer_pages (Err show.Memory) w0 w1 doc before now most h = h.1
 
 -- a reader stands as long as its parts stay as they are
 pub text_stays : (r now : TextReading) (files files_now : Option Files) (collection : List ℕ) → SameText r now → is_some files_now ≡ is_some files →
@@ -189,14 +217,14 @@ text_fits r files files_now told text places fits = record {
 
 -- the parts that a writer wrote for a collection, and a head of its numbers
 pub text_written : (base : List ℕ) (files : Option Files) (head : Head) (code : TextCode) (collection : List ℕ) → TextHolds base files code collection → PartsStand files base code head.words head.others → IsTextCode collection code →
-    head.version ≡ 2 → head.text_bytes ≡ length (text_of code collection) → head.documents ≡ length (documents collection) → length collection < 2 ^ 32 → IsWithinLimits 2 collection → IsText base files head code collection
-text_written base files head code collection holds models coded version size count few limits = record {
+    head.version ≢ 1 → head.text_bytes ≡ length (text_of code collection) → head.documents ≡ length (documents collection) → IsWithinLimits head.version collection → IsText base files head code collection
+text_written base files head code collection holds models coded version size count limits = record {
   models = models;
   code_is = coded;
   text_is = holds.text;
-  places_are = holds.places ∙ ap (λ v. places_of v code collection) (sym version);
+  places_are = holds.places ∙ wide_places head.version code collection version;
   size_is = size;
   documents_are = count;
-  few = few;
-  small = rw (version, size) (text_small 2 code collection coded limits);
+  few = (most head.version collection limits).0;
+  small = rw size (text_small head.version code collection coded limits);
 }

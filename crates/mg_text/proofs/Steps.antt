@@ -1,9 +1,8 @@
 -- What stands where a code is read, and steps one after the other.
-use Rattle.std.proofs.Common.{arith, ◌≡◌, ◌+◌, ◌≤◌, ◌<◌, ℕ, List, [], ◌++◌, length, Option, Some, None, Result, Ok, Err, refl, sym, ◌∙◌, ap, subst, append-nil, append_assoc}
+use Rattle.std.proofs.Common.{arith, ◌≡◌, ◌+◌, ◌≤◌, ◌<◌, ℕ, List, ◌++◌, length, Option, Some, None, Result, Ok, Err, MatchResult}
 use Rattle.std.proofs.lemmas.List.{drop-drop}
 use Rattle.mg_dev.specs.Causes.{Rose}
-use Rattle.mg_dev.specs.Streams.{appended, GrewByPrefix}
-use Rattle.mg_dev.specs.StreamLaws.{appended-nil, appended-appended, grew_first, grew_nothing, grew_second}
+use Rattle.mg_dev.specs.StreamLaws.{grew_first}
 use Rattle.mg_dev.specs.declared.part_err.PartErr.{PartErr}
 use Rattle.mg_dev.specs.declared.part_err.PartErr.TheVariants as part
 use Rattle.mg_dev.specs.declared.show_err.ShowErr.{ShowErr}
@@ -16,7 +15,8 @@ use Rattle.mg_bits.specs.Feed.{Feeding, Device as Seen}
 use Rattle.mg_bits.proofs.CallerLemmas.{read_more, within_more, within_wider}
 use Rattle.mg_bits.specs.declared.code_err.CodeErr.{CodeErr}
 use Rattle.mg_bits.specs.declared.code_err.CodeErr.TheVariants as code
-use Rattle.mg_text.specs.Decoding.{Added, Decoded, Ends, IsShowCaused, Shows, Shown, Stopped, Takes}
+use Rattle.mg_text.specs.Decoding.{Decoded, Ends, IsShowCaused, Shows, Stopped, Takes}
+use Rattle.mg_text.specs.Reading.{ShowIsNotBad}
 
 -- ---- bits that stand at a place
 
@@ -46,46 +46,6 @@ pub told_got : (within : ℕ → Type 0) (words : ℕ → Bits) (free : IsPrefix
     FromPlace told place (AnswersCode result within words limit place) → IsGot result y
 told_got within words free None result limit place y taken shows answers = absurd shows
 told_got within words free (Some bytes) result limit place y taken shows answers = code_got within words free result limit place y _ taken shows answers
-
--- ---- bytes on their way to a sink
-
-pub shown_none : (w : Option (List ℕ)) → Shown w w [] []
-shown_none w = record { sent = []; told = sym (appended-nil w); whole = refl }
-
-pub shown_held : (before now : Option (List ℕ)) (held bytes piece : List ℕ) → Shown before now held bytes → Shown before now (held ++ piece) (bytes ++ piece)
-shown_held before now held bytes piece shown = record {
-  sent = shown.sent;
-  told = shown.told;
-  whole = sym (append_assoc shown.sent held piece) ∙ ap (λ b. b ++ piece) shown.whole;
-}
-
-pub shown_sent : (before now next : Option (List ℕ)) (held bytes : List ℕ) → Shown before now held bytes → next ≡ appended now held → Shown before next [] bytes
-shown_sent before now next held bytes shown sent = record {
-  sent = shown.sent ++ held;
-  told = sent ∙ ap (λ w. appended w held) shown.told ∙ appended-appended before shown.sent held;
-  whole = append-nil (shown.sent ++ held) ∙ shown.whole;
-}
-
-pub shown_grew : (before now next : Option (List ℕ)) (held bytes : List ℕ) → Shown before now held bytes → GrewByPrefix now next held → GrewByPrefix before next bytes
-shown_grew before now next held bytes shown grew = subst (GrewByPrefix before next) shown.whole (grew_second before now next shown.sent held shown.told grew)
-
--- what went to the sink is a prefix
-pub shown_prefix : (before now : Option (List ℕ)) (held bytes : List ℕ) → Shown before now held bytes → GrewByPrefix before now bytes
-shown_prefix before now held bytes shown = shown_grew before now now held bytes shown (grew_nothing now held)
-
-pub shown_all : (before now : Option (List ℕ)) (bytes : List ℕ) → Shown before now [] bytes → now ≡ appended before bytes
-shown_all before now bytes shown = shown.told ∙ ap (appended before) (sym (append-nil shown.sent) ∙ shown.whole)
-
-pub added_none : (w : Option (List ℕ)) (f l : ℕ) → Added w w f f l l
-added_none w f l = record { faults = omega arith; lacks = omega arith; bytes = []; told = sym (appended-nil w) }
-
-pub added_more : (w0 w1 w2 : Option (List ℕ)) (f0 f1 f2 l0 l1 l2 : ℕ) → Added w0 w1 f0 f1 l0 l1 → Added w1 w2 f1 f2 l1 l2 → Added w0 w2 f0 f2 l0 l2
-added_more w0 w1 w2 f0 f1 f2 l0 l1 l2 one two = record {
-  faults = omega (arith, one.faults, two.faults);
-  lacks = omega (arith, one.lacks, two.lacks);
-  bytes = one.bytes ++ two.bytes;
-  told = two.told ∙ ap (λ w. appended w two.bytes) one.told ∙ appended-appended w0 one.bytes two.bytes;
-}
 
 -- ---- steps
 
@@ -135,3 +95,33 @@ ends_more (show.Part part.Memory) a b p q f h = h
 ends_more (show.Part (part.Bad bad)) a b p q f h = h
 ends_more show.Write a b p q f h = f h
 ends_more show.Memory a b p q f h = f h
+
+pub ends_map : (r : Result (Unit {0}) ShowErr) (a b p q : Type 0) → (a → b) → (p → q) → Ends r a p → Ends r b q
+ends_map (Ok done) a b p q f g h = f h
+ends_map (Err refusal) a b p q f g h = ends_more refusal a b p q g h
+
+-- what an answer says
+
+pub ends_first : (r : Result (Unit {0}) ShowErr) (a b p q : Type 0) → Ends r (a × p) (b × q) → MatchResult r (λ _. a) (λ _. b)
+ends_first (Ok done) a b p q h = h.0
+ends_first (Err (show.Part part.Device)) a b p q h = h.0
+ends_first (Err (show.Part part.Memory)) a b p q h = absurd h
+ends_first (Err (show.Part (part.Bad bad))) a b p q h = absurd h
+ends_first (Err show.Write) a b p q h = h.0
+ends_first (Err show.Memory) a b p q h = h.0
+
+pub ends_second : (r : Result (Unit {0}) ShowErr) (a b p : Type 0) → Ends r (a × p) (b × p) → p
+ends_second (Ok done) a b p h = h.1
+ends_second (Err (show.Part part.Device)) a b p h = h.1
+ends_second (Err (show.Part part.Memory)) a b p h = absurd h
+ends_second (Err (show.Part (part.Bad bad))) a b p h = absurd h
+ends_second (Err show.Write) a b p h = h.1
+ends_second (Err show.Memory) a b p h = h.1
+
+pub ends_good : (r : Result (Unit {0}) ShowErr) (a b : Type 0) → Ends r a b → ShowIsNotBad r
+ends_good (Ok done) a b h = tt
+ends_good (Err (show.Part part.Device)) a b h = tt
+ends_good (Err (show.Part part.Memory)) a b h = tt
+ends_good (Err (show.Part (part.Bad bad))) a b h = h
+ends_good (Err show.Write) a b h = tt
+ends_good (Err show.Memory) a b h = tt

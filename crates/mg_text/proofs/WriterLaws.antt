@@ -22,7 +22,7 @@ use Rattle.mg_defs.proofs.CanonLaws.{length-codeword, within_short}
 use Rattle.mg_defs.proofs.CodeLaws.{length_gamma}
 use Rattle.mg_defs.proofs.FixedLaws.{IsLog, is_log}
 use Rattle.mg_codes.proofs.CallerLemmas.{log_small}
-use Rattle.mg_model.specs.Models.{IsStreamCode}
+use Rattle.mg_defs.specs.Means.{IsStreamCode}
 use Rattle.mg_text.specs.Writing.{TextWriting, IsOnText, DocumentsStand, text_bytes, sizes, starts, begun, as_count}
 
 told_back : (f g : Option Files) → is_some g ≡ is_some f → IsSome g → IsSome f

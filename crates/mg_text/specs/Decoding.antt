@@ -1,5 +1,5 @@
 -- What decoding the bits of a document does to the reader of bits, and to where the document's bytes go.
-use Rattle.std.specs.Prelude.{◌≡◌, ℕ, ◌≤◌, ◌++◌, List, drop, Some, None, Ok, Err}
+use Rattle.std.specs.Prelude.{◌≡◌, ℕ, ◌≤◌, ◌++◌, List, drop, Some, None, Ok, Err, MatchResult}
 use Rattle.std.specs.List.{AllByRecursion, flat_map}
 use Rattle.std.specs.declared.option.Option.{Option}
 use Rattle.std.specs.declared.result.Result.{Result}
@@ -44,6 +44,10 @@ pub record Shown (before now : Option (List ℕ)) (held bytes : List ℕ) : Type
   pub sent : List ℕ
   pub told : now ≡ appended before sent
   pub whole : sent ++ held ≡ bytes
+
+-- at `Ok` the bytes were shown or are held, else a prefix of them was shown
+abbrev pub Gathers : {T E : Type 0} → Result T E → Option (List ℕ) → Option (List ℕ) → List ℕ → List ℕ → Type 0
+Gathers result before now held bytes = MatchResult result (λ _. Shown before now held bytes) (λ _. GrewByPrefix before now bytes)
 
 -- a sink's counts did not fall, and some bytes were added to what it tells
 pub record Added (before now : Option (List ℕ)) (faults_before faults_now lacks_before lacks_now : ℕ) : Type 0 where

@@ -6,17 +6,13 @@ use Rattle.mg_dev.specs.Names.{full_name}
 use Rattle.mg_dev.specs.declared.part.Part.TheVariants.{Text, Places}
 use Rattle.mg_defs.specs.declared.Stream.{Stream}
 use Rattle.mg_defs.specs.Bits.{Bits, bits_of}
-use Rattle.mg_defs.specs.CodedText.{TextCode, codeword_of, coded_doc, text_of, places_of}
+use Rattle.mg_defs.specs.CodedText.{TextCode, coded_doc, text_of, places_of}
 use Rattle.mg_defs.specs.Pieces.{other_kind}
 use Rattle.mg_defs.specs.Split.{documents}
-use Rattle.mg_model.specs.Models.{code_of}
+use Rattle.mg_defs.specs.Marks.{piece_bits}
 
 abbrev pub coded_docs : TextCode → List ℕ → List Bits
 coded_docs code collection = map (coded_doc code) (documents collection)
-
--- the codeword of a piece of a stream
-abbrev pub piece_bits : TextCode → Stream → List ℕ → Bits
-piece_bits code kind piece = codeword_of (code_of kind code) piece
 
 -- the codewords of pieces in turn, of which the first is of a kind
 abbrev pub pieces_bits : TextCode → Stream → List (List ℕ) → Bits

@@ -18,8 +18,9 @@ use Rattle.mg_defs.specs.Split.{documents}
 use Rattle.mg_layout.specs.Sizes.{TellsSize}
 use Rattle.mg_layout.specs.declared.head.Head.{Head}
 use Rattle.mg_model.specs.Damage.{AnswersLoad}
-use Rattle.mg_model.specs.Models.{IsModel, PartsStand}
-use Rattle.mg_text.specs.Decoding.{Ends}
+use Rattle.mg_defs.specs.Means.{IsModel}
+use Rattle.mg_model.specs.Models.{PartsStand}
+use Rattle.mg_text.specs.Decoding.{Ends, Shown}
 use Rattle.mg_text.specs.Places.{most_text, place_width}
 
 -- the feeds of Text and Places, the codes of both streams, the version of the places, how many documents there are, and the size of Text
@@ -131,6 +132,11 @@ stored_at files base head = record {
 abbrev pub AnswersDoc : Result (Unit {0}) ShowErr → Option (List ℕ) → Option (List ℕ) → List ℕ → ℕ → ℕ → ℕ → Type 0
 AnswersDoc result before now doc reads_before reads_now most =
     Ends result ((now ≡ appended before doc) × (reads_now ≤ reads_before + most)) (GrewByPrefix before now doc × (reads_now ≤ reads_before + most))
+
+-- the document was shown or is held behind what was so before, or a prefix was shown; and so many reads of the text at most were added
+abbrev pub AnswersGathered : Result (Unit {0}) ShowErr → Option (List ℕ) → Option (List ℕ) → List ℕ → List ℕ → ℕ → ℕ → ℕ → Type 0
+AnswersGathered result before now held bytes reads_before reads_now most =
+    Ends result (Shown before now held bytes × (reads_now ≤ reads_before + most)) (GrewByPrefix before now bytes × (reads_now ≤ reads_before + most))
 
 -- no part is bad
 abbrev pub ShowIsNotBad : Result (Unit {0}) ShowErr → Type 0

@@ -4,7 +4,7 @@ ghost use Rattle.mg_bits.specs.Feed.{Calm};
 ghost use Rattle.mg_dev.specs.Faults.{show_of_put};
 ghost use Rattle.mg_defs.specs.CodedText.{codeword_of, coded_doc, coded_pair};
 ghost use Rattle.mg_defs.specs.Parse.{Pair, parse, text};
-ghost use Rattle.mg_model.specs.Models.{code_of};
+ghost use Rattle.mg_defs.specs.Marks.{code_of};
 ghost use Rattle.mg_text.specs.Decoding.{Added, Decoded, Ends, IsIn, IsShowCaused, PairIn, PairsIn, Shows, Shown, Stopped, WholeDoc, coded_pairs};
 
 use crate::show_buffer::ShowBuffer;
@@ -89,14 +89,13 @@ fn show_pairs<F: Feed, O: Sink>(
     count: u32,
 ) -> Result<(), ShowErr>
     requires fits { F.fits r.old.feed (F.device dev.old).files }
-    requires empty { buffer.old ≡ [] }
     ensures fits { F.fits r.new.feed (F.device dev.new).files }
     ensures calm { Calm (F.feeding r.old.feed) (F.feeding r.new.feed) (F.device dev.old) (F.device dev.new) }
-    ensures told { (ps : List Pair) → PairsIn model.now ps → count ≡ length ps → r.old.place + length (coded_pairs model.now ps) ≤ 2 ^ 63 →
-        Shows ((F.feeding r.old.feed).source (F.device dev.old).files) r.old.place (coded_pairs model.now ps) →
+    ensures told { (before : Option (List ℕ)) (bytes : List ℕ) (ps : List Pair) → PairsIn model.now ps → count ≡ length ps → r.old.place + length (coded_pairs model.now ps) ≤ 2 ^ 63 →
+        Shows ((F.feeding r.old.feed).source (F.device dev.old).files) r.old.place (coded_pairs model.now ps) → Shown before (O.written out.old) buffer.old bytes →
         Ends result
-        (Decoded (F.feeding r.old.feed) (F.feeding r.new.feed) (F.device dev.old) (F.device dev.new) r.old.place (r.old.place + length (coded_pairs model.now ps)) r.new.place (O.written out.old) (O.written out.new) buffer.new (text ps))
-        (Stopped (F.feeding r.old.feed) (F.feeding r.new.feed) (F.device dev.old) (F.device dev.new) r.old.place (r.old.place + length (coded_pairs model.now ps)) (O.written out.old) (O.written out.new) (text ps)) }
+        (Decoded (F.feeding r.old.feed) (F.feeding r.new.feed) (F.device dev.old) (F.device dev.new) r.old.place (r.old.place + length (coded_pairs model.now ps)) r.new.place before (O.written out.new) buffer.new (bytes ++ text ps))
+        (Stopped (F.feeding r.old.feed) (F.feeding r.new.feed) (F.device dev.old) (F.device dev.new) r.old.place (r.old.place + length (coded_pairs model.now ps)) before (O.written out.new) (bytes ++ text ps)) }
     ensures added { Added (O.written out.old) (O.written out.new) (O.faults out.old) (O.faults out.new) (O.lacks out.old) (O.lacks out.new) }
     ensures cause { IsShowCaused result (F.device dev.old).faults (F.device dev.new).faults (O.faults out.old) (O.faults out.new) (O.lacks out.old) (O.lacks out.new) }
 {
@@ -107,6 +106,35 @@ fn show_pairs<F: Feed, O: Sink>(
         }
     }
     Ok(())
+}
+
+/// Gathers the document whose bits stand at the place, behind what the buffer holds.
+pub fn gather_doc<F: Feed, O: Sink>(
+    model: &TextModel,
+    r: &mut BitReader<F>,
+    dev: &mut F::Dev,
+    buffer: &mut ShowBuffer,
+    out: &mut O,
+) -> Result<(), ShowErr>
+    requires fits { F.fits r.old.feed (F.device dev.old).files }
+    ensures fits { F.fits r.new.feed (F.device dev.new).files }
+    ensures calm { Calm (F.feeding r.old.feed) (F.feeding r.new.feed) (F.device dev.old) (F.device dev.new) }
+    ensures told { (before : Option (List ℕ)) (bytes doc : List ℕ) → PairsIn model.now (parse doc) → length (parse doc) < 2 ^ 32 → r.old.place + length (coded_doc model.now doc) ≤ 2 ^ 63 →
+        Shows ((F.feeding r.old.feed).source (F.device dev.old).files) r.old.place (coded_doc model.now doc) → Shown before (O.written out.old) buffer.old bytes →
+        Ends result
+        (Decoded (F.feeding r.old.feed) (F.feeding r.new.feed) (F.device dev.old) (F.device dev.new) r.old.place (r.old.place + length (coded_doc model.now doc)) r.new.place before (O.written out.new) buffer.new (bytes ++ doc))
+        (Stopped (F.feeding r.old.feed) (F.feeding r.new.feed) (F.device dev.old) (F.device dev.new) r.old.place (r.old.place + length (coded_doc model.now doc)) before (O.written out.new) (bytes ++ doc)) }
+    ensures added { Added (O.written out.old) (O.written out.new) (O.faults out.old) (O.faults out.new) (O.lacks out.old) (O.lacks out.new) }
+    ensures cause { IsShowCaused result (F.device dev.old).faults (F.device dev.new).faults (O.faults out.old) (O.faults out.new) (O.lacks out.old) (O.lacks out.new) }
+{
+    let count = match get_count(r, dev) {
+        Ok(count) => count,
+        Err(refusal) => return Err(ShowErr::Part(refusal)),
+    };
+    match show_pairs(model, r, dev, buffer, out, count) {
+        Ok(()) => Ok(()),
+        Err(refusal) => Err(refusal),
+    }
 }
 
 /// Shows the document whose bits stand at the place, and no byte behind it. The buffer holds
@@ -130,11 +158,7 @@ pub fn show_doc<F: Feed, O: Sink>(
     ensures added { Added (O.written out.old) (O.written out.new) (O.faults out.old) (O.faults out.new) (O.lacks out.old) (O.lacks out.new) }
     ensures cause { IsShowCaused result (F.device dev.old).faults (F.device dev.new).faults (O.faults out.old) (O.faults out.new) (O.lacks out.old) (O.lacks out.new) }
 {
-    let count = match get_count(r, dev) {
-        Ok(count) => count,
-        Err(refusal) => return Err(ShowErr::Part(refusal)),
-    };
-    match show_pairs(model, r, dev, buffer, out, count) {
+    match gather_doc(model, r, dev, buffer, out) {
         Ok(()) => {}
         Err(refusal) => return Err(refusal),
     }

@@ -17,8 +17,9 @@ mod symbols;
 mod text_reader;
 mod text_writer;
 
-pub use laws::{pieces_make_documents, text_has_its_documents};
+pub use laws::{pieces_make_documents, text_has_its_documents, text_stays};
 pub use reader_laws::texts_stand;
+pub use show_buffer::ShowBuffer;
 pub use text_reader::TextReader;
 pub use text_writer::TextWriter;
 

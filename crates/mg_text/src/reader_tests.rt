@@ -1,9 +1,10 @@
 // What no clause says: that real parts are read, how seldom, and what failing devices leave.
 ghost use Rattle.std.specs.Prelude.{◌≡◌};
 
-use crate::TextReader;
+use crate::{ShowBuffer, TextReader};
 use mg_dev::{MemSink, MemStore, Part, PartErr, ShowErr, Sink, Store};
 use mg_layout::Head;
+use mg_model::Stream;
 use std::alloc::{AllocError, Global};
 use std::test::Fail;
 
@@ -134,6 +135,48 @@ fn documents_are_shown_in_any_order(rt: HostRuntime) -> Result<(), Fail> {
     let wanted: &[u8] = b"Cat, cat & dog!\nthe cat sat\nthe dog\nthe dog\nthe cat sat\n";
     assert_eq!(rt; out.bytes(), wanted);
     assert_eq!(rt; shown(alloc, &EMPTY, 2, &[1, 2])?.bytes(), b"".as_slice());
+    Ok(())
+}
+
+// Gathers the first documents, in order, and flushes what is held.
+fn gather<S: Store, O: Sink>(
+    alloc: Global,
+    store: &mut S,
+    head: &Head,
+    out: &mut O,
+) -> Result<(), ShowErr> {
+    if head.words > 100 || head.others > 100 {
+        return Ok(());
+    }
+    let mut buffer = ShowBuffer::new(alloc)?;
+    let mut reader = TextReader::load(alloc, store, "set", head)?;
+    for index in 0..head.documents {
+        reader.gather(store, index + 1, &mut buffer, out)?;
+        buffer.put(out, b"|")?;
+    }
+    buffer.flush(out)?;
+    Ok(())
+}
+
+#[test]
+fn gathered_documents_go_in_one_put(rt: HostRuntime) -> Result<(), Fail> {
+    let alloc = rt.alloc();
+    let mut store = store_of(alloc, &K)?;
+    let mut out = MemSink::new(alloc);
+    out.fail_at(1, 0)?;
+    gather(alloc, &mut store, &head_of(&K, 3, K.text.len()), &mut out)?;
+    let wanted: &[u8] = b"the cat sat\n|the dog\n|Cat, cat & dog!\n|";
+    assert_eq!(rt; out.bytes(), wanted);
+    Ok(())
+}
+
+#[test]
+fn a_reader_hands_out_its_model(rt: HostRuntime) -> Result<(), Fail> {
+    let alloc = rt.alloc();
+    let mut store = store_of(alloc, &K)?;
+    let head = head_of(&K, 3, K.text.len());
+    let reader = TextReader::load(alloc, &mut store, "set", &head)?;
+    assert_eq!(rt; reader.model().symbol(Stream::Words, b"dog"), Some(2));
     Ok(())
 }
 

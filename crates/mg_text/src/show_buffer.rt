@@ -1,8 +1,8 @@
 //! Bytes on their way to a sink.
-ghost use Rattle.std.specs.Prelude.{◌≡◌, ◌≤◌, ◌+◌, ◌++◌, ℕ, List, [], Option, IfOk, OnOk, MatchResult, length};
+ghost use Rattle.std.specs.Prelude.{◌≡◌, ◌≤◌, ◌+◌, ◌++◌, ℕ, List, [], Option, IfOk, OnOk, length};
 ghost use Rattle.mg_dev.specs.Causes.{HasLack, HasPutCause};
-ghost use Rattle.mg_dev.specs.Streams.{AfterPut, GrewByPrefix};
-ghost use Rattle.mg_text.specs.Decoding.{Added, Shown};
+ghost use Rattle.mg_dev.specs.Streams.{AfterPut};
+ghost use Rattle.mg_text.specs.Decoding.{Added, Gathers, Shown};
 
 use mg_dev::{PutErr, Sink};
 use std::alloc::{AllocError, Global};
@@ -10,7 +10,9 @@ use std::marker::Model;
 
 const SIZE: usize = 16384;
 
-/// Holds bytes until there are enough of them for one put of a sink.
+/// Holds bytes until there are enough of them for one put of a sink, 16,384.
+///
+/// Whoever gathers documents in it flushes it at last; what it holds when it is dropped is lost.
 #[derive(Drop)]
 pub struct ShowBuffer {
     bytes: Vec<u8>,
@@ -28,7 +30,7 @@ impl Model for ShowBuffer {
 }
 
 impl ShowBuffer {
-    /// A buffer that holds no byte.
+    /// A buffer that holds no byte; it takes no memory afterwards.
     pub fn new(alloc: Global) -> Result<Self, AllocError>
         ensures { IfOk result (λ b. b ≡ []) }
     {
@@ -45,12 +47,13 @@ impl ShowBuffer {
         self.used = 0;
     }
 
-    /// Adds the bytes of a piece. What was held before goes to the sink where there is no room.
+    /// Adds the bytes of a piece of at most 255. What was held before goes to the sink where there
+    /// is no room.
     #[inline]
     pub fn put<O: Sink>(&mut self, out: &mut O, piece: &[u8]) -> Result<(), PutErr>
         requires short { length piece.now ≤ 255 }
         ensures shown { (before : Option (List ℕ)) (bytes : List ℕ) → Shown before (O.written out.old) self.old bytes →
-            MatchResult result (λ _. Shown before (O.written out.new) self.new (bytes ++ piece.now)) (λ _. GrewByPrefix before (O.written out.new) (bytes ++ piece.now)) }
+            Gathers result before (O.written out.new) self.new (bytes ++ piece.now) }
         ensures added { Added (O.written out.old) (O.written out.new) (O.faults out.old) (O.faults out.new) (O.lacks out.old) (O.lacks out.new) }
         ensures cause { HasPutCause (O.faults out.old) (O.faults out.new) result }
         ensures lack { HasLack (O.lacks out.old) (O.lacks out.new) result }
@@ -81,6 +84,7 @@ impl ShowBuffer {
     /// Puts what is held to the sink.
     pub fn flush<O: Sink>(&mut self, out: &mut O) -> Result<(), PutErr>
         ensures content { AfterPut (O.written out.old) (O.written out.new) self.old result }
+        ensures shown { (before : Option (List ℕ)) (bytes : List ℕ) → Shown before (O.written out.old) self.old bytes → AfterPut before (O.written out.new) bytes result }
         ensures empty { OnOk result (self.new ≡ []) }
         ensures added { Added (O.written out.old) (O.written out.new) (O.faults out.old) (O.faults out.new) (O.lacks out.old) (O.lacks out.new) }
         ensures cause { HasPutCause (O.faults out.old) (O.faults out.new) result }

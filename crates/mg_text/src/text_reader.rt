@@ -1,5 +1,5 @@
 //! A reader of coded documents.
-ghost use Rattle.std.specs.Prelude.{◌≡◌, ◌≢◌, ◌-◌, ◌+◌, ◌*◌, ◌≤◌, ◌<◌, ◌^◌, ℕ, List, [], get_or, Option, IsSome, IfErr, IfOk, Err, length};
+ghost use Rattle.std.specs.Prelude.{◌≡◌, ◌≢◌, ◌-◌, ◌+◌, ◌*◌, ◌≤◌, ◌<◌, ◌^◌, ◌++◌, ℕ, List, [], get_or, Option, IsSome, IfErr, IfOk, Err, length};
 ghost use Rattle.mg_dev.specs.Files.{Files, SameReads, bytes_at};
 ghost use Rattle.mg_dev.specs.Names.{full_name};
 ghost use Rattle.mg_dev.specs.PartCauses.{HasPartCause};
@@ -9,10 +9,10 @@ ghost use Rattle.mg_defs.specs.CodedText.{TextCode, doc_range};
 ghost use Rattle.mg_defs.specs.PagesOf.{pages};
 ghost use Rattle.mg_defs.specs.Split.{documents};
 ghost use Rattle.mg_front.specs.Reading.{IsNotBad, LookedAt};
-ghost use Rattle.mg_text.specs.Decoding.{Added, IsShowCaused};
-ghost use Rattle.mg_text.specs.Reading.{AnswersDoc, AnswersReader, AnswersTextSizes, IsText, IsTextReader, SameText, ShowIsNotBad, TextFits, TextStands, stored_at};
+ghost use Rattle.mg_text.specs.Decoding.{Added, Gathers, IsShowCaused, Shown};
+ghost use Rattle.mg_text.specs.Reading.{AnswersDoc, AnswersGathered, AnswersReader, AnswersTextSizes, IsText, IsTextReader, SameText, ShowIsNotBad, TextFits, TextStands, stored_at};
 
-use crate::decoder::show_doc;
+use crate::decoder::{gather_doc, show_doc};
 use crate::places::{first_byte, width_of};
 use crate::show_buffer::ShowBuffer;
 use mg_bits::{BitReader, PageFeed};
@@ -89,6 +89,7 @@ impl<'a, S: Store> TextReader<'a, S> {
         ensures reader { IfOk result (λ r. IsTextReader r base.entry.now head.now) }
         ensures answer { IsSome (S.files store.old) → AnswersReader (stored_at (S.files store.old) base.entry.now head.now) result }
         ensures stands { (code : TextCode) (collection : List ℕ) → IsText base.entry.now (S.files store.old) head.now code collection → IfOk result (λ r. TextStands r (S.files store.new) collection) }
+        ensures code { (code : TextCode) (collection : List ℕ) → IsText base.entry.now (S.files store.old) head.now code collection → IfOk result (λ r. r.code ≡ code) }
         ensures never_bad { (code : TextCode) (collection : List ℕ) → IsText base.entry.now (S.files store.old) head.now code collection → IfErr result (λ refusal. IsNotBad refusal) }
         ensures looked { LookedAt part.Words part.Nonwords (S.files store.old) (S.files store.new) (S.reads store.old) (S.reads store.new) (S.faults store.old) (S.faults store.new) }
         ensures cause { HasPartCause (S.faults store.old) (S.faults store.new) result }
@@ -151,6 +152,72 @@ impl<'a, S: Store> TextReader<'a, S> {
         ensures cause { IsShowCaused result (S.faults store.old) (S.faults store.new) (O.faults out.old) (O.faults out.new) (O.lacks out.old) (O.lacks out.new) }
     {
         self.show(store, number, out)
+    }
+
+    /// Adds the bytes of a document to those that a buffer holds; what goes to the sink is as much
+    /// as the buffer has no room for. What the sink took and what the buffer holds together grow by
+    /// the document; after a refusal the sink took a prefix, where the parts stand. Whoever shows
+    /// many documents one after the other makes few puts this way, and flushes the buffer at last.
+    pub fn gather<O: Sink>(
+        &mut self,
+        store: &mut S,
+        number: u32,
+        buffer: &mut ShowBuffer,
+        out: &mut O,
+    ) -> Result<(), ShowErr>
+        requires fits { TextFits self.old (S.files store.old) }
+        requires some { 1 ≤ number }
+        requires within { number ≤ self.old.documents }
+        ensures fits { TextFits self.new (S.files store.new) }
+        ensures same { SameText self.old self.new }
+        ensures looked { LookedAt part.Text part.Places (S.files store.old) (S.files store.new) (S.reads store.old) (S.reads store.new) (S.faults store.old) (S.faults store.new) }
+        ensures content { (collection : List ℕ) (before : Option (List ℕ)) (bytes : List ℕ) → TextStands self.old (S.files store.old) collection → Shown before (O.written out.old) buffer.old bytes →
+            Gathers result before (O.written out.new) buffer.new (bytes ++ get_or (documents collection) (number - 1) []) }
+        ensures never_bad { (collection : List ℕ) → TextStands self.old (S.files store.old) collection → ShowIsNotBad result }
+        ensures pages { (collection : List ℕ) → TextStands self.old (S.files store.old) collection → S.reads store.new part.Text ≤ S.reads store.old part.Text + pages (doc_range self.old.code collection number).from (doc_range self.old.code collection number).to }
+        ensures places { S.reads store.new part.Places ≤ S.reads store.old part.Places + 1 }
+        ensures added { Added (O.written out.old) (O.written out.new) (O.faults out.old) (O.faults out.new) (O.lacks out.old) (O.lacks out.new) }
+        ensures cause { IsShowCaused result (S.faults store.old) (S.faults store.new) (O.faults out.old) (O.faults out.new) (O.lacks out.old) (O.lacks out.new) }
+    {
+        self.gather_behind(store, number, buffer, out)
+    }
+
+    /// The models of both streams.
+    pub fn model(&self) -> &TextModel
+        ensures { result.now ≡ self.now.code }
+    {
+        &self.model
+    }
+
+    // Gathers a document, where the parts stand or not.
+    fn gather_behind<O: Sink>(
+        &mut self,
+        store: &mut S,
+        number: u32,
+        buffer: &mut ShowBuffer,
+        out: &mut O,
+    ) -> Result<(), ShowErr>
+        requires fits { TextFits self.old (S.files store.old) }
+        requires some { 1 ≤ number }
+        requires within { number ≤ self.old.documents }
+        ensures fits { TextFits self.new (S.files store.new) }
+        ensures same { SameText self.old self.new }
+        ensures looked { LookedAt part.Text part.Places (S.files store.old) (S.files store.new) (S.reads store.old) (S.reads store.new) (S.faults store.old) (S.faults store.new) }
+        ensures answer { (collection : List ℕ) (before : Option (List ℕ)) (bytes : List ℕ) → TextStands self.old (S.files store.old) collection → Shown before (O.written out.old) buffer.old bytes →
+            AnswersGathered result before (O.written out.new) buffer.new (bytes ++ get_or (documents collection) (number - 1) []) (S.reads store.old part.Text) (S.reads store.new part.Text) (pages (doc_range self.old.code collection number).from (doc_range self.old.code collection number).to) }
+        ensures places { S.reads store.new part.Places ≤ S.reads store.old part.Places + 1 }
+        ensures added { Added (O.written out.old) (O.written out.new) (O.faults out.old) (O.faults out.new) (O.lacks out.old) (O.lacks out.new) }
+        ensures cause { IsShowCaused result (S.faults store.old) (S.faults store.new) (O.faults out.old) (O.faults out.new) (O.lacks out.old) (O.lacks out.new) }
+    {
+        let (version, size) = (self.version, self.size);
+        let index = number - 1;
+        let from = match first_byte(&mut self.places, store, version, size, index) {
+            Ok(from) => from,
+            Err(refusal) => return Err(ShowErr::Part(refusal)),
+        };
+        let place = 8 * from;
+        self.text.seek(place);
+        gather_doc(&self.model, &mut self.text, store, buffer, out)
     }
 
     // Shows a document, where the parts stand or not.

@@ -10,7 +10,7 @@ ghost use Rattle.mg_defs.specs.Bits.{Bits};
 ghost use Rattle.mg_defs.specs.Canon.{codeword};
 ghost use Rattle.mg_defs.specs.Codes.{gamma};
 ghost use Rattle.mg_defs.specs.Numbers.{eight};
-ghost use Rattle.mg_model.specs.Models.{code_of};
+ghost use Rattle.mg_defs.specs.Marks.{code_of};
 ghost use Rattle.mg_text.specs.Writing.{Began, Ended, IsOnText, PutOne, DocumentsStand, text_bytes, turn};
 
 use mg_bits::{BitWriter, PageWriter};

@@ -1,1 +1,7 @@
 mod Complete
+mod Endings
+mod Grown
+mod ScannedLaws
+mod DecodedLaws
+mod NothingDone
+mod Asked

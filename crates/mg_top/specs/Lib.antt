@@ -1,2 +1,5 @@
-pub mod Words
 pub mod Ends
+pub mod Runs
+pub mod Scanned
+pub mod Decoded
+pub mod Does

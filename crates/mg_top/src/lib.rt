@@ -1,14 +1,17 @@
 //! The top call of the program: what the words of a command line ask for, done over any devices.
 //!
 //! [`run`] is all that the program does besides making its devices, so what holds of the program is
-//! what the clauses of `run` say: each status has its clause, and each refusal its cause. It is
-//! generic over the store, the input and the outputs; tests run it over devices in memory, the
-//! program over files and standard streams.
+//! what its one clause says. That clause is a table: for what the words ask, a record a tool, over what
+//! the devices told and counted before the run and after it, and the status. It is generic over the
+//! store, the input and the outputs; tests run it over devices in memory, the program over files and
+//! standard streams. Built so far: `decode` and `scan`.
 #![tactic(auto)]
 
+mod decoding;
+mod scanning;
+mod stopping;
 #[cfg(test)]
 mod tests;
 mod top;
-mod words;
 
 pub use top::run;

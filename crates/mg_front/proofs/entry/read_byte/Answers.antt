@@ -1,4 +1,3 @@
-use Rattle.std.proofs.Common.{rules}
 use Rattle.mg_front.proofs.ReadPages.{byte_to, byte_on_some}
 use Rattle.mg_front.proofs.entry.read_byte.Goals as goal
 

@@ -1,4 +1,4 @@
-use Rattle.std.proofs.Common.{rules, arith}
+use Rattle.std.proofs.Common.{arith}
 use Rattle.mg_defs.proofs.EntryLaws.{shared_within}
 use Rattle.mg_front.proofs.put.+shared.Goals as goal
 

@@ -1,4 +1,3 @@
-use Rattle.std.proofs.Common.{rules, sym, ◌∙◌, refl}
 use Rattle.mg_defs.proofs.FrontParts.{four_of}
 use Rattle.mg_front.proofs.reader.number_of.Goals as goal
 

@@ -1,4 +1,4 @@
-use Rattle.std.proofs.Common.{rules, sym, ◌∙◌, ◌≡◌, ℕ, Bool, true, false, not, List, length, take, drop, ap, ◌*◌}
+use Rattle.std.proofs.Common.{sym, ◌∙◌, ◌≡◌, ℕ, Bool, true, false, List, length, take, drop, ap, ◌*◌}
 use Rattle.mg_defs.specs.Numbers.{four}
 use Rattle.mg_dev.specs.Files.{bytes_at}
 use Rattle.mg_bits.specs.Pages.{IsFilled}

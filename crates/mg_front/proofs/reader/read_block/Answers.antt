@@ -1,5 +1,4 @@
-use Rattle.std.proofs.Common.{rules, arith, sym, ◌∙◌, drop, ◌≡◌, ◌+◌, ◌≤◌}
-use Rattle.mg_dev.specs.Files.{bytes_at}
+use Rattle.std.proofs.Common.{arith, ◌∙◌, drop, ◌≡◌, ◌+◌}
 use Rattle.mg_defs.specs.Front.{read_entry}
 use Rattle.mg_front.specs.Entries.{string_of, found_of}
 use Rattle.mg_front.proofs.ReadFacts.{told_as}

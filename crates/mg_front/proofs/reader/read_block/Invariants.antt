@@ -1,8 +1,7 @@
 use Rattle.std.proofs.Common.{◌≡◌, ◌≤◌, ◌<◌, ◌+◌, ◌*◌, ℕ, List, length, take, IsSome}
 use Rattle.mg_dev.specs.Files.{bytes_at}
 use Rattle.mg_bits.specs.Pages.{Fits, SameFile, Looked}
-use Rattle.mg_defs.specs.Front.{Entry, IsFront, front, last_string}
-use Rattle.mg_front.specs.Entries.{entry_of}
+use Rattle.mg_defs.specs.Front.{Entry, IsFront, front}
 use Rattle.mg_front.specs.Looks.{ReadOn}
 use Rattle.mg_front.proofs.ReaderLaws.{ReadSoFar}
 use Rattle.mg_front.proofs.reader.read_block.Given as goal

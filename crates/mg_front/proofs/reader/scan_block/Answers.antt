@@ -1,9 +1,7 @@
-use Rattle.std.proofs.Common.{rules, arith, sym, ◌∙◌, drop, ◌≡◌, ◌≢◌, ◌+◌, ◌-◌, ◌*◌, ◌≤◌, ◌<◌, ℕ, List, Bool, true, false, Some, None, slice_get, ap, ◌⊎◌, inl, inr, subst}
+use Rattle.std.proofs.Common.{arith, ◌∙◌, drop, ◌≡◌, ◌≢◌, ◌+◌, ◌-◌, ◌*◌, Bool, true, false}
 use Rattle.std.specs.Bool.{OnFalse, OnTrue}
-use Rattle.mg_dev.specs.Files.{bytes_at}
-use Rattle.mg_defs.specs.Front.{Entry, read_entry}
+use Rattle.mg_defs.specs.Front.{read_entry}
 use Rattle.mg_front.specs.Entries.{string_of, found_of, entry_of}
-use Rattle.mg_front.specs.Reading.{NoneAmong}
 use Rattle.mg_front.proofs.ReadFacts.{told_as}
 use Rattle.mg_front.specs.Looks.{ReadOn}
 use Rattle.mg_front.proofs.ReadPages.{on_more, on_to, to_more, to_wider, some_of}

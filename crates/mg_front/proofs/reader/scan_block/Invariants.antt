@@ -1,4 +1,4 @@
-use Rattle.std.proofs.Common.{◌≡◌, ◌≤◌, ◌<◌, ◌+◌, ◌*◌, ℕ, List, length, take, IsSome}
+use Rattle.std.proofs.Common.{◌≡◌, ◌≤◌, ◌+◌, ◌*◌, ℕ, List, length, take, IsSome}
 use Rattle.mg_dev.specs.Files.{bytes_at}
 use Rattle.mg_bits.specs.Pages.{Fits, SameFile, Looked}
 use Rattle.mg_defs.specs.Front.{Entry, IsFront, front}

@@ -1,5 +1,5 @@
 use Rattle.std.proofs.Common.{length, arith, sym, ◌∙◌, ap}
-use Rattle.mg_plain.proofs.ScanLaws.{scanned_start, scanned_miss, scanned_hit, scanned_part, scanned_text, scanned_count, counted_text, refused_text}
+use Rattle.mg_plain.proofs.ScanLaws.{scanned_start, scanned_miss, scanned_hit, scanned_part, scanned_count, counted_text, refused_text}
 use Rattle.mg_plain.proofs.boolean.answer_query.Goals as goal
 
 pub docs-init : goal.docs-init
@@ -7,6 +7,7 @@ docs-init g c = record {
   scanned = rw (c.new-docs.ensures, c.new-pending.ensures) (scanned_start _ _ _ _);
   few = omega arith;
   size = c.in_ok-counts.ensures ∙ ap length c.in_ok-terms.ensures;
+  there = c.in_ok-there.ensures ∙ ap length c.in_ok-terms.ensures;
   faults = omega arith;
 }
 
@@ -21,6 +22,7 @@ docs-preserved-then-not-is_satisfied g c = record {
   scanned = scanned_miss _ _ _ _ _ _ _ _ _ _ _ c.docs.invariant.scanned c.in-Some.ensures (sym c.is_satisfied.ensures.value ∙ c.if-not-is_satisfied.true);
   few = omega arith;
   size = c.is_satisfied.ensures.size;
+  there = c.is_satisfied.ensures.there;
   faults = omega arith;
 }
 
@@ -36,6 +38,7 @@ docs-preserved g c = record {
   scanned = scanned_hit _ _ _ _ _ _ _ _ _ _ _ _ _ c.docs.invariant.scanned c.in-Some.ensures (sym c.is_satisfied.ensures.value ∙ c.if-not-is_satisfied.false) c.in-Ok.ensures.content;
   few = omega arith;
   size = c.is_satisfied.ensures.size;
+  there = c.is_satisfied.ensures.there;
   faults = omega arith;
 }
 

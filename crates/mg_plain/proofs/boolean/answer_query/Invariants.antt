@@ -9,6 +9,7 @@ invariant-docs g l = record {
   scanned : Scanned l.fn.bytes (query_of l.fn.query) l.fn.now (g.O.Sink.written l.fn.out) (g.O.Sink.written l.out) l.pending l.number l.total l.docs;
   few : l.total ≤ l.number;
   size : vec_len l.counts ≡ length (query_terms (query_of l.fn.query));
+  there : vec_len l.there ≡ length (query_terms (query_of l.fn.query));
   faults : g.O.Sink.faults l.fn.out ≤ g.O.Sink.faults l.out;
 }
 

@@ -1,4 +1,4 @@
-use Rattle.std.proofs.Common.{◌≡◌, ℕ, ◌<◌, [], length, get_or, arith, ◌∙◌}
+use Rattle.std.proofs.Common.{[], get_or, arith, ◌∙◌}
 use Rattle.mg_plain.proofs.CountLaws.{freq-few, word_counted, word_passed, none_counted, all_counted}
 use Rattle.mg_plain.proofs.counts.count_terms.Goals as goal
 

@@ -1,4 +1,4 @@
-use Rattle.std.proofs.Common.{◌≡◌, ℕ, ◌+◌, ◌<◌, ◌≤◌, [], length, get_or, cond}
+use Rattle.std.proofs.Common.{◌≡◌, ℕ, ◌+◌, ◌<◌, ◌≤◌, [], get_or, cond}
 use Rattle.mg_defs.specs.Terms.{same_term, folded}
 use Rattle.mg_plain.proofs.counts.count_word.Given as goal
 

@@ -1,4 +1,4 @@
-use Rattle.std.proofs.Common.{◌≡◌, ℕ, ◌≤◌, length, arith, refl, sym, ◌∙◌, IsSome}
+use Rattle.std.proofs.Common.{◌≡◌, ◌≤◌, length, arith, refl, ◌∙◌}
 use Rattle.mg_dev.specs.Laws.{with_read-other, full_name-Plain}
 use Rattle.mg_plain.proofs.LoadLaws.{loaded, not_changed, vec_front}
 use Rattle.mg_plain.proofs.plain.read_whole.Goals as goal

@@ -2,7 +2,8 @@ use Rattle.std.proofs.Common.{arith, ◌≡◌, ◌+◌, ◌*◌, length, sym, �
 use Rattle.mg_defs.specs.Lists.{from_doc, block_of, bits_before}
 use Rattle.mg_post.proofs.FindLaws.{bits_fit}
 use Rattle.mg_post.proofs.ReadLaws.{any_refused}
-use Rattle.mg_post.proofs.EnterLaws.{block_answer, head_none, found_some, entered, count_most, refused_pages}
+use Rattle.mg_post.proofs.EnterLaws.{block_answer, block_ends, head_none, found_some, entered, count_most, refused_pages}
+use Rattle.mg_post.proofs.SoundLaws.{block_held, from_held}
 use Rattle.mg_post.proofs.enter.enter.Goals as goal
 
 pub returns-in_default-clause-told : goal.returns-in_default-clause-told
@@ -10,11 +11,28 @@ returns-in_default-clause-told g c = λ ps blocks rises whole shows small found.
     let h = c.in_default.ensures in
     absurd (omega (arith, bits_fit c.args.parameter (64 * c.args.found.block) ps, found.bits, c.in_default.ensures))
 
+-- where the parts stand, the block ends with the document that its entry tells
+pub returns-then-last-found-clause-told : goal.returns-then-last-found-clause-told
+returns-then-last-found-clause-told g c = λ ps blocks rises whole shows small found.
+    let at : c.seek.new.self.place ≡ 8 * c.args.post_at + bits_before c.args.parameter (64 * c.args.found.block) ps = c.seek.ensures.place ∙ (let h = c.in-Some.ensures in omega (arith, found.bits, c.in-Some.ensures)) in
+    let got : c.fill.new.self ≡ block_of c.args.found.block ps =
+    block_answer _ (8 * c.args.post_at) c.args.all c.args.parameter c.seek.new.self.place c.args.found.before _ c.args.docs c.args.found.block ps c.fill.new.self (Ok c.in-Ok.last) c.min.ensures whole found.from at rises (rw (← c.seek.ensures.feed) at shows) small c.in-Ok.ensures.told in
+    absurd (c.if-last-found.true (block_ends c.args.parameter blocks c.args.doc c.args.found.block c.args.found.before c.args.found.last c.args.found.at c.in-Ok.last ps c.fill.new.self found got c.in-Ok.ensures.last))
+
+pub returns-then-last-found-clause-most : goal.returns-then-last-found-clause-most
+returns-then-last-found-clause-most g c = λ ps blocks rises whole shows small found. absurd (returns-then-last-found-clause-told g c ps blocks rises whole shows small found)
+
+pub returns-in-Some-current-clause-sound : goal.returns-in-Some-current-clause-sound
+returns-in-Some-current-clause-sound g c = block_held c.args.all c.args.found.before c.args.found.last c.in-Ok.last c.args.doc c.fill.new.self c.forward.new.self c.in-Ok.ensures.rises c.in-Ok.ensures.last (omega (arith, c.if-last-found.false)) c.forward.ensures
+
+pub returns-in-Some-current-clause-from : goal.returns-in-Some-current-clause-from
+returns-in-Some-current-clause-from g c = from_held c.args.all c.args.found.last c.args.doc c.fill.new.self c.forward.new.self c.in-Some-current.posting (returns-in-Some-current-clause-sound g c) c.forward.ensures (sym c.in-Some-current.ensures)
+
 pub returns-in-Some-current-clause-told : goal.returns-in-Some-current-clause-told
 returns-in-Some-current-clause-told g c = λ ps blocks rises whole shows small found.
     let at : c.seek.new.self.place ≡ 8 * c.args.post_at + bits_before c.args.parameter (64 * c.args.found.block) ps = c.seek.ensures.place ∙ (let h = c.in-Some.ensures in omega (arith, found.bits, c.in-Some.ensures)) in
     let got : c.fill.new.self ≡ block_of c.args.found.block ps =
-    block_answer _ (8 * c.args.post_at) c.args.all c.args.parameter c.seek.new.self.place c.args.found.before _ c.args.docs c.args.found.block ps c.fill.new.self (Ok c.in-Ok.field-0) c.min.ensures whole found.from at rises (rw (← c.seek.ensures.feed) at shows) small c.in-Ok.ensures.told in
+    block_answer _ (8 * c.args.post_at) c.args.all c.args.parameter c.seek.new.self.place c.args.found.before _ c.args.docs c.args.found.block ps c.fill.new.self (Ok c.in-Ok.last) c.min.ensures whole found.from at rises (rw (← c.seek.ensures.feed) at shows) small c.in-Ok.ensures.told in
     entered c.args.parameter (8 * c.args.post_at) c.seek.new.self.place c.fill.new.r.place c.args.found.block c.args.doc c.args.found.before _ ps c.fill.new.self c.forward.new.self c.in-Some-current.posting got c.forward.ensures (sym c.in-Some-current.ensures) found.from at c.in-Ok.ensures.place
     (rw (c.place.ensures, ← c.seek.ensures.place) at c.pages_of-pages.ensures)
 
@@ -29,7 +47,7 @@ pub returns-in-None-clause-told : goal.returns-in-None-clause-told
 returns-in-None-clause-told g c = λ ps blocks rises whole shows small found.
     let at : c.seek.new.self.place ≡ 8 * c.args.post_at + bits_before c.args.parameter (64 * c.args.found.block) ps = c.seek.ensures.place ∙ (let h = c.in-Some.ensures in omega (arith, found.bits, c.in-Some.ensures)) in
     let got : c.fill.new.self ≡ block_of c.args.found.block ps =
-    block_answer _ (8 * c.args.post_at) c.args.all c.args.parameter c.seek.new.self.place c.args.found.before _ c.args.docs c.args.found.block ps c.fill.new.self (Ok c.in-Ok.field-0) c.min.ensures whole found.from at rises (rw (← c.seek.ensures.feed) at shows) small c.in-Ok.ensures.told in
+    block_answer _ (8 * c.args.post_at) c.args.all c.args.parameter c.seek.new.self.place c.args.found.before _ c.args.docs c.args.found.block ps c.fill.new.self (Ok c.in-Ok.last) c.min.ensures whole found.from at rises (rw (← c.seek.ensures.feed) at shows) small c.in-Ok.ensures.told in
     let none : length c.forward.new.self ≡ 0 = head_none c.forward.new.self (sym c.in-None.ensures) in
     let same : length c.forward.new.self ≡ length (from_doc c.args.doc (block_of c.args.found.block ps)) = ap length (c.forward.ensures ∙ ap (from_doc c.args.doc) got) in
     absurd (omega (arith, found_some c.args.all c.args.parameter blocks c.args.doc c.args.found.block c.args.found.before c.args.found.last c.args.found.at ps rises found))

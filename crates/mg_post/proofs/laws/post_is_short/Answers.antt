@@ -1,4 +1,4 @@
-use Rattle.mg_post.proofs.Bounds as laws
+use Rattle.mg_defs.proofs.StandLists as laws
 use Rattle.mg_post.proofs.laws.post_is_short.Goals as goal
 
 pub returns : goal.returns

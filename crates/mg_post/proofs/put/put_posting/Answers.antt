@@ -1,7 +1,7 @@
 use Rattle.std.proofs.Common.{arith}
 use Rattle.mg_defs.specs.Lists.{posting_bits}
 use Rattle.mg_bits.proofs.CallerLemmas.{bits_more}
-use Rattle.mg_post.proofs.Lengths.{golomb_short, gamma_short}
+use Rattle.mg_defs.proofs.StandLists.{golomb_short, gamma_short}
 use Rattle.mg_post.proofs.put.put_posting.Goals as goal
 
 pub put_gamma-requires-clause-place : goal.put_gamma-requires-clause-place

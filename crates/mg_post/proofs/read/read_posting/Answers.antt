@@ -1,7 +1,7 @@
 use Rattle.std.proofs.Common.{arith, ◌≡◌, ◌+◌, ◌-◌, length, ap, Err, Ok, add_assoc}
 use Rattle.mg_bits.proofs.CallerLemmas.{read_more, same_told}
 use Rattle.mg_defs.specs.Codes.{gamma, golomb}
-use Rattle.mg_post.proofs.Lengths.{length_posting}
+use Rattle.mg_defs.proofs.StandLists.{length_posting}
 use Rattle.mg_post.proofs.ReadLaws.{gap_got, freq_got, gap_pages, freq_pages, posting_pages, posting_pages_more, same_posting, posting_length, refused_posting}
 use Rattle.mg_post.proofs.read.read_posting.Goals as goal
 

@@ -1,12 +1,15 @@
-use Rattle.std.proofs.Common.{◌≤◌, length, arith, refl, sym, ◌∙◌, subst}
+use Rattle.std.proofs.Common.{arith, refl, sym, ◌∙◌, None}
+use Rattle.mg_reply.specs.Served.{silent}
 use Rattle.mg_dev.specs.StreamLaws.{prepended-nil}
 use Rattle.mg_defs.proofs.SessionLaws.{gives_long}
-use Rattle.mg_reply.proofs.ServedLaws.{served_start, served_line, served_part, served_some, served_asked, served_all, answered_gives, answered_quits, answered_part, answered_asked, all_grew, counted_start, counted_line, counted_past, counted_all, counted_quit, left_at_end, left_at_quit, goes_long, quit_is, cut_short}
+use Rattle.mg_reply.proofs.ServedLaws.{none_appended, served_start, served_line, served_part, served_some, served_asked, served_all, answered_gives, answered_quits, answered_part, answered_asked, all_grew, counted_start, counted_line, counted_past, counted_all, counted_quit, left_at_end, left_at_quit, goes_long, quit_is, cut_short}
 use Rattle.mg_reply.proofs.serve.serve_lines.Goals as goal
 
 pub lines-init : goal.lines-init
 lines-init g c = rw c.new-reader.ensures (record {
-  served = rw (prepended-nil, c.start-now.ensures) (served_start _ _ _ _ _ (g.met.A.Answerer.after_none c.args.answerer.now));
+  fits = c.requires;
+  asked = rw (prepended-nil, c.start-now.ensures) (served_start _ _ _ _ _ _ (g.met.A.Answerer.after_none (g.A.Answerer.state c.args.answerer.now c.args.dev.now)));
+  served = λ reply answers. rw (prepended-nil, c.start-now.ensures) (served_start _ _ _ _ _ _ (g.met.A.Answerer.after_none (g.A.Answerer.state c.args.answerer.now c.args.dev.now)));
   counted = rw prepended-nil (counted_start _);
   used = omega arith;
   faults = omega arith;
@@ -14,16 +17,16 @@ lines-init g c = rw c.new-reader.ensures (record {
 })
 
 pub returns-in-Err-Read-clause-prefix : goal.returns-in-Err-Read-clause-prefix
-returns-in-Err-Read-clause-prefix g c = λ all told. served_some _ _ _ _ _ _ _ _ _ c.lines.invariant.served all told
+returns-in-Err-Read-clause-prefix g c = λ reply answers all told. served_some _ _ _ _ _ _ _ _ _ _ (c.lines.invariant.served reply answers) all told
 
 pub returns-in-Err-Read-clause-answered : goal.returns-in-Err-Read-clause-answered
-returns-in-Err-Read-clause-answered g c = served_asked _ _ _ _ _ _ _ _ _ c.lines.invariant.served
+returns-in-Err-Read-clause-answered g c = served_asked _ _ _ _ _ _ _ _ _ _ c.lines.invariant.asked
 
 pub returns-in-Err-TooMuch-clause-prefix : goal.returns-in-Err-TooMuch-clause-prefix
-returns-in-Err-TooMuch-clause-prefix g c = λ all told. served_some _ _ _ _ _ _ _ _ _ c.lines.invariant.served all told
+returns-in-Err-TooMuch-clause-prefix g c = λ reply answers all told. served_some _ _ _ _ _ _ _ _ _ _ (c.lines.invariant.served reply answers) all told
 
 pub returns-in-Err-TooMuch-clause-answered : goal.returns-in-Err-TooMuch-clause-answered
-returns-in-Err-TooMuch-clause-answered g c = served_asked _ _ _ _ _ _ _ _ _ c.lines.invariant.served
+returns-in-Err-TooMuch-clause-answered g c = served_asked _ _ _ _ _ _ _ _ _ _ c.lines.invariant.asked
 
 pub returns-in-Err-TooMuch-clause-cause : goal.returns-in-Err-TooMuch-clause-cause
 returns-in-Err-TooMuch-clause-cause g c = λ all told.
@@ -31,12 +34,12 @@ returns-in-Err-TooMuch-clause-cause g c = λ all told.
     counted_past _ _ _ _ _ c.lines.invariant.counted line.1 line.2 all told
 
 pub returns-in-End-clause-all : goal.returns-in-End-clause-all
-returns-in-End-clause-all g c = λ all told.
+returns-in-End-clause-all g c = λ reply answers all told.
     let line = rw c.in-End.is at c.in-Ok.ensures.line in
-    served_all _ _ _ _ _ _ _ _ _ c.lines.invariant.served line.0 all told
+    served_all _ _ _ _ _ _ _ _ _ _ (c.lines.invariant.served reply answers) line.0 all told
 
 pub returns-in-End-clause-prefix : goal.returns-in-End-clause-prefix
-returns-in-End-clause-prefix g c = λ all told. served_some _ _ _ _ _ _ _ _ _ c.lines.invariant.served all told
+returns-in-End-clause-prefix g c = λ reply answers all told. served_some _ _ _ _ _ _ _ _ _ _ (c.lines.invariant.served reply answers) all told
 
 pub returns-in-End-clause-left : goal.returns-in-End-clause-left
 returns-in-End-clause-left g c = λ all told.
@@ -49,13 +52,15 @@ returns-in-End-clause-within g c = λ all told.
     counted_all _ _ _ c.lines.invariant.counted line.0 c.lines.invariant.used all told
 
 pub returns-in-End-clause-answered : goal.returns-in-End-clause-answered
-returns-in-End-clause-answered g c = served_asked _ _ _ _ _ _ _ _ _ c.lines.invariant.served
+returns-in-End-clause-answered g c = served_asked _ _ _ _ _ _ _ _ _ _ c.lines.invariant.asked
 
 pub lines-preserved-in-Ok-put_too_long : goal.lines-preserved-in-Ok-put_too_long
 lines-preserved-in-Ok-put_too_long g c =
     let line = rw c.in-TooLong.is at c.in-Ok.ensures.line in
     record {
-      served = served_line _ _ _ _ _ _ _ _ _ _ _ _ _ _ _ _ _ g.met.A.Answerer.after_more c.lines.invariant.served line.2 (gives_long _ _ line.0 line.3) (g.met.A.Answerer.after_none c.lines.answerer) c.in-Ok-put_too_long.ensures.content;
+      fits = c.lines.invariant.fits;
+      asked = served_line _ _ _ _ _ _ _ _ _ None None None _ _ _ _ _ _ g.met.A.Answerer.after_more c.lines.invariant.asked line.2 (gives_long _ _ _ line.0 line.3) (g.met.A.Answerer.after_none (g.A.Answerer.state c.lines.answerer c.lines.dev)) (none_appended _);
+      served = λ reply answers. served_line _ _ _ _ _ _ _ _ _ _ _ _ _ _ _ _ _ _ g.met.A.Answerer.after_more (c.lines.invariant.served reply answers) line.2 (gives_long _ _ _ line.0 line.3) (g.met.A.Answerer.after_none (g.A.Answerer.state c.lines.answerer c.lines.dev)) c.in-Ok-put_too_long.ensures.content;
       counted = counted_line _ _ _ _ _ _ _ c.lines.invariant.counted line.2 (goes_long line.0 line.3) line.4;
       used = line.5;
       faults = omega arith;
@@ -63,29 +68,29 @@ lines-preserved-in-Ok-put_too_long g c =
     }
 
 pub returns-in-Err-clause-prefix : goal.returns-in-Err-clause-prefix
-returns-in-Err-clause-prefix g c = λ all told.
+returns-in-Err-clause-prefix g c = λ reply answers all told.
     let line = rw c.in-TooLong.is at c.in-Ok.ensures.line in
-    served_part _ _ _ _ _ _ _ _ _ _ _ _ _ _ _ _ c.lines.invariant.served line.2 (gives_long _ _ line.0 line.3) c.in-Err.ensures.content all told
+    served_part _ _ _ _ _ _ _ _ _ _ _ _ _ _ _ _ _ (c.lines.invariant.served reply answers) line.2 (gives_long _ _ _ line.0 line.3) c.in-Err.ensures.content all told
 
 pub returns-in-Err-clause-answered : goal.returns-in-Err-clause-answered
-returns-in-Err-clause-answered g c = served_asked _ _ _ _ _ _ _ _ _ c.lines.invariant.served
+returns-in-Err-clause-answered g c = served_asked _ _ _ _ _ _ _ _ _ _ c.lines.invariant.asked
 
-pub serve_line-requires : goal.serve_line-requires
-serve_line-requires g c =
+pub serve_line-requires-clause-short : goal.serve_line-requires-clause-short
+serve_line-requires-clause-short g c =
     let line = rw c.in-Line.is at c.in-Ok.ensures.line in
     cut_short _ _ c.line.ensures line.2
 
 pub returns-in-Ok-true-clause-all : goal.returns-in-Ok-true-clause-all
-returns-in-Ok-true-clause-all g c = λ all told.
+returns-in-Ok-true-clause-all g c = λ reply answers all told.
     let line = rw c.in-Line.is at c.in-Ok.ensures.line in
-    answered_quits _ _ _ _ _ _ _ _ _ _ _ _ _ _ _ c.lines.invariant.served line.1 (record { same = g.met.A.Answerer.same_reply _ _ _ c.lines.invariant.served.after; cut_is = c.line.ensures; short = line.2 })
-    (sym c.in-Ok-true.ensures.stops ∙ c.in-Ok-true.field-0-test) c.in-Ok-true.ensures.text all told
+    answered_quits _ _ _ _ _ _ _ _ _ _ _ _ _ _ _ _ (c.lines.invariant.served reply answers) line.1 (record { same = refl; cut_is = c.line.ensures; short = line.2 })
+    (sym c.in-Ok-true.ensures.stops ∙ c.in-Ok-true.field-0-test) (c.in-Ok-true.ensures.text reply (g.met.A.Answerer.same_reply _ _ _ reply (c.lines.invariant.served reply answers).after answers)) all told
 
 pub returns-in-Ok-true-clause-prefix : goal.returns-in-Ok-true-clause-prefix
-returns-in-Ok-true-clause-prefix g c = λ all told.
+returns-in-Ok-true-clause-prefix g c = λ reply answers all told.
     let line = rw c.in-Line.is at c.in-Ok.ensures.line in
-    all_grew _ _ _ (answered_quits _ _ _ _ _ _ _ _ _ _ _ _ _ _ _ c.lines.invariant.served line.1 (record { same = g.met.A.Answerer.same_reply _ _ _ c.lines.invariant.served.after; cut_is = c.line.ensures; short = line.2 })
-    (sym c.in-Ok-true.ensures.stops ∙ c.in-Ok-true.field-0-test) c.in-Ok-true.ensures.text all told)
+    all_grew _ _ _ (answered_quits _ _ _ _ _ _ _ _ _ _ _ _ _ _ _ _ (c.lines.invariant.served reply answers) line.1 (record { same = refl; cut_is = c.line.ensures; short = line.2 })
+    (sym c.in-Ok-true.ensures.stops ∙ c.in-Ok-true.field-0-test) (c.in-Ok-true.ensures.text reply (g.met.A.Answerer.same_reply _ _ _ reply (c.lines.invariant.served reply answers).after answers)) all told)
 
 pub returns-in-Ok-true-clause-left : goal.returns-in-Ok-true-clause-left
 returns-in-Ok-true-clause-left g c = λ all told.
@@ -100,15 +105,19 @@ returns-in-Ok-true-clause-within g c = λ all told.
 pub returns-in-Ok-true-clause-answered : goal.returns-in-Ok-true-clause-answered
 returns-in-Ok-true-clause-answered g c =
     let line = rw c.in-Line.is at c.in-Ok.ensures.line in
-    answered_asked _ _ _ _ _ _ _ _ _ _ _ _ _ _ _ g.met.A.Answerer.after_more c.lines.invariant.served line.1 (record { same = g.met.A.Answerer.same_reply _ _ _ c.lines.invariant.served.after; cut_is = c.line.ensures; short = line.2 }) c.in-Ok-true.ensures.after
+    answered_asked _ _ _ _ _ _ _ _ _ _ _ _ _ _ _ _ g.met.A.Answerer.after_more c.lines.invariant.asked line.1 (record { same = refl; cut_is = c.line.ensures; short = line.2 }) c.in-Ok-true.ensures.after
 
 pub lines-preserved : goal.lines-preserved
 lines-preserved g c =
     let line = rw c.in-Line.is at c.in-Ok.ensures.line in
     record {
-      served = rw c.in-Ok-false.ensures.settings (served_line _ _ _ _ _ _ _ _ _ _ _ _ _ _ _ _ _ g.met.A.Answerer.after_more c.lines.invariant.served line.1
-          (answered_gives _ _ _ _ _ (record { same = g.met.A.Answerer.same_reply _ _ _ c.lines.invariant.served.after; cut_is = c.line.ensures; short = line.2 }) (sym c.in-Ok-false.ensures.stops ∙ c.in-Ok-false.field-0-test))
-          c.in-Ok-false.ensures.after c.in-Ok-false.ensures.text);
+      fits = c.in-Ok-false.ensures.fits;
+      asked = rw c.in-Ok-false.ensures.settings (served_line _ _ _ _ _ _ _ _ _ None None None _ _ _ _ _ _ g.met.A.Answerer.after_more c.lines.invariant.asked line.1
+          (answered_gives _ silent silent _ _ _ (record { same = refl; cut_is = c.line.ensures; short = line.2 }) (sym c.in-Ok-false.ensures.stops ∙ c.in-Ok-false.field-0-test))
+          c.in-Ok-false.ensures.after (none_appended _));
+      served = λ reply answers. rw c.in-Ok-false.ensures.settings (served_line _ _ _ _ _ _ _ _ _ _ _ _ _ _ _ _ _ _ g.met.A.Answerer.after_more (c.lines.invariant.served reply answers) line.1
+          (answered_gives _ reply reply _ _ _ (record { same = refl; cut_is = c.line.ensures; short = line.2 }) (sym c.in-Ok-false.ensures.stops ∙ c.in-Ok-false.field-0-test))
+          c.in-Ok-false.ensures.after (c.in-Ok-false.ensures.text reply (g.met.A.Answerer.same_reply _ _ _ reply (c.lines.invariant.served reply answers).after answers)));
       counted = counted_line _ _ _ _ _ _ _ c.lines.invariant.counted line.1 (quit_is _ _ _ _ line.2 c.line.ensures c.in-Ok-false.ensures.stops ∙ c.in-Ok-false.field-0-test) line.3;
       used = line.4;
       faults = omega arith;
@@ -116,11 +125,11 @@ lines-preserved g c =
     }
 
 pub returns-in-Err-serve_line-clause-prefix : goal.returns-in-Err-serve_line-clause-prefix
-returns-in-Err-serve_line-clause-prefix g c = λ all told.
+returns-in-Err-serve_line-clause-prefix g c = λ reply answers all told.
     let line = rw c.in-Line.is at c.in-Ok.ensures.line in
-    answered_part _ _ _ _ _ _ _ _ _ _ _ _ _ _ _ c.lines.invariant.served line.1 (record { same = g.met.A.Answerer.same_reply _ _ _ c.lines.invariant.served.after; cut_is = c.line.ensures; short = line.2 }) c.in-Err-serve_line.ensures.text all told
+    answered_part _ _ _ _ _ _ _ _ _ _ _ _ _ _ _ _ (c.lines.invariant.served reply answers) line.1 (record { same = refl; cut_is = c.line.ensures; short = line.2 }) (c.in-Err-serve_line.ensures.text reply (g.met.A.Answerer.same_reply _ _ _ reply (c.lines.invariant.served reply answers).after answers)) all told
 
 pub returns-in-Err-serve_line-clause-answered : goal.returns-in-Err-serve_line-clause-answered
 returns-in-Err-serve_line-clause-answered g c =
     let line = rw c.in-Line.is at c.in-Ok.ensures.line in
-    answered_asked _ _ _ _ _ _ _ _ _ _ _ _ _ _ _ g.met.A.Answerer.after_more c.lines.invariant.served line.1 (record { same = g.met.A.Answerer.same_reply _ _ _ c.lines.invariant.served.after; cut_is = c.line.ensures; short = line.2 }) c.in-Err-serve_line.ensures.after
+    answered_asked _ _ _ _ _ _ _ _ _ _ _ _ _ _ _ _ g.met.A.Answerer.after_more c.lines.invariant.asked line.1 (record { same = refl; cut_is = c.line.ensures; short = line.2 }) c.in-Err-serve_line.ensures.after

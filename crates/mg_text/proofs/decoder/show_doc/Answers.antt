@@ -1,52 +1,24 @@
-use Rattle.std.proofs.Common.{arith, ◌+◌, length, length-append}
-use Rattle.mg_bits.specs.Feed.{ReadsWithin}
-use Rattle.mg_defs.specs.Codes.{gamma}
-use Rattle.mg_defs.specs.Parse.{parse}
-use Rattle.mg_text.specs.Decoding.{coded_pairs}
-use Rattle.mg_text.proofs.Steps.{added_more, added_none, ends_more, ends_read, shows_left}
-use Rattle.mg_text.proofs.PairLaws.{doc_decoded, doc_stopped, flush_stopped, head_stopped, put_refused, shows_next}
+use Rattle.std.proofs.Common.{[]}
+use Rattle.mg_text.proofs.Shows.{added_more, shown_none}
+use Rattle.mg_text.proofs.Steps.{ends_more}
+use Rattle.mg_text.proofs.PairLaws.{put_refused}
 use Rattle.mg_text.proofs.decoder.show_doc.Goals as goal
 
 pub returns-in-Err-clause-told : goal.returns-in-Err-clause-told
-returns-in-Err-clause-told g c = λ doc all few small shows.
-    let code = c.args.model.now in
-    let x = gamma (length (parse doc) + 1) in
-    ends_read c.in-Err.refusal _ (ReadsWithin _ _ _ _ c.args.r.now.place (c.args.r.now.place + length x)) _ _ (λ pages. head_stopped _ _ _ _ c.args.r.now.place code doc _ (g.met.F.Feed.whole_pages c.args.r.now.feed).some pages)
-    (c.in-Err.ensures.told (length (parse doc)) few (omega (arith, small, length-append x (coded_pairs code (parse doc)))) (shows_left _ c.args.r.now.place x (coded_pairs code (parse doc)) shows))
-
-pub returns-in-Err-clause-added : goal.returns-in-Err-clause-added
-returns-in-Err-clause-added g c = added_none _ _ _
-
-pub returns-in-Err-show_pairs-clause-told : goal.returns-in-Err-show_pairs-clause-told
-returns-in-Err-show_pairs-clause-told g c = λ doc all few small shows.
-    let code = c.args.model.now in
-    let x = gamma (length (parse doc) + 1) in
-    let y = coded_pairs code (parse doc) in
-    let head = c.in-Ok.ensures.told (length (parse doc)) few (omega (arith, small, length-append x y)) (shows_left _ c.args.r.now.place x y shows) in
-    ends_more c.in-Err-show_pairs.refusal _ _ _ _ (λ stopped. doc_stopped _ _ _ _ _ _ c.args.r.now.place c.get_count.new.r.place code doc _ _ (g.met.F.Feed.whole_pages c.args.r.now.feed).some head.1 head.2 stopped)
-    (c.in-Err-show_pairs.ensures.told (parse doc) all head.0 (omega (arith, small, length-append x y, head.1)) (shows_next _ _ _ _ c.args.r.now.place c.get_count.new.r.place x y c.in-Ok.ensures.calm head.1 shows))
+returns-in-Err-clause-told g c = λ doc all few small shows. ends_more c.in-Err.refusal _ _ _ _ (λ stopped. stopped) (c.in-Err.ensures.told _ [] doc all few small shows (rw c.requires.empty (shown_none _)))
 
 pub returns-in-Ok-flush-clause-told : goal.returns-in-Ok-flush-clause-told
 returns-in-Ok-flush-clause-told g c = λ doc all few small shows.
-    let code = c.args.model.now in
-    let x = gamma (length (parse doc) + 1) in
-    let y = coded_pairs code (parse doc) in
-    let head = c.in-Ok.ensures.told (length (parse doc)) few (omega (arith, small, length-append x y)) (shows_left _ c.args.r.now.place x y shows) in
-    let pairs = c.in-Ok-show_pairs.ensures.told (parse doc) all head.0 (omega (arith, small, length-append x y, head.1)) (shows_next _ _ _ _ c.args.r.now.place c.get_count.new.r.place x y c.in-Ok.ensures.calm head.1 shows) in
-    doc_decoded _ _ _ _ _ _ c.args.r.now.place c.get_count.new.r.place c.show_pairs.new.r.place code doc _ _ _ _ (g.met.F.Feed.whole_pages c.args.r.now.feed).some head.1 head.2 pairs c.in-Ok-flush.ensures.content
+    let gathered = c.in-Ok.ensures.told _ [] doc all few small shows (rw c.requires.empty (shown_none _)) in
+    record { pages = gathered.read.pages; grew = c.in-Ok-flush.ensures.shown _ doc gathered.shown }
 
 pub returns-in-Ok-flush-clause-added : goal.returns-in-Ok-flush-clause-added
-returns-in-Ok-flush-clause-added g c = added_more _ _ _ _ _ _ _ _ _ c.in-Ok-show_pairs.ensures.added c.in-Ok-flush.ensures.added
+returns-in-Ok-flush-clause-added g c = added_more _ _ _ _ _ _ _ _ _ c.in-Ok.ensures.added c.in-Ok-flush.ensures.added
 
 pub returns-in-Err-flush-clause-told : goal.returns-in-Err-flush-clause-told
 returns-in-Err-flush-clause-told g c = λ doc all few small shows.
-    let code = c.args.model.now in
-    let x = gamma (length (parse doc) + 1) in
-    let y = coded_pairs code (parse doc) in
-    let head = c.in-Ok.ensures.told (length (parse doc)) few (omega (arith, small, length-append x y)) (shows_left _ c.args.r.now.place x y shows) in
-    let pairs = c.in-Ok-show_pairs.ensures.told (parse doc) all head.0 (omega (arith, small, length-append x y, head.1)) (shows_next _ _ _ _ c.args.r.now.place c.get_count.new.r.place x y c.in-Ok.ensures.calm head.1 shows) in
-    let stopped = flush_stopped _ _ _ _ _ _ c.args.r.now.place c.get_count.new.r.place c.show_pairs.new.r.place code doc _ _ _ _ (g.met.F.Feed.whole_pages c.args.r.now.feed).some head.1 head.2 pairs c.in-Err-flush.ensures.content in
-    rw c.refused_put.ensures (put_refused c.in-Err-flush.refusal _ _ stopped)
+    let gathered = c.in-Ok.ensures.told _ [] doc all few small shows (rw c.requires.empty (shown_none _)) in
+    rw c.refused_put.ensures (put_refused c.in-Err-flush.refusal _ _ record { pages = gathered.read.pages; grew = c.in-Err-flush.ensures.shown _ doc gathered.shown })
 
 pub returns-in-Err-flush-clause-added : goal.returns-in-Err-flush-clause-added
-returns-in-Err-flush-clause-added g c = added_more _ _ _ _ _ _ _ _ _ c.in-Ok-show_pairs.ensures.added c.in-Err-flush.ensures.added
+returns-in-Err-flush-clause-added g c = added_more _ _ _ _ _ _ _ _ _ c.in-Ok.ensures.added c.in-Err-flush.ensures.added

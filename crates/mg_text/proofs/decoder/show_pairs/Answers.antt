@@ -1,7 +1,9 @@
-use Rattle.std.proofs.Common.{arith, take}
+use Rattle.std.proofs.Common.{arith, take, ◌++◌, ◌≡◌, ◌∙◌, ap}
+use Rattle.std.proofs.Math.Seq.{take-length}
 use Rattle.mg_bits.proofs.CallerLemmas.{calm_more, calm_none}
 use Rattle.mg_defs.specs.Parse.{text}
-use Rattle.mg_text.proofs.Steps.{added_more, added_none, ends_more}
+use Rattle.mg_text.proofs.Shows.{added_more, added_none}
+use Rattle.mg_text.proofs.Steps.{ends_more}
 use Rattle.mg_text.proofs.PairLaws.{next_pair, no_pairs, pair_shows, pair_small, pairs_more, pairs_stopped}
 use Rattle.mg_text.proofs.decoder.show_pairs.Goals as goal
 
@@ -10,16 +12,16 @@ loop-i-init g c = record {
   fits = c.requires.fits;
   calm = calm_none _ _;
   added = added_none _ _ _;
-  told = λ ps all count small shows. rw c.requires.empty (no_pairs _ _ _ _);
+  told = λ before bytes ps all count small shows shown. no_pairs _ _ _ before _ _ bytes shown;
 }
 
 pub returns-in-Err-clause-told : goal.returns-in-Err-clause-told
-returns-in-Err-clause-told g c = λ ps all count small shows.
+returns-in-Err-clause-told g c = λ before bytes ps all count small shows shown.
     let code = c.args.model.now in
-    let first = c.loop-i.invariant.told ps all count small shows in
+    let first = c.loop-i.invariant.told before bytes ps all count small shows shown in
     let next = next_pair code ps c.loop-i._i all (omega (arith, count, c.loop-i-test.true)) in
-    ends_more c.in-Err.refusal _ _ _ _ (λ stopped. pairs_stopped _ _ _ _ _ _ c.args.r.now.place c.loop-i.r.place code ps c.loop-i._i _ _ _ _ (g.met.F.Feed.whole_pages c.args.r.now.feed).some next first stopped)
-    (c.in-Err.ensures.told _ (text (take c.loop-i._i ps)) next.pair next.there (pair_small c.args.r.now.place c.loop-i.r.place code ps c.loop-i._i next first.at_end small) (pair_shows _ _ _ _ c.args.r.now.place c.loop-i.r.place code ps c.loop-i._i next c.loop-i.invariant.calm first.at_end shows) first.shown)
+    ends_more c.in-Err.refusal _ _ _ _ (λ stopped. pairs_stopped _ _ _ _ _ _ c.args.r.now.place c.loop-i.r.place code ps c.loop-i._i before _ _ _ bytes (g.met.F.Feed.whole_pages c.args.r.now.feed).some next first stopped)
+    (c.in-Err.ensures.told before (bytes ++ text (take c.loop-i._i ps)) next.pair next.there (pair_small c.args.r.now.place c.loop-i.r.place code ps c.loop-i._i next first.at_end small) (pair_shows _ _ _ _ c.args.r.now.place c.loop-i.r.place code ps c.loop-i._i next c.loop-i.invariant.calm first.at_end shows) first.shown)
 
 pub returns-in-Err-clause-added : goal.returns-in-Err-clause-added
 returns-in-Err-clause-added g c = added_more _ _ _ _ _ _ _ _ _ c.loop-i.invariant.added c.in-Err.ensures.added
@@ -29,10 +31,15 @@ loop-i-preserved g c = record {
   fits = c.in-Ok.ensures.fits;
   calm = calm_more _ _ _ _ _ _ c.loop-i.invariant.calm c.in-Ok.ensures.calm;
   added = added_more _ _ _ _ _ _ _ _ _ c.loop-i.invariant.added c.in-Ok.ensures.added;
-  told = λ ps all count small shows.
+  told = λ before bytes ps all count small shows shown.
       let code = c.args.model.now in
-      let first = c.loop-i.invariant.told ps all count small shows in
+      let first = c.loop-i.invariant.told before bytes ps all count small shows shown in
       let next = next_pair code ps c.loop-i._i all (omega (arith, count, c.loop-i-test.true)) in
-      let second = c.in-Ok.ensures.told _ (text (take c.loop-i._i ps)) next.pair next.there (pair_small c.args.r.now.place c.loop-i.r.place code ps c.loop-i._i next first.at_end small) (pair_shows _ _ _ _ c.args.r.now.place c.loop-i.r.place code ps c.loop-i._i next c.loop-i.invariant.calm first.at_end shows) first.shown in
-      pairs_more _ _ _ _ _ _ c.args.r.now.place c.loop-i.r.place c.show_pair.new.r.place code ps c.loop-i._i _ _ _ _ _ (g.met.F.Feed.whole_pages c.args.r.now.feed).some next first second;
+      let second = c.in-Ok.ensures.told before (bytes ++ text (take c.loop-i._i ps)) next.pair next.there (pair_small c.args.r.now.place c.loop-i.r.place code ps c.loop-i._i next first.at_end small) (pair_shows _ _ _ _ c.args.r.now.place c.loop-i.r.place code ps c.loop-i._i next c.loop-i.invariant.calm first.at_end shows) first.shown in
+      pairs_more _ _ _ _ _ _ c.args.r.now.place c.loop-i.r.place c.show_pair.new.r.place code ps c.loop-i._i before _ _ _ _ bytes (g.met.F.Feed.whole_pages c.args.r.now.feed).some next first second;
 }
+
+pub returns-clause-told : goal.returns-clause-told
+returns-clause-told g c = λ before bytes ps all count small shows shown.
+    let whole : take c.loop-i._i ps ≡ ps = ap (λ n. take n ps) (omega (arith, count, c.loop-i-test.false)) ∙ take-length ps in
+    rw whole at (c.loop-i.invariant.told before bytes ps all count small shows shown)

@@ -1,7 +1,7 @@
-use Rattle.std.proofs.Common.{◌≡◌, ◌+◌, ◌^◌, ◌≤◌, List, length, take}
+use Rattle.std.proofs.Common.{◌≡◌, ◌+◌, ◌++◌, ◌^◌, ◌≤◌, ℕ, List, Option, length, take}
 use Rattle.mg_bits.specs.Feed.{Calm}
 use Rattle.mg_defs.specs.Parse.{Pair, text}
-use Rattle.mg_text.specs.Decoding.{Added, Decoded, PairsIn, Shows, coded_pairs}
+use Rattle.mg_text.specs.Decoding.{Added, Decoded, PairsIn, Shown, Shows, coded_pairs}
 use Rattle.mg_text.proofs.decoder.show_pairs.Given as goal
 
 abbrev pub invariant-loop-i : goal.invariant-loop-i
@@ -9,8 +9,8 @@ invariant-loop-i g l = record {
   fits : g.F.Feed.fits l.r.feed (g.F.Feed.device l.dev).files;
   calm : Calm (g.F.Feed.feeding l.fn.r.feed) (g.F.Feed.feeding l.r.feed) (g.F.Feed.device l.fn.dev) (g.F.Feed.device l.dev);
   added : Added (g.O.Sink.written l.fn.out) (g.O.Sink.written l.out) (g.O.Sink.faults l.fn.out) (g.O.Sink.faults l.out) (g.O.Sink.lacks l.fn.out) (g.O.Sink.lacks l.out);
-  told : (ps : List Pair) → PairsIn l.model ps → l.count ≡ length ps → l.fn.r.place + length (coded_pairs l.model ps) ≤ 2 ^ 63 →
-      Shows ((g.F.Feed.feeding l.fn.r.feed).source (g.F.Feed.device l.fn.dev).files) l.fn.r.place (coded_pairs l.model ps) →
+  told : (before : Option (List ℕ)) (bytes : List ℕ) (ps : List Pair) → PairsIn l.model ps → l.count ≡ length ps → l.fn.r.place + length (coded_pairs l.model ps) ≤ 2 ^ 63 →
+      Shows ((g.F.Feed.feeding l.fn.r.feed).source (g.F.Feed.device l.fn.dev).files) l.fn.r.place (coded_pairs l.model ps) → Shown before (g.O.Sink.written l.fn.out) l.fn.buffer bytes →
       Decoded (g.F.Feed.feeding l.fn.r.feed) (g.F.Feed.feeding l.r.feed) (g.F.Feed.device l.fn.dev) (g.F.Feed.device l.dev) l.fn.r.place (l.fn.r.place + length (coded_pairs l.model (take l._i ps))) l.r.place
-      (g.O.Sink.written l.fn.out) (g.O.Sink.written l.out) l.buffer (text (take l._i ps));
+      before (g.O.Sink.written l.out) l.buffer (bytes ++ text (take l._i ps));
 }

@@ -1,7 +1,7 @@
 use Rattle.std.proofs.Common.{arith, ◌<◌, length}
 use Rattle.mg_defs.specs.Sorted.{number_of}
-use Rattle.mg_model.specs.Models.{code_of}
-use Rattle.mg_text.proofs.Steps.{added_none}
+use Rattle.mg_defs.specs.Marks.{code_of}
+use Rattle.mg_text.proofs.Shows.{added_none}
 use Rattle.mg_text.proofs.PairLaws.{piece_number, piece_refused}
 use Rattle.mg_text.proofs.decoder.show_piece.Goals as goal
 

@@ -1,4 +1,4 @@
-use Rattle.std.proofs.Common.{◌≡◌, ◌<◌, ◌^◌, ℕ, List, [], ◌∷◌, ◌++◌, ap, ◌∙◌, length, refl, subst, sym}
+use Rattle.std.proofs.Common.{arith, ◌≡◌, ◌<◌, ◌^◌, ℕ, List, [], ◌∷◌, ◌++◌, ap, ◌∙◌, length, refl, subst, sym}
 use Rattle.std.proofs.lemmas.List.Elements.{All-nil}
 use Rattle.std.specs.declared.option.Option.{Option}
 use Rattle.mg_dev.specs.Files.{Files, bytes_at}
@@ -6,6 +6,7 @@ use Rattle.mg_defs.specs.Bits.{digits, bits_of}
 use Rattle.mg_bits.specs.Writer.{Writing, AreBytes, put_to}
 use Rattle.mg_bits.specs.BitWriting.{bits_put}
 use Rattle.mg_bits.proofs.BitsWritten.{as_bits}
+use Rattle.mg_bits.proofs.Growing.{held_few}
 use Rattle.mg_bits.proofs.bit_writer.BitWriter.start.Goals as goal
 
 none_put : (w : Writing) (files : Option Files) → put_to w files ≡ [] → bits_put (record { name = w.name; buffered = bits_of w.buffered ++ digits 0 0; place = 0 }) files ≡ []
@@ -27,3 +28,6 @@ returns-in-Ok-clause-holds g c = record {
   count = λ told. ap length (none_put _ _ (c.in-Ok.ensures.empty (sym c.in-Ok.ensures.wrote.told ∙ told)));
   bytes = λ told. empty_bytes _ _ (c.in-Ok.ensures.empty (sym c.in-Ok.ensures.wrote.told ∙ told));
 }
+
+pub returns-in-Ok-clause-held : goal.returns-in-Ok-clause-held
+returns-in-Ok-clause-held g c = held_few _ 0 0 c.in-Ok.ensures.page (omega arith)

@@ -22,7 +22,8 @@ pub returns-clause-bytes : goal.returns-clause-bytes
 unfolding prepended
 returns-clause-bytes c =
     let s = c.args.self.now in
-    let rest_long : length c.deref.result.now ≡ length s.bytes.items = ap length c.deref.ensures.value in (
-      ap Some (split s.at c.min-count.result s.bytes.items c.copy_from_slice.new.self _ (grind (arith, common_steps)) (grind (arith, common_steps))),
-      λ none room told. ap Some (nil_from_length (drop s.at s.bytes.items) (grind (arith, common_steps, s.positive, s.within))),
+    let long : length c.rest-rest.result.now ≡ length s.bytes.items - s.at = ap length c.rest-rest.ensures ∙ length-drop s.at s.bytes.items in
+    let within : c.min-count.result ≤ length s.bytes.items - s.at = grind (arith, common_steps) in (
+      ap Some (split s.at c.min-count.result s.bytes.items c.copy_from_slice.new.self _ within (grind (arith, common_steps))),
+      λ none room told. ap Some (nil_from_length (drop s.at s.bytes.items) (grind (arith, common_steps))),
     )

@@ -1,6 +1,6 @@
-use Rattle.std.proofs.Common.{rules, arith, refl, sym, ◌∙◌, ap, subst, Bool, true, false, IsSome, take, length, slice_get, Some, ◌≡◌, ◌<◌, ◌+◌, ◌*◌, ◌/◌, ◌%◌}
+use Rattle.std.proofs.Common.{arith, sym, ◌∙◌, ap, subst, Bool, true, false, IsSome, length, slice_get, ◌≡◌, ◌<◌, ◌+◌, ◌*◌, ◌/◌, ◌%◌}
 use Rattle.mg_dev.specs.Files.{bytes_at}
-use Rattle.mg_defs.specs.Front.{IsFront, front}
+use Rattle.mg_defs.specs.Front.{IsFront}
 use Rattle.mg_front.specs.Reading.{AnswersAt}
 use Rattle.mg_front.proofs.ReadPages.{one_look, place_look}
 use Rattle.mg_front.proofs.ReaderLaws.{block_place, block_there}

@@ -1,9 +1,8 @@
-use Rattle.std.proofs.Common.{rules, arith, refl, sym, ◌∙◌, ap, cond, Bool, true, false, ◌≤◌, ◌<◌, ℕ, ◌≡◌, ◌≢◌, ◌+◌, ◌-◌, ◌*◌, ◌/◌, ◌^◌, subst}
+use Rattle.std.proofs.Common.{arith, refl, sym, ◌∙◌, ap, cond, Bool, true, false, ◌≤◌, ◌<◌, ℕ, ◌≡◌, ◌+◌, ◌-◌, ◌/◌, ◌^◌, subst}
 use Rattle.std.specs.Int.{div_ceil}
 use Rattle.mg_defs.specs.Front.{is_below}
-use Rattle.mg_front.specs.Entries.{entry_of, string_of}
+use Rattle.mg_front.specs.Entries.{entry_of}
 use Rattle.mg_front.proofs.OrderLaws.{between_start, between_step, around_of, stands_same}
-use Rattle.mg_dev.specs.Names.{same_part}
 use Rattle.mg_dev.specs.Files.{Reads}
 use Rattle.mg_dev.specs.declared.part.Part.{Part}
 use Rattle.mg_front.specs.Looks.{halvings}

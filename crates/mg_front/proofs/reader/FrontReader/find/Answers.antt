@@ -1,5 +1,5 @@
-use Rattle.std.proofs.Common.{rules, arith, refl, sym, ◌∙◌, ap, subst, Ok}
-use Rattle.mg_front.specs.Reading.{AnswersFind, AnswersBlock}
+use Rattle.std.proofs.Common.{arith, subst, Ok}
+use Rattle.mg_front.specs.Reading.{AnswersBlock}
 use Rattle.mg_front.proofs.ReadPages.{look_as, looks_more, looks_wider}
 use Rattle.mg_front.proofs.OrderLaws.{stands_same, none_at_all, found_in}
 use Rattle.mg_front.proofs.reader.FrontReader.find.Goals as goal

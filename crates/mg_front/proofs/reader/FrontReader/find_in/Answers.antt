@@ -1,7 +1,6 @@
-use Rattle.std.proofs.Common.{rules, arith, refl, sym, ◌∙◌, ap, subst, IsSome, length, ◌≡◌, ◌≤◌, ◌<◌, ◌+◌, ◌*◌, ◌-◌, ◌⊎◌, inl, inr, min}
-use Rattle.std.proofs.lemmas.Bool.{cases_lt}
+use Rattle.std.proofs.Common.{arith, sym, subst, IsSome, length, ◌≡◌, ◌≤◌, ◌<◌, ◌+◌, ◌*◌, ◌-◌, min}
 use Rattle.mg_dev.specs.Files.{bytes_at}
-use Rattle.mg_defs.specs.Front.{IsFront, front}
+use Rattle.mg_defs.specs.Front.{IsFront}
 use Rattle.mg_front.specs.Reading.{AnswersScan, IsInBlock}
 use Rattle.mg_front.proofs.OrderLaws.{none_behind, last_or_full}
 use Rattle.mg_front.proofs.ReadPages.{one_look, place_look}

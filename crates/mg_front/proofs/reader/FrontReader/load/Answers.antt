@@ -1,4 +1,3 @@
-use Rattle.std.proofs.Common.{rules}
 use Rattle.mg_front.proofs.ReaderLaws.{never_refused}
 use Rattle.mg_front.proofs.reader.FrontReader.load.Goals as goal
 

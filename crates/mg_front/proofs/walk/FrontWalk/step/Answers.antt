@@ -1,4 +1,4 @@
-use Rattle.std.proofs.Common.{rules, arith, refl, sym, ◌∙◌, drop, ◌<◌, ◌≤◌, inl, IsSome}
+use Rattle.std.proofs.Common.{arith, refl, ◌∙◌, drop, inl}
 use Rattle.mg_dev.specs.Files.{bytes_at}
 use Rattle.mg_front.specs.Entries.{string_of}
 use Rattle.mg_front.proofs.WalkLaws.{gave_more, begins, no_entry}

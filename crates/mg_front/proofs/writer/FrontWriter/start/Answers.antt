@@ -1,5 +1,5 @@
-use Rattle.std.proofs.Common.{rules, refl, sym, ◌∙◌, ap, subst}
-use Rattle.mg_front.proofs.WriterLaws.{took_none, asked_others, asked_told, asked_reads}
+use Rattle.std.proofs.Common.{refl, ◌∙◌}
+use Rattle.mg_front.proofs.WriterLaws.{took_none}
 use Rattle.mg_front.proofs.writer.FrontWriter.start.Goals as goal
 
 pub returns-clause-took : goal.returns-clause-took

@@ -1,4 +1,4 @@
-use Rattle.std.proofs.Common.{rules, refl, sym, ◌∙◌, ap}
+use Rattle.std.proofs.Common.{◌∙◌}
 use Rattle.mg_lex.proofs.LexLaws.{lex_loaded, lexicon_count}
 use Rattle.mg_lex.proofs.lex.Lex.load.Goals as goal
 

@@ -1,4 +1,3 @@
-use Rattle.std.proofs.Common.{rules, refl, sym, ◌∙◌, ap}
 use Rattle.mg_lex.specs.Terms.{entries_of}
 use Rattle.mg_lex.proofs.LexLaws.{finished_terms, other_name}
 use Rattle.mg_lex.proofs.lex_writer.LexWriter.finish.Goals as goal

@@ -1,4 +1,4 @@
-use Rattle.std.proofs.Common.{rules, refl, sym, ◌∙◌, ap, subst, ◌++◌, ◌∷◌, [], length}
+use Rattle.std.proofs.Common.{refl, ◌∙◌, ap, subst, ◌++◌, ◌∷◌, [], length}
 use Rattle.mg_defs.proofs.LexiconLaws.{info_long}
 use Rattle.mg_front.specs.Fronting.{Took}
 use Rattle.mg_layout.specs.Infos.{info_of}

@@ -1,6 +1,3 @@
-use Rattle.std.proofs.Common.{rules, refl, sym, ◌∙◌, ap, List, ℕ, ◌≡◌}
-use Rattle.mg_dev.specs.Names.{full_name}
-use Rattle.mg_dev.specs.declared.part.Part.TheVariants.{Lex, LexAt}
 use Rattle.mg_lex.proofs.LexLaws.{names_apart}
 use Rattle.mg_lex.proofs.lex_writer.LexWriter.start.Goals as goal
 

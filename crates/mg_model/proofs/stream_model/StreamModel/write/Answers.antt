@@ -4,10 +4,11 @@ use Rattle.mg_dev.specs.Files.{bytes_at}
 use Rattle.mg_front.specs.Fronting.{Took}
 use Rattle.mg_defs.specs.CodedText.{piece_entries}
 use Rattle.mg_defs.specs.Front.{front}
-use Rattle.mg_model.specs.Models.{IsStreamCode}
+use Rattle.mg_defs.specs.Means.{IsStreamCode}
 use Rattle.mg_model.proofs.Lists.{take-there, take-all}
 use Rattle.mg_model.proofs.Entries.{entry, entries-long}
-use Rattle.mg_model.proofs.Writing.{entries-are, piece-entry, entry-of-writer, is-other}
+use Rattle.mg_defs.proofs.StandCodes.{entries-are}
+use Rattle.mg_model.proofs.Writing.{piece-entry, entry-of-writer, is-other}
 use Rattle.mg_model.proofs.stream_model.StreamModel.write.Goals as goal
 
 pub push-requires-clause-entry : goal.push-requires-clause-entry

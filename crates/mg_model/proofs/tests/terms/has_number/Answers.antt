@@ -2,7 +2,7 @@ use Rattle.std.proofs.Common.{rules, arith, ◌∙◌, sym, ap, length}
 use Rattle.std.proofs.lemmas.List.{length-map}
 use Rattle.mg_defs.specs.Sorted.{sorted_distinct}
 use Rattle.mg_defs.specs.Terms.{terms_of_words}
-use Rattle.mg_model.specs.Terms.{term_in}
+use Rattle.mg_defs.specs.Marks.{term_in}
 use Rattle.mg_model.proofs.Collections.{piece-is, there-within}
 use Rattle.mg_model.proofs.tests.terms.has_number.Goals as goal
 

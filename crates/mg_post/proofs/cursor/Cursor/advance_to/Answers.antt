@@ -1,9 +1,11 @@
-use Rattle.std.proofs.Common.{arith, ◌+◌, ◌-◌, ◌*◌, ◌^◌, min, max, refl, sym, ◌∙◌, ap, subst, Some, None}
+use Rattle.std.proofs.Common.{arith, ◌+◌, ◌-◌, ◌*◌, ◌^◌, min, max, refl, sym, ◌∙◌, ap, subst, Some, None, Ok}
 use Rattle.mg_bits.specs.Feed.{told_at}
 use Rattle.mg_defs.specs.Lists.{bits_after, block_pages}
 use Rattle.mg_post.specs.Stands.{Shows, SkipStands}
 use Rattle.mg_post.specs.Finding.{IsFound}
 use Rattle.mg_post.proofs.CursorLaws.{ended_stays, walks_of, in_block, at_end, on_block, same_file, refused_answer, raised_by, raised_most, raised_least}
+use Rattle.std.proofs.lemmas.Bool.{false≢true}
+use Rattle.mg_post.proofs.SoundLaws.{current_low, forward_held, in_held, nothing_held, stays_here}
 use Rattle.mg_post.proofs.cursor.Cursor.advance_to.Goals as goal
 
 pub returns-then-self-clause-answer : goal.returns-then-self-clause-answer
@@ -94,6 +96,7 @@ returns-in-Ok-clause-entered g c =
         block = c.in-Ok-Some.found.block;
         range = found.range;
         before = sound.from;
+        reached = refl;
         pages =
             ap (λ n. max n (min c.enter.new.r.feed.count (2 ^ 64 - 1))) c.saturating_add-self-inside.ensures
             ∙ (raised_by c.self.inside.post.feed.count c.enter.new.r.feed.count c.self.inside.passed c.in-Ok.inside.pages fits.first c.in-Ok.ensures.count).0
@@ -124,3 +127,61 @@ returns-in-Err-enter-clause-entered g c =
             (c.in-Err-enter.ensures.most ps c.count_blocks-blocks.result entries.rises stands.list.whole shows stands.list.small found);
       },
     ))
+
+-- ---- over any parts
+
+pub invariant_of-self : goal.invariant_of-self
+invariant_of-self g c =
+    let i = c.self.invariant in (
+      i.0,
+      i.1,
+      i.2,
+      i.3,
+      i.4,
+      i.5,
+      i.6,
+      λ e. absurd (false≢true (sym c.if-self.false ∙ e)),
+      forward_held c.self.inside.all c.self.inside.last c.args.doc c.self.inside.block c.forward.new.self i.8 c.forward.ensures,
+    )
+
+pub invariant_of-self-in-Ok-None : goal.invariant_of-self-in-Ok-None
+invariant_of-self-in-Ok-None g c =
+    let i = c.self.invariant in
+    let skip = same_file c.self.inside.skip.feed c.find_block.new.r.feed _ _ c.in-Ok-None.ensures.calm in (
+      i.0,
+      i.1,
+      i.2,
+      omega (arith, c.count_blocks-blocks.ensures),
+      i.4,
+      skip.part ∙ i.5,
+      i.6,
+      λ e. c.clear.ensures,
+      nothing_held c.self.inside.all c.self.inside.last c.clear.new.self c.clear.ensures,
+    )
+
+pub returns-then-doc-self-clause-sound : goal.returns-then-doc-self-clause-sound
+returns-then-doc-self-clause-sound g c =
+    rw (← c.self.view_is) (in_held c.self.inside.all c.self.inside.last c.args.doc c.self.inside.block c.forward.new.self c.current.result c.self.invariant.8 c.forward.ensures c.current.ensures)
+
+pub returns-then-doc-self-clause-stays : goal.returns-then-doc-self-clause-stays
+returns-then-doc-self-clause-stays g c =
+    rw (← c.self.view_is)
+    (λ p is le.
+    let s = stays_here c.args.doc c.self.inside.block c.forward.new.self c.current.result p is le c.forward.ensures c.current.ensures in
+    (ap Ok s.0, record { reached = refl; last = refl; held = s.1; ended = refl }))
+
+pub returns-in-Err-clause-stays : goal.returns-in-Err-clause-stays
+returns-in-Err-clause-stays g c =
+    rw (← c.self.view_is) (λ p is le. absurd (omega (arith, current_low c.self.inside.all c.self.inside.last c.self.inside.block p c.self.invariant.8 is, le, c.if-doc-self.false)))
+
+pub returns-in-Ok-None-clause-stays : goal.returns-in-Ok-None-clause-stays
+returns-in-Ok-None-clause-stays g c =
+    rw (← c.self.view_is) (λ p is le. absurd (omega (arith, current_low c.self.inside.all c.self.inside.last c.self.inside.block p c.self.invariant.8 is, le, c.if-doc-self.false)))
+
+pub returns-in-Err-enter-clause-stays : goal.returns-in-Err-enter-clause-stays
+returns-in-Err-enter-clause-stays g c =
+    rw (← c.self.view_is) (λ p is le. absurd (omega (arith, current_low c.self.inside.all c.self.inside.last c.self.inside.block p c.self.invariant.8 is, le, c.if-doc-self.false)))
+
+pub returns-in-Ok-clause-stays : goal.returns-in-Ok-clause-stays
+returns-in-Ok-clause-stays g c =
+    rw (← c.self.view_is) (λ p is le. absurd (omega (arith, current_low c.self.inside.all c.self.inside.last c.self.inside.block p c.self.invariant.8 is, le, c.if-doc-self.false)))

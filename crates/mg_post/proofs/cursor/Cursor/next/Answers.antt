@@ -1,5 +1,7 @@
-use Rattle.std.proofs.Common.{arith, refl}
+use Rattle.std.proofs.Common.{arith, refl, sym, ◌∙◌}
 use Rattle.mg_post.proofs.CursorLaws.{next_within, next_low, next_beyond}
+use Rattle.std.proofs.lemmas.Bool.{false≢true}
+use Rattle.mg_post.proofs.SoundLaws.{next_held, next_sound, step_rises}
 use Rattle.mg_post.proofs.cursor.Cursor.next.Goals as goal
 
 pub returns-in-Some-clause-answer : goal.returns-in-Some-clause-answer
@@ -35,3 +37,27 @@ returns-else-last-clause-entered g c =
     (λ ps left stands at.
     let beyond = next_beyond c.self.inside.ended c.self.inside.all ps c.self.inside.reached c.self.inside.last c.self.inside.block left c.if-self.false stands.list.entries.rises step.0 at.on in
     rw beyond.0 at (entered ps left stands at))
+
+pub invariant_of-self : goal.invariant_of-self
+invariant_of-self g c =
+    let i = c.self.invariant in (
+      i.0,
+      i.1,
+      i.2,
+      i.3,
+      i.4,
+      i.5,
+      i.6,
+      λ e. absurd (false≢true (sym c.if-self.false ∙ e)),
+      step_rises c.self.inside.all c.self.inside.last c.step.result c.self.inside.block c.step.new.self c.step.ensures i.8,
+    )
+
+pub returns-in-Some-clause-sound : goal.returns-in-Some-clause-sound
+returns-in-Some-clause-sound g c =
+    let step = c.in-Some.ensures in
+    rw (← c.self.view_is) (next_held c.self.inside.all c.self.inside.last c.self.inside.block c.step.new.self c.in-Some.posting c.self.invariant.8 step.0 step.1 step.2)
+
+pub returns-else-last-clause-sound : goal.returns-else-last-clause-sound
+returns-else-last-clause-sound g c =
+    let step = c.in-None.ensures in
+    rw (← c.self.view_is) (next_sound c.self.inside.all c.self.inside.last c.self.inside.block c.advance_to.result c.self.invariant.8 step.0 c.advance_to.ensures.sound)

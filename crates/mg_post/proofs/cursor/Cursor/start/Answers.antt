@@ -1,5 +1,53 @@
+use Rattle.std.proofs.Common.{arith, false, refl, sym, ap, ◌∙◌}
+use Rattle.std.proofs.lemmas.Bool.{false≢true}
+use Rattle.mg_bits.specs.Pages.{Paging}
+use Rattle.mg_post.specs.Cursor.{Cursoring}
 use Rattle.mg_post.proofs.CursorLaws.{starts}
+use Rattle.mg_post.proofs.SoundLaws.{nothing_held}
+use Rattle.mg_post.proofs.TermLaws.{term_starts}
 use Rattle.mg_post.proofs.cursor.Cursor.start.Goals as goal
 
 pub returns-clause-at : goal.returns-clause-at
 returns-clause-at g c = λ ps. record { on = rw c.in_ok-block.ensures (starts ps) }
+
+pub returns-clause-term : goal.returns-clause-term
+returns-clause-term g c = λ collection asked t n told all.
+    let made : Cursoring = record {
+      post = c.new-5.result.feed;
+      skip = c.new-6.result.feed;
+      post_at = c.args.info.now.post_at;
+      skip_at = c.args.info.now.skip_at;
+      docs = c.args.info.now.docs;
+      all = c.args.all;
+      parameter = c.parameter_for.result;
+      reached = 0;
+      last = 0;
+      held = c.in_ok-block.block;
+      ended = false;
+      passed = 0;
+    } in
+    term_starts c.args.base.now collection asked t n c.args.all c.args.info.now made told all
+    (record {
+      post_is = ap (λ (p : Paging). p.name) c.new-5.ensures.feed ∙ c.in_ok-post.ensures.name;
+      skip_is = ap (λ (p : Paging). p.name) c.new-6.ensures.feed ∙ c.in_ok-skip.ensures.name;
+      post_at_is = refl;
+      skip_at_is = refl;
+      docs_is = refl;
+      all_is = refl;
+    })
+    c.parameter_for.ensures.value
+    (λ ps. record { on = rw c.in_ok-block.ensures (starts ps) })
+    (omega (arith, ap (λ (p : Paging). p.count) c.new-5.ensures.feed, c.in_ok-post.ensures.count))
+
+pub invariant_of-result : goal.invariant_of-result
+invariant_of-result g c = (
+  c.parameter_for.ensures.some,
+  c.parameter_for.ensures.small,
+  omega arith,
+  omega arith,
+  ap (λ (p : Paging). p.part) c.new-5.ensures.feed ∙ c.in_ok-post.ensures.part,
+  ap (λ (p : Paging). p.part) c.new-6.ensures.feed ∙ c.in_ok-skip.ensures.part,
+  omega arith,
+  λ e. absurd (false≢true e),
+  nothing_held c.args.all 0 c.in_ok-block.block c.in_ok-block.ensures,
+)

@@ -1,7 +1,7 @@
 use Rattle.std.proofs.Common.{sym, ◌∙◌, ap, subst, [], ◌++◌}
 use Rattle.mg_dev.specs.StreamLaws.{grew_first}
 use Rattle.mg_text.specs.Decoding.{Shown}
-use Rattle.mg_text.proofs.Steps.{added_none, shown_grew, shown_held, shown_sent}
+use Rattle.mg_text.proofs.Shows.{added_none, shown_grew, shown_held, shown_sent}
 use Rattle.mg_text.proofs.show_buffer.ShowBuffer.put.Goals as goal
 
 pub returns-then-piece-self-clause-added : goal.returns-then-piece-self-clause-added

@@ -2,7 +2,7 @@ use Rattle.std.proofs.Common.{refl, ◌∙◌, ap, ◌-◌}
 use Rattle.mg_dev.specs.declared.part.Part.TheVariants as part
 use Rattle.mg_dev.specs.Names.{same_part}
 use Rattle.mg_defs.specs.CodedText.{place_after}
-use Rattle.mg_text.proofs.Steps.{added_none}
+use Rattle.mg_text.proofs.Shows.{added_none}
 use Rattle.mg_text.proofs.ReaderLaws.{doc_told, place_refused, place_wanted}
 use Rattle.mg_text.proofs.SameFiles.{same_file}
 use Rattle.mg_text.proofs.text_reader.TextReader.show.Goals as goal

@@ -1,0 +1,4 @@
+mod LeadLaws
+mod AskLaws
+mod NextLaws
+mod StayLaws

@@ -1,0 +1,11 @@
+use Rattle.mg_bool.proofs.NextLaws.{ended_goes, ended_pages}
+use Rattle.mg_bool.proofs.matches.Matches.next.Goals as goal
+
+pub returns-then-self-clause-answer : goal.returns-then-self-clause-answer
+returns-then-self-clause-answer g c = λ base collection stand over. ended_goes base collection c.args.self.now (rw (← c.self.view_is) c.if-self.true) over
+
+pub returns-then-self-clause-pages : goal.returns-then-self-clause-pages
+returns-then-self-clause-pages g c = λ base collection stand over. ended_pages base collection c.args.self.now _ c.cursor_pages_are_within.ensures over
+
+pub returns-clause-pages : goal.returns-clause-pages
+returns-clause-pages g c = rw (← c.self.view_is) (λ base collection stand over. c.next_match.ensures.pages base collection (record { stand = stand; over = over }))

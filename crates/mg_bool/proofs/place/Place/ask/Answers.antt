@@ -1,0 +1,7 @@
+use Rattle.mg_bool.proofs.AskLaws.{none_asked}
+use Rattle.mg_bool.proofs.place.Place.ask.Goals as goal
+
+pub returns-in_default-clause-answer : goal.returns-in_default-clause-answer
+returns-in_default-clause-answer g c = λ base collection asked t a.
+    let here = rw (← c.self.view_is) at a in
+    none_asked base collection asked t c.args.doc _ _ c.in_default.is here

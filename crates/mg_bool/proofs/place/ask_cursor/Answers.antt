@@ -1,0 +1,17 @@
+use Rattle.std.proofs.Common.{ap}
+use Rattle.mg_bool.specs.Places.{number_in}
+use Rattle.mg_bool.proofs.AskLaws.{err_answer}
+use Rattle.mg_bool.proofs.place.ask_cursor.Goals as goal
+
+pub returns-in-Ok-Some-clause-answer : goal.returns-in-Ok-Some-clause-answer
+returns-in-Ok-Some-clause-answer g c = λ base collection asked t may.
+    let a = (rw c.in-Ok-Some.field-0-is at c.in-Ok-Some.ensures.answer) base collection asked t may in
+    (ap number_in a.found_is, a.cursor)
+
+pub returns-in-Ok-None-clause-answer : goal.returns-in-Ok-None-clause-answer
+returns-in-Ok-None-clause-answer g c = λ base collection asked t may.
+    let a = (rw c.in-Ok-None.field-0-is at c.in-Ok-None.ensures.answer) base collection asked t may in
+    (ap number_in a.found_is, a.cursor)
+
+pub returns-in-Err-clause-answer : goal.returns-in-Err-clause-answer
+returns-in-Err-clause-answer g c = λ base collection asked t may. err_answer _ _ _ (c.in-Err.ensures.answer base collection asked t may)

@@ -1,0 +1,22 @@
+use Rattle.std.proofs.Common.{arith, refl}
+use Rattle.mg_bool.proofs.AskLaws.{made_next, made_over, made_fits, made_nothing, made_on}
+use Rattle.mg_bool.proofs.places.start_all.Goals as goal
+
+pub loop-info-init : goal.loop-info-init
+loop-info-init g c = rw c.new-places.ensures.items (record { size = refl; each = λ k lt. absurd (omega (arith, lt)) })
+
+pub loop-info-preserved : goal.loop-info-preserved
+loop-info-preserved g c =
+    rw c.in_ok-push.ensures.items (made_next _ _ _ _ _ _ c.loop-info.invariant (record { over = c.in_ok-place.ensures.place; on = c.in_ok-place.ensures.on; fits = c.in_ok-place.ensures.fits; nothing = c.in_ok-place.ensures.nothing }))
+
+pub returns-clause-over : goal.returns-clause-over
+returns-clause-over g c = made_over _ _ _ _ _ c.loop-info.invariant (omega (arith, c.loop-info-test.false, c.loop-info.auto))
+
+pub returns-clause-fits : goal.returns-clause-fits
+returns-clause-fits g c = made_fits _ _ _ _ _ c.loop-info.invariant
+
+pub returns-clause-nothing : goal.returns-clause-nothing
+returns-clause-nothing g c = made_nothing _ _ _ _ _ c.loop-info.invariant
+
+pub returns-clause-on : goal.returns-clause-on
+returns-clause-on g c = made_on _ _ _ _ _ c.loop-info.invariant

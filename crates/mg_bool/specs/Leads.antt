@@ -1,0 +1,23 @@
+-- The place that leads, as it is found.
+use Rattle.std.specs.Prelude.{◌≡◌, ℕ, ◌-◌, ◌<◌, ◌≤◌, List, [], length, get_or, nat_le, if◌then◌else◌, Option, Some, None}
+use Rattle.mg_defs.specs.Sat.{Query}
+use Rattle.mg_defs.specs.QueryTerms.{query_terms}
+use Rattle.mg_defs.specs.Terms.{docs}
+use Rattle.mg_defs.specs.PageBounds.{leading, leftmost_fewest}
+use Rattle.mg_bool.specs.declared.lead.Lead.{Lead}
+
+-- the place is that of the leftmost leading term with the fewest documents; it is told by how many places there are from it on, of `size`
+abbrev pub IsLead : List ℕ → Query → ℕ → Option Lead → Type 0
+IsLead collection q size None = leading q ≡ []
+IsLead collection q size (Some lead) = (leftmost_fewest collection (leading q) ≡ Some (get_or (query_terms q) (size - lead.left) [])) × (lead.docs ≡ docs collection (get_or (query_terms q) (size - lead.left) []))
+
+-- the place is one of the query's
+abbrev pub IsPlaceOf : Query → ℕ → Option Lead → Type 0
+IsPlaceOf q size None = Unit {0}
+IsPlaceOf q size (Some lead) = (lead.left ≤ size) × (size - lead.left < length (query_terms q))
+
+-- the one with fewer documents, the first where they have as many
+abbrev pub better : Option Lead → Option Lead → Option Lead
+better None second = second
+better (Some a) None = Some a
+better (Some a) (Some b) = if nat_le a.docs b.docs then Some a else Some b

@@ -1,0 +1,83 @@
+-- The documents that satisfy a query, one after another: what contracts see of them.
+use Rattle.std.specs.Prelude.{◌≡◌, ℕ, ◌+◌, ◌<◌, ◌≤◌, ◌∷◌, ◌-◌, List, [], length, get_or, drop, Option, Some, None}
+use Rattle.mg_dev.specs.Files.{Files}
+use Rattle.mg_defs.specs.Split.{documents}
+use Rattle.mg_defs.specs.Lists.{postings}
+use Rattle.mg_defs.specs.Sat.{Query}
+use Rattle.mg_query.specs.declared.query.Query as declared
+use Rattle.mg_query.specs.QueryOf.{query_of}
+use Rattle.mg_defs.specs.QueryTerms.{query_terms}
+use Rattle.mg_defs.specs.Reply.{Shown, found}
+use Rattle.mg_defs.specs.PageBounds.{asked_of, leading, leftmost_fewest}
+use Rattle.mg_post.specs.TermLists.{IsAmong, ListsStand}
+use Rattle.mg_bool.specs.Places.{Place, PlacesFit, PlacesFor, PlacesOn}
+
+pub record Matching : Type 0 where
+  -- the query, its places from left to right, and which of them leads
+  pub asks : declared.Query
+  pub places : List Place
+  pub lead : Option ℕ
+  -- how many documents there are, and the last one that was decided
+  pub all : ℕ
+  pub decided : ℕ
+
+-- the place is that of the term that leads, where one does
+abbrev pub Leads : List ℕ → Query → Option ℕ → Type 0
+Leads collection q None = leading q ≡ []
+Leads collection q (Some place) = (place < length (query_terms q)) × (leftmost_fewest collection (leading q) ≡ Some (get_or (query_terms q) place []))
+
+-- the places go over the documents of this collection, whose lists stand under the base, and so many were decided
+pub record PlacesOver (base collection : List ℕ) (q : Query) (places : List Place) (lead : Option ℕ) (all decided : ℕ) : Type 0 where
+  pub each : PlacesFor base collection (asked_of collection q) (query_terms q) (decided + 1) places
+  pub leads : Leads collection q lead
+  pub all_is : all ≡ length (documents collection)
+  pub within : decided ≤ all
+
+abbrev pub MatchesOver : List ℕ → List ℕ → Matching → Type 0
+MatchesOver base collection m = PlacesOver base collection (query_of m.asks) m.places m.lead m.all m.decided
+
+-- and the lists stand
+pub record GoesOver (base collection : List ℕ) (q : Query) (files : Option Files) (places : List Place) (lead : Option ℕ) (all decided : ℕ) : Type 0 where
+  pub stand : ListsStand base files collection
+  pub over : PlacesOver base collection q places lead all decided
+
+-- the same query over as many documents
+pub record SameMatches (old new : Matching) : Type 0 where
+  pub asks : new.asks ≡ old.asks
+  pub all : new.all ≡ old.all
+
+-- what it keeps agrees with the two parts of this base
+pub record MatchesFit (base : List ℕ) (files : Option Files) (m : Matching) : Type 0 where
+  pub on : PlacesOn base m.all m.places
+  pub fits : PlacesFit files m.places
+
+-- the documents that satisfy the query behind so many of them, rising
+abbrev pub left_in : List ℕ → Query → ℕ → List Shown
+left_in collection q decided = found q (decided + 1) (drop decided (documents collection))
+
+-- those that were not answered yet
+abbrev pub left_of : List ℕ → Matching → List Shown
+left_of collection m = left_in collection (query_of m.asks) m.decided
+
+-- the next one is its number, or none where none is left; then those after it are left
+abbrev pub GoesOn : List Shown → List Shown → Option ℕ → Type 0
+GoesOn [] now None = now ≡ []
+GoesOn [] now (Some doc) = ⊥
+GoesOn (s ∷ more) now None = ⊥
+GoesOn (s ∷ more) now (Some doc) = (doc ≡ s.number) × (now ≡ more)
+
+-- no document between satisfies the query, and this one may be asked of each place
+pub record IsNextDoc (collection : List ℕ) (q : Query) (decided doc : ℕ) : Type 0 where
+  pub later : decided < doc
+  pub within : doc ≤ length (documents collection)
+  pub same : left_in collection q decided ≡ found q doc (drop (doc - 1) (documents collection))
+  pub among : (t : List ℕ) → IsAmong (asked_of collection q) (postings collection t) doc
+
+abbrev pub IsNext : List ℕ → Query → ℕ → Option ℕ → Type 0
+IsNext collection q decided None = left_in collection q decided ≡ []
+IsNext collection q decided (Some doc) = IsNextDoc collection q decided doc
+
+-- the place that leads is one of so many
+abbrev pub IsWithin : Option ℕ → ℕ → Type 0
+IsWithin None n = Unit {0}
+IsWithin (Some place) n = place < n

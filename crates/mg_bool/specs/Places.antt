@@ -1,0 +1,124 @@
+-- The places of a query's terms: a cursor over the list of each, or none where no document has the term.
+use Rattle.std.specs.Prelude.{◌≡◌, ℕ, ◌+◌, ◌≤◌, ◌<◌, true, Bool, List, [], length, get_or, slice_index_or, sum_by, Option, Some, None}
+use Rattle.mg_dev.specs.Files.{Files, Reads}
+use Rattle.mg_dev.specs.Names.{full_name}
+use Rattle.mg_dev.specs.declared.part.Part.TheVariants as part
+use Rattle.mg_defs.specs.declared.Posting.{Posting}
+use Rattle.mg_defs.specs.Split.{documents}
+use Rattle.mg_defs.specs.Terms.{document, docs}
+use Rattle.mg_defs.specs.Weights.{has_term}
+use Rattle.mg_defs.specs.Lists.{postings, from_doc}
+use Rattle.mg_layout.specs.declared.term_info.TermInfo.{TermInfo}
+use Rattle.mg_query.specs.Holds.{AreThere}
+use Rattle.mg_post.specs.Cursor.{Cursoring, CursorFits, SameList, head_of, post_pages}
+use Rattle.mg_post.specs.TermLists.{CursorFor, IsAmong, IsInfoOf, ListsStand}
+
+-- ---- what the lexicon tells
+
+-- of a term, or none where no document has it
+abbrev pub IsToldOf : List ℕ → List ℕ → Option TermInfo → Type 0
+IsToldOf collection t None = docs collection t ≡ 0
+IsToldOf collection t (Some info) = IsInfoOf collection t info
+
+pub record AreInfos (collection : List ℕ) (ts : List (List ℕ)) (infos : List (Option TermInfo)) : Type 0 where
+  pub size : length infos ≡ length ts
+  pub each : (k : ℕ) → k < length ts → IsToldOf collection (get_or ts k []) (slice_index_or infos k None)
+
+-- the first of these are told so
+abbrev pub TellFirst : List ℕ → List (List ℕ) → List (Option TermInfo) → Type 0
+TellFirst collection ts infos = (k : ℕ) → k < length ts → (k < length infos) × IsToldOf collection (get_or ts k []) (slice_index_or infos k None)
+
+-- ---- one place
+
+abbrev pub number_in : Option Posting → Option ℕ
+number_in None = None
+number_in (Some p) = Some p.doc
+
+abbrev pub Place : Type 0
+Place = Option Cursoring
+
+abbrev pub PlaceFits : Option Files → Place → Type 0
+PlaceFits files None = Unit {0}
+PlaceFits files (Some c) = CursorFits c files
+
+-- the pages of Post that its cursor has read
+abbrev pub place_pages : Place → ℕ
+place_pages None = 0
+place_pages (Some c) = post_pages c
+
+-- over the list of a term that was asked for no document past n; none where no document has the term
+abbrev pub PlaceFor : List ℕ → List ℕ → List ℕ → List ℕ → ℕ → Place → Type 0
+PlaceFor base collection asked t n None = postings collection t ≡ []
+PlaceFor base collection asked t n (Some c) = CursorFor base collection asked t n c
+
+-- over the same list
+abbrev pub SamePlace : Place → Place → Type 0
+SamePlace None None = Unit {0}
+SamePlace None (Some v) = ⊥
+SamePlace (Some c) None = ⊥
+SamePlace (Some c) (Some v) = SameList c v
+
+-- a cursor over the two parts of this base, among so many documents
+pub record CursorOn (base : List ℕ) (all : ℕ) (c : Cursoring) : Type 0 where
+  pub post : c.post.name ≡ full_name base part.Post
+  pub skip : c.skip.name ≡ full_name base part.Skip
+  pub all_is : c.all ≡ all
+
+abbrev pub PlaceOn : List ℕ → ℕ → Place → Type 0
+PlaceOn base all None = Unit {0}
+PlaceOn base all (Some c) = CursorOn base all c
+
+-- it may be asked for the document: the lists stand, and each block of its list whose range holds the document may be read
+pub record AsksPlace (base collection asked t : List ℕ) (doc : ℕ) (files : Option Files) (p : Place) : Type 0 where
+  pub stand : ListsStand base files collection
+  pub place : PlaceFor base collection asked t doc p
+  pub among : IsAmong asked (postings collection t) doc
+
+-- the first document of the list from the one asked for on
+pub record AnswersPlace (base collection asked t : List ℕ) (doc : ℕ) (found : Option ℕ) (p : Place) : Type 0 where
+  pub found_is : found ≡ number_in (head_of (from_doc doc (postings collection t)))
+  pub place : PlaceFor base collection asked t doc p
+
+-- a document from the one asked for up to the last of all
+abbrev pub IsInRange : ℕ → ℕ → ℕ → Type 0
+IsInRange doc all found = (doc ≤ found) × (found ≤ all)
+
+-- ---- all places
+
+abbrev pub pages_read : List Place → ℕ
+pages_read places = sum_by place_pages places
+
+pub record PlacesFit (files : Option Files) (places : List Place) : Type 0 where
+  pub each : (k : ℕ) → k < length places → PlaceFits files (slice_index_or places k None)
+
+-- over the same lists
+pub record SamePlaces (old now : List Place) : Type 0 where
+  pub size : length now ≡ length old
+  pub each : (k : ℕ) → SamePlace (slice_index_or old k None) (slice_index_or now k None)
+
+-- over the two parts of this base, among so many documents
+pub record PlacesOn (base : List ℕ) (all : ℕ) (places : List Place) : Type 0 where
+  pub each : (k : ℕ) → PlaceOn base all (slice_index_or places k None)
+
+pub record PlacesFor (base collection asked : List ℕ) (ts : List (List ℕ)) (n : ℕ) (places : List Place) : Type 0 where
+  pub size : length places ≡ length ts
+  pub each : (k : ℕ) → k < length ts → PlaceFor base collection asked (get_or ts k []) n (slice_index_or places k None)
+
+-- all may be asked for the document
+pub record AsksAll (base collection asked : List ℕ) (ts : List (List ℕ)) (doc : ℕ) (files : Option Files) (places : List Place) : Type 0 where
+  pub stand : ListsStand base files collection
+  pub places_for : PlacesFor base collection asked ts doc places
+  pub within : doc ≤ length (documents collection)
+  pub among : (t : List ℕ) → IsAmong asked (postings collection t) doc
+
+pub record AnswersAll (base collection asked : List ℕ) (ts : List (List ℕ)) (doc : ℕ) (there : List Bool) (places : List Place) : Type 0 where
+  pub places_for : PlacesFor base collection asked ts doc places
+  pub are_there : AreThere (document collection doc) ts there
+
+-- ---- while a document is asked of all places
+
+-- those below i were asked for it
+pub record Asking (base collection asked : List ℕ) (ts : List (List ℕ)) (doc i : ℕ) (old now : List Place) (there : List Bool) (before after : Reads) : Type 0 where
+  pub places_for : PlacesFor base collection asked ts doc now
+  pub found : (k : ℕ) → k < i → k < length ts → get_or there k true ≡ has_term (document collection doc) (get_or ts k [])
+  pub post : after part.Post + pages_read old ≤ before part.Post + pages_read now

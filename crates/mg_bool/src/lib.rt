@@ -1,0 +1,22 @@
+//! The documents that satisfy a Boolean query, from inverted lists.
+//!
+//! A query is evaluated document by document over a cursor for each place of a term. Where it holds
+//! only in documents of one of its terms, as a conjunction does, the list with the fewest documents
+//! leads, and of the other lists only the blocks are read whose range holds one of its documents.
+//! So a rare term beside a common one costs a few pages.
+//!
+//! The evaluation is that of Witten, Moffat and Bell, *Managing Gigabytes*, chapter 4.
+#![tactic(auto)]
+
+mod laws;
+mod lead;
+mod matches;
+mod next;
+mod place;
+mod places;
+
+pub use laws::{all_are_to_come, matches_still_fit};
+pub use matches::Matches;
+
+#[cfg(test)]
+mod tests;

@@ -1,0 +1,131 @@
+// The documents that satisfy a query, one after another.
+ghost use Rattle.std.specs.Prelude.{◌≡◌, ◌≢◌, ℕ, ◌≤◌, ◌<◌, List, Option, None, Ok, Err, IfErr, IfOk, IfSome, OnOk, length};
+ghost use Rattle.mg_dev.specs.Files.{Files};
+ghost use Rattle.mg_dev.specs.PartCauses.{HasPartCause};
+ghost use Rattle.mg_defs.specs.PageBounds.{boolean_bound};
+ghost use Rattle.mg_defs.specs.QueryTerms.{query_terms};
+ghost use Rattle.mg_defs.specs.Split.{documents};
+ghost use Rattle.mg_query.specs.QueryOf.{query_of};
+ghost use Rattle.mg_post.specs.Answers.{AnswersList};
+ghost use Rattle.mg_post.specs.Cursor.{NamesItsPart};
+ghost use Rattle.mg_post.specs.TermLists.{ListsStand, PagesWithin, ReadsLists};
+ghost use Rattle.mg_bool.specs.Places.{AreInfos, pages_read};
+ghost use Rattle.mg_bool.specs.Matches.{GoesOn, MatchesFit, MatchesOver, SameMatches, left_of};
+
+use crate::lead::lead_place;
+use crate::next::next_match;
+use crate::place::Place;
+use crate::places::start_all;
+use mg_dev::{PartErr, Store};
+use mg_layout::TermInfo;
+use mg_post::cursor_pages_are_within;
+use mg_query::Query;
+use std::alloc::{AllocError, Global};
+use std::marker::Model;
+
+/// Goes over the documents that satisfy a Boolean query, rising, by the inverted lists of its terms.
+///
+/// It keeps a cursor for each place of a term in the query, and nothing else but a bit for each
+/// place. Where the query holds only in documents of one of its terms, the list of the one with the
+/// fewest documents leads: only its documents are asked of the other lists. Contracts see what is
+/// still to come of a collection as `left_of`; the answer at each call is its first.
+#[derive(Drop)]
+pub struct Matches<'a, S: Store> {
+    query: &'a Query,
+    places: Vec<Place<'a, S>>,
+    there: Vec<bool>,
+    lead: Option<usize>,
+    all: u32,
+    decided: u32,
+}
+
+impl<'a, S: Store> Model for Matches<'a, S> {
+    ghost use Rattle.std.specs.Prelude.{◌≡◌, ◌≤◌, length};
+    ghost use Rattle.std.specs.Coded.{codes};
+    ghost use Rattle.mg_query.specs.contracts.query.Query.{the_row};
+    ghost use Rattle.mg_bool.specs.Matches.{IsWithin, Matching};
+
+    ghost Value = { Matching };
+
+    ghost coded = { Prim.hlevel (codes, the_row.coded) };
+
+    ghost view = { λ m. record { asks = m.query.now; places = m.places.items; lead = m.lead; all = m.all; decided = m.decided } };
+
+    ghost invariant = { λ m. (length m.there.items ≡ length m.places.items) × (m.decided ≤ m.all) × IsWithin m.lead (length m.places.items) };
+}
+
+/// Which of so many terms a document has: none yet.
+fn none_there(alloc: Global, size: usize) -> Result<Vec<bool>, AllocError>
+    ensures { IfOk result (λ there. length there.items ≡ size) }
+{
+    vec![in alloc; false; size]
+}
+
+impl<'a, S: Store> Matches<'a, S> {
+    /// Before the first document that satisfies the query. `infos` is what the lexicon tells of the
+    /// query's terms, from left to right, and None for a term that no document has; `all` is the
+    /// number of documents. Nothing is read.
+    pub fn start(
+        alloc: Global,
+        base: &'a str,
+        query: &'a Query,
+        infos: &[Option<TermInfo>],
+        all: u32,
+    ) -> Result<Self, AllocError>
+        requires size { length infos.now ≡ length (query_terms (query_of query.now)) }
+        ensures over { IfOk result (λ m. (collection : List ℕ) → AreInfos collection (query_terms (query_of query.entry.now)) infos.now → all ≡ length (documents collection) →
+            MatchesOver base.entry.now collection m) }
+        ensures asks { IfOk result (λ m. m.asks ≡ query.entry.now) }
+        ensures all { IfOk result (λ m. m.all ≡ all) }
+        ensures before { IfOk result (λ m. m.decided ≡ 0) }
+        ensures fits { IfOk result (λ m. (files : Option Files) → MatchesFit base.entry.now files m) }
+        ensures nothing { IfOk result (λ m. pages_read m.places ≡ 0) }
+    {
+        let places = start_all(alloc, base, infos, all)?;
+        let there = none_there(alloc, infos.len())?;
+        let lead = lead_place(query, infos);
+        Ok(Matches {
+            query,
+            places,
+            there,
+            lead,
+            all,
+            decided: 0,
+        })
+    }
+
+    /// The next document, from 1 to the number of all, that satisfies the query; None where none is
+    /// left, and at every further call, which reads nothing.
+    pub fn next(&mut self, store: &mut S) -> Result<Option<u32>, PartErr>
+        requires fits { (base : List ℕ) × MatchesFit base (S.files store.old) self.old }
+        ensures fits { OnOk result ((base : List ℕ) → MatchesFit base (S.files store.old) self.old → MatchesFit base (S.files store.new) self.new) }
+        ensures same { SameMatches self.old self.new }
+        ensures answer { (base collection : List ℕ) → ListsStand base (S.files store.old) collection → MatchesOver base collection self.old →
+            AnswersList result (λ found. GoesOn (left_of collection self.old) (left_of collection self.new) found × MatchesOver base collection self.new) }
+        ensures pages { (base collection : List ℕ) → ListsStand base (S.files store.old) collection → MatchesOver base collection self.old →
+            PagesWithin (boolean_bound collection (query_of self.old.asks)) (pages_read self.old.places) (pages_read self.new.places) (S.reads store.old) (S.reads store.new) }
+        ensures range { IfOk result (λ found. IfSome found (λ doc. (self.old.decided < doc) × (doc ≤ self.old.all) × (self.new.decided ≡ doc))) }
+        ensures later { self.old.decided ≤ self.new.decided }
+        ensures last { result ≡ Ok None → self.new.decided ≡ self.new.all }
+        ensures ended { self.old.decided ≡ self.old.all → (result ≡ Ok None) × (self.new ≡ self.old) × (store.new ≡ store.old) }
+        ensures part { IfErr result NamesItsPart }
+        ensures reads { ReadsLists (S.reads store.old) (S.reads store.new) }
+        ensures files { S.files store.new ≡ S.files store.old }
+        ensures memory { result ≢ Err PartErr.Memory }
+        ensures cause { HasPartCause (S.faults store.old) (S.faults store.new) result }
+    {
+        cursor_pages_are_within();
+        if self.decided == self.all {
+            return Ok(None);
+        }
+        next_match(
+            self.query,
+            &mut self.places,
+            &mut self.there,
+            store,
+            self.lead,
+            self.all,
+            &mut self.decided,
+        )
+    }
+}

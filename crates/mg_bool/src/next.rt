@@ -1,0 +1,105 @@
+// The next document that satisfies a query.
+ghost use Rattle.std.specs.Prelude.{◌≡◌, ◌≢◌, ℕ, ◌+◌, ◌≤◌, ◌<◌, List, None, Ok, Err, IfErr, IfOk, IfSome, OnOk, length};
+ghost use Rattle.mg_dev.specs.PartCauses.{HasPartCause};
+ghost use Rattle.mg_defs.specs.PageBounds.{asked_of, boolean_bound};
+ghost use Rattle.mg_defs.specs.QueryTerms.{query_terms};
+ghost use Rattle.mg_defs.specs.Sat.{Query as Meant};
+ghost use Rattle.mg_query.specs.QueryOf.{query_of};
+ghost use Rattle.mg_post.specs.Answers.{AnswersList};
+ghost use Rattle.mg_post.specs.Cursor.{NamesItsPart};
+ghost use Rattle.mg_post.specs.TermLists.{PagesWithin, ReadsLists};
+ghost use Rattle.mg_bool.specs.Places.{IsInRange, PlacesFit, PlacesFor, PlacesOn, SamePlaces, pages_read};
+ghost use Rattle.mg_bool.specs.Matches.{GoesOn, GoesOver, IsNext, IsWithin, PlacesOver, left_in};
+
+use crate::place::Place;
+use crate::places::{ask_all, ask_at};
+use mg_dev::{PartErr, Store};
+use mg_post::cursor_pages_are_within;
+use mg_query::Query;
+
+/// The next document that may satisfy the query: of the list that leads, or any where none does.
+fn candidate<S: Store>(
+    places: &mut Vec<Place<'_, S>>,
+    store: &mut S,
+    lead: Option<usize>,
+    decided: u32,
+    all: u32,
+) -> Result<Option<u32>, PartErr>
+    requires fits { PlacesFit (S.files store.old) places.old.items }
+    requires on { (base : List ℕ) × PlacesOn base all places.old.items }
+    requires lead { IsWithin lead (length places.old.items) }
+    requires more { decided < all }
+    ensures range { IfOk result (λ found. IfSome found (IsInRange (decided + 1) all)) }
+    ensures same { SamePlaces places.old.items places.new.items }
+    ensures fits { OnOk result (PlacesFit (S.files store.new) places.new.items) }
+    ensures answer { (base collection : List ℕ) (q : Meant) → GoesOver base collection q (S.files store.old) places.old.items lead all decided →
+        AnswersList result (λ found. IsNext collection q decided found × PlacesFor base collection (asked_of collection q) (query_terms q) (decided + 1) places.new.items) }
+    ensures pages { (base collection : List ℕ) (q : Meant) → GoesOver base collection q (S.files store.old) places.old.items lead all decided →
+        PagesWithin (boolean_bound collection q) (pages_read places.old.items) (pages_read places.new.items) (S.reads store.old) (S.reads store.new) }
+    ensures part { IfErr result NamesItsPart }
+    ensures reads { ReadsLists (S.reads store.old) (S.reads store.new) }
+    ensures files { S.files store.new ≡ S.files store.old }
+    ensures memory { result ≢ Err PartErr.Memory }
+    ensures cause { HasPartCause (S.faults store.old) (S.faults store.new) result }
+{
+    cursor_pages_are_within();
+    let Some(place) = lead else {
+        return Ok(Some(decided + 1));
+    };
+    ask_at(places, store, place, decided + 1)
+}
+
+/// The next document from 1 to all that satisfies the query.
+pub(crate) fn next_match<S: Store>(
+    query: &Query,
+    places: &mut Vec<Place<'_, S>>,
+    there: &mut Vec<bool>,
+    store: &mut S,
+    lead: Option<usize>,
+    all: u32,
+    decided: &mut u32,
+) -> Result<Option<u32>, PartErr>
+    requires fits { PlacesFit (S.files store.old) places.old.items }
+    requires on { (base : List ℕ) × PlacesOn base all places.old.items }
+    requires lead { IsWithin lead (length places.old.items) }
+    requires there { length there.old.items ≡ length places.old.items }
+    requires most { decided.old ≤ all }
+    ensures fits { OnOk result (PlacesFit (S.files store.new) places.new.items) }
+    ensures same { SamePlaces places.old.items places.new.items }
+    ensures there { length there.new.items ≡ length there.old.items }
+    ensures most { decided.new ≤ all }
+    ensures later { decided.old ≤ decided.new }
+    ensures range { IfOk result (λ found. IfSome found (λ doc. (decided.old < doc) × (doc ≤ all) × (decided.new ≡ doc))) }
+    ensures last { result ≡ Ok None → decided.new ≡ all }
+    ensures answer { (base collection : List ℕ) → GoesOver base collection (query_of query.now) (S.files store.old) places.old.items lead all decided.old →
+        AnswersList result (λ found. GoesOn (left_in collection (query_of query.now) decided.old) (left_in collection (query_of query.now) decided.new) found ×
+        PlacesOver base collection (query_of query.now) places.new.items lead all decided.new) }
+    ensures pages { (base collection : List ℕ) → GoesOver base collection (query_of query.now) (S.files store.old) places.old.items lead all decided.old →
+        PagesWithin (boolean_bound collection (query_of query.now)) (pages_read places.old.items) (pages_read places.new.items) (S.reads store.old) (S.reads store.new) }
+    ensures part { IfErr result NamesItsPart }
+    ensures reads { ReadsLists (S.reads store.old) (S.reads store.new) }
+    ensures files { S.files store.new ≡ S.files store.old }
+    ensures memory { result ≢ Err PartErr.Memory }
+    ensures cause { HasPartCause (S.faults store.old) (S.faults store.new) result }
+{
+    cursor_pages_are_within();
+    while *decided < all {
+        let doc = match candidate(places, store, lead, *decided, all) {
+            Ok(Some(doc)) => doc,
+            Ok(None) => {
+                *decided = all;
+                return Ok(None);
+            }
+            Err(refusal) => return Err(refusal),
+        };
+        match ask_all(places, store, doc, there) {
+            Ok(()) => {}
+            Err(refusal) => return Err(refusal),
+        }
+        *decided = doc;
+        if query.holds(there) {
+            return Ok(Some(doc));
+        }
+    }
+    Ok(None)
+}

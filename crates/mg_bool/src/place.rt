@@ -1,0 +1,109 @@
+// The place of a term in a query.
+ghost use Rattle.std.specs.Prelude.{◌≡◌, ◌≢◌, ℕ, ◌≤◌, List, Option, Err, IfErr, IfOk, IfSome, OnOk, length};
+ghost use Rattle.mg_dev.specs.Files.{Files};
+ghost use Rattle.mg_dev.specs.PartCauses.{HasPartCause};
+ghost use Rattle.mg_defs.specs.Lists.{postings, from_doc};
+ghost use Rattle.mg_defs.specs.PageBounds.{pages_for};
+ghost use Rattle.mg_defs.specs.Split.{documents};
+ghost use Rattle.mg_post.specs.Answers.{AnswersList};
+ghost use Rattle.mg_post.specs.Cursor.{CursorFits, NamesItsPart, SameList, head_of, post_pages};
+ghost use Rattle.mg_post.specs.TermLists.{CursorFor, MayAsk, PagesWithin, ReadsLists};
+ghost use Rattle.mg_bool.specs.Places.{AnswersPlace, AsksPlace, IsInRange, IsToldOf, PlaceFits, PlaceFor, PlaceOn, SamePlace, number_in, place_pages};
+
+use mg_dev::{PartErr, Store};
+use mg_layout::TermInfo;
+use mg_post::Cursor;
+use std::alloc::{AllocError, Global};
+use std::marker::Model;
+
+/// The place of a term: a cursor over its list, or none where no document has the term.
+#[derive(Drop)]
+pub(crate) struct Place<'a, S: Store> {
+    cursor: Option<Cursor<'a, S>>,
+}
+
+impl<'a, S: Store> Model for Place<'a, S> {
+    ghost use Rattle.std.specs.Prelude.{Option};
+    ghost use Rattle.mg_post.specs.Cursor.{Cursoring};
+
+    ghost Value = { Option Cursoring };
+
+    ghost view = { λ p. p.cursor };
+}
+
+/// The first document of a cursor's list from `doc` on.
+fn ask_cursor<S: Store>(
+    cursor: &mut Cursor<'_, S>,
+    store: &mut S,
+    doc: u32,
+) -> Result<Option<u32>, PartErr>
+    requires fits { CursorFits cursor.old (S.files store.old) }
+    requires some { 1 ≤ doc }
+    ensures fits { OnOk result (CursorFits cursor.new (S.files store.new)) }
+    ensures same { SameList cursor.old cursor.new }
+    ensures answer { (base collection asked t : List ℕ) → MayAsk base collection asked t doc (S.files store.old) cursor.old →
+        AnswersList result (λ found. (found ≡ number_in (head_of (from_doc doc (postings collection t)))) × CursorFor base collection asked t doc cursor.new) }
+    ensures pages { (base collection asked t : List ℕ) → MayAsk base collection asked t doc (S.files store.old) cursor.old →
+        PagesWithin (pages_for collection asked t) (post_pages cursor.old) (post_pages cursor.new) (S.reads store.old) (S.reads store.new) }
+    ensures range { IfOk result (λ found. IfSome found (IsInRange doc cursor.old.all)) }
+    ensures part { IfErr result NamesItsPart }
+    ensures reads { ReadsLists (S.reads store.old) (S.reads store.new) }
+    ensures files { S.files store.new ≡ S.files store.old }
+    ensures memory { result ≢ Err PartErr.Memory }
+    ensures cause { HasPartCause (S.faults store.old) (S.faults store.new) result }
+{
+    match cursor.ask(store, doc) {
+        Ok(Some(posting)) => Ok(Some(posting.doc)),
+        Ok(None) => Ok(None),
+        Err(refusal) => Err(refusal),
+    }
+}
+
+impl<'a, S: Store> Place<'a, S> {
+    /// Before the first posting of the list of which the lexicon tells. Nothing is read.
+    pub(crate) fn start(
+        alloc: Global,
+        base: &'a str,
+        info: &Option<TermInfo>,
+        all: u32,
+    ) -> Result<Self, AllocError>
+        ensures place { IfOk result (λ p. (collection asked t : List ℕ) (n : ℕ) → IsToldOf collection t info.now → all ≡ length (documents collection) →
+            PlaceFor base.entry.now collection asked t n p) }
+        ensures on { IfOk result (PlaceOn base.entry.now all) }
+        ensures fits { IfOk result (λ p. (files : Option Files) → PlaceFits files p) }
+        ensures nothing { IfOk result (λ p. place_pages p ≡ 0) }
+    {
+        match info {
+            Some(info) => match Cursor::start(alloc, base, info, all) {
+                Ok(cursor) => Ok(Place {
+                    cursor: Some(cursor),
+                }),
+                Err(error) => Err(error),
+            },
+            None => Ok(Place { cursor: None }),
+        }
+    }
+
+    /// The first document of the list from `doc` on.
+    pub(crate) fn ask(&mut self, store: &mut S, doc: u32) -> Result<Option<u32>, PartErr>
+        requires fits { PlaceFits (S.files store.old) self.old }
+        requires some { 1 ≤ doc }
+        ensures fits { OnOk result (PlaceFits (S.files store.new) self.new) }
+        ensures same { SamePlace self.old self.new }
+        ensures answer { (base collection asked t : List ℕ) → AsksPlace base collection asked t doc (S.files store.old) self.old →
+            AnswersList result (λ found. AnswersPlace base collection asked t doc found self.new) }
+        ensures pages { (base collection asked t : List ℕ) → AsksPlace base collection asked t doc (S.files store.old) self.old →
+            PagesWithin (pages_for collection asked t) (place_pages self.old) (place_pages self.new) (S.reads store.old) (S.reads store.new) }
+        ensures range { (base : List ℕ) (all : ℕ) → PlaceOn base all self.old → IfOk result (λ found. IfSome found (IsInRange doc all)) }
+        ensures part { IfErr result NamesItsPart }
+        ensures reads { ReadsLists (S.reads store.old) (S.reads store.new) }
+        ensures files { S.files store.new ≡ S.files store.old }
+        ensures memory { result ≢ Err PartErr.Memory }
+        ensures cause { HasPartCause (S.faults store.old) (S.faults store.new) result }
+    {
+        let Some(cursor) = &mut self.cursor else {
+            return Ok(None);
+        };
+        ask_cursor(cursor, store, doc)
+    }
+}

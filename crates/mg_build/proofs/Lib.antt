@@ -1,0 +1,2 @@
+mod DocumentLaws
+mod StopLaws

@@ -1,0 +1,96 @@
+//! The collection of a set.
+ghost use Rattle.std.specs.Prelude.{◌≡◌, ◌⊎◌, ◌≤◌, ◌^◌, ℕ, List, [], IfErr, IsSome, Err};
+ghost use Rattle.mg_dev.specs.Causes.{Rose};
+ghost use Rattle.mg_dev.specs.Files.{bytes_at};
+ghost use Rattle.mg_dev.specs.Names.{full_name, number};
+ghost use Rattle.mg_dev.specs.Streams.{AfterPut};
+ghost use Rattle.mg_dev.specs.declared.fault.Fault.TheVariants as fault;
+ghost use Rattle.mg_dev.specs.declared.part.Part.{Part as AnyPart};
+ghost use Rattle.mg_dev.specs.declared.part.Part.TheVariants as part;
+ghost use Rattle.mg_defs.specs.CodedText.{TextCode};
+ghost use Rattle.mg_layout.specs.Stands.{Stands, StandsBy};
+ghost use Rattle.mg_text.specs.Decoding.{Added};
+ghost use Rattle.mg_text.specs.Reading.{ShowIsNotBad};
+ghost use Rattle.mg_build.specs.Outcomes.{DecodeStops, IsDone, RefusedFor, ShowStops};
+
+use crate::documents::show_documents;
+use mg_dev::{Fault, PartErr, ShowErr, Sink, Store};
+use mg_layout::Head;
+use mg_text::{ShowBuffer, TextReader};
+use std::alloc::Global;
+
+/// Writes the collection of the set under a base.
+///
+/// The head, the models, the text and its places are read, and no other part. Once the reader of the
+/// text is loaded no memory of its own is taken. After a refusal a prefix of the collection was
+/// written.
+pub fn decode<S: Store, O: Sink>(
+    alloc: Global,
+    store: &mut S,
+    base: &str,
+    out: &mut O,
+) -> Result<(), Fault>
+    // Where the set stands for a collection, its bytes are written, or after a refusal a prefix.
+    ensures content { (collection : List ℕ) → Stands (S.files store.old) base.now collection → AfterPut (O.written out.old) (O.written out.new) collection result }
+    // Whatever the files hold, bytes are only added.
+    ensures added { Added (O.written out.old) (O.written out.new) (O.faults out.old) (O.faults out.new) (O.lacks out.old) (O.lacks out.new) }
+    ensures silent { result ≡ Err fault.NotBuilt → O.written out.new ≡ O.written out.old }
+    // The cause of each refusal.
+    ensures cause { IfErr result (DecodeStops (Rose (S.faults store.old) (S.faults store.new)) (Rose (O.faults out.old) (O.faults out.new)) (S.files store.old) base.now) }
+    ensures not_built { IsSome (S.files store.old) → bytes_at (S.files store.old) (full_name base.now part.Head) ≡ [] → RefusedFor result fault.NotBuilt }
+    ensures memory { result ≡ Err fault.Memory → (O.written out.new ≡ O.written out.old) ⊎ Rose (O.lacks out.old) (O.lacks out.new) }
+    ensures complete { (collection : List ℕ) → Stands (S.files store.old) base.now collection → ¬ Rose (S.faults store.old) (S.faults store.new) → ¬ Rose (O.faults out.old) (O.faults out.new) → IsDone result }
+    // No file changes, and of the parts only the head, the models, the text and its places are read.
+    ensures files { S.files store.new ≡ S.files store.old }
+    ensures reads { (p : AnyPart) → 5 ≤ number p → S.reads store.new p ≡ S.reads store.old p }
+    ensures later { S.faults store.old ≤ S.faults store.new }
+{
+    let loaded = match Head::load(store, base) {
+        Ok(loaded) => loaded,
+        Err(refusal) => return Err(Fault::from(refusal)),
+    };
+    let head = match loaded {
+        Some(head) => head,
+        None => return Err(Fault::NotBuilt),
+    };
+    match show_set(alloc, store, base, &head, out) {
+        Ok(()) => Ok(()),
+        Err(refusal) => Err(Fault::from(refusal)),
+    }
+}
+
+// Writes the collection of a set with this head.
+fn show_set<S: Store, O: Sink>(
+    alloc: Global,
+    store: &mut S,
+    base: &str,
+    head: &Head,
+    out: &mut O,
+) -> Result<(), ShowErr>
+    requires words { head.now.words ≤ 2 ^ 22 }
+    requires others { head.now.others ≤ 2 ^ 22 }
+    ensures content { (code : TextCode) (collection : List ℕ) → StandsBy head.now code (S.files store.old) base.now collection → AfterPut (O.written out.old) (O.written out.new) collection result }
+    ensures never_bad { (code : TextCode) (collection : List ℕ) → StandsBy head.now code (S.files store.old) base.now collection → ShowIsNotBad result }
+    ensures added { Added (O.written out.old) (O.written out.new) (O.faults out.old) (O.faults out.new) (O.lacks out.old) (O.lacks out.new) }
+    ensures cause { ShowStops result (O.written out.old) (O.written out.new) (S.faults store.old) (S.faults store.new) (O.faults out.old) (O.faults out.new) (O.lacks out.old) (O.lacks out.new) }
+    ensures files { S.files store.new ≡ S.files store.old }
+    ensures reads { (p : AnyPart) → 5 ≤ number p → S.reads store.new p ≡ S.reads store.old p }
+    ensures later { S.faults store.old ≤ S.faults store.new }
+{
+    let mut buffer = match ShowBuffer::new(alloc) {
+        Ok(buffer) => buffer,
+        Err(_) => return Err(ShowErr::Part(PartErr::Memory)),
+    };
+    let mut reader = match TextReader::load(alloc, store, base, head) {
+        Ok(reader) => reader,
+        Err(refusal) => return Err(ShowErr::Part(refusal)),
+    };
+    show_documents(
+        &mut reader,
+        store,
+        head.documents,
+        head.open_end,
+        &mut buffer,
+        out,
+    )
+}

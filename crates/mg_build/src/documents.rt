@@ -1,0 +1,93 @@
+//! All documents of a text, one after the other.
+ghost use Rattle.std.specs.Prelude.{◌≡◌, ◌+◌, ◌-◌, ◌≤◌, ◌++◌, ℕ, List, [], Option, get_or};
+ghost use Rattle.mg_dev.specs.Streams.{AfterPut};
+ghost use Rattle.mg_dev.specs.declared.part.Part.TheVariants as part;
+ghost use Rattle.mg_dev.specs.Faults.{show_of_put};
+ghost use Rattle.mg_defs.specs.Split.{documents, has_open_end};
+ghost use Rattle.mg_front.specs.Reading.{LookedAt};
+ghost use Rattle.mg_text.specs.Decoding.{Added, Gathers, IsShowCaused, Shown};
+ghost use Rattle.mg_text.specs.Reading.{SameText, ShowIsNotBad, TextFits, TextStands};
+ghost use Rattle.mg_build.specs.Documents.{close, is_closed};
+
+use mg_dev::{PutErr, ShowErr, Sink, Store};
+use mg_text::{ShowBuffer, TextReader};
+
+// Whether a byte closes this document of so many.
+fn is_closed(number: u32, documents: u32, open_end: bool) -> bool
+    ensures { result ≡ is_closed number documents open_end }
+{
+    if number == documents { !open_end } else { true }
+}
+
+// A sink's refusal.
+fn refused_put(refusal: PutErr) -> ShowErr
+    ensures { result ≡ show_of_put refusal }
+{
+    ShowErr::from(refusal)
+}
+
+/// Gathers a document and, where it is closed, the byte that closes it.
+fn gather_closed<S: Store, O: Sink>(
+    reader: &mut TextReader<'_, S>,
+    store: &mut S,
+    number: u32,
+    closed: bool,
+    buffer: &mut ShowBuffer,
+    out: &mut O,
+) -> Result<(), ShowErr>
+    requires fits { TextFits reader.old (S.files store.old) }
+    requires some { 1 ≤ number }
+    requires within { number ≤ reader.old.documents }
+    ensures fits { TextFits reader.new (S.files store.new) }
+    ensures same { SameText reader.old reader.new }
+    ensures looked { LookedAt part.Text part.Places (S.files store.old) (S.files store.new) (S.reads store.old) (S.reads store.new) (S.faults store.old) (S.faults store.new) }
+    ensures content { (collection : List ℕ) (before : Option (List ℕ)) (bytes : List ℕ) → TextStands reader.old (S.files store.old) collection → Shown before (O.written out.old) buffer.old bytes →
+        Gathers result before (O.written out.new) buffer.new (bytes ++ (get_or (documents collection) (number - 1) [] ++ close closed)) }
+    ensures never_bad { (collection : List ℕ) → TextStands reader.old (S.files store.old) collection → ShowIsNotBad result }
+    ensures added { Added (O.written out.old) (O.written out.new) (O.faults out.old) (O.faults out.new) (O.lacks out.old) (O.lacks out.new) }
+    ensures cause { IsShowCaused result (S.faults store.old) (S.faults store.new) (O.faults out.old) (O.faults out.new) (O.lacks out.old) (O.lacks out.new) }
+{
+    match reader.gather(store, number, buffer, out) {
+        Ok(()) => {}
+        Err(refusal) => return Err(refusal),
+    }
+    if !closed {
+        return Ok(());
+    }
+    match buffer.put(out, &[2]) {
+        Ok(()) => Ok(()),
+        Err(refusal) => Err(refused_put(refusal)),
+    }
+}
+
+/// Shows all documents of a text, each but an open last one with the byte that closes it.
+pub fn show_documents<S: Store, O: Sink>(
+    reader: &mut TextReader<'_, S>,
+    store: &mut S,
+    documents: u32,
+    open_end: bool,
+    buffer: &mut ShowBuffer,
+    out: &mut O,
+) -> Result<(), ShowErr>
+    requires fits { TextFits reader.old (S.files store.old) }
+    requires documents { reader.old.documents ≡ documents }
+    requires empty { buffer.old ≡ [] }
+    ensures looked { LookedAt part.Text part.Places (S.files store.old) (S.files store.new) (S.reads store.old) (S.reads store.new) (S.faults store.old) (S.faults store.new) }
+    ensures content { (collection : List ℕ) → TextStands reader.old (S.files store.old) collection → has_open_end collection ≡ open_end → AfterPut (O.written out.old) (O.written out.new) collection result }
+    ensures never_bad { (collection : List ℕ) → TextStands reader.old (S.files store.old) collection → ShowIsNotBad result }
+    ensures added { Added (O.written out.old) (O.written out.new) (O.faults out.old) (O.faults out.new) (O.lacks out.old) (O.lacks out.new) }
+    ensures cause { IsShowCaused result (S.faults store.old) (S.faults store.new) (O.faults out.old) (O.faults out.new) (O.lacks out.old) (O.lacks out.new) }
+{
+    for index in 0..documents {
+        let number = index + 1;
+        let closed = is_closed(number, documents, open_end);
+        match gather_closed(reader, store, number, closed, buffer, out) {
+            Ok(()) => {}
+            Err(refusal) => return Err(refusal),
+        }
+    }
+    match buffer.flush(out) {
+        Ok(()) => Ok(()),
+        Err(refusal) => Err(refused_put(refusal)),
+    }
+}

@@ -1,0 +1,8 @@
+use Rattle.mg_laws.proofs.PhraseLaws as laws
+use Rattle.mg_laws.proofs.phrases.phrase_is.Goals as goal
+
+pub returns-clause-reads : goal.returns-clause-reads
+returns-clause-reads c = laws.reads_phrase
+
+pub returns-clause-refuses : goal.returns-clause-refuses
+returns-clause-refuses c = laws.refuses_phrase

@@ -1,0 +1,54 @@
+-- The parts of a base stand for a collection.
+use Rattle.std.specs.Prelude.{◌≡◌, ◌≤◌, ℕ, List}
+use Rattle.std.specs.Option.{IsSome, is_some}
+use Rattle.std.specs.declared.option.Option.{Option}
+use Rattle.mg_dev.specs.Files.{Files, bytes_at, file_at}
+use Rattle.mg_dev.specs.Names.{full_name, number}
+use Rattle.mg_dev.specs.declared.part.Part.{Part}
+use Rattle.mg_dev.specs.declared.part.Part.TheVariants as part
+use Rattle.mg_defs.specs.CodedText.{TextCode}
+use Rattle.mg_defs.specs.Stands.{AreParts, Parts, Stand, head_of}
+use Rattle.mg_layout.specs.HeadAnswers.{fields_of}
+use Rattle.mg_layout.specs.declared.head.Head.{Head}
+
+-- the bytes of a base's parts, those of merges aside
+abbrev pub parts_at : Option Files → List ℕ → Parts
+parts_at files base = record {
+  head = bytes_at files (full_name base part.Head);
+  words = bytes_at files (full_name base part.Words);
+  nonwords = bytes_at files (full_name base part.Nonwords);
+  text = bytes_at files (full_name base part.Text);
+  places = bytes_at files (full_name base part.Places);
+  lex = bytes_at files (full_name base part.Lex);
+  lex_at = bytes_at files (full_name base part.LexAt);
+  post = bytes_at files (full_name base part.Post);
+  skip = bytes_at files (full_name base part.Skip);
+  weights = bytes_at files (full_name base part.Weights);
+  run = bytes_at files (full_name base part.Run);
+}
+
+-- The store tells its files, and the parts of this base stand for this collection.
+pub record Stands (files : Option Files) (base collection : List ℕ) : Type 0 where
+  pub told : IsSome files
+  pub stand : Stand (parts_at files base) collection
+
+-- And they do so in this version, with so many occurrences to a run.
+pub record StandsIn (version cap : ℕ) (files : Option Files) (base collection : List ℕ) : Type 0 where
+  pub told : IsSome files
+  pub code : TextCode
+  pub are : AreParts version cap code (parts_at files base) collection
+
+-- And this is their head, and these are their codes.
+pub record StandsBy (head : Head) (code : TextCode) (files : Option Files) (base collection : List ℕ) : Type 0 where
+  pub told : IsSome files
+  pub head_is : fields_of head ≡ head_of head.version head.cap code collection
+  pub are : AreParts head.version head.cap code (parts_at files base) collection
+
+-- The parts of this base stand for no collection.
+abbrev pub StandsForNone : Option Files → List ℕ → Type 0
+StandsForNone files base = (collection : List ℕ) → Stands files base collection → ⊥
+
+-- The store tells its files or not, as before, and none of the eleven files of this base changed.
+pub record SameSet (base : List ℕ) (before now : Option Files) : Type 0 where
+  pub told : is_some now ≡ is_some before
+  pub each : (p : Part) → number p ≤ 10 → file_at now (full_name base p) ≡ file_at before (full_name base p)

@@ -1,0 +1,152 @@
+-- Documents rise over any parts.
+use Rattle.std.proofs.Common.{arith, ◌≡◌, ◌+◌, ◌≤◌, ◌<◌, ℕ, List, [], ◌∷◌, length, drop, Option, Some, None, Ok, Err, IfOk, IfSome, refl, sym, ◌∙◌, ap, subst, ◌⊎◌, inl, inr}
+use Rattle.std.specs.Prelude.{Result}
+use Rattle.mg_dev.specs.declared.part.Part.TheVariants.{Post, Skip}
+use Rattle.mg_dev.specs.declared.part_err.PartErr.{PartErr}
+use Rattle.mg_dev.specs.declared.part_err.PartErr.TheVariants as err
+use Rattle.mg_defs.specs.declared.Posting.{Posting}
+use Rattle.mg_defs.specs.Lists.{last_doc, Rises, Follows, from_doc}
+use Rattle.mg_defs.proofs.ListLaws.{from_here, from_next, last_above, last_within}
+use Rattle.mg_post.specs.declared.refusal.Refusal.{Refusal}
+use Rattle.mg_post.specs.declared.refusal.Refusal.TheVariants.{Device, Damaged}
+use Rattle.mg_post.specs.Answers.{IsBad, IsRefused}
+use Rattle.mg_post.specs.Cursor.{GoesOn, HeldRises, IsFrom, NamesItsPart, head_of, next_doc}
+
+order : (a b : ℕ) → (a < b) ⊎ (b ≤ a)
+order a b = grind arith
+
+follows_low : (all d e : ℕ) (p : Posting) → d ≤ e → Follows all e p → Follows all d p
+follows_low all d e p le f = record { after = omega (arith, f.after, le); within = f.within; some = f.some; fits = f.fits }
+
+rises_low : (all d e : ℕ) (ps : List Posting) → d ≤ e → Rises all e ps → Rises all d ps
+unfolding Rises
+rises_low all d e [] le h = tt
+rises_low all d e (p ∷ ps) le h = (follows_low all d e p le h.0, h.1)
+
+last_low : (d e : ℕ) (ps : List Posting) → d ≤ e → last_doc d ps ≤ last_doc e ps
+unfolding last_doc
+last_low d e [] le = le
+last_low d e (p ∷ ps) le = omega arith
+
+from_rises : (all d doc : ℕ) (ps : List Posting) → Rises all d ps → Rises all d (from_doc doc ps) × (last_doc d (from_doc doc ps) ≤ last_doc d ps)
+unfolding Rises last_doc from_doc
+from_rises all d doc [] h = (tt, omega arith)
+from_rises all d doc (p ∷ ps) h =
+    let f : Follows all d p = h.0 in
+    elim (order p.doc doc) [
+      | inl below ↦ (
+          let more = from_rises all p.doc doc ps h.1 in
+          let low : d ≤ p.doc = omega (arith, f.after) in
+          rw (from_next doc p ps below) (rises_low all d p.doc (from_doc doc ps) low more.0, omega (arith, more.1, last_low d p.doc (from_doc doc ps) low)))
+      | inr above ↦ rw (from_here doc p ps above) (h, omega arith)
+    ]
+
+pub nothing_held : (all last : ℕ) (held : List Posting) → held ≡ [] → HeldRises all last held
+unfolding Rises last_doc
+nothing_held all last held none = rw none record { rises = tt; within = omega arith }
+
+pub forward_held : (all last doc : ℕ) (held now : List Posting) → HeldRises all last held → now ≡ from_doc doc held → HeldRises all last now
+forward_held all last doc held now h is =
+    let more = from_rises all 0 doc held h.rises in
+    rw is record { rises = more.0; within = omega (arith, more.1, h.within) }
+
+-- a block that was read and ends with the last document
+pub block_held : (all before last end doc : ℕ) (block now : List Posting) → Rises all before block → end ≡ last_doc before block → end ≡ last → now ≡ from_doc doc block → HeldRises all last now
+block_held all before last end doc block now rises is same went =
+    let low : Rises all 0 block = rises_low all 0 before block (omega arith) rises in
+    let within : last_doc 0 block ≤ last = omega (arith, last_low 0 before block (omega arith), is, same) in
+    forward_held all last doc block now record { rises = low; within = within } went
+
+step_held : (all last : ℕ) (held now : List Posting) → HeldRises all last held → now ≡ drop 1 held → HeldRises all last now
+unfolding Rises last_doc
+step_held all last [] now h is = rw is h
+step_held all last (p ∷ held) now h is =
+    let low : 0 ≤ p.doc = omega arith in
+    rw is record { rises = rises_low all 0 p.doc held low h.rises.1; within = omega (arith, last_low 0 p.doc held low, h.within) }
+
+pub step_rises : (all last : ℕ) (found : Option Posting) (held now : List Posting) → GoesOn found held now → HeldRises all last held → HeldRises all last now
+step_rises all last None held now went h = rw went.1 h
+step_rises all last (Some p) held now went h = step_held all last held now h went.1
+
+-- ---- what is answered
+
+from_low : (doc : ℕ) (ps : List Posting) (p : Posting) → head_of (from_doc doc ps) ≡ Some p → doc ≤ p.doc
+unfolding from_doc
+from_low doc [] p is = absurd cc
+from_low doc (q ∷ ps) p is =
+    elim (order q.doc doc) [
+      | inl below ↦ from_low doc ps p (sym (ap head_of (from_next doc q ps below)) ∙ is)
+      | inr above ↦ (let e : Some q ≡ Some p = sym (ap head_of (from_here doc q ps above)) ∙ is in let same : q ≡ p = cc in omega (arith, ap (λ (x : Posting). x.doc) same, above))
+    ]
+
+first_is : (all last doc : ℕ) (held : List Posting) (p : Posting) → HeldRises all last held → head_of held ≡ Some p → doc ≤ p.doc → IsFrom doc all p
+unfolding Rises
+first_is all last doc [] p h is le = absurd cc
+first_is all last doc (q ∷ held) p h is le =
+    let same : q ≡ p = cc in
+    let f : Follows all 0 q = h.rises.0 in
+    subst (IsFrom doc all) same record { from = omega (arith, le, ap (λ (x : Posting). x.doc) same); within = f.within; some = f.some }
+
+-- of a block that went to a document
+pub from_held : (all last doc : ℕ) (block now : List Posting) (p : Posting) → HeldRises all last now → now ≡ from_doc doc block → head_of now ≡ Some p → IsFrom doc all p
+from_held all last doc block now p h went is = first_is all last doc now p h is (from_low doc block p (sym (ap head_of went) ∙ is))
+
+pub in_held : (all last doc : ℕ) (held now : List Posting) (found : Option Posting) → HeldRises all last held → now ≡ from_doc doc held → found ≡ head_of now → IfSome found (IsFrom doc all)
+in_held all last doc held now None h went is = tt
+in_held all last doc held now (Some p) h went is = from_held all last doc held now p (forward_held all last doc held now h went) went (sym is)
+
+-- the current posting is at most the last document
+pub current_low : (all last : ℕ) (held : List Posting) (p : Posting) → HeldRises all last held → head_of held ≡ Some p → p.doc ≤ last
+unfolding Rises last_doc
+current_low all last [] p h is = absurd cc
+current_low all last (q ∷ held) p h is =
+    let same : q ≡ p = cc in
+    omega (arith, ap (λ (x : Posting). x.doc) same, last_above all q.doc held h.rises.1, h.within)
+
+-- it stays where the document asked for is not behind it
+pub stays_here : (doc : ℕ) (held now : List Posting) (found : Option Posting) (p : Posting) → head_of held ≡ Some p → doc ≤ p.doc → now ≡ from_doc doc held → found ≡ head_of now → (found ≡ Some p) × (now ≡ held)
+stays_here doc [] now found p is le went got = absurd cc
+stays_here doc (q ∷ held) now found p is le went got =
+    let same : q ≡ p = cc in
+    let here : from_doc doc (q ∷ held) ≡ q ∷ held = from_here doc q held (omega (arith, le, ap (λ (x : Posting). x.doc) same)) in
+    (got ∙ ap head_of (went ∙ here) ∙ is, went ∙ here)
+
+-- the next one of the block at hand
+pub next_held : (all last : ℕ) (held now : List Posting) (p : Posting) → HeldRises all last held → 1 < length held → now ≡ drop 1 held → head_of now ≡ Some p → IsFrom (next_doc held) all p
+unfolding Rises
+next_held all last [] now p h more went is = absurd (omega (arith, more))
+next_held all last (q ∷ []) now p h more went is = absurd (omega (arith, more))
+next_held all last (q ∷ r ∷ held) now p h more went is =
+    let same : r ≡ p = (let e : Some r ≡ Some p = sym (ap head_of went) ∙ is in cc) in
+    let f : Follows all q.doc r = h.rises.1.0 in
+    subst (IsFrom (q.doc + 1) all) same record { from = omega (arith, f.after); within = f.within; some = f.some }
+
+-- where the block at hand has none after the current one, the next is behind its last document
+next_low : (all last : ℕ) (held : List Posting) (found : Option Posting) → HeldRises all last held → length held ≤ 1 → IfSome found (IsFrom (last + 1) all) → IfSome found (IsFrom (next_doc held) all)
+next_low all last held None h few f = tt
+next_low all last [] (Some p) h few f = record { from = omega (arith, f.from); within = f.within; some = f.some }
+next_low all last (q ∷ []) (Some p) h few f =
+    record { from = omega (arith, f.from, current_low all last (q ∷ []) q h refl); within = f.within; some = f.some }
+next_low all last (q ∷ r ∷ held) (Some p) h few f = absurd (omega (arith, few))
+
+pub next_sound : (all last : ℕ) (held : List Posting) (r : Result (Option Posting) PartErr) → HeldRises all last held → length held ≤ 1 → IfOk r (λ found. IfSome found (IsFrom (last + 1) all)) → IfOk r (λ found. IfSome found (IsFrom (next_doc held) all))
+next_sound all last held (Ok found) h few f = next_low all last held found h few f
+next_sound all last held (Err refusal) h few f = tt
+
+-- ---- which part is named
+
+pub names_skip : (refusal : Refusal) (e : PartErr) → IsRefused refusal Skip e → NamesItsPart e
+names_skip Device err.Device is = tt
+names_skip Device err.Memory is = tt
+names_skip Device (err.Bad bad) is = absurd cc
+names_skip (Damaged at) err.Device is = tt
+names_skip (Damaged at) err.Memory is = tt
+names_skip (Damaged at) (err.Bad bad) is = inr is.part_is
+
+pub names_post : (refusal : Refusal) (e : PartErr) → IsRefused refusal Post e → NamesItsPart e
+names_post Device err.Device is = tt
+names_post Device err.Memory is = tt
+names_post Device (err.Bad bad) is = absurd cc
+names_post (Damaged at) err.Device is = tt
+names_post (Damaged at) err.Memory is = tt
+names_post (Damaged at) (err.Bad bad) is = inl is.part_is

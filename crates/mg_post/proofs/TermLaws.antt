@@ -1,0 +1,136 @@
+-- A cursor over the list of a term of a collection.
+use Rattle.std.proofs.Common.{arith, ◌≡◌, ◌+◌, ◌*◌, ◌≤◌, ◌<◌, ◌^◌, ℕ, List, length, sym, ap, subst, ◌∙◌, Option, Some, None, Ok, Err}
+use Rattle.std.specs.Prelude.{Result}
+use Rattle.mg_dev.specs.Files.{Files, Reads, bytes_at}
+use Rattle.mg_dev.specs.Names.{full_name}
+use Rattle.mg_dev.specs.declared.part.Part.TheVariants.{Post, Skip}
+use Rattle.mg_dev.specs.declared.part_err.PartErr.{PartErr}
+use Rattle.mg_dev.specs.declared.part_err.PartErr.TheVariants as err
+use Rattle.mg_bits.specs.Feed.{told_at}
+use Rattle.mg_defs.specs.declared.Posting.{Posting}
+use Rattle.mg_defs.specs.Codes.{golomb_parameter}
+use Rattle.mg_defs.specs.Split.{documents}
+use Rattle.mg_defs.specs.Lists.{postings, from_doc, block_count, list_byte}
+use Rattle.mg_defs.specs.Lexicon as defs
+use Rattle.mg_defs.specs.PageBounds.{met_pages, pages_for, parameter_of, list_bit}
+use Rattle.mg_laws.proofs.LedLists.{length_postings}
+use Rattle.mg_laws.proofs.MetBlocks.{from_zero, from_from, met_all, number_is, term_some}
+use Rattle.mg_layout.specs.declared.term_info.TermInfo.{TermInfo}
+use Rattle.mg_post.specs.Answers.{AnswersList}
+use Rattle.mg_post.specs.Cursor.{Cursoring, CursorStands, IsOver, SameList, StandsAt, head_of, entered_pages, post_pages, Enters, ReadsTwo}
+use Rattle.mg_post.specs.TermLists.{AnswersAsk, CursorFor, IsAmong, IsInfoOf, ListsStand, MayAsk, PagesWithin}
+use Rattle.mg_post.proofs.CursorLaws.{is_told}
+use Rattle.mg_post.proofs.StandLaws.{term_stands}
+use Rattle.mg_post.proofs.LifeLaws.{entered_more, entered_most, pages_few, reads_after}
+
+pub term_starts : (base collection asked t : List ℕ) (n all : ℕ) (info : TermInfo) (c : Cursoring) → IsInfoOf collection t info → all ≡ length (documents collection) → IsOver c (full_name base Post) (full_name base Skip) info.post_at info.skip_at info.docs all →
+    (1 ≤ info.docs → c.parameter ≡ golomb_parameter all info.docs) → ((ps : List Posting) → StandsAt c ps ps) → entered_pages c ≡ 0 → CursorFor base collection asked t n c
+term_starts base collection asked t n all info c told all_is over parameter at none =
+    let docs_is : info.docs ≡ length (postings collection t) = ap (λ (i : defs.TermInfo). i.docs) told.is ∙ sym (length_postings collection t) in
+    let some : 1 ≤ info.docs = omega (arith, ap (λ (i : defs.TermInfo). i.docs) told.is, term_some collection info.number t told.number) in
+    record {
+      number = info.number;
+      term = told.number;
+      over = record {
+        post_is = over.post_is;
+        skip_is = over.skip_is;
+        post_at_is = over.post_at_is ∙ ap (λ (i : defs.TermInfo). i.post_at) told.is;
+        skip_at_is = over.skip_at_is ∙ ap (λ (i : defs.TermInfo). i.skip_at) told.is;
+        docs_is = over.docs_is ∙ docs_is;
+        all_is = over.all_is ∙ all_is;
+      };
+      parameter = parameter some ∙ ap (λ x. golomb_parameter x info.docs) all_is ∙ ap (golomb_parameter (length (documents collection))) docs_is;
+      reached_doc = 0;
+      early = omega arith;
+      at = subst (StandsAt c (postings collection t)) (sym (from_zero (postings collection t))) (at (postings collection t));
+      within = omega (arith, none);
+    }
+
+pub cursor_stands : (base collection asked t : List ℕ) (n : ℕ) (files : Option Files) (c : Cursoring) → ListsStand base files collection → CursorFor base collection asked t n c → CursorStands c files (postings collection t)
+cursor_stands base collection asked t n files c stand f =
+    let list = term_stands collection f.number t (bytes_at files (full_name base Post)) (bytes_at files (full_name base Skip)) stand.short stand.few stand.post stand.skip f.term stand.small in
+    let post_is : told_at files c.post.name ≡ Some (bytes_at files (full_name base Post)) = ap (told_at files) f.over.post_is ∙ is_told files (full_name base Post) stand.told in
+    let skip_is : told_at files c.skip.name ≡ Some (bytes_at files (full_name base Skip)) = ap (told_at files) f.over.skip_is ∙ is_told files (full_name base Skip) stand.told in
+    record { list = rw (post_is, skip_is, f.over.post_at_is, f.over.skip_at_is, f.over.docs_is, f.over.all_is, f.parameter) list }
+
+-- after a call that was answered
+after_posting : (base collection asked t : List ℕ) (doc : ℕ) (c v : Cursoring) (found : Option Posting) (f : CursorFor base collection asked t doc c) → IsAmong asked (postings collection t) doc → SameList c v → c.reached ≤ v.reached →
+    (found ≡ head_of (from_doc doc (from_doc f.reached_doc (postings collection t)))) × StandsAt v (postings collection t) (from_doc doc (from_doc f.reached_doc (postings collection t))) → Enters (Ok found) (postings collection t) c doc v →
+    AnswersAsk base collection asked t doc found v
+after_posting base collection asked t doc c v found f may same forward answer enters =
+    let ps = postings collection t in
+    let left_is : from_doc doc (from_doc f.reached_doc ps) ≡ from_doc doc ps = from_from f.reached_doc doc ps f.early in
+    record {
+      found_is = answer.0 ∙ ap head_of left_is;
+      cursor = record {
+        number = f.number;
+        term = f.term;
+        over = record {
+          post_is = same.post ∙ f.over.post_is;
+          skip_is = same.skip ∙ f.over.skip_is;
+          post_at_is = same.post_at ∙ f.over.post_at_is;
+          skip_at_is = same.skip_at ∙ f.over.skip_at_is;
+          docs_is = same.docs ∙ f.over.docs_is;
+          all_is = same.all ∙ f.over.all_is;
+        };
+        parameter = same.parameter ∙ f.parameter;
+        reached_doc = doc;
+        early = omega arith;
+        at = subst (StandsAt v ps) left_is answer.1;
+        within = entered_more asked ps c v doc found may same forward enters f.within;
+      };
+    }
+
+-- what a call answers wherever the cursor stands, and which block it enters
+abbrev Answered : Option Files → Cursoring → ℕ → Result (Option Posting) PartErr → Cursoring → Type 0
+Answered files c doc r v = (ps left : List Posting) → CursorStands c files ps → StandsAt c ps left → AnswersList r (λ found. (found ≡ head_of (from_doc doc left)) × StandsAt v ps (from_doc doc left))
+
+abbrev Entered : Option Files → Cursoring → ℕ → Result (Option Posting) PartErr → Cursoring → Type 0
+Entered files c doc r v = (ps left : List Posting) → CursorStands c files ps → StandsAt c ps left → Enters r ps c doc v
+
+pub asked_answer : (base collection asked t : List ℕ) (doc : ℕ) (files : Option Files) (c v : Cursoring) (r : Result (Option Posting) PartErr) → MayAsk base collection asked t doc files c → SameList c v → c.reached ≤ v.reached → Answered files c doc r v → Entered files c doc r v →
+    AnswersList r (λ found. AnswersAsk base collection asked t doc found v)
+asked_answer base collection asked t doc files c v (Ok found) m same forward answer enters =
+    let ps = postings collection t in
+    let left = from_doc m.cursor.reached_doc ps in
+    let stands = cursor_stands base collection asked t doc files c m.stand m.cursor in
+    after_posting base collection asked t doc c v found m.cursor m.among same forward (answer (postings collection t) (from_doc m.cursor.reached_doc (postings collection t)) stands m.cursor.at) (enters (postings collection t) (from_doc m.cursor.reached_doc (postings collection t)) stands m.cursor.at)
+asked_answer base collection asked t doc files c v (Err err.Device) m same forward answer enters = tt
+asked_answer base collection asked t doc files c v (Err err.Memory) m same forward answer enters =
+    absurd (answer (postings collection t) (from_doc m.cursor.reached_doc (postings collection t)) (cursor_stands base collection asked t doc files c m.stand m.cursor) m.cursor.at)
+asked_answer base collection asked t doc files c v (Err (err.Bad bad)) m same forward answer enters =
+    absurd (answer (postings collection t) (from_doc m.cursor.reached_doc (postings collection t)) (cursor_stands base collection asked t doc files c m.stand m.cursor) m.cursor.at)
+
+-- ---- how many pages
+
+pub pages_are : (base collection asked t : List ℕ) (n : ℕ) (c : Cursoring) → CursorFor base collection asked t n c → met_pages asked c.parameter (8 * c.post_at) (block_count (postings collection t)) (postings collection t) ≡ pages_for collection asked t
+unfolding pages_for
+pages_are base collection asked t n c f =
+    let ps = postings collection t in
+    let at : 8 * c.post_at ≡ list_bit collection t = ap (λ x. 8 * x) f.over.post_at_is ∙ ap (λ k. 8 * list_byte collection k) (sym (number_is collection f.number t f.term)) in
+    ap (λ x. met_pages asked x (8 * c.post_at) (block_count ps) ps) f.parameter ∙ ap (λ x. met_pages asked (parameter_of collection t) x (block_count ps) ps) at
+
+pub asked_pages : (base collection asked t : List ℕ) (doc : ℕ) (files : Option Files) (c v : Cursoring) (r : Result (Option Posting) PartErr) (before now : Reads) → MayAsk base collection asked t doc files c → ReadsTwo c v before now → Entered files c doc r v →
+    PagesWithin (pages_for collection asked t) (post_pages c) (post_pages v) before now
+asked_pages base collection asked t doc files c v r before now m two enters =
+    let ps = postings collection t in
+    let stands = cursor_stands base collection asked t doc files c m.stand m.cursor in
+    let most = entered_most asked (postings collection t) c v doc r m.among (enters (postings collection t) (from_doc m.cursor.reached_doc (postings collection t)) stands m.cursor.at) m.cursor.within in
+    let few = pages_few asked (postings collection t) files c stands in
+    let same = pages_are base collection asked t doc c m.cursor in
+    record { within = omega (arith, most, same); post = reads_after c v before now two (omega (arith, most, few)) }
+
+pub pages_within : (base collection asked t : List ℕ) (n : ℕ) (c : Cursoring) → CursorFor base collection asked t n c → post_pages c ≤ pages_for collection asked t
+pages_within base collection asked t n c f = omega (arith, f.within, met_all asked c.parameter (8 * c.post_at) c.reached (postings collection t), pages_are base collection asked t n c f)
+
+pub cursor_later : (base collection asked t : List ℕ) (m n : ℕ) (c : Cursoring) → m ≤ n → CursorFor base collection asked t m c → CursorFor base collection asked t n c
+cursor_later base collection asked t m n c le f = record {
+  number = f.number;
+  term = f.term;
+  over = f.over;
+  parameter = f.parameter;
+  reached_doc = f.reached_doc;
+  early = omega (arith, f.early, le);
+  at = f.at;
+  within = f.within;
+}

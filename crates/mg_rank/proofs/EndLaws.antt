@@ -1,0 +1,110 @@
+-- From the lists of all terms to the answer.
+use Rattle.std.proofs.Common.{arith, ◌≡◌, ◌+◌, ◌*◌, ◌^◌, ◌≤◌, ◌<◌, ℕ, zero, suc, Bool, true, false, List, [], ◌∷◌, ◌++◌, length, map, filter, take, get_or, sum_by, refl, sym, ap, subst, ◌∙◌, slice_index_or, Ok, Err, ◌⊎◌, inl, inr}
+use Rattle.std.specs.Prelude.{Result}
+use Rattle.std.specs.List.{All, enumerate_from, list_any}
+use Rattle.std.proofs.lemmas.List.{take_more, take_all}
+use Rattle.std.proofs.lemmas.List.Sums.{sum_by-append, sum_by-cons, sum_by-take-le}
+use Rattle.std.proofs.lemmas.Bool.{cases_Bool}
+use Rattle.std.proofs.lemmas.List.Elements.{All-nil, All-cons, All-head, All-tail}
+use Rattle.mg_dev.specs.Files.{Reads}
+use Rattle.mg_dev.specs.declared.part.Part.{Part}
+use Rattle.mg_dev.specs.declared.part.Part.TheVariants as dev
+use Rattle.mg_dev.specs.declared.part_err.PartErr.{PartErr}
+use Rattle.mg_dev.specs.declared.part_err.PartErr.TheVariants as part
+use Rattle.mg_defs.specs.Split.{documents}
+use Rattle.mg_defs.specs.Weights.{Hit, hits, hit_count, has_term, score}
+use Rattle.mg_layout.specs.declared.term_info.TermInfo.{TermInfo}
+use Rattle.mg_defs.specs.PageBounds.{list_pages, ranked_bound}
+use Rattle.mg_post.specs.TermLists.{IsInfoOf, ReadsLists}
+use Rattle.mg_rank.specs.declared.best.Kept.{Kept}
+use Rattle.mg_rank.specs.Ranked.{AnswersOr, AnswersTop, AreTold, IsNumbered, ReadsRanked, ReadsWeights, SumsFor}
+use Rattle.mg_rank.specs.Rows.{AreNumbered, hit_in, hits_in}
+use Rattle.mg_rank.specs.Sums.{AreWithin}
+use Rattle.mg_rank.proofs.HitLaws.{row_of, same_hits}
+use Rattle.mg_rank.proofs.OrderLaws.{length_same}
+use Rattle.mg_rank.proofs.RowLaws.{numbered}
+
+pub sums_end : (collection : List ℕ) (ts : List (List ℕ)) (k : ℕ) (sums : List (ℕ × ℕ)) → SumsFor collection (take k ts) sums → length ts ≤ k → SumsFor collection ts sums
+sums_end collection ts k sums s le = subst (λ us. SumsFor collection us sums) (take_all k ts le) s
+
+pub sums_start : (collection : List ℕ) (ts : List (List ℕ)) → SumsFor collection (take 0 ts) []
+sums_start collection ts = record { each = λ d some. refl; apart = tt }
+
+pub sums_next : (collection : List ℕ) (ts : List (List ℕ)) (k : ℕ) (sums : List (ℕ × ℕ)) → k < length ts → SumsFor collection (take k ts ++ get_or ts k [] ∷ []) sums → SumsFor collection (take (k + 1) ts) sums
+sums_next collection ts k sums lt s = subst (λ us. SumsFor collection us sums) (sym (take_more ts k [] lt)) s
+
+any_default : (infos : List TermInfo) (k : ℕ) (d e : TermInfo) → k < length infos → slice_index_or infos k d ≡ slice_index_or infos k e
+any_default [] k d e lt = absurd (omega (arith, lt))
+any_default (x ∷ infos) zero d e lt = refl
+any_default (x ∷ infos) (suc k) d e lt = any_default infos k d e (omega (arith, lt))
+
+pub info_at : (collection : List ℕ) (ts : List (List ℕ)) (infos : List TermInfo) (k : ℕ) (d : TermInfo) → AreTold collection ts infos → k < length infos → (k < length ts) × IsInfoOf collection (get_or ts k []) (slice_index_or infos k d)
+info_at collection ts infos k d told lt =
+    let l : k < length ts = omega (arith, lt, told.size) in
+    (l, told.each k (slice_index_or infos k d) l (any_default infos k (slice_index_or infos k d) d lt))
+
+pages_more : (collection : List ℕ) (ts : List (List ℕ)) (k : ℕ) → k < length ts → sum_by (list_pages collection) (take (k + 1) ts) ≡ sum_by (list_pages collection) (take k ts) + list_pages collection (get_or ts k [])
+pages_more collection ts k lt = omega (arith, ap (sum_by (list_pages collection)) (take_more ts k [] lt), sum_by-append (list_pages collection) (take k ts) (get_or ts k [] ∷ []), sum_by-cons (list_pages collection) (get_or ts k []) [])
+
+pub post_next : (collection : List ℕ) (ts : List (List ℕ)) (k before mid now : ℕ) → k < length ts → mid ≤ before + sum_by (list_pages collection) (take k ts) → now ≤ mid + list_pages collection (get_or ts k []) → now ≤ before + sum_by (list_pages collection) (take (k + 1) ts)
+post_next collection ts k before mid now lt a b = omega (arith, a, b, pages_more collection ts k lt)
+
+pub post_end : (collection : List ℕ) (ts : List (List ℕ)) (k before now : ℕ) → now ≤ before + sum_by (list_pages collection) (take k ts) → now ≤ before + ranked_bound collection ts
+unfolding ranked_bound
+post_end collection ts k before now a = omega (arith, a, sum_by-take-le (list_pages collection) ts k)
+
+pub lists_on : {a b c : Reads} → ReadsLists a b → ReadsLists b c → ReadsLists a c
+lists_on first then = record {
+  later = λ p. omega (arith, first.later p, then.later p);
+  others = λ p x y. then.others p x y ∙ first.others p x y;
+}
+
+-- ---- how many documents
+
+length_numbers : (n : ℕ) (ds : List (List ℕ)) → length (enumerate_from n ds) ≡ length ds
+length_numbers n [] = refl
+length_numbers n (d ∷ ds) = omega (arith, length_numbers (n + 1) ds)
+
+length_map : {X Y : Type 0} (f : X → Y) (xs : List X) → length (map f xs) ≡ length xs
+length_map f [] = refl
+length_map f (x ∷ xs) = omega (arith, length_map f xs)
+
+length_filter : {X : Type 0} (p : X → Bool) (xs : List X) → length (filter p xs) ≤ length xs
+length_filter p [] = omega arith
+length_filter p (x ∷ xs) =
+    elim (cases_Bool (p x)) [
+      | inl is ↦ (let e : filter p (x ∷ xs) ≡ x ∷ filter p xs = rw is refl in omega (arith, ap length e, length_filter p xs))
+      | inr isnt ↦ (let e : filter p (x ∷ xs) ≡ filter p xs = rw isnt refl in omega (arith, ap length e, length_filter p xs))
+    ]
+
+pub hits_few : (collection : List ℕ) (ts : List (List ℕ)) → hit_count collection ts ≤ length (documents collection)
+hits_few collection ts = omega (arith, length_map (hit collection ts) (filter (met ts) (enumerate_from 1 (documents collection))), length_filter (met ts) (enumerate_from 1 (documents collection)), length_numbers 1 (documents collection))
+  where
+    met : List (List ℕ) → ℕ × List ℕ → Bool
+    met ts d = list_any (has_term d.1) ts
+
+    hit : List ℕ → List (List ℕ) → ℕ × List ℕ → Hit
+    hit collection ts d = record { number = d.0; score = score collection ts d.1 }
+
+pub counted : (collection : List ℕ) (ts : List (List ℕ)) (all : ℕ) (sums : List (ℕ × ℕ)) → SumsFor collection ts sums → AreWithin all sums → length sums ≡ hit_count collection ts
+counted collection ts all sums s within = sym (length_same (hits collection ts) (map (row_of collection) sums) (same_hits collection ts all sums s within) ∙ length_map (row_of collection) sums)
+
+-- ---- refusals and reads
+
+pub top_err : {A : Type 0} (e : PartErr) (f : A → Type 0) (collection : List ℕ) (ts : List (List ℕ)) (most : ℕ) → AnswersOr {T = A} (Err e) f → AnswersTop (Err e) collection ts most
+top_err part.Device f collection ts most got = tt
+top_err part.Memory f collection ts most got = tt
+top_err (part.Bad bad) f collection ts most got = absurd got
+
+pub ranked_lists : {a b : Reads} → ReadsLists a b → ReadsRanked a b
+ranked_lists r = record { later = r.later; others = λ p x y z. r.others p x y }
+
+pub ranked_both : {a b c : Reads} → ReadsLists a b → ReadsWeights b c → ReadsRanked a c
+ranked_both r w = record {
+  later = λ p. omega (arith, r.later p, w.later p);
+  others = λ p x y z. w.others p z ∙ r.others p x y;
+}
+
+pub numbered_hits : (all : ℕ) (rows : List Kept) → AreNumbered all rows → All (IsNumbered all) (hits_in rows)
+numbered_hits all [] h = All-nil (IsNumbered all)
+numbered_hits all (r ∷ rows) h = All-cons (IsNumbered all) (hit_in r) (hits_in rows) (All-head (numbered all) r rows h) (numbered_hits all rows (All-tail (numbered all) r rows h))

@@ -1,0 +1,11 @@
+mod Adding
+mod Dropping
+mod FourLaws
+mod SumLaws
+mod WalkLaws
+mod OrderLaws
+mod HitLaws
+mod KeptLaws
+mod RowLaws
+mod EndLaws
+mod SizeLaws

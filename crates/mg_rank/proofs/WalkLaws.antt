@@ -1,0 +1,114 @@
+-- A cursor that goes over the whole list of a term.
+use Rattle.std.proofs.Common.{arith, ◌≡◌, ◌+◌, ◌*◌, ◌≤◌, ◌<◌, ℕ, List, length, refl, sym, ap, ◌∙◌, Bool, false, cond, [], ◌∷◌, subst, ◌≢◌}
+use Rattle.mg_defs.specs.Split.{documents}
+use Rattle.mg_defs.specs.Lists.{postings, from_doc, InRange, block_count}
+use Rattle.mg_defs.proofs.ListLaws.{list_rises}
+use Rattle.mg_dev.specs.Files.{Files, Reads}
+use Rattle.mg_dev.specs.Names.{same_part}
+use Rattle.mg_dev.specs.declared.part.Part.{Part}
+use Rattle.mg_dev.specs.declared.part.Part.TheVariants as dev
+use Rattle.mg_bits.specs.Pages.{Looked}
+use Rattle.std.specs.declared.option.Option.{Option}
+use Rattle.std.specs.Prelude.{Result, Ok, Err, IfOk, count_by}
+use Rattle.std.specs.List.{list_any}
+use Rattle.std.proofs.lemmas.Bool.{cond_both}
+use Rattle.std.proofs.lemmas.List.Sums.{sum_by-cons}
+use Rattle.mg_defs.specs.Terms.{docs, terms, same_term}
+use Rattle.mg_defs.specs.Weights.{weight_of_term, wt}
+use Rattle.mg_defs.specs.Lexicon as defs
+use Rattle.mg_layout.specs.declared.term_info.TermInfo.{TermInfo}
+use Rattle.mg_dev.specs.declared.part_err.PartErr.{PartErr}
+use Rattle.mg_dev.specs.declared.part_err.PartErr.TheVariants as part
+use Rattle.mg_defs.specs.declared.Posting.{Posting}
+use Rattle.mg_post.specs.Answers.{AnswersList}
+use Rattle.mg_post.specs.Cursor.{Cursoring}
+use Rattle.mg_defs.specs.PageBounds.{numbers_in, pages_for, list_pages, met_pages, whole_pages, parameter_of, list_bit}
+use Rattle.mg_laws.proofs.BoundLaws.{met_whole}
+use Rattle.mg_laws.proofs.MetBlocks.{own_met, term_some}
+use Rattle.mg_post.specs.TermLists.{IsInfoOf, ListsStand, MayAsk}
+use Rattle.mg_rank.specs.Ranked.{AnswersOr, ListFor, ReadsWeights}
+
+pub for_within : (collection asked t : List ℕ) → pages_for collection asked t ≤ list_pages collection t
+unfolding pages_for list_pages
+for_within collection asked t = met_whole asked (parameter_of collection t) (list_bit collection t) (block_count (postings collection t)) (postings collection t)
+
+pub list_later : (base collection t : List ℕ) (m n : ℕ) (c : Cursoring) → ListFor base collection t m c → m ≤ n → ListFor base collection t n c
+list_later base collection t m n c f le = record { number = f.number; term = f.term; over = f.over; parameter = f.parameter; reached_doc = f.reached_doc; early = omega (arith, f.early, le); at = f.at; within = f.within }
+
+-- a list may be asked for the document after its last one
+pub may_ask : (base collection t : List ℕ) (last : ℕ) (files : Option Files) (c : Cursoring) → ListsStand base files collection → ListFor base collection t last c → MayAsk base collection (numbers_in (postings collection t)) t (last + 1) files c
+may_ask base collection t last files c stand f = record {
+  stand = stand;
+  cursor = list_later base collection t last (last + 1) c f (omega arith);
+  among = λ k range. own_met (length (documents collection)) k (last + 1) (postings collection t) (list_rises collection t stand.short) range;
+}
+
+-- ---- what the lexicon tells
+
+count_within : {X : Type 0} (p : X → Bool) (xs : List X) → count_by p xs ≤ length xs
+count_within p [] = omega arith
+count_within p (x ∷ xs) =
+    let step : count_by p (x ∷ xs) ≡ cond (p x) 1 0 + count_by p xs = sum_by-cons (λ y. cond (p y) 1 0) x xs in
+    let one : cond (p x) 1 0 ≤ 1 = cond_both (p x) 1 0 (λ n. n ≤ 1) (λ _. omega arith) (λ _. omega arith) in
+    omega (arith, step, one, count_within p xs)
+
+pub record Told (collection t : List ℕ) (all count : ℕ) : Type 0 where
+  pub is : count ≡ docs collection t
+  pub some : 1 ≤ count
+  pub within : count ≤ all
+  pub weight : weight_of_term count all ≡ wt collection t
+
+pub told : (collection t : List ℕ) (info : TermInfo) (all : ℕ) → IsInfoOf collection t info → all ≡ length (documents collection) → Told collection t all info.docs
+told collection t info all i all_is =
+    let same : info.docs ≡ docs collection t = ap (λ (x : defs.TermInfo). x.docs) i.is in
+    record {
+      is = same;
+      some = omega (arith, same, term_some collection info.number t i.number);
+      within = omega (arith, same, all_is, count_within (λ doc. list_any (same_term t) (terms doc)) (documents collection));
+      weight = ap (λ n. weight_of_term n all) same ∙ ap (weight_of_term (docs collection t)) all_is;
+    }
+
+-- ---- refusals
+
+pub or_list : {A B : Type 0} (e : PartErr) (f : A → Type 0) (h : B → Type 0) → AnswersList {T = A} (Err e) f → AnswersOr {T = B} (Err e) h
+or_list part.Device f h got = tt
+or_list part.Memory f h got = tt
+or_list (part.Bad bad) f h got = absurd got
+
+pub or_or : {A B : Type 0} (e : PartErr) (f : A → Type 0) (h : B → Type 0) → AnswersOr {T = A} (Err e) f → AnswersOr {T = B} (Err e) h
+or_or part.Device f h got = tt
+or_or part.Memory f h got = tt
+or_or (part.Bad bad) f h got = absurd got
+
+abbrev Got : Type 0
+Got = Result ℕ PartErr
+
+pub weight_of : {w v : ℕ} → (λ (r : Got). r) (Ok w) ≡ Ok v → w ≡ v
+weight_of e = cc
+
+-- ---- reads of Weights
+
+other_part : (p : Part) → p ≢ dev.Weights → same_part p dev.Weights ≡ false
+other_part p other = parts p other
+  where
+    parts : (q : Part) → q ≢ dev.Weights → same_part q dev.Weights ≡ false
+    parts dev.Head o = refl
+    parts dev.Words o = refl
+    parts dev.Nonwords o = refl
+    parts dev.Text o = refl
+    parts dev.Places o = refl
+    parts dev.Lex o = refl
+    parts dev.LexAt o = refl
+    parts dev.Post o = refl
+    parts dev.Skip o = refl
+    parts dev.Weights o = absurd (o refl)
+    parts dev.Run o = refl
+    parts dev.MergeA o = refl
+    parts dev.MergeB o = refl
+    parts dev.Plain o = refl
+
+pub reads_on : {own : Part} {a b c : Reads} {f h : Option Files} {m n : ℕ} → own ≡ dev.Weights → ReadsWeights a b → Looked own f h b c m n → ReadsWeights a c
+reads_on {own} {a} {b} {c} own_is first then = record {
+  later = λ p. omega (arith, first.later p, then.later p);
+  others = λ p other. then.others p (subst (λ q. same_part p q ≡ false) (sym own_is) (other_part p other)) ∙ first.others p other;
+}

@@ -1,0 +1,131 @@
+use Rattle.std.proofs.Common.{rules, arith, ◌≡◌, ◌≤◌, ◌<◌, ◌+◌, ◌^◌, ◌∷◌, ◌++◌, ℕ, List, [], length, sym, ap, ◌∙◌, subst, refl, Some, None, Ok, Err}
+use Rattle.mg_dev.specs.declared.part.Part.TheVariants as part
+use Rattle.mg_defs.specs.Split.{documents}
+use Rattle.mg_defs.specs.Lists.{postings}
+use Rattle.mg_defs.proofs.ListLaws.{list_rises}
+use Rattle.mg_defs.specs.PageBounds.{numbers_in}
+use Rattle.mg_post.specs.TermLists.{ListsStand}
+use Rattle.mg_rank.specs.Ranked.{SumsFor}
+use Rattle.mg_rank.specs.Sums.{AreApart, AreWithin, sum_of}
+use Rattle.mg_rank.proofs.Adding.{apart_more, within_more}
+use Rattle.mg_rank.proofs.SumLaws.{bounded_start, bounded_next, head_sound, none_at, walk_start, walk_next, walk_end}
+use Rattle.mg_defs.specs.Weights.{wt}
+use Rattle.mg_rank.proofs.WalkLaws.{for_within, weight_of, list_later, told, or_list}
+use Rattle.mg_rank.proofs.list.add_list.Goals as goal
+
+pub returns-in-Err-clause-answer : goal.returns-in-Err-clause-answer
+returns-in-Err-clause-answer g c = λ collection t done stand i all_is s. let k = told collection t c.args.info.now c.args.all i all_is in absurd (let e = c.in-Err.ensures.is k.some k.within in cc)
+
+pub loop-last-init : goal.loop-last-init
+loop-last-init g c = record {
+  most = omega arith;
+  fits = c.in-Ok-start.ensures.fits _;
+  all = c.in-Ok-start.ensures.over.all_is;
+  files = refl;
+  reads = record { later = λ p. omega arith; others = λ p a b. refl };
+  faults = omega arith;
+  bounded = λ n small. bounded_start n c.args.sums.now small;
+  within = λ h. h;
+  apart = λ h. h;
+  walk = λ collection t done stand i all_is s. walk_start collection done t c.args.sums.now s;
+  list = λ collection t stand i all_is. c.in-Ok-start.ensures.term collection (numbers_in (postings collection t)) t 0 i all_is;
+  post = λ collection t stand i all_is. omega arith;
+}
+
+pub returns-in-Ok-None-clause-small : goal.returns-in-Ok-None-clause-small
+returns-in-Ok-None-clause-small g c = λ n small d. (c.loop-last.invariant.bounded n small).each d
+
+pub returns-in-Ok-None-clause-answer : goal.returns-in-Ok-None-clause-answer
+returns-in-Ok-None-clause-answer g c = λ collection t done stand i all_is s.
+    let stand2 = subst (λ fs. ListsStand c.args.base.now fs collection) (sym c.loop-last.invariant.files) stand in
+    let f = c.loop-last.invariant.list collection t stand i all_is in
+    let a = (rw c.in-Ok-None.field-0-is at c.in-Ok-None.ensures.answer) c.args.base.now collection t stand2 f in
+    walk_end collection done t c.loop-last.last c.loop-last.sums (c.loop-last.invariant.walk collection t done stand i all_is s) (λ d low le. none_at collection t c.loop-last.last d (sym a.found_is) low le)
+
+pub returns-in-Ok-None-clause-pages : goal.returns-in-Ok-None-clause-pages
+returns-in-Ok-None-clause-pages g c = λ collection t stand i all_is.
+    let stand2 = subst (λ fs. ListsStand c.args.base.now fs collection) (sym c.loop-last.invariant.files) stand in
+    let f = c.loop-last.invariant.list collection t stand i all_is in
+    omega (arith, c.loop-last.invariant.post collection t stand i all_is, c.next_posting.ensures.post c.args.base.now collection t stand2 f, c.next_posting.ensures.within c.args.base.now collection t stand2 f)
+
+pub returns-in-Err-next_posting-clause-small : goal.returns-in-Err-next_posting-clause-small
+returns-in-Err-next_posting-clause-small g c = λ n small d. (c.loop-last.invariant.bounded n small).each d
+
+pub returns-in-Err-next_posting-clause-answer : goal.returns-in-Err-next_posting-clause-answer
+returns-in-Err-next_posting-clause-answer g c = λ collection t done stand i all_is s.
+    let stand2 = subst (λ fs. ListsStand c.args.base.now fs collection) (sym c.loop-last.invariant.files) stand in
+    let f = c.loop-last.invariant.list collection t stand i all_is in
+    or_list c.in-Err-next_posting.refusal _ _ (c.in-Err-next_posting.ensures.answer c.args.base.now collection t stand2 f)
+
+pub returns-in-Err-next_posting-clause-pages : goal.returns-in-Err-next_posting-clause-pages
+returns-in-Err-next_posting-clause-pages g c = λ collection t stand i all_is.
+    let stand2 = subst (λ fs. ListsStand c.args.base.now fs collection) (sym c.loop-last.invariant.files) stand in
+    let f = c.loop-last.invariant.list collection t stand i all_is in
+    omega (arith, c.loop-last.invariant.post collection t stand i all_is, c.next_posting.ensures.post c.args.base.now collection t stand2 f, c.next_posting.ensures.within c.args.base.now collection t stand2 f)
+
+pub add_posting-requires-clause-small : goal.add_posting-requires-clause-small
+add_posting-requires-clause-small g c = omega (arith, (c.loop-last.invariant.bounded (2 ^ 40) c.requires.small).each c.in-Ok-Some.posting.doc)
+
+pub returns-in-Err-add_posting-clause-small : goal.returns-in-Err-add_posting-clause-small
+returns-in-Err-add_posting-clause-small g c = λ n small d. subst (λ s. sum_of d s ≤ n + 2 ^ 29) (sym c.in-Err-add_posting.ensures.err) ((c.loop-last.invariant.bounded n small).each d)
+
+pub returns-in-Err-add_posting-clause-within : goal.returns-in-Err-add_posting-clause-within
+returns-in-Err-add_posting-clause-within g c = λ h. subst (AreWithin c.args.all) (sym c.in-Err-add_posting.ensures.err) (c.loop-last.invariant.within h)
+
+pub returns-in-Err-add_posting-clause-apart : goal.returns-in-Err-add_posting-clause-apart
+returns-in-Err-add_posting-clause-apart g c = λ h. subst AreApart (sym c.in-Err-add_posting.ensures.err) (c.loop-last.invariant.apart h)
+
+pub returns-in-Err-add_posting-clause-pages : goal.returns-in-Err-add_posting-clause-pages
+returns-in-Err-add_posting-clause-pages g c = λ collection t stand i all_is.
+    let stand2 = subst (λ fs. ListsStand c.args.base.now fs collection) (sym c.loop-last.invariant.files) stand in
+    let f = c.loop-last.invariant.list collection t stand i all_is in
+    omega (arith, c.loop-last.invariant.post collection t stand i all_is, c.next_posting.ensures.post c.args.base.now collection t stand2 f, c.next_posting.ensures.within c.args.base.now collection t stand2 f)
+
+pub loop-last-preserved : goal.loop-last-preserved
+loop-last-preserved g c =
+    let from = (rw c.in-Ok-Some.field-0-is at c.in-Ok-Some.ensures.sound) in
+    let later : c.loop-last.last < c.in-Ok-Some.posting.doc = omega (arith, from.from) in
+    let within : c.in-Ok-Some.posting.doc ≤ c.args.all = omega (arith, from.within, c.loop-last.invariant.all) in record {
+      most = within;
+      fits = c.in-Ok-Some.ensures.fits;
+      all = c.next_posting.ensures.same.all ∙ c.loop-last.invariant.all;
+      files = c.next_posting.ensures.files ∙ c.loop-last.invariant.files;
+      reads = record {
+        later = λ p. omega (arith, c.loop-last.invariant.reads.later p, c.next_posting.ensures.reads.later p);
+        others = λ p a b. c.next_posting.ensures.reads.others p a b ∙ c.loop-last.invariant.reads.others p a b;
+      };
+      faults = omega (arith, c.loop-last.invariant.faults, c.next_posting.ensures.cause.later);
+      bounded = λ n small. rw c.in-Ok-add_posting.ensures.added (bounded_next n c.loop-last.last c.in-Ok-Some.posting.doc _ c.loop-last.sums (c.loop-last.invariant.bounded n small) later c.add_posting.ensures.few);
+      within = λ h. rw c.in-Ok-add_posting.ensures.added (within_more c.args.all c.in-Ok-Some.posting.doc _ c.loop-last.sums (omega (arith, later)) within (c.loop-last.invariant.within h));
+      apart = λ h. rw c.in-Ok-add_posting.ensures.added (apart_more c.in-Ok-Some.posting.doc _ c.loop-last.sums (c.loop-last.invariant.apart h));
+      walk = λ collection t done stand i all_is s.
+          let stand2 = subst (λ fs. ListsStand c.args.base.now fs collection) (sym c.loop-last.invariant.files) stand in
+          let f = c.loop-last.invariant.list collection t stand i all_is in
+          let a = (rw c.in-Ok-Some.field-0-is at c.in-Ok-Some.ensures.answer) c.args.base.now collection t stand2 f in
+          let h = head_sound (length (documents collection)) 0 (c.loop-last.last + 1) (postings collection t) c.in-Ok-Some.posting (list_rises collection t stand.short) (sym a.found_is) in
+          let k = told collection t c.args.info.now c.args.all i all_is in
+          let w = c.in-Ok.ensures.is k.some k.within in
+          let weight : c.in-Ok.weight ≡ wt collection t = weight_of w ∙ k.weight in
+          rw c.in-Ok-add_posting.ensures.added (walk_next collection done t c.loop-last.last c.loop-last.sums c.in-Ok-Some.posting c.in-Ok.weight (c.loop-last.invariant.walk collection t done stand i all_is s) (sym a.found_is) (omega (arith, h.0)) h.1 weight);
+      list = λ collection t stand i all_is.
+          let stand2 = subst (λ fs. ListsStand c.args.base.now fs collection) (sym c.loop-last.invariant.files) stand in
+          let f = c.loop-last.invariant.list collection t stand i all_is in
+          let a = (rw c.in-Ok-Some.field-0-is at c.in-Ok-Some.ensures.answer) c.args.base.now collection t stand2 f in
+          let h = head_sound (length (documents collection)) 0 (c.loop-last.last + 1) (postings collection t) c.in-Ok-Some.posting (list_rises collection t stand.short) (sym a.found_is) in
+          list_later c.args.base.now collection t (c.loop-last.last + 1) c.in-Ok-Some.posting.doc _ a.cursor h.0;
+      post = λ collection t stand i all_is.
+          let stand2 = subst (λ fs. ListsStand c.args.base.now fs collection) (sym c.loop-last.invariant.files) stand in
+          let f = c.loop-last.invariant.list collection t stand i all_is in
+          omega (arith, c.loop-last.invariant.post collection t stand i all_is, c.next_posting.ensures.post c.args.base.now collection t stand2 f);
+    }
+
+pub returns-clause-small : goal.returns-clause-small
+returns-clause-small g c = λ n small d. (c.loop-last.invariant.bounded n small).each d
+
+pub returns-clause-answer : goal.returns-clause-answer
+returns-clause-answer g c = λ collection t done stand i all_is s.
+    walk_end collection done t c.loop-last.last c.loop-last.sums (c.loop-last.invariant.walk collection t done stand i all_is s) (λ d low le. absurd (omega (arith, c.loop-last-test.false, all_is, low, le)))
+
+pub returns-clause-pages : goal.returns-clause-pages
+returns-clause-pages g c = λ collection t stand i all_is.
+    omega (arith, c.loop-last.invariant.post collection t stand i all_is, c.cursor_pages_are_within.ensures c.args.base.now collection (numbers_in (postings collection t)) t c.loop-last.last _ (c.loop-last.invariant.list collection t stand i all_is), for_within collection (numbers_in (postings collection t)) t)

@@ -1,0 +1,12 @@
+use Rattle.std.proofs.Common.{arith, sym, subst, ap, length}
+use Rattle.mg_rank.specs.Ranked.{WeightsStand}
+use Rattle.mg_rank.proofs.SizeLaws.{not_sized, weights_long}
+use Rattle.mg_rank.proofs.ranking.rank.Goals as goal
+
+pub returns-in-Err-clause-answer : goal.returns-in-Err-clause-answer
+returns-in-Err-clause-answer g c = λ collection ts stand told all_is.
+    not_sized c.in-Err.refusal _ collection ts _ c.args.most (omega (arith, ap length stand.weights, weights_long collection, all_is)) (c.in-Err.ensures.answer stand.lists.told)
+
+pub returns-clause-answer : goal.returns-clause-answer
+returns-clause-answer g c = λ collection ts stand told all_is.
+    c.rank_sized.ensures.answer collection ts (subst (λ fs. WeightsStand c.args.base.now fs collection) (sym c.expect_size.ensures.files) stand) told all_is

@@ -1,0 +1,31 @@
+use Rattle.std.proofs.Common.{rules, arith, ◌≡◌, ◌+◌, ◌*◌, ◌^◌, ◌≤◌, ◌<◌, ℕ, List, [], length, sym, ap, ◌∙◌, subst, refl}
+use Rattle.mg_post.specs.TermLists.{ListsStand}
+use Rattle.mg_rank.specs.Ranked.{WeightsStand}
+use Rattle.mg_rank.proofs.EndLaws.{counted, hits_few, numbered_hits, top_err}
+use Rattle.mg_rank.proofs.WalkLaws.{weight_of}
+use Rattle.mg_rank.proofs.ranking.rank_sized.Goals as goal
+
+pub returns-in-Err-clause-answer : goal.returns-in-Err-clause-answer
+returns-in-Err-clause-answer g c = λ collection ts stand told all_is. top_err c.in-Err.refusal _ collection ts c.args.most (c.in-Err.ensures.answer collection ts stand.lists told all_is)
+
+pub returns-in-Err-count-clause-answer : goal.returns-in-Err-count-clause-answer
+returns-in-Err-count-clause-answer g c = λ collection ts stand told all_is.
+    let s = c.in-Ok.ensures.answer collection ts stand.lists told all_is in
+    let few : length c.in-Ok.sums < 2 ^ 32 = omega (arith, counted collection ts c.args.all c.in-Ok.sums s c.in-Ok.ensures.within, hits_few collection ts, stand.lists.few) in
+    absurd (let e = c.in-Err-count.ensures.is few in cc)
+
+pub returns-in-Ok-first_rows-clause-answer : goal.returns-in-Ok-first_rows-clause-answer
+returns-in-Ok-first_rows-clause-answer g c = λ collection ts stand told all_is.
+    let s = c.in-Ok.ensures.answer collection ts stand.lists told all_is in
+    let is = counted collection ts c.args.all c.in-Ok.sums s c.in-Ok.ensures.within in
+    let stand2 = subst (λ fs. WeightsStand c.args.base.now fs collection) (sym c.sum_lists.ensures.files) stand in
+    (c.in-Ok-first_rows.ensures.answer collection ts stand2 all_is s, weight_of (c.in-Ok-count.ensures.is (omega (arith, is, hits_few collection ts, stand.lists.few))) ∙ is)
+
+pub returns-in-Ok-first_rows-clause-range : goal.returns-in-Ok-first_rows-clause-range
+returns-in-Ok-first_rows-clause-range g c = numbered_hits c.args.all c.in-Ok-first_rows.rows.items c.in-Ok-first_rows.ensures.range
+
+pub returns-clause-answer : goal.returns-clause-answer
+returns-clause-answer g c = λ collection ts stand told all_is.
+    let s = c.in-Ok.ensures.answer collection ts stand.lists told all_is in
+    let stand2 = subst (λ fs. WeightsStand c.args.base.now fs collection) (sym c.sum_lists.ensures.files) stand in
+    top_err c.in-Err-first_rows.refusal _ collection ts c.args.most (c.in-Err-first_rows.ensures.answer collection ts stand2 all_is s)

@@ -1,0 +1,124 @@
+//! What the list of a term adds to the sums.
+ghost use Rattle.std.specs.Prelude.{◌≡◌, ◌≢◌, ℕ, ◌+◌, ◌-◌, ◌*◌, ◌≤◌, ◌<◌, ◌^◌, List, [], ◌∷◌, ◌++◌, Ok, Err, IfOk, IfSome, OnOk, OnErr, length};
+ghost use Rattle.mg_dev.specs.PartCauses.{HasPartCause};
+ghost use Rattle.mg_dev.specs.declared.part.Part.TheVariants as part;
+ghost use Rattle.mg_defs.specs.Lists.{postings};
+ghost use Rattle.mg_defs.specs.Split.{documents};
+ghost use Rattle.mg_defs.specs.Weights.{weight_of_term, weight_in_doc};
+ghost use Rattle.mg_post.specs.Answers.{AnswersList};
+ghost use Rattle.mg_post.specs.Cursor.{CursorFits, IsFrom, SameList, post_pages};
+ghost use Rattle.mg_defs.specs.PageBounds.{list_pages, numbers_in};
+ghost use Rattle.mg_post.specs.TermLists.{AnswersAsk, IsInfoOf, ListsStand, ReadsLists};
+ghost use Rattle.mg_rank.specs.Ranked.{AnswersOr, ListFor, SumsFor};
+ghost use Rattle.mg_rank.specs.Sums.{AreApart, AreWithin, sum_of, with_more};
+
+use crate::sums::Sums;
+use mg_defs::Posting;
+use mg_dev::{Bad, Part, PartErr, Store};
+use mg_fixed::{doc_term_weight, term_weight};
+use mg_layout::TermInfo;
+use mg_post::{Cursor, cursor_pages_are_within};
+use std::alloc::{AllocError, Global};
+
+/// The first posting of a list behind a document.
+fn next_posting<S: Store>(
+    cursor: &mut Cursor<'_, S>,
+    store: &mut S,
+    last: u32,
+) -> Result<Option<Posting>, PartErr>
+    requires fits { CursorFits cursor.old (S.files store.old) }
+    requires few { last < 2 ^ 32 - 1 }
+    ensures fits { OnOk result (CursorFits cursor.new (S.files store.new)) }
+    ensures same { SameList cursor.old cursor.new }
+    ensures answer { (base collection t : List ℕ) → ListsStand base (S.files store.old) collection → ListFor base collection t last cursor.old →
+        AnswersList result (λ found. AnswersAsk base collection (numbers_in (postings collection t)) t (last + 1) found cursor.new) }
+    ensures within { (base collection t : List ℕ) → ListsStand base (S.files store.old) collection → ListFor base collection t last cursor.old →
+        post_pages cursor.new ≤ list_pages collection t }
+    ensures post { (base collection t : List ℕ) → ListsStand base (S.files store.old) collection → ListFor base collection t last cursor.old →
+        S.reads store.new part.Post + post_pages cursor.old ≤ S.reads store.old part.Post + post_pages cursor.new }
+    ensures sound { IfOk result (λ found. IfSome found (IsFrom (last + 1) cursor.old.all)) }
+    ensures reads { ReadsLists (S.reads store.old) (S.reads store.new) }
+    ensures files { S.files store.new ≡ S.files store.old }
+    ensures memory { result ≢ Err PartErr.Memory }
+    ensures cause { HasPartCause (S.faults store.old) (S.faults store.new) result }
+{
+    cursor.ask(store, last + 1)
+}
+
+/// The weight of a term by how many documents have it.
+fn weight_of_list(docs: u32, all: u32) -> Result<u32, PartErr>
+    ensures is { 1 ≤ docs → docs ≤ all → result ≡ Ok (weight_of_term docs all) }
+    ensures high { IfOk result (λ weight. weight < 2 ^ 14) }
+    ensures calm { result ≢ Err PartErr.Device }
+{
+    if docs == 0 || all < docs {
+        return Err(PartErr::Bad(Bad {
+            part: Part::Lex,
+            at: 0,
+            low: 1,
+            high: u64::from(all),
+            found: u64::from(docs),
+        }));
+    }
+    Ok(term_weight(docs, all))
+}
+
+/// Adds what a posting of a term of this weight adds to its document.
+fn add_posting(sums: &mut Sums, weight: u32, posting: Posting) -> Result<(), AllocError>
+    requires small { sum_of posting.doc sums.old ≤ 2 ^ 41 }
+    requires high { weight < 2 ^ 14 }
+    requires some { 1 ≤ posting.freq }
+    ensures added { OnOk result (sums.new ≡ with_more posting.doc (weight_in_doc posting.freq * weight) sums.old) }
+    ensures err { OnErr result (sums.new ≡ sums.old) }
+    ensures few { weight_in_doc posting.freq * weight ≤ 2 ^ 29 }
+{
+    let more = u64::from(doc_term_weight(posting.freq)) * u64::from(weight);
+    sums.add(posting.doc, more)
+}
+
+/// Goes over the list of a term, and adds to the sum of each of its documents.
+pub(crate) fn add_list<S: Store>(
+    alloc: Global,
+    store: &mut S,
+    base: &str,
+    info: &TermInfo,
+    all: u32,
+    sums: &mut Sums,
+) -> Result<(), PartErr>
+    requires small { (d : ℕ) → sum_of d sums.old ≤ 2 ^ 40 }
+    ensures small { (n : ℕ) → ((d : ℕ) → sum_of d sums.old ≤ n) → (d : ℕ) → sum_of d sums.new ≤ n + 2 ^ 29 }
+    ensures within { AreWithin all sums.old → AreWithin all sums.new }
+    ensures apart { AreApart sums.old → AreApart sums.new }
+    ensures answer { (collection t : List ℕ) (done : List (List ℕ)) → ListsStand base.now (S.files store.old) collection → IsInfoOf collection t info.now →
+        all ≡ length (documents collection) → SumsFor collection done sums.old →
+        AnswersOr result (λ _. SumsFor collection (done ++ t ∷ []) sums.new) }
+    ensures pages { (collection t : List ℕ) → ListsStand base.now (S.files store.old) collection → IsInfoOf collection t info.now →
+        all ≡ length (documents collection) → S.reads store.new part.Post ≤ S.reads store.old part.Post + list_pages collection t }
+    ensures reads { ReadsLists (S.reads store.old) (S.reads store.new) }
+    ensures files { S.files store.new ≡ S.files store.old }
+    ensures cause { HasPartCause (S.faults store.old) (S.faults store.new) result }
+{
+    let weight = match weight_of_list(info.docs, all) {
+        Ok(weight) => weight,
+        Err(refusal) => return Err(refusal),
+    };
+    let mut cursor = match Cursor::start(alloc, base, info, all) {
+        Ok(cursor) => cursor,
+        Err(_lack) => return Err(PartErr::Memory),
+    };
+    cursor_pages_are_within();
+    let mut last = 0;
+    while last < all {
+        let posting = match next_posting(&mut cursor, store, last) {
+            Ok(Some(posting)) => posting,
+            Ok(None) => return Ok(()),
+            Err(refusal) => return Err(refusal),
+        };
+        match add_posting(sums, weight, posting) {
+            Ok(()) => {}
+            Err(_lack) => return Err(PartErr::Memory),
+        }
+        last = posting.doc;
+    }
+    Ok(())
+}

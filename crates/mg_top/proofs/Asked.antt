@@ -1,0 +1,21 @@
+-- A run that did what its tool is to do did what the words ask.
+use Rattle.std.proofs.Common.{◌≡◌, ℕ, List, Option, Some, sym, subst}
+use Rattle.mg_dev.specs.declared.fault.Fault.{Fault}
+use Rattle.mg_dev.specs.declared.fault.Fault.TheVariants.{Usage}
+use Rattle.mg_dev.specs.declared.status.Status.{Status}
+use Rattle.mg_words.specs.Tasks.{Task, decode}
+use Rattle.mg_top.specs.Ends.{IfStopped, ToldWhy}
+use Rattle.mg_top.specs.Runs.{Run, Stops}
+use Rattle.mg_top.specs.Decoded.{Decoded}
+use Rattle.mg_top.specs.Does.{Does, Ran}
+
+no_usage : (run : Run) (P : Fault → Type 0) → IfStopped run.status P → (P Usage → ⊥) → Stops run Usage → ⊥
+no_usage run P holds never is = never (subst (λ (s : Status). IfStopped s P) is holds)
+
+pub ran_decode : (task : Option Task) (name : List ℕ) (run : Run) → task ≡ Some (decode name) → Decoded name run
+    → ToldWhy run.status run.err.written run.err_now.written run.err.faults run.err_now.faults run.err.lacks run.err_now.lacks → Ran task run
+ran_decode task name run is decoded told = record {
+  usage = λ stops. absurd (no_usage run _ decoded.cause (λ bad. bad) stops);
+  does = subst (λ (t : Option Task). Does t run) (sym is) decoded;
+  told = told;
+}

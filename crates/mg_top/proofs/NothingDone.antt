@@ -1,0 +1,94 @@
+-- A run that lacked memory before it touched a device does what each tool allows.
+use Rattle.std.proofs.Common.{◌≡◌, ◌∙◌, ℕ, List, Option, None, Some, sym, ap, subst, inr}
+use Rattle.mg_dev.specs.Files.{bytes_at}
+use Rattle.mg_dev.specs.StreamLaws.{grew_nothing}
+use Rattle.mg_dev.specs.Streams.{GrewByPrefix}
+use Rattle.mg_dev.specs.declared.part.Part.{Part}
+use Rattle.mg_dev.specs.declared.fault.Fault.{Fault}
+use Rattle.mg_dev.specs.declared.fault.Fault.TheVariants.{Usage, Memory}
+use Rattle.mg_dev.specs.declared.status.Status.{Status}
+use Rattle.mg_dev.specs.declared.status.Status.TheVariants.{Done, Stopped}
+use Rattle.mg_defs.specs.Replies.{session}
+use Rattle.mg_plain.specs.Scans.{StopsFor}
+use Rattle.mg_build.specs.Outcomes.{DecodeStops}
+use Rattle.mg_words.specs.Tasks.{Task, build, query, decode, scan, trial, migrate, check, wild, phrase, merge}
+use Rattle.mg_top.specs.Ends.{IfStopped, ToldWhy}
+use Rattle.mg_top.specs.Runs.{Run, SaysNothing, KeepsFiles, Stops, StoreFailed, InputFailed, OutputFailed}
+use Rattle.mg_top.specs.Decoded.{Decoded}
+use Rattle.mg_top.specs.Scanned.{Scanned}
+use Rattle.mg_top.specs.Does.{Does, NotUnderstood, Ran}
+
+module _ (run : Run) (stops : Stops run Memory) (store : run.store_now ≡ run.store) (input : run.input_now ≡ run.input) (out : run.out_now ≡ run.out) where
+  not_done : run.status ≡ Done → ⊥
+  not_done is = let bad : Stopped Memory ≡ Done = sym stops ∙ is in cc
+
+  not_usage : Stops run Usage → ⊥
+  not_usage is = let bad : Stopped Memory ≡ Stopped Usage = sym stops ∙ is in cc
+
+  silent : SaysNothing run
+  silent = ap (λ s. s.written) out
+
+  files : KeepsFiles run
+  files = ap (λ s. s.files) store
+
+  prefix : (text : List ℕ) → GrewByPrefix run.out.written run.out_now.written text
+  prefix text = subst (λ (w : Option (List ℕ)). GrewByPrefix run.out.written w text) (sym silent) (grew_nothing run.out.written text)
+
+  caused : (P : Fault → Type 0) → P Memory → IfStopped run.status P
+  caused P holds = subst (λ (s : Status). IfStopped s P) (sym stops) holds
+
+  same_reads : (p : Part) → run.store_now.reads p ≡ run.store.reads p
+  same_reads p = ap (λ s. s.reads p) store
+
+  not_understood : NotUnderstood run
+  not_understood = record { status = inr stops; store = store; input = input; out = out }
+
+  scanned : (n : List ℕ) → Scanned n run
+  scanned n = record {
+    done = λ told given some is. absurd (not_done is);
+    left = λ given some is. absurd (not_done is);
+    within = λ given some is. absurd (not_done is);
+    prefix = λ told given some. prefix (session (bytes_at run.store.files n) given);
+    silent = λ is. silent;
+    silent_large = λ size most is. silent;
+    cause = caused (StopsFor (StoreFailed run) (InputFailed run) (OutputFailed run) run.store.files n run.input.left) tt;
+    missing = λ told none. inr (inr stops);
+    large = λ told more. inr (inr stops);
+    complete = λ bytes given there small some short no_store no_input no_output. inr stops;
+    files = files;
+    reads = λ p other. same_reads p;
+  }
+
+  decoded : (n : List ℕ) → Decoded n run
+  decoded n = record {
+    done = λ c stands is. absurd (not_done is);
+    prefix = λ c stands. prefix c;
+    silent = λ is. silent;
+    cause = caused (DecodeStops (StoreFailed run) (OutputFailed run) run.store.files n) tt;
+    not_built = λ told none. inr (inr stops);
+    complete = λ c stands no_store no_output. inr stops;
+    files = files;
+    reads = λ p other. same_reads p;
+    input = input;
+  }
+
+  nothing_done : (task : Option Task) → Does task run
+  nothing_done None = not_understood
+  nothing_done (Some (build c n b)) = not_understood
+  nothing_done (Some (query n)) = not_understood
+  nothing_done (Some (decode n)) = decoded n
+  nothing_done (Some (scan n)) = scanned n
+  nothing_done (Some (trial s d)) = not_understood
+  nothing_done (Some (migrate n m)) = not_understood
+  nothing_done (Some (check n)) = not_understood
+  nothing_done (Some (wild n)) = not_understood
+  nothing_done (Some (phrase n)) = not_understood
+  nothing_done (Some (merge a b c)) = not_understood
+
+  -- memory was wanting before the words were read
+  pub ran_nothing : (task : Option Task) → ToldWhy run.status run.err.written run.err_now.written run.err.faults run.err_now.faults run.err.lacks run.err_now.lacks → Ran task run
+  ran_nothing task told = record {
+    usage = λ is. absurd (not_usage is);
+    does = nothing_done task;
+    told = told;
+  }

@@ -1,0 +1,35 @@
+-- What a run does for what the words ask: a line a tool.
+use Rattle.std.specs.Prelude.{◌≡◌, ◌⊎◌, Some, None}
+use Rattle.std.specs.declared.option.Option.{Option}
+use Rattle.mg_dev.specs.declared.fault.Fault.TheVariants.{Usage, Memory}
+use Rattle.mg_words.specs.Tasks.{Task, decode, scan}
+use Rattle.mg_top.specs.Ends.{ToldWhy}
+use Rattle.mg_top.specs.Runs.{Run, Stops}
+use Rattle.mg_top.specs.Decoded.{Decoded}
+use Rattle.mg_top.specs.Scanned.{Scanned}
+
+-- The words are not understood: the store, the input and the output are as they were.
+pub record NotUnderstood (run : Run) : Type 0 where
+  pub status : Stops run Usage ⊎ Stops run Memory
+  pub store : run.store_now ≡ run.store
+  pub input : run.input_now ≡ run.input
+  pub out : run.out_now ≡ run.out
+
+-- What words ask of the tools that are built; the words of a tool to come are not understood.
+abbrev pub built : Option Task → Option Task
+built (Some (decode name)) = Some (decode name)
+built (Some (scan name)) = Some (scan name)
+built other = None
+
+-- what the words ask is done
+abbrev pub Does : Option Task → Run → Type 0
+Does (Some (decode name)) run = Decoded name run
+Does (Some (scan name)) run = Scanned name run
+Does other run = NotUnderstood run
+
+pub record Ran (task : Option Task) (run : Run) : Type 0 where
+  -- status 1 comes exactly where the words ask nothing, unless memory is wanting
+  pub usage : Stops run Usage → task ≡ None
+  pub does : Does task run
+  -- the fault's line goes to the error output, or a prefix of it where that failed or lacked memory
+  pub told : ToldWhy run.status run.err.written run.err_now.written run.err.faults run.err_now.faults run.err.lacks run.err_now.lacks

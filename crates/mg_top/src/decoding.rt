@@ -1,0 +1,38 @@
+// The tool `decode`.
+ghost use Rattle.std.specs.Prelude.{◌≡◌, ◌⊎◌};
+ghost use Rattle.mg_top.specs.Runs.{Run, SourceAt};
+ghost use Rattle.mg_top.specs.Decoded.{Decoded};
+ghost use Rattle.mg_top.specs.Ends.{ToldWhy};
+
+use crate::stopping::stopped;
+use mg_build::decode;
+use mg_dev::{Sink, Status, Store};
+use std::alloc::Global;
+
+/// `decode NAME`: prints the collection of a set.
+pub fn run_decode<S: Store, O: Sink, E: Sink>(
+    alloc: Global,
+    name: &str,
+    store: &mut S,
+    out: &mut O,
+    err: &mut E,
+) -> Status
+    // Whatever the input is, which is not read.
+    ensures does { (input : SourceAt) → Decoded name.now (record {
+      store = record { files = S.files store.old; reads = S.reads store.old; faults = S.faults store.old };
+      store_now = record { files = S.files store.new; reads = S.reads store.new; faults = S.faults store.new };
+      input = input;
+      input_now = input;
+      out = record { written = O.written out.old; faults = O.faults out.old; lacks = O.lacks out.old };
+      out_now = record { written = O.written out.new; faults = O.faults out.new; lacks = O.lacks out.new };
+      err = record { written = E.written err.old; faults = E.faults err.old; lacks = E.lacks err.old };
+      err_now = record { written = E.written err.new; faults = E.faults err.new; lacks = E.lacks err.new };
+      status = result;
+    }) }
+    ensures told { ToldWhy result (E.written err.old) (E.written err.new) (E.faults err.old) (E.faults err.new) (E.lacks err.old) (E.lacks err.new) }
+{
+    match decode(alloc, store, name, out) {
+        Ok(()) => Status::Done,
+        Err(fault) => stopped(fault, err),
+    }
+}

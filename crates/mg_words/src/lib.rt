@@ -1,0 +1,20 @@
+//! What the words of a command line ask for.
+//!
+//! Words are read in two ways, and [`read_words`] alone is called from outside. *Plain* words, a
+//! tool's names and numbers in order, are read by a rule of their own, so that no name or number that
+//! is written plainly is ever refused. All other words go to the tool's command of `clap`, which has
+//! exactly the tool's arguments: it takes names behind `--`, and numbers with a plus or leading zeros.
+//! The crate stands on no other crate of the workspace, so an edit of a tool does not prove it again.
+#![tactic(auto)]
+
+mod command;
+mod plain;
+mod plain_words;
+mod read;
+mod taken;
+mod task;
+#[cfg(test)]
+mod tests;
+
+pub use read::read_words;
+pub use task::Task;
