@@ -56,6 +56,7 @@ pub mod HeadExamples
 pub mod LexiconExamples
 pub mod LexiconLaws
 pub mod StandExamples
+pub mod SummaryExamples
 pub mod StandCodes
 pub mod StandText
 pub mod StandLaws

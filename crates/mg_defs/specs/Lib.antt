@@ -49,6 +49,7 @@ pub mod PostingLists
 pub mod Marks
 pub mod Squares
 pub mod DocCounts
+pub mod Summaries
 pub mod PageBounds
 pub mod TextBounds
 pub mod Join
