@@ -1,5 +1,5 @@
 -- An answer to a query line, as it is shown: what is printed, what is read, and why it stops.
-use Rattle.std.specs.Prelude.{◌≡◌, ℕ, ◌+◌, ◌≤◌, Bool, if◌then◌else◌, List, [], ◌∷◌, ◌++◌, length, flat_map, map, sum_by, Option, Some, None, Ok, Err}
+use Rattle.std.specs.Prelude.{◌≡◌, ℕ, ◌+◌, ◌<◌, ◌≤◌, Bool, if◌then◌else◌, List, [], ◌∷◌, ◌++◌, length, get_or, take, slice_index_or, flat_map, map, sum_by, Option, Some, None, Ok, Err}
 use Rattle.std.specs.declared.result.Result.{Result}
 use Rattle.mg_dev.specs.Causes.{Rose}
 use Rattle.mg_dev.specs.Files.{Files, Reads}
@@ -21,7 +21,7 @@ use Rattle.mg_defs.specs.declared.session.Mode.{Mode}
 use Rattle.mg_defs.specs.declared.session.Mode.TheVariants.{Docnums, Text, Count}
 use Rattle.mg_defs.specs.declared.session.Settings.{Settings}
 use Rattle.mg_bool.specs.Matches.{Matching, MatchesOver, left_of}
-use Rattle.mg_bool.specs.Places.{pages_read}
+use Rattle.mg_bool.specs.Places.{IsToldOf, pages_read}
 use Rattle.mg_layout.specs.declared.term_info.TermInfo.{TermInfo}
 use Rattle.mg_rank.specs.Ranked.{WeightsStand}
 use Rattle.mg_reply.specs.Pending.{Passed}
@@ -124,3 +124,14 @@ abbrev pub known_infos : List (Option TermInfo) → List TermInfo
 known_infos [] = []
 known_infos (None ∷ infos) = known_infos infos
 known_infos (Some info ∷ infos) = info ∷ known_infos infos
+
+-- what was told of the first of some terms
+pub record FirstInfos (collection : List ℕ) (ts : List (List ℕ)) (count : ℕ) (infos : List (Option TermInfo)) : Type 0 where
+  pub each : (k : ℕ) → k < count → IsToldOf collection (get_or ts k []) (slice_index_or infos k None)
+
+-- ---- while rows are shown
+
+-- so many of them were passed on
+pub record RowsShown (code : TextCode) (collection : List ℕ) (mode : Mode) (rows : List Hit) (count : ℕ) (before after : Option (List ℕ)) (waited waiting : List ℕ) (reads_before reads_now : Reads) : Type 0 where
+  pub passed : Passed before after waited waiting (rows_text collection mode (take count rows))
+  pub text : reads_now part.Text ≤ reads_before part.Text + rows_pages code collection mode (take count rows)

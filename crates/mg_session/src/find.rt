@@ -55,9 +55,10 @@ pub(crate) fn known_of(
 {
     let mut known = Vec::new(alloc);
     for info in infos {
-        if let Some(info) = info {
-            known.push(*info)?;
-        }
+        let Some(info) = info else {
+            continue;
+        };
+        known.push(*info)?;
     }
     Ok(known)
 }
