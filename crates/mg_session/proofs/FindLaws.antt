@@ -50,16 +50,22 @@ infos_all collection ts count infos first size all = record { size = size ∙ al
 
 -- ---- those that are known
 
-pub known_none : (infos : List (Option TermInfo)) (i : ℕ) (d : Option TermInfo) → i < length infos → slice_index_or infos i d ≡ None → known_infos (take (i + 1) infos) ≡ known_infos (take i infos)
-known_none [] i d lt is = absurd (omega (arith, lt))
-known_none (None ∷ infos) zero d lt is = refl
-known_none (Some x ∷ infos) zero d lt is = cc
-known_none (None ∷ infos) (suc i) d lt is = known_none infos i d (omega (arith, lt)) is
-known_none (Some x ∷ infos) (suc i) d lt is = ap (λ xs. x ∷ xs) (known_none infos i d (omega (arith, lt)) is)
+next_none : (infos : List (Option TermInfo)) (i : ℕ) (d : Option TermInfo) → i < length infos → get_or infos i d ≡ None → known_infos (take (suc i) infos) ≡ known_infos (take i infos)
+next_none [] i d lt is = absurd (omega (arith, lt))
+next_none (None ∷ infos) zero d lt is = refl
+next_none (Some x ∷ infos) zero d lt is = cc
+next_none (None ∷ infos) (suc i) d lt is = next_none infos i d (omega (arith, lt)) is
+next_none (Some x ∷ infos) (suc i) d lt is = ap (λ xs. x ∷ xs) (next_none infos i d (omega (arith, lt)) is)
 
-pub known_some : (infos : List (Option TermInfo)) (i : ℕ) (d : Option TermInfo) (info : TermInfo) → i < length infos → slice_index_or infos i d ≡ Some info → known_infos (take (i + 1) infos) ≡ known_infos (take i infos) ++ info ∷ []
-known_some [] i d info lt is = absurd (omega (arith, lt))
-known_some (None ∷ infos) zero d info lt is = cc
-known_some (Some x ∷ infos) zero d info lt is = cc
-known_some (None ∷ infos) (suc i) d info lt is = known_some infos i d info (omega (arith, lt)) is
-known_some (Some x ∷ infos) (suc i) d info lt is = ap (λ xs. x ∷ xs) (known_some infos i d info (omega (arith, lt)) is)
+pub known_none : (infos : List (Option TermInfo)) (i : ℕ) (d : Option TermInfo) → i < length infos → get_or infos i d ≡ None → known_infos (take (i + 1) infos) ≡ known_infos (take i infos)
+known_none infos i d lt is = ap (λ n. known_infos (take n infos)) (add-one i) ∙ next_none infos i d lt is
+
+next_some : (infos : List (Option TermInfo)) (i : ℕ) (d : Option TermInfo) (info : TermInfo) → i < length infos → get_or infos i d ≡ Some info → known_infos (take (suc i) infos) ≡ known_infos (take i infos) ++ info ∷ []
+next_some [] i d info lt is = absurd (omega (arith, lt))
+next_some (None ∷ infos) zero d info lt is = cc
+next_some (Some x ∷ infos) zero d info lt is = cc
+next_some (None ∷ infos) (suc i) d info lt is = next_some infos i d info (omega (arith, lt)) is
+next_some (Some x ∷ infos) (suc i) d info lt is = ap (λ xs. x ∷ xs) (next_some infos i d info (omega (arith, lt)) is)
+
+pub known_some : (infos : List (Option TermInfo)) (i : ℕ) (d : Option TermInfo) (info : TermInfo) → i < length infos → get_or infos i d ≡ Some info → known_infos (take (i + 1) infos) ≡ known_infos (take i infos) ++ info ∷ []
+known_some infos i d info lt is = ap (λ n. known_infos (take n infos)) (add-one i) ∙ next_some infos i d info lt is

@@ -95,7 +95,7 @@ shorter : {X Y : Type 0} (x : X) (y : Y) (xs : List X) (ys : List Y) → length 
 shorter x y xs ys e = omega (arith, e)
 
 infos_more : (collection t : List ℕ) (ts : List (List ℕ)) (o : Option TermInfo) (infos : List (Option TermInfo)) → AreInfos collection (t ∷ ts) (o ∷ infos) → IsToldOf collection t o × AreInfos collection ts infos
-infos_more collection t ts o infos are = (are.each 0 (omega arith), record { size = shorter o t infos ts are.size; each = λ k lt. are.each (k + 1) (omega (arith, lt)) })
+infos_more collection t ts o infos are = (are.each 0 (omega arith), record { size = shorter o t infos ts are.size; each = λ k lt. are.each (suc k) (omega (arith, lt)) })
 
 none_have : (collection : List ℕ) (ts : List (List ℕ)) (infos : List (Option TermInfo)) → AreInfos collection ts infos → NoneHave (documents collection) ts infos
 none_have collection [] infos are = tt

@@ -5,4 +5,5 @@ pub mod FindLaws
 pub mod KnownLaws
 pub mod WalkLaws
 pub mod RankedLaws
+pub mod ReplyLaws
 pub mod SessionLaws

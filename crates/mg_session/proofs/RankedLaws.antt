@@ -1,5 +1,5 @@
 -- A ranked answer, shown row by row.
-use Rattle.std.proofs.Common.{arith, ◌≡◌, ℕ, zero, suc, ◌+◌, ◌<◌, ◌≤◌, List, [], ◌∷◌, ◌++◌, length, take, drop, map, filter, Some, None, Ok, Err, refl, sym, ◌∙◌, ap, subst, append_assoc, append-nil, sum_by}
+use Rattle.std.proofs.Common.{arith, ◌≡◌, ℕ, zero, suc, ◌+◌, ◌<◌, ◌≤◌, List, [], ◌∷◌, ◌++◌, length, take, drop, map, filter, Some, None, Ok, Err, refl, sym, ◌∙◌, ap, subst, append_assoc, append-nil, add-one, sum_by}
 use Rattle.std.specs.Prelude.{flat_map, slice_index_or, unwrap_or}
 use Rattle.std.specs.List.{list_any, enumerate_from}
 use Rattle.std.specs.declared.option.Option.{Option}
@@ -31,19 +31,25 @@ use Rattle.mg_session.specs.Answering.{Answered, RowsShown, answer_pages, at_sco
 
 -- ---- row by row
 
-text_more : (collection : List ℕ) (mode : Mode) (rows : List Hit) (i : ℕ) (d : Hit) → i < length rows → rows_text collection mode (take (i + 1) rows) ≡ rows_text collection mode (take i rows) ++ shown collection mode (shown_hit (slice_index_or rows i d))
+text_next : (collection : List ℕ) (mode : Mode) (rows : List Hit) (i : ℕ) (d : Hit) → i < length rows → rows_text collection mode (take (suc i) rows) ≡ rows_text collection mode (take i rows) ++ shown collection mode (shown_hit (slice_index_or rows i d))
 unfolding rows_text
-text_more collection mode [] i d lt = absurd (omega (arith, lt))
-text_more collection mode (r ∷ rows) zero d lt = append-nil (shown collection mode (shown_hit r))
-text_more collection mode (r ∷ rows) (suc i) d lt =
-    ap (λ t. shown collection mode (shown_hit r) ++ t) (text_more collection mode rows i d (omega (arith, lt)))
+text_next collection mode [] i d lt = absurd (omega (arith, lt))
+text_next collection mode (r ∷ rows) zero d lt = append-nil (shown collection mode (shown_hit r))
+text_next collection mode (r ∷ rows) (suc i) d lt =
+    ap (λ t. shown collection mode (shown_hit r) ++ t) (text_next collection mode rows i d (omega (arith, lt)))
     ∙ sym (append_assoc (shown collection mode (shown_hit r)) (rows_text collection mode (take i rows)) (shown collection mode (shown_hit (slice_index_or rows i d))))
 
-pages_more : (code : TextCode) (collection : List ℕ) (mode : Mode) (rows : List Hit) (i : ℕ) (d : Hit) → i < length rows → rows_pages code collection mode (take (i + 1) rows) ≡ rows_pages code collection mode (take i rows) + mode_pages code collection mode (shown_hit (slice_index_or rows i d))
+text_more : (collection : List ℕ) (mode : Mode) (rows : List Hit) (i : ℕ) (d : Hit) → i < length rows → rows_text collection mode (take (i + 1) rows) ≡ rows_text collection mode (take i rows) ++ shown collection mode (shown_hit (slice_index_or rows i d))
+text_more collection mode rows i d lt = ap (λ n. rows_text collection mode (take n rows)) (add-one i) ∙ text_next collection mode rows i d lt
+
+pages_next : (code : TextCode) (collection : List ℕ) (mode : Mode) (rows : List Hit) (i : ℕ) (d : Hit) → i < length rows → rows_pages code collection mode (take (suc i) rows) ≡ rows_pages code collection mode (take i rows) + mode_pages code collection mode (shown_hit (slice_index_or rows i d))
 unfolding rows_pages
-pages_more code collection mode [] i d lt = absurd (omega (arith, lt))
-pages_more code collection mode (r ∷ rows) zero d lt = omega arith
-pages_more code collection mode (r ∷ rows) (suc i) d lt = omega (arith, pages_more code collection mode rows i d (omega (arith, lt)))
+pages_next code collection mode [] i d lt = absurd (omega (arith, lt))
+pages_next code collection mode (r ∷ rows) zero d lt = omega arith
+pages_next code collection mode (r ∷ rows) (suc i) d lt = omega (arith, pages_next code collection mode rows i d (omega (arith, lt)))
+
+pages_more : (code : TextCode) (collection : List ℕ) (mode : Mode) (rows : List Hit) (i : ℕ) (d : Hit) → i < length rows → rows_pages code collection mode (take (i + 1) rows) ≡ rows_pages code collection mode (take i rows) + mode_pages code collection mode (shown_hit (slice_index_or rows i d))
+pages_more code collection mode rows i d lt = ap (λ n. rows_pages code collection mode (take n rows)) (add-one i) ∙ pages_next code collection mode rows i d lt
 
 text_append : (collection : List ℕ) (mode : Mode) (xs ys : List Hit) → rows_text collection mode (xs ++ ys) ≡ rows_text collection mode xs ++ rows_text collection mode ys
 unfolding rows_text
@@ -141,3 +147,69 @@ rows_text_is collection query now all total rows is e n =
     let size : length (ranking collection query) ≡ total = length-map (by_score (hits collection query)) shown_hit ∙ ranked_count collection query ∙ sym n in
     ap (λ k. flat_map (shown collection now.mode) (first now.most (ranking collection query)) ++ count k) size
     ∙ ap (λ xs. flat_map (shown collection now.mode) xs ++ count total) (sym same)
+
+-- ---- numbers that are shown
+
+pub numbered : (n : ℕ) (rows : List Hit) (i number : ℕ) → ((k : ℕ) (d : Hit) → k < length rows → (1 ≤ (slice_index_or rows k d).number) × ((slice_index_or rows k d).number ≤ n)) → i < length rows → ((d : Hit) → number ≡ (slice_index_or rows i d).number) → (1 ≤ number) × (number ≤ n)
+numbered n rows i number all lt is = (omega (arith, (all i no_hit lt).0, is no_hit), omega (arith, (all i no_hit lt).1, is no_hit))
+
+-- ---- the whole answer
+
+-- the lists or the weights were refused
+pub terms_stop : (code : TextCode) (collection : List ℕ) (now : Settings) (query : List (List ℕ)) (bound kept : ℕ) (w : Option (List ℕ)) (r0 r1 : Reads) (error : ShowErr) → kept ≤ bound → r1 part.Post ≤ r0 part.Post + kept → r1 part.Text ≡ r0 part.Text → ShowIsNotBad (Err error) →
+    Answered code collection now (ranking collection query) bound w w r0 r1 (Err error)
+terms_stop code collection now query bound kept w r0 r1 error less post text sound = record {
+  put = grew_nothing w (answer_text collection now (ranking collection query));
+  sound = sound;
+  post = omega (arith, less, post);
+  text = omega (arith, text);
+}
+
+-- the rows are the first of the answer, and so many documents are counted
+pub record AreRows (collection : List ℕ) (query : List (List ℕ)) (now : Settings) (all total : ℕ) (rows : List Hit) : Type 0 where
+  pub all_is : all ≡ length (documents collection)
+  pub rows_are : rows ≡ top collection query (Some (unwrap_or now.most all))
+  pub total_is : total ≡ hit_count collection query
+
+-- the rows of an answer to the terms that are known
+pub are_rows : (collection : List ℕ) (kept query : List (List ℕ)) (now : Settings) (all most total : ℕ) (rows : List Hit) → hits collection kept ≡ hits collection query → all ≡ length (documents collection) → most ≡ unwrap_or now.most all → rows ≡ top collection kept (Some most) → total ≡ hit_count collection kept → AreRows collection query now all total rows
+are_rows collection kept query now all most total rows same is m rows_are total_is = record {
+  all_is = is;
+  rows_are = rows_are ∙ ap (λ hs. take most (by_score hs)) same ∙ ap (λ k. take k (by_score (hits collection query))) m;
+  total_is = total_is ∙ ap length same;
+}
+
+-- a row could not be shown
+pub rows_stop : (code : TextCode) (collection : List ℕ) (now : Settings) (query : List (List ℕ)) (all total bound kept : ℕ) (rows : List Hit) (w0 w1 : Option (List ℕ)) (waiting : List ℕ) (r0 r1 r2 : Reads) (error : ShowErr) → AreRows collection query now all total rows → kept ≤ bound → r1 part.Post ≤ r0 part.Post + kept → r1 part.Text ≡ r0 part.Text →
+    waiting ≡ [] → GrewByPrefix w0 w1 (waiting ++ rows_text collection now.mode rows) → r2 part.Post ≡ r1 part.Post → r2 part.Text ≤ r1 part.Text + rows_pages code collection now.mode rows → ShowIsNotBad (Err error) →
+    Answered code collection now (ranking collection query) bound w0 w1 r0 r2 (Err error)
+rows_stop code collection now query all total bound kept rows w0 w1 waiting r0 r1 r2 error are less post text none grew post_too shown_text sound = record {
+  put = subst (GrewByPrefix w0 w1) (sym (rows_text_is collection query now all total rows are.all_is are.rows_are are.total_is)) (grew_first w0 w1 (rows_text collection now.mode rows) (count total) (pass_refused w0 w1 waiting (rows_text collection now.mode rows) none grew));
+  sound = sound;
+  post = omega (arith, less, post, post_too);
+  text = omega (arith, text, shown_text, rows_pages_are code collection query now all rows are.all_is are.rows_are);
+}
+
+-- the count was passed on, and what waited was put or refused
+pub rows_end : (code : TextCode) (collection : List ℕ) (now : Settings) (query : List (List ℕ)) (all total bound kept : ℕ) (rows : List Hit) (w0 w1 w2 w3 : Option (List ℕ)) (p0 p1 p2 : List ℕ) (r0 r1 r2 : Reads) (result : Result (Unit {0}) ShowErr) → AreRows collection query now all total rows → kept ≤ bound → r1 part.Post ≤ r0 part.Post + kept → r1 part.Text ≡ r0 part.Text →
+    p0 ≡ [] → Passed w0 w1 p0 p1 (rows_text collection now.mode rows) → r2 part.Post ≡ r1 part.Post → r2 part.Text ≤ r1 part.Text + rows_pages code collection now.mode rows →
+    Passed w1 w2 p1 p2 (count total) → AfterPut w2 w3 p2 result → ShowIsNotBad result →
+    Answered code collection now (ranking collection query) bound w0 w3 r0 r2 result
+rows_end code collection now query all total bound kept rows w0 w1 w2 w3 p0 p1 p2 r0 r1 r2 result are less post text none passed post_too shown_text counted put sound = record {
+  put = subst (λ t. AfterPut w0 w3 t result) (sym (rows_text_is collection query now all total rows are.all_is are.rows_are are.total_is)) (pass_put w0 w2 w3 p0 p2 (rows_text collection now.mode rows ++ count total) result none (pass_both w0 w1 w2 p0 p1 p2 (rows_text collection now.mode rows) (count total) passed counted) put);
+  sound = sound;
+  post = omega (arith, less, post, post_too);
+  text = omega (arith, text, shown_text, rows_pages_are code collection query now all rows are.all_is are.rows_are);
+}
+
+-- the count was refused
+pub rows_uncounted : (code : TextCode) (collection : List ℕ) (now : Settings) (query : List (List ℕ)) (all total bound kept : ℕ) (rows : List Hit) (w0 w1 w2 : Option (List ℕ)) (p0 p1 : List ℕ) (r0 r1 r2 : Reads) (error : ShowErr) → AreRows collection query now all total rows → kept ≤ bound → r1 part.Post ≤ r0 part.Post + kept → r1 part.Text ≡ r0 part.Text →
+    p0 ≡ [] → Passed w0 w1 p0 p1 (rows_text collection now.mode rows) → r2 part.Post ≡ r1 part.Post → r2 part.Text ≤ r1 part.Text + rows_pages code collection now.mode rows →
+    GrewByPrefix w1 w2 (p1 ++ count total) → ShowIsNotBad (Err error) →
+    Answered code collection now (ranking collection query) bound w0 w2 r0 r2 (Err error)
+rows_uncounted code collection now query all total bound kept rows w0 w1 w2 p0 p1 r0 r1 r2 error are less post text none passed post_too shown_text grew sound = record {
+  put = subst (GrewByPrefix w0 w2) (sym (rows_text_is collection query now all total rows are.all_is are.rows_are are.total_is)) (pass_refused w0 w2 p0 (rows_text collection now.mode rows ++ count total) none (pass_cut w0 w1 w2 p0 p1 (rows_text collection now.mode rows) (count total) passed grew));
+  sound = sound;
+  post = omega (arith, less, post, post_too);
+  text = omega (arith, text, shown_text, rows_pages_are code collection query now all rows are.all_is are.rows_are);
+}

@@ -6,7 +6,7 @@ use Rattle.std.specs.declared.option.Option.{Option}
 use Rattle.std.specs.declared.result.Result.{Result}
 use Rattle.std.proofs.lemmas.Bool.{cond-true, cond-false, cases_Bool}
 use Rattle.std.proofs.lemmas.List.Sums.{sum_by-append}
-use Rattle.mg_dev.specs.Files.{Reads}
+use Rattle.mg_dev.specs.Files.{Files, Reads}
 use Rattle.std.proofs.Math.Seq.{take-length}
 use Rattle.mg_dev.specs.Streams.{AfterPut, GrewByPrefix, appended}
 use Rattle.mg_dev.specs.StreamLaws.{grew_first}
@@ -25,7 +25,7 @@ use Rattle.mg_defs.specs.declared.session.Mode.{Mode}
 use Rattle.mg_defs.specs.declared.session.Mode.TheVariants.{Docnums, Text, Count}
 use Rattle.mg_defs.specs.declared.session.Settings.{Settings}
 use Rattle.mg_defs.proofs.ReplyLaws.{first-full, first-front, first-more, hit_adds, none_first, reply-front}
-use Rattle.mg_bool.specs.Matches.{GoesOn, Matching, MatchesOver, left_of}
+use Rattle.mg_bool.specs.Matches.{GoesOn, Matching, MatchesFit, MatchesOver, left_of}
 use Rattle.mg_bool.specs.Places.{pages_read}
 use Rattle.mg_query.specs.QueryOf.{query_of}
 use Rattle.mg_post.specs.TermLists.{PagesWithin}
@@ -67,7 +67,7 @@ texts_more f most so_far hit total size =
       | inr full ↦ omega (arith, ap (sum_by f) (first-full most so_far hit (ap (shows most) size ∙ full)), cond-false (shows most total) (f hit) 0 full)
     ]
 
-none_more : (b : Bool) → (if b then 0 else 0) ≡ 0
+none_more : (b : Bool) → ◌≡◌ {A = ℕ} (if b then 0 else 0) 0
 none_more true = refl
 none_more false = refl
 
@@ -219,3 +219,8 @@ walked_uncounted base code collection q now w0 w1 w2 waiting total bound m n r0 
       post = omega (arith, w.post, pages.post, pages.within);
       text = omega (arith, pages_so_far base code collection q now w0 w1 waiting total m r0 r1 w, text);
     }
+
+-- ---- what is kept agrees with the same files
+
+pub fit_later : (base : List ℕ) (f g : Option Files) (m : Matching) → g ≡ f → MatchesFit base f m → MatchesFit base g m
+fit_later base f g m same fit = subst (λ h. MatchesFit base h m) (sym same) fit

@@ -1,6 +1,5 @@
 //! The answer to a Boolean query.
 ghost use Rattle.std.specs.Prelude.{◌≡◌, ℕ, List, length};
-ghost use Rattle.mg_dev.specs.Streams.{AfterPut};
 ghost use Rattle.mg_defs.specs.PageBounds.{boolean_bound};
 ghost use Rattle.mg_defs.specs.QueryTerms.{query_terms};
 ghost use Rattle.mg_defs.specs.Reply.{satisfying};
@@ -13,7 +12,7 @@ ghost use Rattle.mg_session.specs.Parts.{Stepped};
 use crate::hit::show_hit;
 use mg_bool::Matches;
 use mg_defs::Settings;
-use mg_dev::{ShowErr, Sink, Store};
+use mg_dev::{PartErr, ShowErr, Sink, Store};
 use mg_layout::TermInfo;
 use mg_query::Query;
 use mg_reply::Pending;
@@ -44,7 +43,10 @@ pub(crate) fn answer_query<S: Store, O: Sink>(
     ensures step { Stepped (S.files store.old) (S.files store.new) (S.reads store.old) (S.reads store.new) (S.faults store.old) (S.faults store.new) }
     ensures cause { HasShowCause result (S.faults store.old) (S.faults store.new) (O.faults out.old) (O.faults out.new) }
 {
-    let mut matches = Matches::start(alloc, base, query, infos, all)?;
+    let mut matches = match Matches::start(alloc, base, query, infos, all) {
+        Ok(matches) => matches,
+        Err(_) => return Err(ShowErr::Part(PartErr::Memory)),
+    };
     let mut pending = Pending::new();
     let mut total = 0u32;
     'matches: loop {

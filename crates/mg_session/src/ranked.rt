@@ -16,7 +16,7 @@ ghost use Rattle.mg_session.specs.Parts.{Stepped};
 use crate::find::known_of;
 use crate::hit::show_doc;
 use mg_defs::{Mode, Settings};
-use mg_dev::{ShowErr, Sink, Store};
+use mg_dev::{PartErr, ShowErr, Sink, Store};
 use mg_layout::TermInfo;
 use mg_rank::{RankRows, rank};
 use mg_reply::Pending;
@@ -76,7 +76,10 @@ pub(crate) fn answer_terms<S: Store, O: Sink>(
     ensures step { Stepped (S.files store.old) (S.files store.new) (S.reads store.old) (S.reads store.new) (S.faults store.old) (S.faults store.new) }
     ensures cause { HasShowCause result (S.faults store.old) (S.faults store.new) (O.faults out.old) (O.faults out.new) }
 {
-    let known = known_of(alloc, infos)?;
+    let known = match known_of(alloc, infos) {
+        Ok(known) => known,
+        Err(_) => return Err(ShowErr::Part(PartErr::Memory)),
+    };
     let most = now.most.unwrap_or(all);
     let ranked = match rank(alloc, store, base, &known, all, most) {
         Ok(ranked) => ranked,

@@ -14,7 +14,7 @@ use crate::boolean::answer_query;
 use crate::find::find_terms;
 use crate::ranked::answer_terms;
 use mg_defs::Settings;
-use mg_dev::{ShowErr, Sink, Store};
+use mg_dev::{PartErr, ShowErr, Sink, Store};
 use mg_lex::Lex;
 use mg_query::{parse_boolean, parse_ranked};
 use mg_reply::{Answerer, put_refused};
@@ -84,7 +84,10 @@ impl<'a, S: Store> Searcher<'a, S> {
                 Err(refusal) => return Err(ShowErr::from(refusal)),
             },
         };
-        let terms = query.terms(self.alloc)?;
+        let terms = match query.terms(self.alloc) {
+            Ok(terms) => terms,
+            Err(_) => return Err(ShowErr::Part(PartErr::Memory)),
+        };
         let infos = match find_terms(self.alloc, store, &mut self.lex, terms.as_slice()) {
             Ok(infos) => infos,
             Err(refusal) => return Err(ShowErr::from(refusal)),
