@@ -4,7 +4,8 @@ use Rattle.std.specs.Prelude.{count_by, slice_index_or}
 use Rattle.std.specs.List.{list_any, enumerate_from, AllByRecursion, IsDistinct}
 use Rattle.std.specs.Str.{bytes_eq}
 use Rattle.std.specs.declared.option.Option.{Option}
-use Rattle.std.proofs.lemmas.Bool.{cond-true, cond-false, cond_both}
+use Rattle.std.proofs.lemmas.Bool.{cond-true, cond-false}
+use Rattle.std.proofs.lemmas.List.Sums.{sum_by-cons}
 use Rattle.mg_defs.specs.PageBounds.{list_pages, ranked_bound}
 use Rattle.mg_defs.specs.Split.{documents}
 use Rattle.mg_defs.specs.Terms.{docs}
@@ -31,12 +32,12 @@ Misses doc (t ∷ ts) [] = ⊥
 Misses doc (t ∷ ts) (None ∷ infos) = (has_term doc t ≡ false) × Misses doc ts infos
 Misses doc (t ∷ ts) (Some info ∷ infos) = Misses doc ts infos
 
-none_first : (test : List ℕ → Bool) (doc : List ℕ) (docs : List (List ℕ)) → count_by test (doc ∷ docs) ≡ 0 → (test doc ≡ false) × (count_by test docs ≡ 0)
-none_first test doc docs none = by_test (test doc) refl
+none_first : (test : List ℕ → Bool) (doc : List ℕ) (ds : List (List ℕ)) → count_by test (doc ∷ ds) ≡ 0 → (test doc ≡ false) × (count_by test ds ≡ 0)
+none_first test doc ds none = by_test (test doc) refl
   where
-    by_test : (b : Bool) → test doc ≡ b → (test doc ≡ false) × (count_by test docs ≡ 0)
-    by_test true is = absurd (omega (arith, none, cond-true (test doc) 1 0 is))
-    by_test false is = (is, omega (arith, none))
+    by_test : (b : Bool) → test doc ≡ b → (test doc ≡ false) × (count_by test ds ≡ 0)
+    by_test true is = absurd (omega (arith, none, sum_by-cons (λ d. if test d then 1 else 0) doc ds, cond-true {A = ℕ} (test doc) 1 0 is))
+    by_test false is = (is, omega (arith, none, sum_by-cons (λ d. if test d then 1 else 0) doc ds))
 
 misses_first : (doc : List ℕ) (docs : List (List ℕ)) (ts : List (List ℕ)) (infos : List (Option TermInfo)) → NoneHave (doc ∷ docs) ts infos → Misses doc ts infos × NoneHave docs ts infos
 misses_first doc docs [] infos none = (tt, tt)
@@ -114,8 +115,8 @@ pub known_bound : (collection : List ℕ) (ts : List (List ℕ)) (infos : List (
 unfolding ranked_bound
 known_bound collection [] infos size = omega arith
 known_bound collection (t ∷ ts) [] size = omega arith
-known_bound collection (t ∷ ts) (None ∷ infos) size = omega (arith, known_bound collection ts infos (shorter (None {A = TermInfo}) t infos ts size))
-known_bound collection (t ∷ ts) (Some info ∷ infos) size = omega (arith, known_bound collection ts infos (shorter (Some info) t infos ts size))
+known_bound collection (t ∷ ts) (None ∷ infos) size = omega (arith, sum_by-cons (list_pages collection) t ts, known_bound collection ts infos (shorter {X = Option TermInfo} None t infos ts size))
+known_bound collection (t ∷ ts) (Some info ∷ infos) size = omega (arith, sum_by-cons (list_pages collection) t ts, sum_by-cons (list_pages collection) t (known_terms ts infos), known_bound collection ts infos (shorter (Some info) t infos ts size))
 
 -- ---- the terms that are known are told of
 
@@ -123,7 +124,7 @@ known_sizes : (ts : List (List ℕ)) (infos : List (Option TermInfo)) → length
 known_sizes [] [] size = refl
 known_sizes [] (o ∷ infos) size = absurd (omega (arith, size))
 known_sizes (t ∷ ts) [] size = absurd (omega (arith, size))
-known_sizes (t ∷ ts) (None ∷ infos) size = known_sizes ts infos (shorter (None {A = TermInfo}) t infos ts size)
+known_sizes (t ∷ ts) (None ∷ infos) size = known_sizes ts infos (shorter {X = Option TermInfo} None t infos ts size)
 known_sizes (t ∷ ts) (Some info ∷ infos) size = omega (arith, known_sizes ts infos (shorter (Some info) t infos ts size))
 
 others_known : (t : List ℕ) (ts : List (List ℕ)) (infos : List (Option TermInfo)) → AllByRecursion (λ u. bytes_eq t u ≡ false) ts → AllByRecursion (λ u. bytes_eq t u ≡ false) (known_terms ts infos)

@@ -7,7 +7,7 @@ use Rattle.std.specs.declared.result.Result.{Result}
 use Rattle.std.proofs.lemmas.List.{length-map, take-map, take-append-drop, take_all}
 use Rattle.std.proofs.lemmas.List.FromFn.{length-enumerate_from}
 use Rattle.std.proofs.lemmas.List.Sorted.{length_permutation}
-use Rattle.std.proofs.lemmas.List.Sums.{count_by-le-length, length-filter}
+use Rattle.std.proofs.lemmas.List.Sums.{count_by-le-length, length-filter, sum_by-cons}
 use Rattle.mg_dev.specs.Files.{Reads}
 use Rattle.mg_dev.specs.Streams.{AfterPut, GrewByPrefix}
 use Rattle.mg_dev.specs.StreamLaws.{grew_first, grew_nothing}
@@ -42,11 +42,15 @@ text_next collection mode (r ∷ rows) (suc i) d lt =
 text_more : (collection : List ℕ) (mode : Mode) (rows : List Hit) (i : ℕ) (d : Hit) → i < length rows → rows_text collection mode (take (i + 1) rows) ≡ rows_text collection mode (take i rows) ++ shown collection mode (shown_hit (slice_index_or rows i d))
 text_more collection mode rows i d lt = ap (λ n. rows_text collection mode (take n rows)) (add-one i) ∙ text_next collection mode rows i d lt
 
+pages_cons : (code : TextCode) (collection : List ℕ) (mode : Mode) (r : Hit) (rows : List Hit) → rows_pages code collection mode (r ∷ rows) ≡ mode_pages code collection mode (shown_hit r) + rows_pages code collection mode rows
+unfolding rows_pages
+pages_cons code collection mode r rows = sum_by-cons (mode_pages code collection mode) (shown_hit r) (shown_hits rows)
+
 pages_next : (code : TextCode) (collection : List ℕ) (mode : Mode) (rows : List Hit) (i : ℕ) (d : Hit) → i < length rows → rows_pages code collection mode (take (suc i) rows) ≡ rows_pages code collection mode (take i rows) + mode_pages code collection mode (shown_hit (slice_index_or rows i d))
 unfolding rows_pages
 pages_next code collection mode [] i d lt = absurd (omega (arith, lt))
 pages_next code collection mode (r ∷ rows) zero d lt = omega arith
-pages_next code collection mode (r ∷ rows) (suc i) d lt = omega (arith, pages_next code collection mode rows i d (omega (arith, lt)))
+pages_next code collection mode (r ∷ rows) (suc i) d lt = omega (arith, pages_cons code collection mode r (take (suc i) rows), pages_cons code collection mode r (take i rows), pages_next code collection mode rows i d (omega (arith, lt)))
 
 pages_more : (code : TextCode) (collection : List ℕ) (mode : Mode) (rows : List Hit) (i : ℕ) (d : Hit) → i < length rows → rows_pages code collection mode (take (i + 1) rows) ≡ rows_pages code collection mode (take i rows) + mode_pages code collection mode (shown_hit (slice_index_or rows i d))
 pages_more code collection mode rows i d lt = ap (λ n. rows_pages code collection mode (take n rows)) (add-one i) ∙ pages_next code collection mode rows i d lt
@@ -60,7 +64,7 @@ pages_take : (code : TextCode) (collection : List ℕ) (mode : Mode) (k : ℕ) (
 unfolding rows_pages
 pages_take code collection mode zero rows = omega arith
 pages_take code collection mode (suc k) [] = omega arith
-pages_take code collection mode (suc k) (r ∷ rows) = omega (arith, pages_take code collection mode k rows)
+pages_take code collection mode (suc k) (r ∷ rows) = omega (arith, pages_cons code collection mode r (take k rows), pages_cons code collection mode r rows, pages_take code collection mode k rows)
 
 row_is : (rows : List Hit) (i number score : ℕ) (d : Hit) → number ≡ (slice_index_or rows i d).number → score ≡ (slice_index_or rows i d).score → at_score number (Some score) ≡ shown_hit (slice_index_or rows i d)
 row_is rows i number score d n s = λ j. record { number = n j; score = Some (s j) }
@@ -120,7 +124,7 @@ few_hits collection query =
     )
 
 ranked_count : (collection : List ℕ) (query : List (List ℕ)) → length (by_score (hits collection query)) ≡ hit_count collection query
-ranked_count collection query = sym (length_permutation (hits collection query) (by_score (hits collection query)) (by_score_permutes (hits collection query)))
+ranked_count collection query = length_permutation (hits collection query) (by_score (hits collection query)) (by_score_permutes (hits collection query))
 
 first_rows : (collection : List ℕ) (query : List (List ℕ)) (most : Option ℕ) (all : ℕ) → all ≡ length (documents collection) → shown_hits (top collection query (Some (unwrap_or most all))) ≡ first most (ranking collection query)
 first_rows collection query None all is = ap shown_hits (take_all all (by_score (hits collection query)) (omega (arith, is, few_hits collection query, ranked_count collection query)))

@@ -30,7 +30,7 @@ use Rattle.mg_query.specs.RefusalOf.{refusal_of}
 use Rattle.mg_query.specs.declared.query_err.QueryErr.{QueryErr}
 use Rattle.mg_query.specs.declared.query_err.QueryErr.TheVariants as query
 use Rattle.mg_post.specs.Answers.{AnswersList}
-use Rattle.mg_rank.specs.Ranked.{AnswersOr}
+use Rattle.mg_rank.specs.Ranked.{AnswersOr, AnswersTop}
 use Rattle.mg_reply.specs.Served.{PartStops}
 use Rattle.mg_text.specs.Reading.{ShowIsNotBad}
 use Rattle.mg_session.specs.Answering.{Answered, AnswersFor, HasShowCause, Replied, answer_pages}
@@ -56,6 +56,11 @@ pub list_sound : {T : Type 0} (refusal : PartErr) (error : ShowErr) (fact : T �
 list_sound Device error fact is or = subst (λ e. ShowIsNotBad (Err e)) (sym is) tt
 list_sound Memory error fact is or = absurd or
 list_sound (Bad bad) error fact is or = absurd or
+
+pub top_sound : (refusal : PartErr) (error : ShowErr) (collection : List ℕ) (ts : List (List ℕ)) (most : ℕ) → error ≡ show.Part refusal → AnswersTop (Err refusal) collection ts most → ShowIsNotBad (Err error)
+top_sound Device error collection ts most is or = subst (λ e. ShowIsNotBad (Err e)) (sym is) tt
+top_sound Memory error collection ts most is or = subst (λ e. ShowIsNotBad (Err e)) (sym is) tt
+top_sound (Bad bad) error collection ts most is or = absurd or
 
 -- nothing was printed or read
 pub none_answered : (code : TextCode) (collection : List ℕ) (now : Settings) (answer : List Shown) (bound : ℕ) (w : Option (List ℕ)) (r : Reads) → Answered code collection now answer bound w w r r (Err (show.Part Memory))

@@ -73,9 +73,9 @@ none_more false = refl
 
 pages_adds : (code : TextCode) (collection : List ℕ) (mode : Mode) (most : Option ℕ) (so_far : List Shown) (hit : Shown) (total : ℕ) → length so_far ≡ total →
     sum_by (doc_pages code collection) (texts_in mode most (so_far ++ hit ∷ [])) ≡ sum_by (doc_pages code collection) (texts_in mode most so_far) + (if shows most total then mode_pages code collection mode hit else 0)
-pages_adds code collection Docnums most so_far hit total size = sym (none_more (shows most total))
+pages_adds code collection Docnums most so_far hit total size = omega (arith, none_more (shows most total))
 pages_adds code collection Text most so_far hit total size = texts_more (doc_pages code collection) most so_far hit total size
-pages_adds code collection Count most so_far hit total size = sym (none_more (shows most total))
+pages_adds code collection Count most so_far hit total size = omega (arith, none_more (shows most total))
 
 texts_front : (f : Shown → ℕ) (most : Option ℕ) (xs ys : List Shown) → sum_by f (first most xs) ≤ sum_by f (first most (xs ++ ys))
 texts_front f most xs ys =

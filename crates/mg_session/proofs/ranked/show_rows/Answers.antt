@@ -17,10 +17,10 @@ loop-place-init g c = record {
 }
 
 pub show_doc-requires-clause-some : goal.show_doc-requires-clause-some
-show_doc-requires-clause-some g c = (numbered c.args.text.now.documents c.args.rows.now c.loop-place.place c.row.result.number c.requires.range (omega arith) c.row.ensures.number).0
+show_doc-requires-clause-some g c = (numbered c.args.text.now.documents c.args.rows.now c.loop-place.place c.row-row.result.number c.requires.range (omega arith) c.row-row.ensures.number).0
 
 pub show_doc-requires-clause-within : goal.show_doc-requires-clause-within
-show_doc-requires-clause-within g c = omega (arith, (numbered c.args.text.now.documents c.args.rows.now c.loop-place.place c.row.result.number c.requires.range (omega arith) c.row.ensures.number).1, c.loop-place.invariant.same.documents)
+show_doc-requires-clause-within g c = omega (arith, (numbered c.args.text.now.documents c.args.rows.now c.loop-place.place c.row-row.result.number c.requires.range (omega arith) c.row-row.ensures.number).1, c.loop-place.invariant.same.documents)
 
 pub loop-place-preserved : goal.loop-place-preserved
 loop-place-preserved g c =
@@ -32,22 +32,22 @@ loop-place-preserved g c =
       output = omega (arith, inv.output, c.in-Ok.ensures.cause.output);
       shown = λ collection is.
           let text = text_later _ _ _ _ collection inv.same inv.looked.files is in
-          rows_more c.args.text.now.code collection c.args.mode c.args.rows.now c.loop-place.place c.row.result.number c.row.result.score _ _ _ _ _ _ _ (g.S.Store.reads c.loop-place.store) _ (omega arith) c.row.ensures.number c.row.ensures.score (inv.shown collection is) (c.in-Ok.ensures.content collection text)
-          (subst (λ (code : TextCode). g.S.Store.reads c.show_doc.new.store part.Text ≤ g.S.Store.reads c.loop-place.store part.Text + mode_pages code collection c.args.mode (at_score c.row.result.number (Some c.row.result.score))) inv.same.code (c.in-Ok.ensures.pages collection text));
+          rows_more c.args.text.now.code collection c.args.mode c.args.rows.now c.loop-place.place c.row-row.result.number c.row-row.result.score _ _ _ _ _ _ _ (g.S.Store.reads c.loop-place.store) _ (omega arith) c.row-row.ensures.number c.row-row.ensures.score (inv.shown collection is) (c.in-Ok.ensures.content collection text)
+          (subst (λ (code : TextCode). g.S.Store.reads c.show_doc.new.store part.Text ≤ g.S.Store.reads c.loop-place.store part.Text + mode_pages code collection c.args.mode (at_score c.row-row.result.number (Some c.row-row.result.score))) inv.same.code (c.in-Ok.ensures.pages collection text));
     }
 
 pub returns-in-Err-clause-content : goal.returns-in-Err-clause-content
 returns-in-Err-clause-content g c = λ collection is.
     let inv = c.loop-place.invariant in
     let text = text_later _ _ _ _ collection inv.same inv.looked.files is in
-    rows_cut c.args.text.now.code collection c.args.mode c.args.rows.now c.loop-place.place c.row.result.number c.row.result.score _ _ _ _ _ _ (g.S.Store.reads c.loop-place.store) (omega arith) c.row.ensures.number c.row.ensures.score (inv.shown collection is) (c.in-Err.ensures.content collection text)
+    rows_cut c.args.text.now.code collection c.args.mode c.args.rows.now c.loop-place.place c.row-row.result.number c.row-row.result.score _ _ _ _ _ _ (g.S.Store.reads c.loop-place.store) (omega arith) c.row-row.ensures.number c.row-row.ensures.score (inv.shown collection is) (c.in-Err.ensures.content collection text)
 
 pub returns-in-Err-clause-pages : goal.returns-in-Err-clause-pages
 returns-in-Err-clause-pages g c = λ collection is.
     let inv = c.loop-place.invariant in
     let text = text_later _ _ _ _ collection inv.same inv.looked.files is in
-    pages_cut c.args.text.now.code collection c.args.mode c.args.rows.now c.loop-place.place c.row.result.number c.row.result.score _ _ _ _ _ (g.S.Store.reads c.loop-place.store) _ (omega arith) c.row.ensures.number c.row.ensures.score (inv.shown collection is)
-    (subst (λ (code : TextCode). g.S.Store.reads c.show_doc.new.store part.Text ≤ g.S.Store.reads c.loop-place.store part.Text + mode_pages code collection c.args.mode (at_score c.row.result.number (Some c.row.result.score))) inv.same.code (c.in-Err.ensures.pages collection text))
+    pages_cut c.args.text.now.code collection c.args.mode c.args.rows.now c.loop-place.place c.row-row.result.number c.row-row.result.score _ _ _ _ _ (g.S.Store.reads c.loop-place.store) (g.S.Store.reads c.show_doc.new.store) (omega arith) c.row-row.ensures.number c.row-row.ensures.score (inv.shown collection is)
+    (subst (λ (code : TextCode). g.S.Store.reads c.show_doc.new.store part.Text ≤ g.S.Store.reads c.loop-place.store part.Text + mode_pages code collection c.args.mode (at_score c.row-row.result.number (Some c.row-row.result.score))) inv.same.code (c.in-Err.ensures.pages collection text))
 
 pub returns-in-Err-clause-sound : goal.returns-in-Err-clause-sound
 returns-in-Err-clause-sound g c = λ collection is.
