@@ -6,4 +6,6 @@ pub mod KnownLaws
 pub mod WalkLaws
 pub mod RankedLaws
 pub mod ReplyLaws
+pub mod TermLaws
+pub mod SetLaws
 pub mod SessionLaws

@@ -1,0 +1,29 @@
+use Rattle.std.proofs.Common.{arith, ◌≡◌, ℕ, List, length, refl, sym, ◌∙◌, ap, subst}
+use Rattle.std.specs.declared.option.Option.{Option}
+use Rattle.mg_bool.specs.Places.{AreInfos}
+use Rattle.mg_layout.specs.declared.term_info.TermInfo.{TermInfo}
+use Rattle.mg_session.proofs.ReplyLaws.{answers_for, nothing_replied, part_sound, ranked_answered, ranked_unput}
+use Rattle.mg_session.proofs.StepLaws.{lex_post, lex_text}
+use Rattle.mg_session.proofs.TermLaws.{line_terms}
+use Rattle.mg_session.proofs.searcher.Searcher.answer_ranked.Goals as goal
+
+pub returns-in-Err-put_refused-clause-replied : goal.returns-in-Err-put_refused-clause-replied
+returns-in-Err-put_refused-clause-replied g c = λ collection over. ranked_unput c.in-Err.why _ collection _ _ _ _ _ c.in-Err-put_refused.refusal _ c.in-Err.ensures.refused c.in-Err-put_refused.ensures.content c.in-Err-put_refused.ensures.memory c.from.ensures
+
+pub returns-in-Err-find_terms-clause-replied : goal.returns-in-Err-find_terms-clause-replied
+returns-in-Err-find_terms-clause-replied g c = λ collection over.
+    nothing_replied _ collection _ _ _ _ _ _ _
+    (part_sound c.in-Err-find_terms.refusal _ _ c.from-in-Err-find_terms.ensures (c.in-Err-find_terms.ensures.answer over.version collection over.limits over.lex))
+    (lex_post _ _ _ _ _ _ c.in-Err-find_terms.ensures.looked) (lex_text _ _ _ _ _ _ c.in-Err-find_terms.ensures.looked)
+
+pub answer_terms-requires-clause-few : goal.answer_terms-requires-clause-few
+answer_terms-requires-clause-few g c = omega (arith, ap length c.deref.ensures.value, c.in-Ok-find_terms.ensures.size, ap length c.as_slice.ensures, (line_terms c.args.line.now c.in-Ok.terms c.in-Ok.ensures.reads).few)
+
+pub returns-clause-replied : goal.returns-clause-replied
+returns-clause-replied g c = λ collection over.
+    let told = c.in-Ok-find_terms.ensures.answer over.version collection over.limits over.lex in
+    let same : AreInfos collection c.in-Ok.terms c.deref.result.now = subst (λ (xs : List (Option TermInfo)). AreInfos collection c.in-Ok.terms xs) (sym c.deref.ensures.value) (subst (λ (ts : List (List ℕ)). AreInfos collection ts c.in-Ok-find_terms.infos.items) c.as_slice.ensures told) in
+    let stands = answers_for _ _ c.args.self.now collection c.in-Ok-find_terms.ensures.looked.files over in
+    ranked_answered _ collection c.in-Ok.terms _ _ _ _ _ _ _ _ c.in-Ok.ensures.reads
+    (c.answer_terms.ensures.answer collection c.in-Ok.terms stands same (line_terms c.args.line.now c.in-Ok.terms c.in-Ok.ensures.reads).apart)
+    (lex_post _ _ _ _ _ _ c.in-Ok-find_terms.ensures.looked) (lex_text _ _ _ _ _ _ c.in-Ok-find_terms.ensures.looked)
