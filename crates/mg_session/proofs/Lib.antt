@@ -8,4 +8,5 @@ pub mod RankedLaws
 pub mod ReplyLaws
 pub mod TermLaws
 pub mod SetLaws
+pub mod StopLaws
 pub mod SessionLaws

@@ -192,5 +192,5 @@ pub line_written : (r : Result (Unit {0}) ShowErr) (s t f g : ℕ) → HasShowCa
 line_written r s t f g cause is = (subst (λ x. HasShowCause x s t f g) is cause).caused
 
 pub line_part : (s t : Searching) (f g : ℕ) (r : Result (Unit {0}) ShowErr) → HasShowCause r s.faults t.faults f g → ((collection : List ℕ) → Over s collection → ShowIsNotBad r) → IfErr r (PartStops (MayStop s t))
-line_part s t f g (Ok done) cause sound = tt
+line_part s t f g (Ok value) cause sound = tt
 line_part s t f g (Err error) cause sound = line_stops s t f g error cause sound

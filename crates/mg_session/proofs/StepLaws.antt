@@ -34,7 +34,7 @@ stepped_then f g h r s t k m n a b = record {
 }
 
 -- a part that is never read is none of the first ten
-never_early : (p : Part) → NeverRead p → 10 ≤ number p
+pub never_early : (p : Part) → NeverRead p → 10 ≤ number p
 never_early part.Head never = absurd never
 never_early part.Words never = absurd never
 never_early part.Nonwords never = absurd never

@@ -15,5 +15,7 @@ mod hit;
 mod ranked;
 mod searcher;
 mod session;
+#[cfg(test)]
+mod tests;
 
 pub use session::serve;
