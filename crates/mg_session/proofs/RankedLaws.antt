@@ -1,5 +1,5 @@
 -- A ranked answer, shown row by row.
-use Rattle.std.proofs.Common.{arith, ◌≡◌, ℕ, zero, suc, ◌+◌, ◌<◌, ◌≤◌, List, [], ◌∷◌, ◌++◌, length, take, drop, map, filter, Some, None, Ok, Err, refl, sym, ◌∙◌, ap, subst, append_assoc, append-nil, add-one, sum_by}
+use Rattle.std.proofs.Common.{arith, ◌≡◌, ℕ, zero, suc, ◌+◌, ◌<◌, ◌≤◌, List, [], ◌∷◌, ◌++◌, length, take, drop, filter, Some, None, Err, refl, sym, ◌∙◌, ap, subst, append_assoc, append-nil, add-one, sum_by}
 use Rattle.std.specs.Prelude.{flat_map, slice_index_or, unwrap_or}
 use Rattle.std.specs.List.{list_any, enumerate_from}
 use Rattle.std.specs.declared.option.Option.{Option}
@@ -14,7 +14,6 @@ use Rattle.mg_dev.specs.StreamLaws.{grew_first, grew_nothing}
 use Rattle.mg_dev.specs.declared.part.Part.TheVariants as part
 use Rattle.mg_dev.specs.declared.show_err.ShowErr.{ShowErr}
 use Rattle.mg_defs.specs.CodedText.{TextCode}
-use Rattle.mg_defs.specs.PageBounds.{ranked_bound}
 use Rattle.mg_defs.specs.Reply.{Shown, answer_text, ranking, shown}
 use Rattle.mg_defs.specs.Split.{documents}
 use Rattle.mg_defs.specs.TextBounds.{doc_pages, texts_in}

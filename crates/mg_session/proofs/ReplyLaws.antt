@@ -1,8 +1,6 @@
 -- The reply to a query line.
-use Rattle.std.proofs.Common.{arith, ◌≡◌, ℕ, ◌+◌, ◌≤◌, Bool, true, false, List, [], ◌∷◌, length, Some, None, Ok, Err, refl, sym, ◌∙◌, ap, subst, sum_by}
+use Rattle.std.proofs.Common.{arith, ◌≡◌, ℕ, Bool, true, false, List, [], ◌∷◌, Ok, Err, refl, sym, subst}
 use Rattle.std.specs.Prelude.{IfSome, IfErr, IsErrOf}
-use Rattle.std.specs.List.{IsDistinct}
-use Rattle.std.specs.Str.{bytes_eq}
 use Rattle.std.specs.declared.option.Option.{Option}
 use Rattle.std.specs.declared.result.Result.{Result}
 use Rattle.mg_dev.specs.Causes.{Rose}
@@ -19,11 +17,10 @@ use Rattle.mg_dev.specs.declared.show_err.ShowErr.{ShowErr}
 use Rattle.mg_dev.specs.declared.show_err.ShowErr.TheVariants as show
 use Rattle.mg_defs.specs.CodedText.{TextCode}
 use Rattle.mg_defs.specs.PageBounds.{bound_by, boolean_bound, line_bound, ranked_bound}
-use Rattle.mg_defs.specs.Read.{Reading, Refusal, boolean, ranked, reads, refused}
+use Rattle.mg_defs.specs.Read.{Refusal, boolean, ranked, reads, refused}
 use Rattle.mg_defs.specs.Replies.{refusal, reply, reply_as}
 use Rattle.mg_defs.specs.Reply.{Shown, answer_text, ranking, satisfying}
 use Rattle.mg_defs.specs.Sat.{Query}
-use Rattle.mg_defs.specs.Session.{Question}
 use Rattle.mg_defs.specs.TextBounds.{answer_by, answer_of, line_text_bound}
 use Rattle.mg_defs.specs.declared.session.Settings.{Settings}
 use Rattle.mg_query.specs.RefusalOf.{refusal_of}

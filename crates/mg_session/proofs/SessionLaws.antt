@@ -1,6 +1,6 @@
 -- Laws of a whole session.
-use Rattle.std.proofs.Common.{arith, ◌≡◌, ℕ, ◌+◌, ◌≤◌, List, [], ◌++◌, length, refl, sym, ap, subst, ◌∙◌, sum_by}
-use Rattle.std.specs.Option.{IsSome, ForSome}
+use Rattle.std.proofs.Common.{arith, ◌≡◌, ℕ, List, ◌++◌, refl, ap, sum_by}
+use Rattle.std.specs.Option.{ForSome}
 use Rattle.std.specs.Prelude.{true}
 use Rattle.std.specs.declared.option.Option.{Option}
 use Rattle.std.proofs.lemmas.List.Sums.{sum_by-append}

@@ -1,8 +1,6 @@
 -- Sets that stand: their lists, weights and lexicon, and what is opened of them.
-use Rattle.std.proofs.Common.{arith, ◌≡◌, ◌+◌, ◌<◌, ◌≤◌, ◌^◌, ℕ, List, [], length, refl, sym, ◌∙◌, ap, subst}
-use Rattle.std.specs.Option.{IsSome}
+use Rattle.std.proofs.Common.{arith, ◌≡◌, ℕ, List, length, refl, sym, ◌∙◌, ap, subst}
 use Rattle.std.specs.declared.option.Option.{Option}
-use Rattle.std.specs.List.{flat_map}
 use Rattle.mg_dev.specs.Files.{Files, bytes_at}
 use Rattle.mg_dev.specs.Names.{full_name}
 use Rattle.mg_dev.specs.declared.part.Part.TheVariants as part
@@ -10,10 +8,10 @@ use Rattle.mg_defs.specs.Bits.{bits_of}
 use Rattle.mg_defs.specs.CodedText.{TextCode}
 use Rattle.mg_defs.specs.Heads as defs
 use Rattle.mg_defs.specs.Heads.{IsHead}
-use Rattle.mg_defs.specs.Lists.{entry_bits, inverted, lists_entries, post_bits, skip_bits}
+use Rattle.mg_defs.specs.Lists.{inverted, lists_entries, post_bits, skip_bits}
 use Rattle.mg_defs.specs.Means.{Tell}
 use Rattle.mg_defs.specs.Split.{documents}
-use Rattle.mg_defs.specs.Stands.{Stand, head_of}
+use Rattle.mg_defs.specs.Stands.{head_of}
 use Rattle.mg_defs.proofs.CodedTextLaws.{bits-of_as_bytes}
 use Rattle.mg_defs.proofs.HeadLaws.{one_head}
 use Rattle.mg_defs.proofs.StandDocs.{few-terms, most}
@@ -30,8 +28,8 @@ use Rattle.mg_post.specs.TermLists.{ListsStand}
 use Rattle.mg_rank.specs.Ranked.{WeightsStand}
 use Rattle.mg_text.proofs.CallerLemmas.{set_is_text}
 use Rattle.mg_text.specs.Reading.{IsText, IsTextReader, TextFits, TextReading, TextStands}
-use Rattle.mg_session.specs.SearchLaws.{lex_later, same_parts, same_text, text_later, weights_later}
-use Rattle.mg_session.specs.Searching.{Opened, OpenedOver, SearchFits}
+use Rattle.mg_session.specs.SearchLaws.{lex_later, same_parts, weights_later}
+use Rattle.mg_session.specs.Searching.{OpenedOver, SearchFits}
 
 -- ---- the parts of a set
 

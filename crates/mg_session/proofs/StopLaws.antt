@@ -1,14 +1,13 @@
 -- Why a session stops, by what the calls that it makes answer.
-use Rattle.std.proofs.Common.{arith, ◌+◌, ◌-◌, ◌^◌, min, max, ◌≡◌, ◌≢◌, ◌≤◌, ◌==◌, ◌⊎◌, inl, inr, ℕ, Bool, true, false, not, cond, List, [], length, take, Option, Some, None, Ok, Err, IsSome, refl, sym, ◌∙◌, ap, subst}
+use Rattle.std.proofs.Common.{arith, ◌+◌, ◌-◌, ◌^◌, min, max, ◌≡◌, ◌≢◌, ◌≤◌, ◌==◌, ◌⊎◌, inl, inr, ℕ, true, false, not, cond, List, [], length, take, Option, Some, None, Ok, Err, IsSome, sym, ◌∙◌, ap, subst}
 use Rattle.std.specs.Prelude.{IfErr, nat_lt}
-use Rattle.std.specs.Option.{ForSome}
 use Rattle.std.proofs.lemmas.Bool.Decides.{nat_tests}
 use Rattle.std.proofs.lemmas.Bool.{and_parts, ltb-true}
 use Rattle.std.specs.declared.result.Result.{Result}
 use Rattle.mg_dev.specs.Causes.{Rose}
 use Rattle.mg_dev.specs.Faults.{fault_of_part}
 use Rattle.mg_dev.specs.Files.{Files, OneRead, Reads, SameReads, bytes_at, with_read}
-use Rattle.mg_dev.specs.Names.{full_name, number, same_part}
+use Rattle.mg_dev.specs.Names.{full_name, number}
 use Rattle.mg_dev.specs.PartCauses.{HasPartCause}
 use Rattle.mg_dev.specs.declared.fault.Fault.{Fault}
 use Rattle.mg_dev.specs.declared.fault.Fault.TheVariants as fault
@@ -24,7 +23,7 @@ use Rattle.mg_defs.specs.Stands.{head_of}
 use Rattle.mg_defs.proofs.HeadLaws.{no_damage}
 use Rattle.mg_defs.proofs.StandLaws.{stand-tells}
 use Rattle.mg_front.specs.Reading.{IsNotBad, LookedAt}
-use Rattle.mg_layout.specs.HeadAnswers.{AnswersBack, AnswersHead, AnswersWithin, fields_of}
+use Rattle.mg_layout.specs.HeadAnswers.{AnswersBack, AnswersHead, fields_of}
 use Rattle.mg_layout.specs.Stands.{Stands, StandsBy, StandsForNone, parts_at}
 use Rattle.mg_layout.specs.declared.head.Head.{Head}
 use Rattle.mg_layout.proofs.CallerLemmas.{loaded_set}

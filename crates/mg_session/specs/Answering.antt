@@ -5,7 +5,6 @@ use Rattle.mg_dev.specs.Causes.{Rose}
 use Rattle.mg_dev.specs.Files.{Files, Reads}
 use Rattle.mg_dev.specs.Streams.{AfterPut}
 use Rattle.mg_dev.specs.declared.part.Part.TheVariants as part
-use Rattle.mg_dev.specs.declared.part_err.PartErr.{PartErr}
 use Rattle.mg_dev.specs.declared.part_err.PartErr.TheVariants.{Device, Memory, Bad}
 use Rattle.mg_dev.specs.declared.show_err.ShowErr.{ShowErr}
 use Rattle.mg_dev.specs.declared.show_err.ShowErr.TheVariants as show

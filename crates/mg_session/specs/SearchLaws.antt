@@ -1,5 +1,5 @@
 -- One state of a search after another.
-use Rattle.std.proofs.Common.{arith, ◌≡◌, ℕ, ◌+◌, ◌≤◌, List, [], ◌++◌, length, refl, sym, ap, subst, ◌∙◌, sum_by}
+use Rattle.std.proofs.Common.{arith, ◌≡◌, ℕ, List, [], ◌++◌, length, refl, sym, ap, subst, ◌∙◌, sum_by}
 use Rattle.std.specs.Option.{IsSome}
 use Rattle.std.specs.declared.option.Option.{Option}
 use Rattle.std.proofs.lemmas.List.Sums.{sum_by-append}
@@ -18,7 +18,7 @@ use Rattle.mg_lex.specs.Reading.{LexStands}
 use Rattle.mg_rank.specs.Ranked.{WeightsStand}
 use Rattle.mg_text.specs.Places.{most_text}
 use Rattle.mg_text.specs.Reading.{TextReading, TextStands, SameText}
-use Rattle.mg_session.specs.Searching.{AnswersBy, Asked, MayStop, Opened, OpenedOver, Over, SameOpened, Searching}
+use Rattle.mg_session.specs.Searching.{AnswersBy, Asked, MayStop, Opened, Over, SameOpened, Searching}
 
 -- ---- the same parts
 

@@ -1,11 +1,11 @@
-use Rattle.std.proofs.Common.{arith, ◌≡◌, ℕ, List, [], ◌∷◌, ◌+◌, length, sym, ◌∙◌, ap, subst, length-append}
+use Rattle.std.proofs.Common.{arith, List, [], ◌∷◌, ◌+◌, length, sym, ◌∙◌, ap, subst, length-append}
 use Rattle.std.specs.declared.option.Option.{Option}
 use Rattle.std.proofs.lemmas.List.{get_or_read}
 use Rattle.mg_bool.specs.Places.{IsToldOf}
 use Rattle.mg_layout.specs.declared.term_info.TermInfo.{TermInfo}
 use Rattle.mg_session.specs.Answering.{FirstInfos}
 use Rattle.mg_session.specs.SearchLaws.{lex_later, parts_then}
-use Rattle.mg_session.proofs.FindLaws.{infos_all, infos_more, infos_start, told_of}
+use Rattle.mg_session.proofs.FindLaws.{infos_all, infos_more, told_of}
 use Rattle.mg_session.proofs.StepLaws.{looked_then}
 use Rattle.mg_session.proofs.find.find_terms.Goals as goal
 

@@ -1,4 +1,4 @@
-use Rattle.std.proofs.Common.{◌≡◌, ◌≤◌, ◌<◌, ℕ, List, [], length, get_or}
+use Rattle.std.proofs.Common.{◌≡◌, ℕ, List, length}
 use Rattle.mg_dev.specs.declared.part.Part.TheVariants as part
 use Rattle.mg_defs.specs.Limits.{IsWithinLimits}
 use Rattle.mg_front.specs.Reading.{FrontFits, LookedAt, SameParts}

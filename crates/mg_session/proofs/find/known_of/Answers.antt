@@ -1,4 +1,4 @@
-use Rattle.std.proofs.Common.{arith, ◌≡◌, ◌∷◌, [], ◌++◌, sym, ◌∙◌, ap, length, length-append}
+use Rattle.std.proofs.Common.{arith, ◌∷◌, [], ◌++◌, sym, ◌∙◌, ap, length, length-append}
 use Rattle.mg_layout.specs.declared.term_info.TermInfo.{TermInfo}
 use Rattle.std.proofs.Common.{List}
 use Rattle.mg_session.proofs.FindLaws.{known_none, known_some}

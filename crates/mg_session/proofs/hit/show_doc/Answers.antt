@@ -1,5 +1,4 @@
 use Rattle.mg_reply.proofs.CallerLemmas.{pass_nothing}
-use Rattle.std.proofs.Common.{◌≡◌, subst, sym}
 use Rattle.mg_session.proofs.hit.show_doc.Goals as goal
 
 pub returns-in-Count-clause-content : goal.returns-in-Count-clause-content

@@ -1,4 +1,4 @@
-use Rattle.std.proofs.Common.{◌≡◌, ◌∙◌, sym}
+use Rattle.std.proofs.Common.{◌∙◌, sym}
 use Rattle.mg_session.proofs.HitLaws.{hidden}
 use Rattle.mg_session.proofs.hit.show_hit.Goals as goal
 

@@ -1,4 +1,3 @@
-use Rattle.std.proofs.Common.{◌≡◌, sym}
 use Rattle.mg_defs.specs.Terms.{document}
 use Rattle.mg_defs.specs.Texts.{close, header}
 use Rattle.mg_session.proofs.ShowLaws.{close_cut, doc_closed, doc_cut, flush_cut, header_cut, pass_flushed}

@@ -1,6 +1,4 @@
-use Rattle.std.proofs.Common.{arith, ◌≡◌, ◌+◌, ◌≤◌, ℕ, List, Some, refl, sym, ◌∙◌, ap, subst}
-use Rattle.std.specs.Prelude.{unwrap_or}
-use Rattle.mg_dev.specs.declared.part.Part.TheVariants as part
+use Rattle.std.proofs.Common.{List, sym, ◌∙◌, subst}
 use Rattle.mg_layout.specs.declared.term_info.TermInfo.{TermInfo}
 use Rattle.mg_rank.specs.Ranked.{AreTold}
 use Rattle.mg_session.specs.Answering.{known_terms}

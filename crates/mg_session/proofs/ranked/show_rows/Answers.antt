@@ -1,4 +1,4 @@
-use Rattle.std.proofs.Common.{arith, ◌≡◌, ◌+◌, ◌≤◌, ℕ, List, Some, length, sym, ◌∙◌, ap, subst}
+use Rattle.std.proofs.Common.{arith, ◌≡◌, ◌+◌, ◌≤◌, Some, length, subst}
 use Rattle.mg_dev.specs.declared.part.Part.TheVariants as part
 use Rattle.mg_defs.specs.CodedText.{TextCode}
 use Rattle.mg_session.specs.Answering.{RowsShown, at_score, mode_pages}

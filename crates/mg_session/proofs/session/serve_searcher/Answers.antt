@@ -1,4 +1,3 @@
-use Rattle.std.proofs.Common.{rules, ◌≡◌, refl, sym, ap, ◌∙◌, subst}
 use Rattle.mg_session.specs.Searching.{state_of}
 use Rattle.mg_session.proofs.SessionLaws.{answers_over, session_all, session_prefix, pages_within, stops_show}
 use Rattle.mg_session.proofs.session.serve_searcher.Goals as goal

@@ -1,5 +1,4 @@
-use Rattle.std.proofs.Common.{◌≡◌, ℕ, List, refl, sym, subst}
-use Rattle.mg_defs.specs.declared.session.Settings.{Settings}
+use Rattle.std.proofs.Common.{refl, sym, subst}
 use Rattle.mg_lex.specs.Reading.{LexStands}
 use Rattle.mg_session.specs.Searching.{Opened}
 use Rattle.mg_session.proofs.ReplyLaws.{boolean_unput, nothing_replied, part_sound}

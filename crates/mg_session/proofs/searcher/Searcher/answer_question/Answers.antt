@@ -1,4 +1,4 @@
-use Rattle.std.proofs.Common.{◌≡◌, Bool, sym, subst}
+use Rattle.std.proofs.Common.{Bool, sym, subst}
 use Rattle.mg_session.specs.Answering.{Replied}
 use Rattle.mg_session.proofs.searcher.Searcher.answer_question.Goals as goal
 
