@@ -38,8 +38,10 @@ pub(crate) fn answer_query<S: Store, O: Sink>(
     requires all { text.old.documents ≡ all }
     ensures fits { TextFits text.new (S.files store.new) }
     ensures same { SameText text.old text.new }
-    ensures answer { (collection : List ℕ) → AnswersFor base.now (S.files store.old) text.old all collection → AreInfos collection (query_terms (query_of query.now)) infos.now →
-        Answered text.old.code collection now.now (satisfying collection (query_of query.now)) (boolean_bound collection (query_of query.now)) (O.written out.old) (O.written out.new) (S.reads store.old) (S.reads store.new) result }
+    ensures answer { (collection : List ℕ) → AnswersFor base.now (S.files store.old) text.old all collection →
+        AreInfos collection (query_terms (query_of query.now)) infos.now →
+        Answered text.old.code collection now.now (satisfying collection (query_of query.now)) (boolean_bound collection (query_of query.now))
+        (O.written out.old) (O.written out.new) (S.reads store.old) (S.reads store.new) result }
     ensures step { Stepped (S.files store.old) (S.files store.new) (S.reads store.old) (S.reads store.new) (S.faults store.old) (S.faults store.new) }
     ensures cause { HasShowCause result (S.faults store.old) (S.faults store.new) (O.faults out.old) (O.faults out.new) }
 {

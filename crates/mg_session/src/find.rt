@@ -28,7 +28,8 @@ pub(crate) fn find_terms<S: Store>(
     ensures size { IfOk result (λ infos. length infos.items ≡ length terms.now) }
     ensures answer { (version : ℕ) (collection : List ℕ) → IsWithinLimits version collection → LexStands lex.old (S.files store.old) collection →
         AnswersOr result (λ infos. AreInfos collection terms.now infos.items) }
-    ensures looked { LookedAt part.Lex part.LexAt (S.files store.old) (S.files store.new) (S.reads store.old) (S.reads store.new) (S.faults store.old) (S.faults store.new) }
+    ensures looked { LookedAt part.Lex part.LexAt (S.files store.old) (S.files store.new)
+        (S.reads store.old) (S.reads store.new) (S.faults store.old) (S.faults store.new) }
     ensures cause { HasPartCause (S.faults store.old) (S.faults store.new) result }
 {
     let mut infos = Vec::new(alloc);

@@ -36,7 +36,8 @@ fn show_text<S: Store, O: Sink>(
     ensures pages { (collection : List ℕ) → TextStands text.old (S.files store.old) collection →
         S.reads store.new part.Text ≤ S.reads store.old part.Text + doc_pages text.old.code collection (at_score number score) }
     ensures sound { (collection : List ℕ) → TextStands text.old (S.files store.old) collection → ShowIsNotBad result }
-    ensures looked { LookedAt part.Text part.Places (S.files store.old) (S.files store.new) (S.reads store.old) (S.reads store.new) (S.faults store.old) (S.faults store.new) }
+    ensures looked { LookedAt part.Text part.Places (S.files store.old) (S.files store.new)
+        (S.reads store.old) (S.reads store.new) (S.faults store.old) (S.faults store.new) }
     ensures cause { HasShowCause result (S.faults store.old) (S.faults store.new) (O.faults out.old) (O.faults out.new) }
 {
     match pending.header(out, number, score) {
@@ -77,7 +78,8 @@ pub(crate) fn show_doc<S: Store, O: Sink>(
     ensures pages { (collection : List ℕ) → TextStands text.old (S.files store.old) collection →
         S.reads store.new part.Text ≤ S.reads store.old part.Text + mode_pages text.old.code collection mode (at_score number score) }
     ensures sound { (collection : List ℕ) → TextStands text.old (S.files store.old) collection → ShowIsNotBad result }
-    ensures looked { LookedAt part.Text part.Places (S.files store.old) (S.files store.new) (S.reads store.old) (S.reads store.new) (S.faults store.old) (S.faults store.new) }
+    ensures looked { LookedAt part.Text part.Places (S.files store.old) (S.files store.new)
+        (S.reads store.old) (S.reads store.new) (S.faults store.old) (S.faults store.new) }
     ensures cause { HasShowCause result (S.faults store.old) (S.faults store.new) (O.faults out.old) (O.faults out.new) }
 {
     match mode {
@@ -107,11 +109,13 @@ pub(crate) fn show_hit<S: Store, O: Sink>(
     ensures fits { TextFits text.new (S.files store.new) }
     ensures same { SameText text.old text.new }
     ensures content { (collection : List ℕ) → TextStands text.old (S.files store.old) collection →
-        AfterPass (O.written out.old) (O.written out.new) pending.old pending.new (hit_text (document collection number) now.now.mode now.now.most total (at_score number None)) result }
+        AfterPass (O.written out.old) (O.written out.new) pending.old pending.new
+        (hit_text (document collection number) now.now.mode now.now.most total (at_score number None)) result }
     ensures pages { (collection : List ℕ) → TextStands text.old (S.files store.old) collection →
         S.reads store.new part.Text ≤ S.reads store.old part.Text + hit_pages text.old.code collection now.now total (at_score number None) }
     ensures sound { (collection : List ℕ) → TextStands text.old (S.files store.old) collection → ShowIsNotBad result }
-    ensures looked { LookedAt part.Text part.Places (S.files store.old) (S.files store.new) (S.reads store.old) (S.reads store.new) (S.faults store.old) (S.faults store.new) }
+    ensures looked { LookedAt part.Text part.Places (S.files store.old) (S.files store.new)
+        (S.reads store.old) (S.reads store.new) (S.faults store.old) (S.faults store.new) }
     ensures cause { HasShowCause result (S.faults store.old) (S.faults store.new) (O.faults out.old) (O.faults out.new) }
 {
     if !shows(now.most, total) {

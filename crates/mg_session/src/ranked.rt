@@ -41,7 +41,8 @@ fn show_rows<S: Store, O: Sink>(
     ensures pages { (collection : List ℕ) → TextStands text.old (S.files store.old) collection →
         S.reads store.new part.Text ≤ S.reads store.old part.Text + rows_pages text.old.code collection mode rows.now }
     ensures sound { (collection : List ℕ) → TextStands text.old (S.files store.old) collection → ShowIsNotBad result }
-    ensures looked { LookedAt part.Text part.Places (S.files store.old) (S.files store.new) (S.reads store.old) (S.reads store.new) (S.faults store.old) (S.faults store.new) }
+    ensures looked { LookedAt part.Text part.Places (S.files store.old) (S.files store.new)
+        (S.reads store.old) (S.reads store.new) (S.faults store.old) (S.faults store.new) }
     ensures cause { HasShowCause result (S.faults store.old) (S.faults store.new) (O.faults out.old) (O.faults out.new) }
 {
     for place in 0..rows.len() {
@@ -71,8 +72,10 @@ pub(crate) fn answer_terms<S: Store, O: Sink>(
     requires all { text.old.documents ≡ all }
     ensures fits { TextFits text.new (S.files store.new) }
     ensures same { SameText text.old text.new }
-    ensures answer { (collection : List ℕ) (terms : List (List ℕ)) → AnswersFor base.now (S.files store.old) text.old all collection → AreInfos collection terms infos.now → IsDistinct bytes_eq terms →
-        Answered text.old.code collection now.now (ranking collection terms) (ranked_bound collection terms) (O.written out.old) (O.written out.new) (S.reads store.old) (S.reads store.new) result }
+    ensures answer { (collection : List ℕ) (terms : List (List ℕ)) → AnswersFor base.now (S.files store.old) text.old all collection →
+        AreInfos collection terms infos.now → IsDistinct bytes_eq terms →
+        Answered text.old.code collection now.now (ranking collection terms) (ranked_bound collection terms)
+        (O.written out.old) (O.written out.new) (S.reads store.old) (S.reads store.new) result }
     ensures step { Stepped (S.files store.old) (S.files store.new) (S.reads store.old) (S.reads store.new) (S.faults store.old) (S.faults store.new) }
     ensures cause { HasShowCause result (S.faults store.old) (S.faults store.new) (O.faults out.old) (O.faults out.new) }
 {

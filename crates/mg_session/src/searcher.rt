@@ -73,7 +73,8 @@ impl<'a, S: Store> Searcher<'a, S> {
         ensures fits { SearchFits (S.files store.new) self.new }
         ensures same { SameOpened self.old self.new }
         ensures replied { (collection : List ℕ) → OpenedOver (S.files store.old) self.old collection →
-            Replied self.old.text.code collection false now.now line.now (O.written out.old) (O.written out.new) (S.reads store.old) (S.reads store.new) result }
+            Replied self.old.text.code collection false now.now line.now
+            (O.written out.old) (O.written out.new) (S.reads store.old) (S.reads store.new) result }
         ensures step { Stepped (S.files store.old) (S.files store.new) (S.reads store.old) (S.reads store.new) (S.faults store.old) (S.faults store.new) }
         ensures cause { HasShowCause result (S.faults store.old) (S.faults store.new) (O.faults out.old) (O.faults out.new) }
     {
@@ -118,7 +119,8 @@ impl<'a, S: Store> Searcher<'a, S> {
         ensures fits { SearchFits (S.files store.new) self.new }
         ensures same { SameOpened self.old self.new }
         ensures replied { (collection : List ℕ) → OpenedOver (S.files store.old) self.old collection →
-            Replied self.old.text.code collection true now.now line.now (O.written out.old) (O.written out.new) (S.reads store.old) (S.reads store.new) result }
+            Replied self.old.text.code collection true now.now line.now
+            (O.written out.old) (O.written out.new) (S.reads store.old) (S.reads store.new) result }
         ensures step { Stepped (S.files store.old) (S.files store.new) (S.reads store.old) (S.reads store.new) (S.faults store.old) (S.faults store.new) }
         ensures cause { HasShowCause result (S.faults store.old) (S.faults store.new) (O.faults out.old) (O.faults out.new) }
     {
@@ -158,7 +160,8 @@ impl<'a, S: Store> Searcher<'a, S> {
         ensures fits { SearchFits (S.files store.new) self.new }
         ensures same { SameOpened self.old self.new }
         ensures replied { (collection : List ℕ) → OpenedOver (S.files store.old) self.old collection →
-            Replied self.old.text.code collection now.now.ranked now.now line.now (O.written out.old) (O.written out.new) (S.reads store.old) (S.reads store.new) result }
+            Replied self.old.text.code collection now.now.ranked now.now line.now
+            (O.written out.old) (O.written out.new) (S.reads store.old) (S.reads store.new) result }
         ensures step { Stepped (S.files store.old) (S.files store.new) (S.reads store.old) (S.reads store.new) (S.faults store.old) (S.faults store.new) }
         ensures cause { HasShowCause result (S.faults store.old) (S.faults store.new) (O.faults out.old) (O.faults out.new) }
     {

@@ -55,7 +55,8 @@ fn serve_searcher<S: Store, I: Source, O: Sink>(
     ensures unread { (p : Part) → NeverRead p → S.reads store.new p ≡ S.reads store.old p }
     ensures left { ForSome (I.left input.old) (λ given. OnOk result (LeftEnough given (I.left input.new))) }
     ensures within { ForSome (I.left input.old) (λ given. OnOk result (is_too_much input_limit given ≡ false)) }
-    ensures cause { IfErr result (Stops (Rose (S.faults store.old) (S.faults store.new)) (Rose (I.faults input.old) (I.faults input.new)) (Rose (O.faults out.old) (O.faults out.new))
+    ensures cause { IfErr result (Stops
+        (Rose (S.faults store.old) (S.faults store.new)) (Rose (I.faults input.old) (I.faults input.new)) (Rose (O.faults out.old) (O.faults out.new))
         ⊥ ((collection : List ℕ) → OpenedOver (S.files store.old) searcher.old collection → ⊥) (I.left input.old)) }
     ensures later { S.faults store.old ≤ S.faults store.new }
 {
@@ -86,7 +87,8 @@ fn serve_set<S: Store, I: Source, O: Sink>(
     ensures unread { (p : Part) → NeverRead p → S.reads store.new p ≡ S.reads store.old p }
     ensures left { ForSome (I.left input.old) (λ given. OnOk result (LeftEnough given (I.left input.new))) }
     ensures within { ForSome (I.left input.old) (λ given. OnOk result (is_too_much input_limit given ≡ false)) }
-    ensures cause { IfErr result (Stops (Rose (S.faults store.old) (S.faults store.new)) (Rose (I.faults input.old) (I.faults input.new)) (Rose (O.faults out.old) (O.faults out.new))
+    ensures cause { IfErr result (Stops
+        (Rose (S.faults store.old) (S.faults store.new)) (Rose (I.faults input.old) (I.faults input.new)) (Rose (O.faults out.old) (O.faults out.new))
         ⊥ ((code : TextCode) (collection : List ℕ) → StandsBy head.now code (S.files store.old) base.now collection → ⊥) (I.left input.old)) }
     ensures later { S.faults store.old ≤ S.faults store.new }
 {
@@ -135,12 +137,14 @@ pub fn serve<S: Store, I: Source, O: Sink>(
     ensures unread { (p : Part) → NeverRead p → S.reads store.new p ≡ S.reads store.old p }
     ensures files { S.files store.new ≡ S.files store.old }
     // The cause of each refusal.
-    ensures cause { IfErr result (StopsFor (Rose (S.faults store.old) (S.faults store.new)) (Rose (I.faults input.old) (I.faults input.new)) (Rose (O.faults out.old) (O.faults out.new))
+    ensures cause { IfErr result (StopsFor
+        (Rose (S.faults store.old) (S.faults store.new)) (Rose (I.faults input.old) (I.faults input.new)) (Rose (O.faults out.old) (O.faults out.new))
         (S.files store.old) base.now (I.left input.old)) }
     ensures silent { result ≡ Err NotBuilt → O.written out.new ≡ O.written out.old }
     ensures not_built { IsSome (S.files store.old) → bytes_at (S.files store.old) (full_name base.now part.Head) ≡ [] → RefusedFor result NotBuilt }
-    ensures complete { (collection given : List ℕ) → Stands (S.files store.old) base.now collection → I.left input.old ≡ Some given → length given ≤ input_limit →
-        ¬ Rose (S.faults store.old) (S.faults store.new) → ¬ Rose (I.faults input.old) (I.faults input.new) → ¬ Rose (O.faults out.old) (O.faults out.new) → IsDone result }
+    ensures complete { (collection given : List ℕ) → Stands (S.files store.old) base.now collection → I.left input.old ≡ Some given →
+        length given ≤ input_limit → ¬ Rose (S.faults store.old) (S.faults store.new) →
+        ¬ Rose (I.faults input.old) (I.faults input.new) → ¬ Rose (O.faults out.old) (O.faults out.new) → IsDone result }
     ensures later { S.faults store.old ≤ S.faults store.new }
 {
     let loaded = match Head::load(store, base) {
