@@ -1,0 +1,12 @@
+pub mod StepLaws
+pub mod ShowLaws
+pub mod HitLaws
+pub mod FindLaws
+pub mod KnownLaws
+pub mod WalkLaws
+pub mod RankedLaws
+pub mod ReplyLaws
+pub mod TermLaws
+pub mod SetLaws
+pub mod StopLaws
+pub mod SessionLaws

@@ -1,0 +1,193 @@
+-- The reply to a query line.
+use Rattle.std.proofs.Common.{arith, ◌≡◌, ℕ, Bool, true, false, List, [], ◌∷◌, Ok, Err, refl, sym, subst}
+use Rattle.std.specs.Prelude.{IfSome, IfErr, IsErrOf}
+use Rattle.std.specs.declared.option.Option.{Option}
+use Rattle.std.specs.declared.result.Result.{Result}
+use Rattle.mg_dev.specs.Causes.{Rose}
+use Rattle.mg_dev.specs.Faults.{show_of_put}
+use Rattle.mg_dev.specs.Files.{Files, Reads}
+use Rattle.mg_dev.specs.Streams.{AfterPut, GrewByPrefix}
+use Rattle.mg_dev.specs.StreamLaws.{grew_nothing}
+use Rattle.mg_dev.specs.declared.device.PutErr.{PutErr}
+use Rattle.mg_dev.specs.declared.device.PutErr.TheVariants as put
+use Rattle.mg_dev.specs.declared.part.Part.TheVariants as part
+use Rattle.mg_dev.specs.declared.part_err.PartErr.{PartErr}
+use Rattle.mg_dev.specs.declared.part_err.PartErr.TheVariants.{Device, Memory, Bad}
+use Rattle.mg_dev.specs.declared.show_err.ShowErr.{ShowErr}
+use Rattle.mg_dev.specs.declared.show_err.ShowErr.TheVariants as show
+use Rattle.mg_defs.specs.CodedText.{TextCode}
+use Rattle.mg_defs.specs.PageBounds.{bound_by, boolean_bound, line_bound, ranked_bound}
+use Rattle.mg_defs.specs.Read.{Refusal, boolean, ranked, reads, refused}
+use Rattle.mg_defs.specs.Replies.{refusal, reply, reply_as}
+use Rattle.mg_defs.specs.Reply.{Shown, answer_text, ranking, satisfying}
+use Rattle.mg_defs.specs.Sat.{Query}
+use Rattle.mg_defs.specs.TextBounds.{answer_by, answer_of, line_text_bound}
+use Rattle.mg_defs.specs.declared.session.Settings.{Settings}
+use Rattle.mg_query.specs.RefusalOf.{refusal_of}
+use Rattle.mg_query.specs.declared.query_err.QueryErr.{QueryErr}
+use Rattle.mg_query.specs.declared.query_err.QueryErr.TheVariants as query
+use Rattle.mg_post.specs.Answers.{AnswersList}
+use Rattle.mg_rank.specs.Ranked.{AnswersOr, AnswersTop}
+use Rattle.mg_reply.specs.Served.{PartStops}
+use Rattle.mg_text.specs.Reading.{ShowIsNotBad}
+use Rattle.mg_session.specs.Answering.{Answered, AnswersFor, HasShowCause, Replied, answer_pages}
+use Rattle.mg_session.specs.Parts.{Stepped}
+use Rattle.mg_session.specs.SearchLaws.{text_later, weights_later, same_text}
+use Rattle.mg_session.specs.Searching.{Asked, MayStop, Opened, OpenedOver, Over, SameOpened, Searching}
+
+-- ---- refusals that say of no part that it is bad
+
+pub put_sound : (refusal : PutErr) (error : ShowErr) → error ≡ show_of_put refusal → ShowIsNotBad (Err error)
+put_sound put.Failed error is = subst (λ e. ShowIsNotBad (Err e)) (sym is) tt
+put_sound put.Memory error is = subst (λ e. ShowIsNotBad (Err e)) (sym is) tt
+
+pub part_sound : {T : Type 0} (refusal : PartErr) (error : ShowErr) (fact : T → Type 0) → error ≡ show.Part refusal → AnswersOr {T = T} (Err refusal) fact → ShowIsNotBad (Err error)
+part_sound Device error fact is or = subst (λ e. ShowIsNotBad (Err e)) (sym is) tt
+part_sound Memory error fact is or = subst (λ e. ShowIsNotBad (Err e)) (sym is) tt
+part_sound (Bad bad) error fact is or = absurd or
+
+pub memory_sound : (error : ShowErr) → error ≡ show.Part Memory → ShowIsNotBad (Err error)
+memory_sound error is = subst (λ e. ShowIsNotBad (Err e)) (sym is) tt
+
+pub list_sound : {T : Type 0} (refusal : PartErr) (error : ShowErr) (fact : T → Type 0) → error ≡ show.Part refusal → AnswersList {T = T} (Err refusal) fact → ShowIsNotBad (Err error)
+list_sound Device error fact is or = subst (λ e. ShowIsNotBad (Err e)) (sym is) tt
+list_sound Memory error fact is or = absurd or
+list_sound (Bad bad) error fact is or = absurd or
+
+pub top_sound : (refusal : PartErr) (error : ShowErr) (collection : List ℕ) (ts : List (List ℕ)) (most : ℕ) → error ≡ show.Part refusal → AnswersTop (Err refusal) collection ts most → ShowIsNotBad (Err error)
+top_sound Device error collection ts most is or = subst (λ e. ShowIsNotBad (Err e)) (sym is) tt
+top_sound Memory error collection ts most is or = subst (λ e. ShowIsNotBad (Err e)) (sym is) tt
+top_sound (Bad bad) error collection ts most is or = absurd or
+
+-- nothing was printed or read
+pub none_answered : (code : TextCode) (collection : List ℕ) (now : Settings) (answer : List Shown) (bound : ℕ) (w : Option (List ℕ)) (r : Reads) → Answered code collection now answer bound w w r r (Err (show.Part Memory))
+none_answered code collection now answer bound w r = record { put = grew_nothing w (answer_text collection now answer); sound = tt; post = omega arith; text = omega arith }
+
+-- ---- a line that is no query
+
+refused_put : (e : QueryErr) (Said : Refusal → Type 0) (text : List ℕ) (w0 w1 : Option (List ℕ)) (r : Result (Unit {0}) PutErr) → ((why : Refusal) → Said why → text ≡ refusal why) → IfSome (refusal_of e) Said → IfSome (refusal_of e) (λ why. AfterPut w0 w1 (refusal why) r) → (e ≡ query.Memory → (r ≡ Err put.Memory) × (w1 ≡ w0)) → AfterPut w0 w1 text r
+refused_put (query.Syntax at) Said text w0 w1 r says said put none = subst (λ t. AfterPut w0 w1 t r) (sym (says _ said)) put
+refused_put (query.TooDeep at) Said text w0 w1 r says said put none = subst (λ t. AfterPut w0 w1 t r) (sym (says _ said)) put
+refused_put (query.TermTooLong at) Said text w0 w1 r says said put none = subst (λ t. AfterPut w0 w1 t r) (sym (says _ said)) put
+refused_put (query.TooManyTerms at) Said text w0 w1 r says said put none = subst (λ t. AfterPut w0 w1 t r) (sym (says _ said)) put
+refused_put query.Memory Said text w0 w1 r says said put none =
+    let m = none refl in
+    subst (AfterPut w0 w1 text) (sym m.0) (subst (λ w. GrewByPrefix w0 w text) (sym m.1) (grew_nothing w0 text))
+
+abbrev done : Result (Unit {0}) PutErr
+done = Ok tt
+
+abbrev not_put : PutErr → Result (Unit {0}) PutErr
+not_put refusal = Err refusal
+
+boolean_says : (collection : List ℕ) (now : Settings) (line : List ℕ) (why : Refusal) → boolean line ≡ refused why → reply_as false collection now line ≡ refusal why
+boolean_says collection now line why e = rw e refl
+
+ranked_says : (collection : List ℕ) (now : Settings) (line : List ℕ) (why : Refusal) → ranked line ≡ refused why → reply_as true collection now line ≡ refusal why
+ranked_says collection now line why e = rw e refl
+
+pub boolean_refused : (e : QueryErr) (code : TextCode) (collection : List ℕ) (now : Settings) (line : List ℕ) (w0 w1 : Option (List ℕ)) (r : Reads) → IfSome (refusal_of e) (λ why. boolean line ≡ refused why) → IfSome (refusal_of e) (λ why. AfterPut w0 w1 (refusal why) done) → (e ≡ query.Memory → (done ≡ not_put put.Memory) × (w1 ≡ w0)) → Replied code collection false now line w0 w1 r r (Ok tt)
+boolean_refused e code collection now line w0 w1 r said put none = record {
+  put = refused_put e (λ why. boolean line ≡ refused why) (reply_as false collection now line) w0 w1 done (boolean_says collection now line) said put none;
+  sound = tt;
+  post = omega arith;
+  text = omega arith;
+}
+
+pub boolean_unput : (e : QueryErr) (code : TextCode) (collection : List ℕ) (now : Settings) (line : List ℕ) (w0 w1 : Option (List ℕ)) (r : Reads) (refused_for : PutErr) (error : ShowErr) → IfSome (refusal_of e) (λ why. boolean line ≡ refused why) → IfSome (refusal_of e) (λ why. AfterPut w0 w1 (refusal why) (not_put refused_for)) → (e ≡ query.Memory → (not_put refused_for ≡ not_put put.Memory) × (w1 ≡ w0)) → error ≡ show_of_put refused_for → Replied code collection false now line w0 w1 r r (Err error)
+boolean_unput e code collection now line w0 w1 r refused_for error said put none is = record {
+  put = refused_put e (λ why. boolean line ≡ refused why) (reply_as false collection now line) w0 w1 (not_put refused_for) (boolean_says collection now line) said put none;
+  sound = put_sound refused_for error is;
+  post = omega arith;
+  text = omega arith;
+}
+
+pub ranked_refused : (e : QueryErr) (code : TextCode) (collection : List ℕ) (now : Settings) (line : List ℕ) (w0 w1 : Option (List ℕ)) (r : Reads) → IfSome (refusal_of e) (λ why. ranked line ≡ refused why) → IfSome (refusal_of e) (λ why. AfterPut w0 w1 (refusal why) done) → (e ≡ query.Memory → (done ≡ not_put put.Memory) × (w1 ≡ w0)) → Replied code collection true now line w0 w1 r r (Ok tt)
+ranked_refused e code collection now line w0 w1 r said put none = record {
+  put = refused_put e (λ why. ranked line ≡ refused why) (reply_as true collection now line) w0 w1 done (ranked_says collection now line) said put none;
+  sound = tt;
+  post = omega arith;
+  text = omega arith;
+}
+
+pub ranked_unput : (e : QueryErr) (code : TextCode) (collection : List ℕ) (now : Settings) (line : List ℕ) (w0 w1 : Option (List ℕ)) (r : Reads) (refused_for : PutErr) (error : ShowErr) → IfSome (refusal_of e) (λ why. ranked line ≡ refused why) → IfSome (refusal_of e) (λ why. AfterPut w0 w1 (refusal why) (not_put refused_for)) → (e ≡ query.Memory → (not_put refused_for ≡ not_put put.Memory) × (w1 ≡ w0)) → error ≡ show_of_put refused_for → Replied code collection true now line w0 w1 r r (Err error)
+ranked_unput e code collection now line w0 w1 r refused_for error said put none is = record {
+  put = refused_put e (λ why. ranked line ≡ refused why) (reply_as true collection now line) w0 w1 (not_put refused_for) (ranked_says collection now line) said put none;
+  sound = put_sound refused_for error is;
+  post = omega arith;
+  text = omega arith;
+}
+
+-- ---- a query
+
+-- it stopped before anything was printed, and neither lists nor text were read
+pub nothing_replied : (code : TextCode) (collection : List ℕ) (by : Bool) (now : Settings) (line : List ℕ) (w : Option (List ℕ)) (r0 r1 : Reads) (error : ShowErr) → ShowIsNotBad (Err error) → r1 part.Post ≡ r0 part.Post → r1 part.Text ≡ r0 part.Text → Replied code collection by now line w w r0 r1 (Err error)
+nothing_replied code collection by now line w r0 r1 error sound post text = record {
+  put = grew_nothing w (reply_as by collection now line);
+  sound = sound;
+  post = omega (arith, post);
+  text = omega (arith, text);
+}
+
+pub boolean_answered : (code : TextCode) (collection : List ℕ) (q : Query) (now : Settings) (line : List ℕ) (w0 w1 : Option (List ℕ)) (r0 r1 r2 : Reads) (result : Result (Unit {0}) ShowErr) → boolean line ≡ reads q → Answered code collection now (satisfying collection q) (boolean_bound collection q) w0 w1 r1 r2 result → r1 part.Post ≡ r0 part.Post → r1 part.Text ≡ r0 part.Text → Replied code collection false now line w0 w1 r0 r2 result
+boolean_answered code collection q now line w0 w1 r0 r1 r2 result is a post text =
+    let same_text : reply_as false collection now line ≡ answer_text collection now (satisfying collection q) = rw is refl in
+    let same_bound : bound_by false collection line ≡ boolean_bound collection q = rw is refl in
+    let same_pages : answer_pages code collection now (answer_by false collection line) ≡ answer_pages code collection now (satisfying collection q) = rw is refl in
+    record {
+      put = subst (λ t. AfterPut w0 w1 t result) (sym same_text) a.put;
+      sound = a.sound;
+      post = omega (arith, a.post, post, same_bound);
+      text = omega (arith, a.text, text, same_pages);
+    }
+
+pub ranked_answered : (code : TextCode) (collection : List ℕ) (terms : List (List ℕ)) (now : Settings) (line : List ℕ) (w0 w1 : Option (List ℕ)) (r0 r1 r2 : Reads) (result : Result (Unit {0}) ShowErr) → ranked line ≡ reads terms → Answered code collection now (ranking collection terms) (ranked_bound collection terms) w0 w1 r1 r2 result → r1 part.Post ≡ r0 part.Post → r1 part.Text ≡ r0 part.Text → Replied code collection true now line w0 w1 r0 r2 result
+ranked_answered code collection terms now line w0 w1 r0 r1 r2 result is a post text =
+    let same_text : reply_as true collection now line ≡ answer_text collection now (ranking collection terms) = rw is refl in
+    let same_bound : bound_by true collection line ≡ ranked_bound collection terms = rw is refl in
+    let same_pages : answer_pages code collection now (answer_by true collection line) ≡ answer_pages code collection now (ranking collection terms) = rw is refl in
+    record {
+      put = subst (λ t. AfterPut w0 w1 t result) (sym same_text) a.put;
+      sound = a.sound;
+      post = omega (arith, a.post, post, same_bound);
+      text = omega (arith, a.text, text, same_pages);
+    }
+
+-- what stands for the answer, after the lexicon was read
+pub answers_for : (files now : Option Files) (o : Opened) (collection : List ℕ) → now ≡ files → OpenedOver files o collection → AnswersFor o.base now o.text o.all collection
+answers_for files now o collection same over = record {
+  weights = weights_later o.base o.base files now collection refl same over.weights;
+  text_is = text_later o.text o.text files now collection (same_text o.text) same over.text;
+  all_is = over.all;
+}
+
+-- ---- a line of a session
+
+pub line_put : (code : TextCode) (collection : List ℕ) (now : Settings) (line : List ℕ) (w0 w1 : Option (List ℕ)) (r0 r1 : Reads) (result : Result (Unit {0}) ShowErr) → Replied code collection now.ranked now line w0 w1 r0 r1 result → AfterPut w0 w1 (reply collection now line) result
+unfolding reply
+line_put code collection now line w0 w1 r0 r1 result replied = replied.put
+
+pub asked_one : (s t : Searching) (now : Settings) (line : List ℕ) (w0 w1 : Option (List ℕ)) (result : Result (Unit {0}) ShowErr) → Stepped s.files t.files s.reads t.reads s.faults t.faults → SameOpened s.opened t.opened → ((collection : List ℕ) → Over s collection → Replied s.opened.text.code collection now.ranked now line w0 w1 s.reads t.reads result) → Asked s t (record { now = now; line = line } ∷ [])
+unfolding line_bound line_text_bound answer_of
+asked_one s t now line w0 w1 result step same replied = record {
+  files = step.files;
+  faults = step.faults;
+  same = same;
+  unread = step.unread;
+  post = λ collection over. omega (arith, (replied collection over).post);
+  shown = λ collection over. omega (arith, (replied collection over).text);
+}
+
+pub line_stops : (s t : Searching) (f g : ℕ) (error : ShowErr) → HasShowCause (Err error) s.faults t.faults f g → ((collection : List ℕ) → Over s collection → ShowIsNotBad (Err error)) → PartStops (MayStop s t) error
+line_stops s t f g (show.Part Device) cause sound = cause.caused
+line_stops s t f g (show.Part Memory) cause sound = tt
+line_stops s t f g (show.Part (Bad bad)) cause sound = sound
+line_stops s t f g show.Write cause sound = tt
+line_stops s t f g show.Memory cause sound = tt
+
+pub line_written : (r : Result (Unit {0}) ShowErr) (s t f g : ℕ) → HasShowCause r s t f g → IsErrOf r show.Write → Rose f g
+line_written r s t f g cause is = (subst (λ x. HasShowCause x s t f g) is cause).caused
+
+pub line_part : (s t : Searching) (f g : ℕ) (r : Result (Unit {0}) ShowErr) → HasShowCause r s.faults t.faults f g → ((collection : List ℕ) → Over s collection → ShowIsNotBad r) → IfErr r (PartStops (MayStop s t))
+line_part s t f g (Ok value) cause sound = tt
+line_part s t f g (Err error) cause sound = line_stops s t f g error cause sound

@@ -1,0 +1,226 @@
+-- A Boolean answer that is under way.
+use Rattle.std.proofs.Common.{arith, ◌≡◌, ℕ, ◌+◌, ◌≤◌, inl, inr, if◌then◌else◌, Bool, true, false, List, [], ◌∷◌, ◌++◌, length, drop, map, Some, None, Err, refl, sym, ◌∙◌, ap, subst, append_assoc, append-nil, length-append, sum_by}
+use Rattle.std.specs.Prelude.{flat_map}
+use Rattle.std.specs.List.{AllByRecursion}
+use Rattle.std.specs.declared.option.Option.{Option}
+use Rattle.std.specs.declared.result.Result.{Result}
+use Rattle.std.proofs.lemmas.Bool.{cond-true, cond-false, cases_Bool}
+use Rattle.std.proofs.lemmas.List.Sums.{sum_by-append}
+use Rattle.mg_dev.specs.Files.{Files, Reads}
+use Rattle.std.proofs.Math.Seq.{take-length}
+use Rattle.mg_dev.specs.Streams.{AfterPut, GrewByPrefix, appended}
+use Rattle.mg_dev.specs.StreamLaws.{grew_first}
+use Rattle.mg_dev.specs.declared.part.Part.TheVariants as part
+use Rattle.mg_dev.specs.declared.show_err.ShowErr.{ShowErr}
+use Rattle.mg_defs.specs.CodedText.{TextCode}
+use Rattle.mg_defs.specs.Replies.{hit_text, shows}
+use Rattle.mg_defs.specs.Reply.{Shown, answer_text, found, plain, satisfying, shown}
+use Rattle.mg_defs.specs.Sat.{Query}
+use Rattle.mg_defs.specs.Split.{documents}
+use Rattle.mg_defs.specs.Terms.{document}
+use Rattle.mg_defs.specs.TextBounds.{doc_pages, texts_in}
+use Rattle.mg_defs.specs.Texts.{count}
+use Rattle.mg_defs.specs.Weights.{first}
+use Rattle.mg_defs.specs.declared.session.Mode.{Mode}
+use Rattle.mg_defs.specs.declared.session.Mode.TheVariants.{Docnums, Text, Count}
+use Rattle.mg_defs.specs.declared.session.Settings.{Settings}
+use Rattle.mg_defs.proofs.ReplyLaws.{first-full, first-front, first-more, hit_adds, none_first, reply-front}
+use Rattle.mg_bool.specs.Matches.{GoesOn, Matching, MatchesFit, MatchesOver, left_of}
+use Rattle.mg_bool.specs.Places.{pages_read}
+use Rattle.mg_query.specs.QueryOf.{query_of}
+use Rattle.mg_post.specs.TermLists.{PagesWithin}
+use Rattle.mg_reply.specs.Pending.{Passed}
+use Rattle.mg_reply.proofs.CallerLemmas.{pass_nothing, pass_both, pass_cut, pass_put}
+use Rattle.mg_text.specs.Reading.{ShowIsNotBad}
+use Rattle.mg_session.specs.Answering.{Answered, Walked, answer_pages, at_score, hit_pages, mode_pages}
+
+-- ---- the documents that are found have no score
+
+found_plain : (ds : List (ℕ × List ℕ)) → AllByRecursion (λ (s : Shown). s.score ≡ None) (map (λ (d : ℕ × List ℕ). plain d.0) ds)
+found_plain [] = tt
+found_plain (d ∷ ds) = (refl, found_plain ds)
+
+left_plain : (collection : List ℕ) (m : Matching) → AllByRecursion (λ (s : Shown). s.score ≡ None) (left_of collection m)
+unfolding found
+left_plain collection m = found_plain _
+
+-- the next one, and those after it
+goes_some : (left now : List Shown) (number : ℕ) → AllByRecursion (λ (s : Shown). s.score ≡ None) left → GoesOn left now (Some number) → left ≡ at_score number None ∷ now
+goes_some [] now number all goes = absurd goes
+goes_some (s ∷ more) now number all goes = λ i. record { number = sym goes.0 i; score = all.0 i } ∷ sym goes.1 i
+
+goes_none : (left now : List Shown) → GoesOn left now None → left ≡ []
+goes_none [] now goes = refl
+goes_none (s ∷ more) now goes = absurd goes
+
+-- ---- the pages of the text
+
+texts_more : (f : Shown → ℕ) (most : Option ℕ) (so_far : List Shown) (hit : Shown) (total : ℕ) → length so_far ≡ total → sum_by f (first most (so_far ++ hit ∷ [])) ≡ sum_by f (first most so_far) + (if shows most total then f hit else 0)
+texts_more f most so_far hit total size =
+    elim (cases_Bool (shows most total)) [
+      | inl more ↦ omega (
+        arith,
+        ap (sum_by f) (first-more most so_far hit (ap (shows most) size ∙ more)),
+        sum_by-append f (first most so_far) (hit ∷ []),
+        cond-true (shows most total) (f hit) 0 more,
+      )
+      | inr full ↦ omega (arith, ap (sum_by f) (first-full most so_far hit (ap (shows most) size ∙ full)), cond-false (shows most total) (f hit) 0 full)
+    ]
+
+none_more : (b : Bool) → ◌≡◌ {A = ℕ} (if b then 0 else 0) 0
+none_more true = refl
+none_more false = refl
+
+pages_adds : (code : TextCode) (collection : List ℕ) (mode : Mode) (most : Option ℕ) (so_far : List Shown) (hit : Shown) (total : ℕ) → length so_far ≡ total →
+    sum_by (doc_pages code collection) (texts_in mode most (so_far ++ hit ∷ [])) ≡ sum_by (doc_pages code collection) (texts_in mode most so_far) + (if shows most total then mode_pages code collection mode hit else 0)
+pages_adds code collection Docnums most so_far hit total size = omega (arith, none_more (shows most total))
+pages_adds code collection Text most so_far hit total size = texts_more (doc_pages code collection) most so_far hit total size
+pages_adds code collection Count most so_far hit total size = omega (arith, none_more (shows most total))
+
+texts_front : (f : Shown → ℕ) (most : Option ℕ) (xs ys : List Shown) → sum_by f (first most xs) ≤ sum_by f (first most (xs ++ ys))
+texts_front f most xs ys =
+    let front = first-front most xs ys in
+    omega (arith, ap (sum_by f) front.1, sum_by-append f (first most xs) front.0)
+
+pages_front : (code : TextCode) (collection : List ℕ) (mode : Mode) (most : Option ℕ) (xs ys : List Shown) → sum_by (doc_pages code collection) (texts_in mode most xs) ≤ sum_by (doc_pages code collection) (texts_in mode most (xs ++ ys))
+pages_front code collection Docnums most xs ys = omega arith
+pages_front code collection Text most xs ys = texts_front (doc_pages code collection) most xs ys
+pages_front code collection Count most xs ys = omega arith
+
+no_pages : (code : TextCode) (collection : List ℕ) (mode : Mode) (most : Option ℕ) → sum_by (doc_pages code collection) (texts_in mode most []) ≡ 0
+no_pages code collection Docnums most = refl
+no_pages code collection Text most = ap (sum_by (doc_pages code collection)) (none_first most)
+no_pages code collection Count most = refl
+
+-- ---- one document after another
+
+pub walked_start : (base : List ℕ) (code : TextCode) (collection : List ℕ) (q : Query) (now : Settings) (w : Option (List ℕ)) (waiting : List ℕ) (m : Matching) (r : Reads) → waiting ≡ [] → query_of m.asks ≡ q → m.decided ≡ 0 → MatchesOver base collection m → Walked base code collection q now w w waiting 0 m r r
+walked_start base code collection q now w waiting m r none asks before over = record {
+  so_far = [];
+  split = ap (λ p. satisfying collection p) (sym asks) ∙ ap (λ n. found (query_of m.asks) (n + 1) (drop n (documents collection))) (sym before);
+  total_is = refl;
+  passed = subst (λ xs. Passed w w [] waiting (flat_map (shown collection now.mode) xs)) (sym (none_first now.most)) (subst (λ p. Passed w w [] p []) (sym none) (pass_nothing w []));
+  over = over;
+  post = omega arith;
+  text = omega arith;
+}
+
+-- a document that was found
+pub walked_hit : (base : List ℕ) (code : TextCode) (collection : List ℕ) (q : Query) (now : Settings) (w0 w1 w2 : Option (List ℕ)) (waiting waiting2 : List ℕ) (total number bound : ℕ) (m n : Matching) (r0 r1 r2 r3 : Reads) →
+    Walked base code collection q now w0 w1 waiting total m r0 r1 → GoesOn (left_of collection m) (left_of collection n) (Some number) → MatchesOver base collection n → PagesWithin bound (pages_read m.places) (pages_read n.places) r1 r2 → r2 part.Text ≡ r1 part.Text →
+    Passed w1 w2 waiting waiting2 (hit_text (document collection number) now.mode now.most total (at_score number None)) → r3 part.Post ≡ r2 part.Post → r3 part.Text ≤ r2 part.Text + hit_pages code collection now total (at_score number None) →
+    Walked base code collection q now w0 w2 waiting2 (total + 1) n r0 r3
+walked_hit base code collection q now w0 w1 w2 waiting waiting2 total number bound m n r0 r1 r2 r3 w goes over pages text passed post shown_text =
+    let hit = at_score number None in
+    let whole : Passed w0 w2 [] waiting2 (flat_map (shown collection now.mode) (first now.most w.so_far) ++ hit_text (document collection number) now.mode now.most total hit) =
+    pass_both w0 w1 w2 [] waiting waiting2 (flat_map (shown collection now.mode) (first now.most w.so_far)) (hit_text (document collection number) now.mode now.most total hit) w.passed passed in
+    record {
+      so_far = w.so_far ++ hit ∷ [];
+      split = w.split ∙ ap (λ l. w.so_far ++ l) (goes_some (left_of collection m) (left_of collection n) number (left_plain collection m) goes) ∙ sym (append_assoc w.so_far (hit ∷ []) (left_of collection n));
+      total_is = omega (arith, length-append w.so_far (hit ∷ []), w.total_is);
+      passed = subst (Passed w0 w2 [] waiting2) (sym (hit_adds collection now (document collection number) w.so_far hit total refl w.total_is)) whole;
+      over = over;
+      post = omega (arith, w.post, pages.post, post);
+      text = omega (arith, w.text, text, shown_text, pages_adds code collection now.mode now.most w.so_far hit total w.total_is);
+    }
+
+-- ---- the end, and stops before it
+
+-- what was printed so far is a prefix of the reply
+so_far_prefix : (base : List ℕ) (code : TextCode) (collection : List ℕ) (q : Query) (now : Settings) (w0 w1 : Option (List ℕ)) (waiting : List ℕ) (total : ℕ) (m : Matching) (r0 r1 : Reads) → Walked base code collection q now w0 w1 waiting total m r0 r1 → GrewByPrefix w0 w1 (answer_text collection now (satisfying collection q))
+so_far_prefix base code collection q now w0 w1 waiting total m r0 r1 w =
+    let front = reply-front collection now w.so_far (left_of collection m) in
+    let part : GrewByPrefix w0 w1 (w.passed.sent ++ waiting) = grew_first w0 w1 w.passed.sent waiting (record { count = length w.passed.sent; within = omega arith; is = w.passed.given ∙ ap (appended w0) (sym (take-length w.passed.sent)) }) in
+    let shown_part : GrewByPrefix w0 w1 (flat_map (shown collection now.mode) (first now.most w.so_far)) = subst (GrewByPrefix w0 w1) w.passed.whole part in
+    subst (GrewByPrefix w0 w1) (sym (ap (answer_text collection now) w.split ∙ front.1)) (grew_first w0 w1 _ front.0 shown_part)
+
+pages_so_far : (base : List ℕ) (code : TextCode) (collection : List ℕ) (q : Query) (now : Settings) (w0 w1 : Option (List ℕ)) (waiting : List ℕ) (total : ℕ) (m : Matching) (r0 r1 : Reads) → Walked base code collection q now w0 w1 waiting total m r0 r1 → r1 part.Text ≤ r0 part.Text + answer_pages code collection now (satisfying collection q)
+pages_so_far base code collection q now w0 w1 waiting total m r0 r1 w =
+    omega (arith, w.text, pages_front code collection now.mode now.most w.so_far (left_of collection m), ap (answer_pages code collection now) w.split)
+
+-- the lists could not be read
+pub walked_stop : (base : List ℕ) (code : TextCode) (collection : List ℕ) (q : Query) (now : Settings) (w0 w1 : Option (List ℕ)) (waiting : List ℕ) (total bound : ℕ) (m n : Matching) (r0 r1 r2 : Reads) (error : ShowErr) →
+    Walked base code collection q now w0 w1 waiting total m r0 r1 → PagesWithin bound (pages_read m.places) (pages_read n.places) r1 r2 → r2 part.Text ≡ r1 part.Text → ShowIsNotBad (Err error) →
+    Answered code collection now (satisfying collection q) bound w0 w1 r0 r2 (Err error)
+walked_stop base code collection q now w0 w1 waiting total bound m n r0 r1 r2 error w pages text sound = record {
+  put = so_far_prefix base code collection q now w0 w1 waiting total m r0 r1 w;
+  sound = sound;
+  post = omega (arith, w.post, pages.post, pages.within);
+  text = omega (arith, pages_so_far base code collection q now w0 w1 waiting total m r0 r1 w, text);
+}
+
+-- a document could not be shown
+pub walked_cut : (base : List ℕ) (code : TextCode) (collection : List ℕ) (q : Query) (now : Settings) (w0 w1 w2 : Option (List ℕ)) (waiting : List ℕ) (total number bound : ℕ) (m n : Matching) (r0 r1 r2 r3 : Reads) (error : ShowErr) →
+    Walked base code collection q now w0 w1 waiting total m r0 r1 → GoesOn (left_of collection m) (left_of collection n) (Some number) → PagesWithin bound (pages_read m.places) (pages_read n.places) r1 r2 → r2 part.Text ≡ r1 part.Text →
+    GrewByPrefix w1 w2 (waiting ++ hit_text (document collection number) now.mode now.most total (at_score number None)) → r3 part.Post ≡ r2 part.Post → r3 part.Text ≤ r2 part.Text + hit_pages code collection now total (at_score number None) → ShowIsNotBad (Err error) →
+    Answered code collection now (satisfying collection q) bound w0 w2 r0 r3 (Err error)
+walked_cut base code collection q now w0 w1 w2 waiting total number bound m n r0 r1 r2 r3 error w goes pages text grew post shown_text sound =
+    let hit = at_score number None in
+    let g = shown collection now.mode in
+    let one = hit_text (document collection number) now.mode now.most total hit in
+    let split : satisfying collection q ≡ (w.so_far ++ hit ∷ []) ++ left_of collection n =
+    w.split ∙ ap (λ l. w.so_far ++ l) (goes_some (left_of collection m) (left_of collection n) number (left_plain collection m) goes) ∙ sym (append_assoc w.so_far (hit ∷ []) (left_of collection n)) in
+    let front = reply-front collection now (w.so_far ++ hit ∷ []) (left_of collection n) in
+    let adds = hit_adds collection now (document collection number) w.so_far hit total refl w.total_is in
+    let is_text : answer_text collection now (satisfying collection q) ≡ (flat_map g (first now.most w.so_far) ++ one) ++ front.0 =
+    ap (answer_text collection now) split ∙ front.1 ∙ ap (λ t. t ++ front.0) adds in
+    let part : GrewByPrefix w0 w2 (flat_map g (first now.most w.so_far) ++ one) = pass_cut w0 w1 w2 [] waiting (flat_map g (first now.most w.so_far)) one w.passed grew in
+    record {
+      put = subst (GrewByPrefix w0 w2) (sym is_text) (grew_first w0 w2 (flat_map g (first now.most w.so_far) ++ one) front.0 part);
+      sound = sound;
+      post = omega (arith, w.post, pages.post, pages.within, post);
+      text = omega (
+        arith,
+        w.text,
+        text,
+        shown_text,
+        pages_adds code collection now.mode now.most w.so_far hit total w.total_is,
+        pages_front code collection now.mode now.most (w.so_far ++ hit ∷ []) (left_of collection n),
+        ap (answer_pages code collection now) split,
+      );
+    }
+
+-- all were found
+ended : (base : List ℕ) (code : TextCode) (collection : List ℕ) (q : Query) (now : Settings) (w0 w1 : Option (List ℕ)) (waiting : List ℕ) (total : ℕ) (m n : Matching) (r0 r1 : Reads) → Walked base code collection q now w0 w1 waiting total m r0 r1 → GoesOn (left_of collection m) (left_of collection n) None →
+    (shown_part : List ℕ) × Passed w0 w1 [] waiting shown_part × (answer_text collection now (satisfying collection q) ≡ shown_part ++ count total)
+unfolding answer_text
+ended base code collection q now w0 w1 waiting total m n r0 r1 w goes =
+    let all : satisfying collection q ≡ w.so_far = w.split ∙ ap (λ l. w.so_far ++ l) (goes_none (left_of collection m) (left_of collection n) goes) ∙ append-nil w.so_far in (
+      flat_map (shown collection now.mode) (first now.most w.so_far),
+      w.passed,
+      ap (λ xs. flat_map (shown collection now.mode) (first now.most xs) ++ count (length xs)) all ∙ ap (λ k. flat_map (shown collection now.mode) (first now.most w.so_far) ++ count k) w.total_is,
+    )
+
+-- the count was passed on, and what waited was put or refused
+pub walked_end : (base : List ℕ) (code : TextCode) (collection : List ℕ) (q : Query) (now : Settings) (w0 w1 w2 w3 : Option (List ℕ)) (waiting waiting2 : List ℕ) (total bound : ℕ) (m n : Matching) (r0 r1 r2 : Reads) (result : Result (Unit {0}) ShowErr) →
+    Walked base code collection q now w0 w1 waiting total m r0 r1 → GoesOn (left_of collection m) (left_of collection n) None → PagesWithin bound (pages_read m.places) (pages_read n.places) r1 r2 → r2 part.Text ≡ r1 part.Text →
+    Passed w1 w2 waiting waiting2 (count total) → AfterPut w2 w3 waiting2 result → ShowIsNotBad result →
+    Answered code collection now (satisfying collection q) bound w0 w3 r0 r2 result
+walked_end base code collection q now w0 w1 w2 w3 waiting waiting2 total bound m n r0 r1 r2 result w goes pages text counted put sound =
+    let t = ended base code collection q now w0 w1 waiting total m n r0 r1 w goes in
+    let whole : Passed w0 w2 [] waiting2 (t.0 ++ count total) = pass_both w0 w1 w2 [] waiting waiting2 t.0 (count total) t.1 counted in
+    record {
+      put = subst (λ x. AfterPut w0 w3 x result) (sym t.2) (pass_put w0 w2 w3 [] waiting2 (t.0 ++ count total) result refl whole put);
+      sound = sound;
+      post = omega (arith, w.post, pages.post, pages.within);
+      text = omega (arith, pages_so_far base code collection q now w0 w1 waiting total m r0 r1 w, text);
+    }
+
+-- the count was refused
+pub walked_uncounted : (base : List ℕ) (code : TextCode) (collection : List ℕ) (q : Query) (now : Settings) (w0 w1 w2 : Option (List ℕ)) (waiting : List ℕ) (total bound : ℕ) (m n : Matching) (r0 r1 r2 : Reads) (error : ShowErr) →
+    Walked base code collection q now w0 w1 waiting total m r0 r1 → GoesOn (left_of collection m) (left_of collection n) None → PagesWithin bound (pages_read m.places) (pages_read n.places) r1 r2 → r2 part.Text ≡ r1 part.Text →
+    GrewByPrefix w1 w2 (waiting ++ count total) → ShowIsNotBad (Err error) →
+    Answered code collection now (satisfying collection q) bound w0 w2 r0 r2 (Err error)
+walked_uncounted base code collection q now w0 w1 w2 waiting total bound m n r0 r1 r2 error w goes pages text grew sound =
+    let t = ended base code collection q now w0 w1 waiting total m n r0 r1 w goes in
+    record {
+      put = subst (GrewByPrefix w0 w2) (sym t.2) (pass_cut w0 w1 w2 [] waiting t.0 (count total) t.1 grew);
+      sound = sound;
+      post = omega (arith, w.post, pages.post, pages.within);
+      text = omega (arith, pages_so_far base code collection q now w0 w1 waiting total m r0 r1 w, text);
+    }
+
+-- ---- what is kept agrees with the same files
+
+pub fit_later : (base : List ℕ) (f g : Option Files) (m : Matching) → g ≡ f → MatchesFit base f m → MatchesFit base g m
+fit_later base f g m same fit = subst (λ h. MatchesFit base h m) (sym same) fit

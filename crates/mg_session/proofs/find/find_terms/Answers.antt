@@ -1,0 +1,26 @@
+use Rattle.std.proofs.Common.{arith, List, [], ◌∷◌, ◌+◌, length, sym, ◌∙◌, ap, subst, length-append}
+use Rattle.std.specs.declared.option.Option.{Option}
+use Rattle.std.proofs.lemmas.List.{get_or_read}
+use Rattle.mg_bool.specs.Places.{IsToldOf}
+use Rattle.mg_layout.specs.declared.term_info.TermInfo.{TermInfo}
+use Rattle.mg_session.specs.Answering.{FirstInfos}
+use Rattle.mg_session.specs.SearchLaws.{lex_later, parts_then}
+use Rattle.mg_session.proofs.FindLaws.{infos_all, infos_more, told_of}
+use Rattle.mg_session.proofs.StepLaws.{looked_then}
+use Rattle.mg_session.proofs.find.find_terms.Goals as goal
+
+pub loop-term-preserved : goal.loop-term-preserved
+loop-term-preserved g c = record {
+  fits = c.in-Ok.ensures.fits;
+  same = parts_then _ _ _ c.loop-term.invariant.same c.in-Ok.ensures.same;
+  looked = looked_then _ _ _ _ _ _ _ _ _ _ _ c.loop-term.invariant.looked c.in-Ok.ensures.looked;
+  told = λ version collection limits stands.
+      let here = lex_later _ _ _ _ collection c.loop-term.invariant.same c.loop-term.invariant.looked.files stands in
+      let term = c.as_bytes.ensures ∙ get_or_read c.args.terms.now c.loop-term.term-index c.term-item.result c.loop-term-test.true c.term-item.is [] in
+      let told = told_of collection _ c.in-Ok.info (c.in-Ok.ensures.info version collection limits here) in
+      subst (λ (xs : List (Option TermInfo)). FirstInfos collection c.args.terms.now (c.loop-term.term-index + 1) xs) (sym c.in-Ok-push.ensures.items) (infos_more collection c.args.terms.now c.loop-term.term-index c.loop-term.infos.items c.in-Ok.info (c.loop-term.invariant.told version collection limits stands) c.loop-term.invariant.size (subst (λ t. IsToldOf collection t c.in-Ok.info) term told));
+  size = omega (arith, ap length c.in-Ok-push.ensures.items, length-append c.loop-term.infos.items (c.in-Ok.info ∷ []), c.loop-term.invariant.size);
+}
+
+pub returns-clause-answer : goal.returns-clause-answer
+returns-clause-answer g c = λ version collection limits stands. infos_all collection c.args.terms.now c.loop-term.term-index c.loop-term.infos.items (c.loop-term.invariant.told version collection limits stands) c.loop-term.invariant.size (omega (arith, c.loop-term-test.false, c.loop-term.auto.term-index-end))

@@ -1,0 +1,5 @@
+pub mod Parts
+pub mod Searching
+pub mod Answering
+pub mod Serves
+pub mod SearchLaws

@@ -1,0 +1,87 @@
+-- A state of a search over built files, and what a query line does to it.
+use Rattle.std.specs.Prelude.{◌≡◌, ℕ, ◌+◌, ◌≤◌, List, length, sum_by}
+use Rattle.std.specs.declared.option.Option.{Option}
+use Rattle.mg_dev.specs.Causes.{Rose}
+use Rattle.mg_dev.specs.Files.{Files, Reads}
+use Rattle.mg_dev.specs.declared.part.Part.{Part}
+use Rattle.mg_dev.specs.declared.part.Part.TheVariants as part
+use Rattle.mg_dev.specs.declared.part_err.PartErr.{PartErr}
+use Rattle.mg_dev.specs.declared.part_err.PartErr.TheVariants.{Device, Memory, Bad}
+use Rattle.mg_defs.specs.declared.session.Settings.{Settings}
+use Rattle.mg_defs.specs.Limits.{IsWithinLimits}
+use Rattle.mg_defs.specs.PageBounds.{line_bound}
+use Rattle.mg_defs.specs.Replies.{reply}
+use Rattle.mg_defs.specs.Session.{Question}
+use Rattle.mg_defs.specs.Split.{documents}
+use Rattle.mg_defs.specs.TextBounds.{line_text_bound}
+use Rattle.mg_front.specs.Reading.{Fronted, FrontFits, SameParts}
+use Rattle.mg_lex.specs.Reading.{LexStands}
+use Rattle.mg_rank.specs.Ranked.{WeightsStand}
+use Rattle.mg_text.specs.Reading.{TextReading, TextFits, TextStands, SameText}
+use Rattle.mg_session.specs.Parts.{NeverRead}
+
+-- the parts of a base that are open: its lexicon and its text, and how many documents there are
+pub record Opened : Type 0 where
+  pub base : List ℕ
+  pub lex : Fronted
+  pub text : TextReading
+  pub all : ℕ
+
+-- these, and the store that they are read from
+pub record Searching : Type 0 where
+  pub files : Option Files
+  pub reads : Reads
+  pub faults : ℕ
+  pub opened : Opened
+
+abbrev pub state_of : Option Files → Reads → ℕ → Opened → Searching
+state_of files reads faults opened = record { files = files; reads = reads; faults = faults; opened = opened }
+
+-- what the readers keep agrees with the files
+pub record SearchFits (files : Option Files) (o : Opened) : Type 0 where
+  pub lex : FrontFits o.lex files
+  pub text : TextFits o.text files
+  pub all : o.text.documents ≡ o.all
+
+-- the same parts
+pub record SameOpened (old new : Opened) : Type 0 where
+  pub base : new.base ≡ old.base
+  pub lex : SameParts old.lex new.lex
+  pub text : SameText old.text new.text
+  pub all : new.all ≡ old.all
+
+-- they are those of this collection
+pub record OpenedOver (files : Option Files) (o : Opened) (collection : List ℕ) : Type 0 where
+  pub version : ℕ
+  pub limits : IsWithinLimits version collection
+  pub weights : WeightsStand o.base files collection
+  pub lex : LexStands o.lex files collection
+  pub text : TextStands o.text files collection
+  pub all : o.all ≡ length (documents collection)
+
+abbrev pub Fits : Searching → Type 0
+Fits s = SearchFits s.files s.opened
+
+abbrev pub Over : Searching → List ℕ → Type 0
+Over s collection = OpenedOver s.files s.opened collection
+
+-- it answers as a session over a collection does
+pub record AnswersBy (s : Searching) (by : Settings → List ℕ → List ℕ) : Type 0 where
+  pub collection : List ℕ
+  pub over : Over s collection
+  pub by_is : by ≡ reply collection
+
+-- these query lines were answered in between
+pub record Asked (s t : Searching) (questions : List Question) : Type 0 where
+  pub files : t.files ≡ s.files
+  pub faults : s.faults ≤ t.faults
+  pub same : SameOpened s.opened t.opened
+  pub unread : (p : Part) → NeverRead p → t.reads p ≡ s.reads p
+  pub post : (collection : List ℕ) → Over s collection → t.reads part.Post ≤ s.reads part.Post + sum_by (line_bound collection) questions
+  pub shown : (collection : List ℕ) → Over s collection → t.reads part.Text ≤ s.reads part.Text + sum_by (line_text_bound s.opened.text.code collection) questions
+
+-- why a part may be refused
+abbrev pub MayStop : Searching → Searching → PartErr → Type 0
+MayStop s t Device = Rose s.faults t.faults
+MayStop s t Memory = Unit {0}
+MayStop s t (Bad bad) = (collection : List ℕ) → Over s collection → ⊥

@@ -1,0 +1,54 @@
+-- Why a session over files stops, and what it reads.
+use Rattle.std.specs.Prelude.{◌≡◌, ◌⊎◌, ℕ, ◌+◌, ◌≤◌, true, List, [], IsSome, Ok, Err}
+use Rattle.std.specs.Option.{ForSome}
+use Rattle.std.specs.declared.option.Option.{Option}
+use Rattle.std.specs.declared.result.Result.{Result}
+use Rattle.mg_dev.specs.Files.{Files, Reads, bytes_at}
+use Rattle.mg_dev.specs.Names.{full_name}
+use Rattle.mg_dev.specs.declared.part.Part.TheVariants as part
+use Rattle.mg_dev.specs.declared.fault.Fault.{Fault}
+use Rattle.mg_dev.specs.declared.fault.Fault.TheVariants.{StoreFault, ReadFault, WriteFault, NotBuilt, Damaged, Memory, InputTooLong}
+use Rattle.mg_dev.specs.Faults.{fault_of_show}
+use Rattle.mg_reply.specs.declared.serve.ServeErr.{ServeErr}
+use Rattle.mg_reply.specs.declared.serve.ServeErr.TheVariants as serve
+use Rattle.mg_defs.specs.CodedText.{TextCode}
+use Rattle.mg_defs.specs.Limit.{is_too_much, input_limit}
+use Rattle.mg_defs.specs.PageBounds.{session_bound}
+use Rattle.mg_defs.specs.TextBounds.{session_text_bound}
+use Rattle.mg_layout.specs.Stands.{StandsForNone}
+
+-- the cause of each refusal, by the faults of store, input and output, whether nothing is built, whether the files stand for none, and the input
+abbrev pub Stops : Type 0 → Type 0 → Type 0 → Type 0 → Type 0 → Option (List ℕ) → Fault → Type 0
+Stops store_rose input_rose output_rose unbuilt damaged input StoreFault = store_rose
+Stops store_rose input_rose output_rose unbuilt damaged input ReadFault = input_rose
+Stops store_rose input_rose output_rose unbuilt damaged input WriteFault = output_rose
+Stops store_rose input_rose output_rose unbuilt damaged input NotBuilt = unbuilt
+Stops store_rose input_rose output_rose unbuilt damaged input (Damaged bad) = damaged
+Stops store_rose input_rose output_rose unbuilt damaged input Memory = Unit {0}
+Stops store_rose input_rose output_rose unbuilt damaged input InputTooLong = ForSome input (λ given. is_too_much input_limit given ≡ true)
+Stops store_rose input_rose output_rose unbuilt damaged input _ = ⊥
+
+-- the same by the files under a base
+abbrev pub StopsFor : Type 0 → Type 0 → Type 0 → Option Files → List ℕ → Option (List ℕ) → Fault → Type 0
+StopsFor store_rose input_rose output_rose files base input fault = Stops store_rose input_rose output_rose (IsSome files → bytes_at files (full_name base part.Head) ≡ []) (StandsForNone files base) input fault
+
+-- this refusal, unless the store fails or memory lacks
+abbrev pub RefusedFor : {T : Type 0} → Result T Fault → Fault → Type 0
+RefusedFor result fault = (result ≡ Err fault) ⊎ ((result ≡ Err StoreFault) ⊎ (result ≡ Err Memory))
+
+-- it is done, or memory lacks
+abbrev pub IsDone : {T : Type 0} → Result T Fault → Type 0
+IsDone (Ok value) = Unit {0}
+IsDone (Err Memory) = Unit {0}
+IsDone (Err _) = ⊥
+
+-- no more pages are read than the bounds of the query lines add up to
+pub record ReadsWithin (code : TextCode) (collection given : List ℕ) (before now : Reads) : Type 0 where
+  pub post : now part.Post ≤ before part.Post + session_bound collection given
+  pub text : now part.Text ≤ before part.Text + session_text_bound code collection given
+
+-- the fault of a session that stopped
+abbrev pub fault_of_serve : ServeErr → Fault
+fault_of_serve serve.Read = ReadFault
+fault_of_serve serve.TooMuch = InputTooLong
+fault_of_serve (serve.Show error) = fault_of_show error

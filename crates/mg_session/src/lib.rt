@@ -1,0 +1,21 @@
+//! A query session over built files.
+//!
+//! A session answers each line from the parts of a set: a term is looked up in the lexicon, its list
+//! gives the documents, and a document is decoded only where its text is shown. Nothing that the
+//! files hold is trusted, and no file is written. Where they stand for a collection the output is
+//! the session that a scan of its documents prints, and the pages that are read are bounded for
+//! each line.
+//!
+//! Boolean and ranked queries are those of Witten, Moffat and Bell, *Managing Gigabytes*, chapter 4.
+#![tactic(auto)]
+
+mod boolean;
+mod find;
+mod hit;
+mod ranked;
+mod searcher;
+mod session;
+#[cfg(test)]
+mod tests;
+
+pub use session::serve;

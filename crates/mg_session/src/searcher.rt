@@ -1,0 +1,208 @@
+//! An answerer over the open parts of a set.
+ghost use Rattle.std.specs.Prelude.{◌≡◌, ◌≤◌, ℕ, List, [], ◌∷◌, false, true, IfErr, IsErrOf, length};
+ghost use Rattle.mg_dev.specs.Causes.{Rose};
+ghost use Rattle.mg_dev.specs.Streams.{AfterPut};
+ghost use Rattle.mg_dev.specs.declared.show_err.ShowErr.TheVariants.{Write};
+ghost use Rattle.mg_defs.specs.Replies.{reply};
+ghost use Rattle.mg_reply.specs.Served.{PartStops};
+ghost use Rattle.mg_session.specs.Answering.{HasShowCause, Replied};
+ghost use Rattle.mg_session.specs.Parts.{Stepped};
+ghost use Rattle.mg_session.specs.Searching.{AnswersBy, Asked, Fits, MayStop, OpenedOver, Over, SameOpened, SearchFits, Searching, state_of};
+ghost use Rattle.mg_session.specs.SearchLaws.{answers_later, asked_more, asked_none, stops_later};
+
+use crate::boolean::answer_query;
+use crate::find::find_terms;
+use crate::ranked::answer_terms;
+use mg_defs::Settings;
+use mg_dev::{PartErr, ShowErr, Sink, Store};
+use mg_lex::Lex;
+use mg_query::{parse_boolean, parse_ranked};
+use mg_reply::{Answerer, put_refused};
+use mg_text::TextReader;
+use std::alloc::Global;
+use std::marker::Model;
+
+/// Answers the query lines of a session from the parts of a base.
+#[derive(Drop)]
+pub(crate) struct Searcher<'a, S: Store> {
+    alloc: Global,
+    base: &'a str,
+    lex: Lex<'a, S>,
+    text: TextReader<'a, S>,
+    all: u32,
+}
+
+impl<'a, S: Store> Model for Searcher<'a, S> {
+    ghost use Rattle.mg_session.specs.Searching.{Opened};
+
+    ghost Value = { Opened };
+
+    ghost view = { λ s. record { base = s.base.now; lex = s.lex; text = s.text; all = s.all } };
+}
+
+impl<'a, S: Store> Searcher<'a, S> {
+    /// Over these parts of a base, and so many documents.
+    pub(crate) fn new(
+        alloc: Global,
+        base: &'a str,
+        lex: Lex<'a, S>,
+        text: TextReader<'a, S>,
+        all: u32,
+    ) -> Self
+        ensures { result ≡ record { base = base.entry.now; lex = lex.entry; text = text.entry; all = all } }
+    {
+        Searcher {
+            alloc,
+            base,
+            lex,
+            text,
+            all,
+        }
+    }
+
+    /// Writes the reply to a Boolean line.
+    fn answer_boolean<O: Sink>(
+        &mut self,
+        store: &mut S,
+        line: &[u8],
+        now: &Settings,
+        out: &mut O,
+    ) -> Result<(), ShowErr>
+        requires short { length line.now ≤ 1024 }
+        requires fits { SearchFits (S.files store.old) self.old }
+        ensures fits { SearchFits (S.files store.new) self.new }
+        ensures same { SameOpened self.old self.new }
+        ensures replied { (collection : List ℕ) → OpenedOver (S.files store.old) self.old collection →
+            Replied self.old.text.code collection false now.now line.now
+            (O.written out.old) (O.written out.new) (S.reads store.old) (S.reads store.new) result }
+        ensures step { Stepped (S.files store.old) (S.files store.new) (S.reads store.old) (S.reads store.new) (S.faults store.old) (S.faults store.new) }
+        ensures cause { HasShowCause result (S.faults store.old) (S.faults store.new) (O.faults out.old) (O.faults out.new) }
+    {
+        let query = match parse_boolean(self.alloc, line) {
+            Ok(query) => query,
+            Err(why) => match put_refused(out, why) {
+                Ok(()) => return Ok(()),
+                Err(refusal) => return Err(ShowErr::from(refusal)),
+            },
+        };
+        let terms = match query.terms(self.alloc) {
+            Ok(terms) => terms,
+            Err(_) => return Err(ShowErr::Part(PartErr::Memory)),
+        };
+        let infos = match find_terms(self.alloc, store, &mut self.lex, terms.as_slice()) {
+            Ok(infos) => infos,
+            Err(refusal) => return Err(ShowErr::from(refusal)),
+        };
+        answer_query(
+            self.alloc,
+            store,
+            self.base,
+            &mut self.text,
+            &query,
+            &infos,
+            self.all,
+            now,
+            out,
+        )
+    }
+
+    /// Writes the reply to a ranked line.
+    fn answer_ranked<O: Sink>(
+        &mut self,
+        store: &mut S,
+        line: &[u8],
+        now: &Settings,
+        out: &mut O,
+    ) -> Result<(), ShowErr>
+        requires short { length line.now ≤ 1024 }
+        requires fits { SearchFits (S.files store.old) self.old }
+        ensures fits { SearchFits (S.files store.new) self.new }
+        ensures same { SameOpened self.old self.new }
+        ensures replied { (collection : List ℕ) → OpenedOver (S.files store.old) self.old collection →
+            Replied self.old.text.code collection true now.now line.now
+            (O.written out.old) (O.written out.new) (S.reads store.old) (S.reads store.new) result }
+        ensures step { Stepped (S.files store.old) (S.files store.new) (S.reads store.old) (S.reads store.new) (S.faults store.old) (S.faults store.new) }
+        ensures cause { HasShowCause result (S.faults store.old) (S.faults store.new) (O.faults out.old) (O.faults out.new) }
+    {
+        let terms = match parse_ranked(self.alloc, line) {
+            Ok(terms) => terms,
+            Err(why) => match put_refused(out, why) {
+                Ok(()) => return Ok(()),
+                Err(refusal) => return Err(ShowErr::from(refusal)),
+            },
+        };
+        let infos = match find_terms(self.alloc, store, &mut self.lex, terms.as_slice()) {
+            Ok(infos) => infos,
+            Err(refusal) => return Err(ShowErr::from(refusal)),
+        };
+        answer_terms(
+            self.alloc,
+            store,
+            self.base,
+            &mut self.text,
+            &infos,
+            self.all,
+            now,
+            out,
+        )
+    }
+
+    /// Writes the reply to a query line, ranked or Boolean as the settings say.
+    fn answer_question<O: Sink>(
+        &mut self,
+        store: &mut S,
+        line: &[u8],
+        now: &Settings,
+        out: &mut O,
+    ) -> Result<(), ShowErr>
+        requires short { length line.now ≤ 1024 }
+        requires fits { SearchFits (S.files store.old) self.old }
+        ensures fits { SearchFits (S.files store.new) self.new }
+        ensures same { SameOpened self.old self.new }
+        ensures replied { (collection : List ℕ) → OpenedOver (S.files store.old) self.old collection →
+            Replied self.old.text.code collection now.now.ranked now.now line.now
+            (O.written out.old) (O.written out.new) (S.reads store.old) (S.reads store.new) result }
+        ensures step { Stepped (S.files store.old) (S.files store.new) (S.reads store.old) (S.reads store.new) (S.faults store.old) (S.faults store.new) }
+        ensures cause { HasShowCause result (S.faults store.old) (S.faults store.new) (O.faults out.old) (O.faults out.new) }
+    {
+        if now.ranked {
+            self.answer_ranked(store, line, now, out)
+        } else {
+            self.answer_boolean(store, line, now, out)
+        }
+    }
+}
+
+impl<'a, S: Store> Answerer for Searcher<'a, S> {
+    type Dev = S;
+
+    ghost State = { Searching };
+
+    ghost state = { λ s d. state_of (S.files d) (S.reads d) (S.faults d) s };
+
+    ghost fits = { λ s. Fits s };
+
+    ghost answers = { λ s by. AnswersBy s by };
+
+    ghost after = { λ s t questions. Asked s t questions };
+
+    ghost may_stop = { λ s t error. MayStop s t error };
+
+    fn answer_line<O: Sink>(
+        &mut self,
+        dev: &mut S,
+        line: &[u8],
+        now: &Settings,
+        out: &mut O,
+    ) -> Result<(), ShowErr> {
+        self.answer_question(dev, line, now, out)
+    }
+
+    ghost after_none = { λ s. asked_none s };
+
+    ghost after_more = { λ s t u xs ys first more. asked_more s t u xs ys first more };
+
+    ghost same_reply = { λ s t xs by after answers. answers_later s t xs by after answers };
+
+    ghost stops_later = { λ s t u xs error after stops. stops_later s t u xs error after stops };
+}
