@@ -1,0 +1,4 @@
+pub mod Meeting
+pub mod DocCounting
+pub mod Plans
+pub mod Written
