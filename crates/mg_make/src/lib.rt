@@ -6,7 +6,11 @@
 #![tactic(auto)]
 
 mod doc_counts;
+mod lists;
+mod merge_parts;
 mod met;
+mod one_list;
 mod plan;
+mod weights;
 
 pub use plan::{Plan, Room};
