@@ -1,0 +1,5 @@
+pub mod ListFrames
+pub mod SquareSteps
+pub mod CountSizes
+pub mod ListSteps
+pub mod TermSteps

@@ -13,7 +13,7 @@ use Rattle.mg_defs.specs.declared.Posting.{Posting}
 use Rattle.mg_defs.specs.declared.TermPosting.{TermPosting}
 use Rattle.mg_defs.specs.CodedText.{as_bytes}
 use Rattle.mg_defs.specs.Lexicon.{lex_at_bytes, lex_bytes}
-use Rattle.mg_defs.specs.Lists.{Rises, inverted, post_bits, skip_bits}
+use Rattle.mg_defs.specs.Lists.{Follows, Rises, inverted, post_bits, skip_bits}
 use Rattle.mg_defs.specs.PostingLists.{by_terms, term_list}
 use Rattle.mg_defs.specs.Split.{documents}
 use Rattle.mg_defs.specs.Squares.{squares}
@@ -60,8 +60,18 @@ pub record CanList (merge : Merging) (lists : Listing) (sums : List ℕ) (files 
   pub begun : List Posting
   pub took : Took lists files done begun
   pub each : length sums ≡ lists.all
+  pub within : lists.last ≤ lists.all
   pub post : lists.post.name ≡ full_name merge.base Post
   pub skip : lists.skip.name ≡ full_name merge.base Skip
+
+-- The store tells its files, and the next posting is one of the term of a number that may follow a document.
+pub record HasNext (number all last : ℕ) (merge : Merging) (files : Option Files) : Type 0 where
+  pub told : IsSome files
+  pub posting : Posting
+  pub left : List Posting
+  pub later : List TermPosting
+  pub merging : IsMerging merge files (term_list number (posting ∷ left) ++ later)
+  pub follows : Follows all last posting
 
 -- Behind the lists that are done, these postings of the list of a term's number were taken. The others of the list are left, and those of later terms.
 pub record IsInList (number : ℕ) (merge : Merging) (lists : Listing) (sums : List ℕ) (files : Option Files) (done : List (List Posting)) (ps left : List Posting) (later : List TermPosting) : Type 0 where

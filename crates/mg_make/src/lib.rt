@@ -6,6 +6,7 @@
 #![tactic(auto)]
 
 mod doc_counts;
+mod index;
 mod lists;
 mod merge_parts;
 mod met;

@@ -14,7 +14,7 @@ ghost use Rattle.mg_defs.specs.Lists.{Follows, lists_bits, lists_entries};
 ghost use Rattle.mg_defs.specs.PostingLists.{term_list};
 ghost use Rattle.mg_post.specs.Writing.{Pushed, SameFiles, Took, posting_of};
 ghost use Rattle.mg_runs.specs.Left.{IsMerging};
-ghost use Rattle.mg_make.specs.Listing.{AreSquares, CanList, HasList, HasRest, IsAtList, IsDamage, IsInList, ListStops, ListedMore, PushedMore, SameMerge, SquaresFit};
+ghost use Rattle.mg_make.specs.Listing.{AreSquares, CanList, HasList, HasNext, HasRest, IsAtList, IsDamage, IsInList, ListStops, ListedMore, PushedMore, SameMerge, SquaresFit};
 ghost use Rattle.mg_make.specs.Written.{OfLists, WroteParts};
 
 use mg_defs::TermPosting;
@@ -51,8 +51,7 @@ fn next_posting<S: Store>(
     ensures told { IsSome (S.files store.old) → (p : TermPosting) (left : List TermPosting) → IsMerging merge.old (S.files store.old) (p ∷ left) → IfOk result (λ posting. posting ≡ p) }
     ensures term { IfOk result (λ posting. posting.term ≡ number) }
     ensures follows { IfOk result (λ posting. Follows all last (posting_of posting.doc posting.count)) }
-    ensures refused { IfErr result (λ fault. (p : Posting) (left : List Posting) (later : List TermPosting) → Follows all last p →
-        ListStops (Rose (S.faults store.old) (S.faults store.new)) (IsSome (S.files store.old) × IsMerging merge.old (S.files store.old) (term_list number (p ∷ left) ++ later)) fault) }
+    ensures refused { IfErr result (ListStops (Rose (S.faults store.old) (S.faults store.new)) (HasNext number all last merge.old (S.files store.old))) }
     ensures same { SameMerge merge.old merge.new }
     ensures files { S.files store.new ≡ S.files store.old }
     ensures later { S.faults store.old ≤ S.faults store.new }

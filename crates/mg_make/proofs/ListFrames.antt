@@ -1,0 +1,135 @@
+-- What the writers of lists and lexicon leave as it is, and why they stop.
+use Rattle.std.proofs.Common.{arith, ◌≡◌, ◌≢◌, ◌≤◌, ◌+◌, ℕ, List, refl, sym, ap, ◌∙◌, subst, Err, is_some, Result}
+use Rattle.std.specs.Prelude.{IfErr}
+use Rattle.std.specs.declared.option.Option.{Option}
+use Rattle.mg_dev.specs.declared.device.PutErr.{PutErr}
+use Rattle.mg_dev.specs.declared.device.PutErr.TheVariants as put
+use Rattle.mg_dev.specs.declared.fault.Fault.{Fault}
+use Rattle.mg_dev.specs.declared.fault.Fault.TheVariants as fault
+use Rattle.mg_dev.specs.declared.part.Part.{Part as AnyPart}
+use Rattle.mg_dev.specs.declared.part.Part.TheVariants.{Head, Words, Nonwords, Text, Places, Lex, LexAt, Post, Skip, Weights, Run, MergeA, MergeB, Plain}
+use Rattle.mg_dev.specs.declared.part_err.PartErr.{PartErr}
+use Rattle.mg_dev.specs.declared.part_err.PartErr.TheVariants as part_err
+use Rattle.mg_dev.specs.Causes.{HasPutCause, Rose}
+use Rattle.mg_dev.specs.Faults.{fault_of_part, fault_of_store}
+use Rattle.mg_dev.specs.Files.{Files, file_at}
+use Rattle.mg_dev.specs.Laws.{same_part_of_name}
+use Rattle.mg_dev.specs.Names.{full_name, number}
+use Rattle.mg_dev.specs.PartCauses.{HasPartCause}
+use Rattle.mg_defs.specs.declared.TermPosting.{TermPosting}
+use Rattle.mg_runs.specs.Cursors.{NoDamage}
+use Rattle.mg_runs.specs.Joins.{IsRunPart}
+use Rattle.mg_runs.specs.Left.{IsMerging, Merging}
+use Rattle.mg_make.specs.Listing.{IsDamage, ListStops, SameMerge}
+use Rattle.mg_make.specs.Written.{OfLists, WroteParts}
+
+-- ---- what was written
+
+pub wrote_none : (parts : AnyPart → Type 0) (base : List ℕ) (f g : Option Files) → g ≡ f → WroteParts parts base f g
+wrote_none parts base f g same = record { told = ap is_some same; others = λ name apart. ap (λ files. file_at files name) same }
+
+pub wrote_more : (parts : AnyPart → Type 0) (base : List ℕ) (f g h : Option Files) → WroteParts parts base f g → WroteParts parts base g h → WroteParts parts base f h
+wrote_more parts base f g h first second = record { told = second.told ∙ first.told; others = λ name apart. second.others name apart ∙ first.others name apart }
+
+pub wrote_lists : (base post skip : List ℕ) (f g : Option Files) → post ≡ full_name base Post → skip ≡ full_name base Skip → is_some g ≡ is_some f →
+    ((n : List ℕ) → n ≢ post → n ≢ skip → file_at g n ≡ file_at f n) → WroteParts OfLists base f g
+wrote_lists base post skip f g post_is skip_is told others =
+    record { told = told; others = λ name apart. others name (λ e. apart Post tt (e ∙ post_is)) (λ e. apart Skip tt (e ∙ skip_is)) }
+
+pub wrote_lex : (base : List ℕ) (f g : Option Files) → is_some g ≡ is_some f →
+    ((n : List ℕ) → n ≢ full_name base Lex → n ≢ full_name base LexAt → file_at g n ≡ file_at f n) → WroteParts OfLists base f g
+wrote_lex base f g told others = record { told = told; others = λ name apart. others name (apart Lex tt) (apart LexAt tt) }
+
+-- ---- the merge goes on
+
+lists_are_low : (p : AnyPart) → OfLists p → number p ≤ 8
+lists_are_low Head h = absurd h
+lists_are_low Words h = absurd h
+lists_are_low Nonwords h = absurd h
+lists_are_low Text h = absurd h
+lists_are_low Places h = absurd h
+lists_are_low Lex h = omega arith
+lists_are_low LexAt h = omega arith
+lists_are_low Post h = omega arith
+lists_are_low Skip h = omega arith
+lists_are_low Weights h = absurd h
+lists_are_low Run h = absurd h
+lists_are_low MergeA h = absurd h
+lists_are_low MergeB h = absurd h
+lists_are_low Plain h = absurd h
+
+not_runs : (base : List ℕ) (p q : AnyPart) → OfLists p → IsRunPart q → full_name base q ≢ full_name base p
+not_runs base p q of_lists of_runs e = omega (arith, lists_are_low p of_lists, of_runs.low, ap number (same_part_of_name base q p e))
+
+-- the law of runs that stay
+abbrev pub RunsStay : Type 0
+RunsStay =
+    (merge : Merging) (f g : Option Files) (left : List TermPosting) → is_some g ≡ is_some f →
+    ((part : AnyPart) → IsRunPart part → file_at g (full_name merge.base part) ≡ file_at f (full_name merge.base part)) → IsMerging merge f left → IsMerging merge g left
+
+pub merging_stays : RunsStay → (merge : Merging) (f g : Option Files) (left : List TermPosting) → WroteParts OfLists merge.base f g → IsMerging merge f left → IsMerging merge g left
+merging_stays stay merge f g left wrote is =
+    stay merge f g left wrote.told (λ q of_runs. wrote.others (full_name merge.base q) (λ p of_lists. not_runs merge.base p q of_lists of_runs)) is
+
+pub same_none : (merge : Merging) → SameMerge merge merge
+same_none merge = record { base = refl; runs = refl; peak = refl }
+
+pub same_more : (a b c : Merging) → SameMerge a b → SameMerge b c → SameMerge a c
+same_more a b c first second = record { base = second.base ∙ first.base; runs = second.runs ∙ first.runs; peak = second.peak ∙ first.peak }
+
+-- ---- why it stops
+
+pub rose_later : (a b c : ℕ) → a ≤ b → Rose b c → Rose a c
+rose_later a b c le rose = omega (arith, le, rose)
+
+pub rose_before : (a b c : ℕ) → Rose a b → b ≤ c → Rose a c
+rose_before a b c rose le = omega (arith, le, rose)
+
+pub stops_for : {rose rose' same same' : Type 0} (f : Fault) → (rose → rose') → (same' → same) → ListStops rose same f → ListStops rose' same' f
+stops_for fault.Usage up down h = h
+stops_for fault.StoreFault up down h = up h
+stops_for fault.ReadFault up down h = h
+stops_for fault.WriteFault up down h = h
+stops_for fault.NotBuilt up down h = h
+stops_for (fault.Damaged bad) up down h = λ same. h (down same)
+stops_for fault.NoCollection up down h = h
+stops_for (fault.TooLarge size most) up down h = h
+stops_for fault.TooManyDocuments up down h = h
+stops_for (fault.TooManyPieces stream) up down h = h
+stops_for (fault.Changed what first second) up down h = (h.0, λ same. h.1 (down same))
+stops_for fault.Memory up down h = h
+stops_for (fault.NameClash part) up down h = h
+stops_for fault.InputTooLong up down h = h
+stops_for fault.SameName up down h = h
+stops_for (fault.TooManyRotations count) up down h = h
+
+pub stops_by_store : {T : Type 0} (f g : ℕ) (same : Type 0) (refusal : PutErr) → HasPutCause {T = T} f g (Err refusal) → ListStops (Rose f g) same (fault_of_store refusal)
+stops_by_store f g same put.Failed cause = cause.failed refl
+stops_by_store f g same put.Memory cause = tt
+
+pub stops_by_part : {T : Type 0} (f g : ℕ) (same : Type 0) (refusal : PartErr) → HasPartCause {T = T} f g (Err refusal) → (same → NoDamage {T = T} (Err refusal)) → ListStops (Rose f g) same (fault_of_part refusal)
+stops_by_part f g same part_err.Device cause sound = cause.device
+stops_by_part f g same part_err.Memory cause sound = tt
+stops_by_part f g same (part_err.Bad bad) cause sound = λ is. sound is
+
+pub stops_by_damage : (rose same : Type 0) (f : Fault) → IsDamage f → ¬ same → ListStops rose same f
+stops_by_damage rose same fault.Usage h not_so = absurd h
+stops_by_damage rose same fault.StoreFault h not_so = absurd h
+stops_by_damage rose same fault.ReadFault h not_so = absurd h
+stops_by_damage rose same fault.WriteFault h not_so = absurd h
+stops_by_damage rose same fault.NotBuilt h not_so = absurd h
+stops_by_damage rose same (fault.Damaged bad) h not_so = not_so
+stops_by_damage rose same fault.NoCollection h not_so = absurd h
+stops_by_damage rose same (fault.TooLarge size most) h not_so = absurd h
+stops_by_damage rose same fault.TooManyDocuments h not_so = absurd h
+stops_by_damage rose same (fault.TooManyPieces stream) h not_so = absurd h
+stops_by_damage rose same (fault.Changed what first second) h not_so = absurd h
+stops_by_damage rose same fault.Memory h not_so = absurd h
+stops_by_damage rose same (fault.NameClash part) h not_so = absurd h
+stops_by_damage rose same fault.InputTooLong h not_so = absurd h
+stops_by_damage rose same fault.SameName h not_so = absurd h
+stops_by_damage rose same (fault.TooManyRotations count) h not_so = absurd h
+
+-- a refusal that is passed on
+pub passed_on : {T : Type 0} {rose rose' same same' : Type 0} (r : Result T Fault) (e : Fault) → (y : Fault) × (r ≡ Err y) × (y ≡ e) → (rose → rose') → (same' → same) → ListStops rose same e → IfErr r (ListStops rose' same')
+passed_on r e p up down stops = rw (p.1, p.2) (stops_for e up down stops)
