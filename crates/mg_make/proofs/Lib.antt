@@ -3,3 +3,7 @@ pub mod SquareSteps
 pub mod CountSizes
 pub mod ListSteps
 pub mod TermSteps
+pub mod IndexSteps
+pub mod WeightSteps
+pub mod IndexLaws
+pub mod IndexEnds

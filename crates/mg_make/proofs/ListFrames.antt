@@ -20,7 +20,7 @@ use Rattle.mg_defs.specs.declared.TermPosting.{TermPosting}
 use Rattle.mg_runs.specs.Cursors.{NoDamage}
 use Rattle.mg_runs.specs.Joins.{IsRunPart}
 use Rattle.mg_runs.specs.Left.{IsMerging, Merging}
-use Rattle.mg_make.specs.Listing.{IsDamage, ListStops, SameMerge}
+use Rattle.mg_make.specs.Listing.{IsDamage, ListStops, OfPostings, SameMerge}
 use Rattle.mg_make.specs.Written.{OfLists, WroteParts}
 
 -- ---- what was written
@@ -32,9 +32,61 @@ pub wrote_more : (parts : AnyPart → Type 0) (base : List ℕ) (f g h : Option 
 wrote_more parts base f g h first second = record { told = second.told ∙ first.told; others = λ name apart. second.others name apart ∙ first.others name apart }
 
 pub wrote_lists : (base post skip : List ℕ) (f g : Option Files) → post ≡ full_name base Post → skip ≡ full_name base Skip → is_some g ≡ is_some f →
-    ((n : List ℕ) → n ≢ post → n ≢ skip → file_at g n ≡ file_at f n) → WroteParts OfLists base f g
+    ((n : List ℕ) → n ≢ post → n ≢ skip → file_at g n ≡ file_at f n) → WroteParts OfPostings base f g
 wrote_lists base post skip f g post_is skip_is told others =
     record { told = told; others = λ name apart. others name (λ e. apart Post tt (e ∙ post_is)) (λ e. apart Skip tt (e ∙ skip_is)) }
+
+of_lists : (p : AnyPart) → OfPostings p → OfLists p
+of_lists Head h = h
+of_lists Words h = h
+of_lists Nonwords h = h
+of_lists Text h = h
+of_lists Places h = h
+of_lists Lex h = absurd h
+of_lists LexAt h = absurd h
+of_lists Post h = h
+of_lists Skip h = h
+of_lists Weights h = h
+of_lists Run h = h
+of_lists MergeA h = h
+of_lists MergeB h = h
+of_lists Plain h = h
+
+-- lists are among what is written of them and of the lexicon
+pub wrote_wider : (base : List ℕ) (f g : Option Files) → WroteParts OfPostings base f g → WroteParts OfLists base f g
+wrote_wider base f g wrote = record { told = wrote.told; others = λ name apart. wrote.others name (λ p of_p. apart p (of_lists p of_p)) }
+
+-- the lexicon's parts are none of lists
+pub lex_stays : (base : List ℕ) (f g : Option Files) → WroteParts OfPostings base f g → file_at g (full_name base Lex) ≡ file_at f (full_name base Lex)
+lex_stays base f g wrote = wrote.others (full_name base Lex) (λ p of_p e. lex_apart p of_p (same_part_of_name base Lex p e))
+  where
+    lex_apart : (p : AnyPart) → OfPostings p → Lex ≢ p
+    lex_apart p of_p e = subst OfPostings (sym e) of_p
+
+pub lex_at_stays : (base : List ℕ) (f g : Option Files) → WroteParts OfPostings base f g → file_at g (full_name base LexAt) ≡ file_at f (full_name base LexAt)
+lex_at_stays base f g wrote = wrote.others (full_name base LexAt) (λ p of_p e. lex_at_apart p of_p (same_part_of_name base LexAt p e))
+  where
+    lex_at_apart : (p : AnyPart) → OfPostings p → LexAt ≢ p
+    lex_at_apart p of_p e = subst OfPostings (sym e) of_p
+
+-- nor are lists' parts of the lexicon
+pub post_stays : (base : List ℕ) (f g : Option Files) → ((n : List ℕ) → n ≢ full_name base Lex → n ≢ full_name base LexAt → file_at g n ≡ file_at f n) → file_at g (full_name base Post) ≡ file_at f (full_name base Post)
+post_stays base f g others = others (full_name base Post) (λ e. not_lex (same_part_of_name base Post Lex e)) (λ e. not_lex_at (same_part_of_name base Post LexAt e))
+  where
+    not_lex : Post ≢ Lex
+    not_lex e = cc
+
+    not_lex_at : Post ≢ LexAt
+    not_lex_at e = cc
+
+pub skip_stays : (base : List ℕ) (f g : Option Files) → ((n : List ℕ) → n ≢ full_name base Lex → n ≢ full_name base LexAt → file_at g n ≡ file_at f n) → file_at g (full_name base Skip) ≡ file_at f (full_name base Skip)
+skip_stays base f g others = others (full_name base Skip) (λ e. not_lex (same_part_of_name base Skip Lex e)) (λ e. not_lex_at (same_part_of_name base Skip LexAt e))
+  where
+    not_lex : Skip ≢ Lex
+    not_lex e = cc
+
+    not_lex_at : Skip ≢ LexAt
+    not_lex_at e = cc
 
 pub wrote_lex : (base : List ℕ) (f g : Option Files) → is_some g ≡ is_some f →
     ((n : List ℕ) → n ≢ full_name base Lex → n ≢ full_name base LexAt → file_at g n ≡ file_at f n) → WroteParts OfLists base f g
@@ -67,9 +119,12 @@ RunsStay =
     (merge : Merging) (f g : Option Files) (left : List TermPosting) → is_some g ≡ is_some f →
     ((part : AnyPart) → IsRunPart part → file_at g (full_name merge.base part) ≡ file_at f (full_name merge.base part)) → IsMerging merge f left → IsMerging merge g left
 
-pub merging_stays : RunsStay → (merge : Merging) (f g : Option Files) (left : List TermPosting) → WroteParts OfLists merge.base f g → IsMerging merge f left → IsMerging merge g left
-merging_stays stay merge f g left wrote is =
+pub merging_stays_all : RunsStay → (merge : Merging) (f g : Option Files) (left : List TermPosting) → WroteParts OfLists merge.base f g → IsMerging merge f left → IsMerging merge g left
+merging_stays_all stay merge f g left wrote is =
     stay merge f g left wrote.told (λ q of_runs. wrote.others (full_name merge.base q) (λ p of_lists. not_runs merge.base p q of_lists of_runs)) is
+
+pub merging_stays : RunsStay → (merge : Merging) (f g : Option Files) (left : List TermPosting) → WroteParts OfPostings merge.base f g → IsMerging merge f left → IsMerging merge g left
+merging_stays stay merge f g left wrote is = merging_stays_all stay merge f g left (wrote_wider merge.base f g wrote) is
 
 pub same_none : (merge : Merging) → SameMerge merge merge
 same_none merge = record { base = refl; runs = refl; peak = refl }

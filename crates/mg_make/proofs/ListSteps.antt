@@ -13,15 +13,15 @@ use Rattle.mg_defs.specs.PostingLists.{by_terms, term_list}
 use Rattle.mg_defs.specs.Squares.{squares}
 use Rattle.mg_post.specs.Writing.{IsBetween, Listing, Pushed, SameFiles, Took, posting_of}
 use Rattle.mg_runs.specs.Left.{IsMerging, Merging}
-use Rattle.mg_make.specs.Listing.{AreSquares, CanList, HasNext, HasList, HasRest, IsAtList, IsInList, PushedMore, SameMerge, SquaresFit}
-use Rattle.mg_make.specs.Written.{OfLists, WroteParts}
+use Rattle.mg_make.specs.Listing.{AreSquares, CanList, HasNext, HasList, HasRest, IsAtList, IsInList, OfPostings, PushedMore, SameMerge, SquaresFit}
+use Rattle.mg_make.specs.Written.{WroteParts}
 use Rattle.mg_make.proofs.ListFrames.{RunsStay, merging_stays}
 use Rattle.mg_make.proofs.SquareSteps.{squares_front, squares_first, summed_begun}
 
 -- ---- one posting
 
 pub can_more : RunsStay → (merge next : Merging) (lists now : Listing) (sums summed : List ℕ) (f h g : Option Files) (p : Posting) → CanList merge lists sums f →
-    SameMerge merge next → h ≡ f → ((left : List TermPosting) → IsMerging merge f left → IsMerging next h (drop 1 left)) → WroteParts OfLists next.base h g →
+    SameMerge merge next → h ≡ f → ((left : List TermPosting) → IsMerging merge f left → IsMerging next h (drop 1 left)) → WroteParts OfPostings next.base h g →
     ((done : List (List Posting)) (ps : List Posting) → Took lists h done ps → Took now g done (ps ++ p ∷ [])) → SameFiles lists now → length summed ≡ length sums → now.last ≤ lists.all →
     CanList next now summed g
 can_more stay merge next lists now sums summed f h g p can same files merging wrote took names each within = record {
@@ -47,7 +47,7 @@ rest_rises all last p left h = h.1
 -- where the posting that was read is the first of those left
 pub in_list_more : RunsStay → (number : ℕ) (merge next : Merging) (lists now : Listing) (sums summed : List ℕ) (f h g : Option Files) (p q : Posting) (done : List (List Posting)) (ps left : List Posting) (later : List TermPosting) →
     IsInList number merge lists sums f done ps (p ∷ left) later → h ≡ f → q ≡ p →
-    ((left : List TermPosting) → IsMerging merge f left → IsMerging next h (drop 1 left)) → WroteParts OfLists next.base h g →
+    ((left : List TermPosting) → IsMerging merge f left → IsMerging next h (drop 1 left)) → WroteParts OfPostings next.base h g →
     ((done : List (List Posting)) (ps : List Posting) → Took lists h done ps → Took now g done (ps ++ q ∷ [])) →
     ((done : List (List Posting)) (ps : List Posting) → SquaresFit (done ++ (ps ++ q ∷ []) ∷ []) → AreSquares sums (done ++ ps ∷ []) → AreSquares summed (done ++ (ps ++ q ∷ []) ∷ [])) →
     now.all ≡ lists.all → now.last ≡ q.doc →
@@ -133,7 +133,7 @@ at_list_begun number docs merge lists now sums f g done ps more is files took be
   summed = summed_begun sums done is.summed;
 }
 
-pub can_ended : RunsStay → (merge : Merging) (lists now : Listing) (sums : List ℕ) (f g : Option Files) (docs : ℕ) → CanList merge lists sums f → WroteParts OfLists merge.base f g →
+pub can_ended : RunsStay → (merge : Merging) (lists now : Listing) (sums : List ℕ) (f g : Option Files) (docs : ℕ) → CanList merge lists sums f → WroteParts OfPostings merge.base f g →
     ((done : List (List Posting)) (ps : List Posting) → Took lists f done ps → Took now g (done ++ ps ∷ []) []) → IsBetween lists now docs → SameFiles lists now → CanList merge now sums g
 can_ended stay merge lists now sums f g docs can wrote took between names = record {
   left = can.left;
@@ -148,7 +148,7 @@ can_ended stay merge lists now sums f g docs can wrote took between names = reco
 }
 
 pub at_list_ended : RunsStay → (number : ℕ) (merge : Merging) (lists now : Listing) (sums : List ℕ) (f g : Option Files) (all : ℕ) (done : List (List Posting)) (ps : List Posting) (more : List (List Posting)) →
-    IsInList number merge lists sums f done ps [] (by_terms (number + 1) more) → all ≡ now.all → AllByRecursion (λ qs. Rises all 0 qs) more → SquaresFit (done ++ ps ∷ more) → WroteParts OfLists merge.base f g →
+    IsInList number merge lists sums f done ps [] (by_terms (number + 1) more) → all ≡ now.all → AllByRecursion (λ qs. Rises all 0 qs) more → SquaresFit (done ++ ps ∷ more) → WroteParts OfPostings merge.base f g →
     ((done : List (List Posting)) (ps : List Posting) → Took lists f done ps → Took now g (done ++ ps ∷ []) []) → IsAtList (number + 1) merge now sums g (done ++ ps ∷ []) more
 at_list_ended stay number merge lists now sums f g all done ps more is all_is rise fit wrote took = record {
   merging = merging_stays stay merge f g (by_terms (number + 1) more) wrote is.merging;

@@ -52,6 +52,12 @@ SquaresFit lists = (doc : ℕ) → squares doc lists < 2 ^ 64
 
 -- ---- within a list
 
+-- the parts of lists alone
+abbrev pub OfPostings : AnyPart → Type 0
+OfPostings Post = Unit {0}
+OfPostings Skip = Unit {0}
+OfPostings p = ⊥
+
 -- Over any store: some postings are left, some lists and the first postings of one more were taken, and there is a sum for each document.
 pub record CanList (merge : Merging) (lists : Listing) (sums : List ℕ) (files : Option Files) : Type 0 where
   pub left : List TermPosting

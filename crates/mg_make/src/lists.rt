@@ -4,6 +4,9 @@
 //! what the lexicon tells of its term. What a posting adds to the weight of its document goes into the
 //! document's sum at once: no list is kept.
 ghost use Rattle.std.specs.Prelude.{◌≡◌, ◌≢◌, ◌<◌, ◌≤◌, ◌+◌, ◌*◌, ◌/◌, ◌^◌, ◌++◌, ◌∷◌, ℕ, List, [], length, replicate, IfOk, IfErr, OnOk, IsSome, is_some};
+ghost use Rattle.std.specs.Cmp.Lexicographic.{slice_cmp};
+ghost use Rattle.std.specs.List.Sorted.{IsStrictlySortedBy};
+ghost use Rattle.std.specs.Ordering.{nat_cmp};
 ghost use Rattle.mg_dev.specs.Causes.{HasPutCause, Rose};
 ghost use Rattle.mg_dev.specs.Files.{file_at};
 ghost use Rattle.mg_dev.specs.Names.{full_name};
@@ -23,6 +26,7 @@ ghost use Rattle.mg_make.specs.Written.{OfLists, WroteParts};
 use crate::doc_counts::DocCounts;
 use crate::one_list::{stray, write_list};
 use mg_dev::{Fault, PutErr, Store};
+use mg_laws::squares_fit;
 use mg_layout::TermInfo;
 use mg_lex::{LexWriter, lexicon_has_its_terms, terms_stay};
 use mg_model::TermTable;
@@ -31,7 +35,7 @@ use mg_runs::{Merge, runs_stay};
 use std::alloc::Global;
 
 /// The bytes of Post, and the number of skip entries.
-#[derive(Clone, Copy, Debug, PartialEq, Eq)]
+#[derive(Drop)]
 pub(crate) struct Sizes {
     pub(crate) post_bytes: u64,
     pub(crate) skip_count: u64,
@@ -86,6 +90,8 @@ fn write_term<S: Store>(
     requires can { CanIndex table.now.terms counts.now.docs number merge.old writer.old.lists writer.old.lex sums.old.items (S.files store.old) }
     requires sizes { AreListSizes counts.now.docs (length table.now.terms) writer.old.lists.all }
     requires number { number < length table.now.terms }
+    requires few { length table.now.terms ≤ 2 ^ 22 }
+    requires rising { IsStrictlySortedBy (slice_cmp nat_cmp) table.now.terms }
     ensures can { OnOk result (CanIndex table.now.terms counts.now.docs (number + 1) merge.new writer.new.lists writer.new.lex sums.new.items (S.files store.new)) }
     ensures indexed { (collection : List ℕ) →
         HasIndexed table.now.terms counts.now.docs collection number merge.old writer.old.lists writer.old.lex sums.old.items (S.files store.old) →
@@ -217,6 +223,7 @@ pub(crate) fn write_lists<S: Store>(
         Err(refusal) => return Err(Fault::of_store(refusal)),
     };
     runs_stay();
+    squares_fit();
     write_terms(store, merge, &mut writer, sums, table, counts)?;
     expect_end(store, merge)?;
     match finish(store, &mut writer) {

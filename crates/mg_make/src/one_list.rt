@@ -14,8 +14,8 @@ ghost use Rattle.mg_defs.specs.Lists.{Follows, lists_bits, lists_entries};
 ghost use Rattle.mg_defs.specs.PostingLists.{term_list};
 ghost use Rattle.mg_post.specs.Writing.{Pushed, SameFiles, Took, posting_of};
 ghost use Rattle.mg_runs.specs.Left.{IsMerging};
-ghost use Rattle.mg_make.specs.Listing.{AreSquares, CanList, HasList, HasNext, HasRest, IsAtList, IsDamage, IsInList, ListStops, ListedMore, PushedMore, SameMerge, SquaresFit};
-ghost use Rattle.mg_make.specs.Written.{OfLists, WroteParts};
+ghost use Rattle.mg_make.specs.Listing.{AreSquares, CanList, HasList, HasNext, HasRest, IsAtList, IsDamage, IsInList, ListStops, ListedMore, OfPostings, PushedMore, SameMerge, SquaresFit};
+ghost use Rattle.mg_make.specs.Written.{WroteParts};
 
 use mg_defs::TermPosting;
 use mg_dev::{Bad, Fault, Part, PutErr, Store, What};
@@ -136,7 +136,7 @@ fn take_posting<S: Store>(
     ensures refused { IfErr result (ListStops (Rose (S.faults store.old) (S.faults store.new)) (HasRest number 1 merge.old lists.old sums.old.items (S.files store.old))) }
     ensures same { SameMerge merge.old merge.new }
     ensures files { SameFiles lists.old lists.new }
-    ensures wrote { WroteParts OfLists merge.old.base (S.files store.old) (S.files store.new) }
+    ensures wrote { WroteParts OfPostings merge.old.base (S.files store.old) (S.files store.new) }
     ensures later { S.faults store.old ≤ S.faults store.new }
 {
     let all = sums.len() as u32;
@@ -170,7 +170,7 @@ fn take_postings<S: Store>(
     ensures refused { IfErr result (ListStops (Rose (S.faults store.old) (S.faults store.new)) (HasRest number docs merge.old lists.old sums.old.items (S.files store.old))) }
     ensures same { SameMerge merge.old merge.new }
     ensures files { SameFiles lists.old lists.new }
-    ensures wrote { WroteParts OfLists merge.old.base (S.files store.old) (S.files store.new) }
+    ensures wrote { WroteParts OfPostings merge.old.base (S.files store.old) (S.files store.new) }
     ensures later { S.faults store.old ≤ S.faults store.new }
 {
     let mut last = 0;
@@ -206,7 +206,7 @@ pub(crate) fn write_list<S: Store>(
     ensures refused { IfErr result (ListStops (Rose (S.faults store.old) (S.faults store.new)) (HasList number docs merge.old lists.old sums.old.items (S.files store.old))) }
     ensures same { SameMerge merge.old merge.new }
     ensures files { SameFiles lists.old lists.new }
-    ensures wrote { WroteParts OfLists merge.old.base (S.files store.old) (S.files store.new) }
+    ensures wrote { WroteParts OfPostings merge.old.base (S.files store.old) (S.files store.new) }
     ensures later { S.faults store.old ≤ S.faults store.new }
 {
     if docs == 0 {

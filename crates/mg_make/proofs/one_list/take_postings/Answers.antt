@@ -1,7 +1,7 @@
 use Rattle.std.proofs.Common.{arith, ◌∙◌, ◌≡◌, ◌<◌, ◌++◌, take, drop, sym, subst}
 use Rattle.std.proofs.lemmas.Result.{err_from_is_err_and}
-use Rattle.mg_make.specs.Listing.{IsInList}
-use Rattle.mg_make.specs.Written.{OfLists, WroteParts}
+use Rattle.mg_make.specs.Listing.{IsInList, OfPostings}
+use Rattle.mg_make.specs.Written.{WroteParts}
 use Rattle.mg_make.proofs.ListFrames.{passed_on, rose_later, same_more, wrote_more}
 use Rattle.mg_make.proofs.ListSteps.{names_more, one_more_taken, pushed_more, rest_after}
 use Rattle.mg_make.proofs.one_list.take_postings.Goals as goal
@@ -16,7 +16,7 @@ returns-in_err-last-clause-refused g c =
 pub returns-in_err-last-clause-wrote : goal.returns-in_err-last-clause-wrote
 returns-in_err-last-clause-wrote g c =
     let inv = c.loop.invariant in
-    wrote_more OfLists c.args.merge.now.base _ _ _ inv.wrote (subst (λ b. WroteParts OfLists b (g.S.Store.files c.loop.store) (g.S.Store.files c.take_posting.new.store)) inv.same.base c.take_posting.ensures.wrote)
+    wrote_more OfPostings c.args.merge.now.base _ _ _ inv.wrote (subst (λ b. WroteParts OfPostings b (g.S.Store.files c.loop.store) (g.S.Store.files c.take_posting.new.store)) inv.same.base c.take_posting.ensures.wrote)
 
 pub loop-preserved : goal.loop-preserved
 loop-preserved g c =
@@ -31,7 +31,7 @@ loop-preserved g c =
           ps left c.loop.counter (omega (arith, enough)) (λ qs p rest h. c.in_ok-last.ensures.told (inv.wrote.told ∙ told) done qs p rest later h) (inv.told told done ps left later enough is);
       same = same_more _ _ _ inv.same c.take_posting.ensures.same;
       names = names_more _ _ _ inv.names c.take_posting.ensures.files;
-      wrote = wrote_more OfLists c.args.merge.now.base _ _ _ inv.wrote (subst (λ b. WroteParts OfLists b (g.S.Store.files c.loop.store) (g.S.Store.files c.take_posting.new.store)) inv.same.base c.take_posting.ensures.wrote);
+      wrote = wrote_more OfPostings c.args.merge.now.base _ _ _ inv.wrote (subst (λ b. WroteParts OfPostings b (g.S.Store.files c.loop.store) (g.S.Store.files c.take_posting.new.store)) inv.same.base c.take_posting.ensures.wrote);
       later = omega (arith, inv.later, c.take_posting.ensures.later);
     }
 

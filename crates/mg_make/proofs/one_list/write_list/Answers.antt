@@ -3,8 +3,8 @@ use Rattle.std.proofs.lemmas.Result.{err_from_is_err_and}
 use Rattle.mg_dev.specs.Causes.{Rose}
 use Rattle.mg_defs.specs.Lists.{lists_bits, lists_entries}
 use Rattle.mg_defs.specs.PostingLists.{by_terms}
-use Rattle.mg_make.specs.Listing.{IsInList}
-use Rattle.mg_make.specs.Written.{OfLists, WroteParts}
+use Rattle.mg_make.specs.Listing.{IsInList, OfPostings}
+use Rattle.mg_make.specs.Written.{WroteParts}
 use Rattle.mg_make.proofs.ListFrames.{passed_on, wrote_lists, wrote_more, wrote_none}
 use Rattle.mg_make.proofs.ListSteps.{at_list_begun, at_list_ended, can_ended, rest_of_list, whole_taken}
 use Rattle.mg_make.proofs.one_list.write_list.Goals as goal
@@ -59,13 +59,13 @@ returns-in-Ok-end_list-clause-wrote g c =
     let files = ap (λ s. g.S.Store.files s) c.begin.ensures.store in
     let can = c.in_ok-take_postings.ensures.can in
     let wrote = wrote_lists c.take_postings.new.merge.base _ _ _ _ can.post can.skip c.end_list.ensures.told c.end_list.ensures.others in
-    let begun = wrote_more OfLists c.args.merge.now.base _ _ _ (wrote_none OfLists c.args.merge.now.base _ _ files) c.take_postings.ensures.wrote in
-    wrote_more OfLists c.args.merge.now.base _ _ _ begun (subst (λ b. WroteParts OfLists b (g.S.Store.files c.take_postings.new.store) (g.S.Store.files c.end_list.new.store)) c.take_postings.ensures.same.base wrote)
+    let begun = wrote_more OfPostings c.args.merge.now.base _ _ _ (wrote_none OfPostings c.args.merge.now.base _ _ files) c.take_postings.ensures.wrote in
+    wrote_more OfPostings c.args.merge.now.base _ _ _ begun (subst (λ b. WroteParts OfPostings b (g.S.Store.files c.take_postings.new.store) (g.S.Store.files c.end_list.new.store)) c.take_postings.ensures.same.base wrote)
 
 pub returns-in-Err-end_list-clause-wrote : goal.returns-in-Err-end_list-clause-wrote
 returns-in-Err-end_list-clause-wrote g c =
     let files = ap (λ s. g.S.Store.files s) c.begin.ensures.store in
     let can = c.in_ok-take_postings.ensures.can in
     let wrote = wrote_lists c.take_postings.new.merge.base _ _ _ _ can.post can.skip c.end_list.ensures.told c.end_list.ensures.others in
-    let begun = wrote_more OfLists c.args.merge.now.base _ _ _ (wrote_none OfLists c.args.merge.now.base _ _ files) c.take_postings.ensures.wrote in
-    wrote_more OfLists c.args.merge.now.base _ _ _ begun (subst (λ b. WroteParts OfLists b (g.S.Store.files c.take_postings.new.store) (g.S.Store.files c.end_list.new.store)) c.take_postings.ensures.same.base wrote)
+    let begun = wrote_more OfPostings c.args.merge.now.base _ _ _ (wrote_none OfPostings c.args.merge.now.base _ _ files) c.take_postings.ensures.wrote in
+    wrote_more OfPostings c.args.merge.now.base _ _ _ begun (subst (λ b. WroteParts OfPostings b (g.S.Store.files c.take_postings.new.store) (g.S.Store.files c.end_list.new.store)) c.take_postings.ensures.same.base wrote)
