@@ -2,27 +2,29 @@
 use Rattle.std.proofs.Common.{arith, ◌≡◌, ◌≤◌, ◌<◌, ◌+◌, ◌^◌, ℕ, zero, suc, List, [], ◌∷◌, length, map, take, drop, refl, sym, ap, subst, ◌∙◌, IsSome, is_some}
 use Rattle.std.specs.Prelude.{replicate}
 use Rattle.std.specs.declared.option.Option.{Option}
-use Rattle.std.specs.List.{AllByRecursion, enumerate_from}
+use Rattle.std.specs.List.{AllByRecursion, enumerate_from, flat_map}
 use Rattle.std.proofs.lemmas.List.{drop_all, take_all}
-use Rattle.mg_dev.specs.declared.part.Part.TheVariants.{Post, Skip}
-use Rattle.mg_dev.specs.Files.{Files}
+use Rattle.mg_dev.specs.declared.part.Part.TheVariants.{Lex, LexAt, Post, Skip}
+use Rattle.mg_dev.specs.Files.{Files, bytes_at, file_at}
 use Rattle.mg_dev.specs.Names.{full_name}
 use Rattle.mg_defs.proofs.ListLaws.{list_rises}
 use Rattle.mg_defs.specs.declared.Posting.{Posting}
 use Rattle.mg_defs.specs.declared.TermPosting.{TermPosting}
-use Rattle.mg_defs.specs.Lexicon.{info_of}
-use Rattle.mg_defs.specs.Lists.{Rises, inverted, last_doc, postings}
+use Rattle.mg_defs.specs.CodedText.{as_bytes}
+use Rattle.mg_defs.specs.Front.{front, whole_at}
+use Rattle.mg_defs.specs.Lexicon.{info_of, lexicon}
+use Rattle.mg_defs.specs.Lists.{Rises, entry_bits, inverted, last_doc, lists_bits, lists_entries, postings}
 use Rattle.mg_defs.specs.PostingLists.{by_terms}
 use Rattle.mg_defs.specs.Split.{documents}
 use Rattle.mg_defs.specs.Squares.{squares, squares_to}
 use Rattle.mg_defs.specs.Terms.{dictionary}
-use Rattle.mg_lex.specs.Terms.{Term, terms_of}
-use Rattle.mg_lex.specs.Writing.{LexWriting, TookTerms}
-use Rattle.mg_post.specs.Writing.{Listing, Took}
+use Rattle.mg_lex.specs.Terms.{Term, entries_of, terms_of}
+use Rattle.mg_lex.specs.Writing.{LexWriting, TermsStand, TookTerms}
+use Rattle.mg_post.specs.Writing.{InBytes, Listing, Took}
 use Rattle.mg_runs.specs.Left.{IsMerging, Merging}
-use Rattle.mg_make.specs.Listing.{AreOfCollection, AreSquares, CanIndex, CanList, HasIndexed, HasLists, IsAtList}
+use Rattle.mg_make.specs.Listing.{AreOfCollection, AreSquares, CanIndex, CanList, HasIndexed, HasLists, IsAtList, ListsStand, OfPostings}
 use Rattle.mg_make.specs.Written.{OfLists, WroteParts}
-use Rattle.mg_make.proofs.ListFrames.{RunsStay, merging_stays_all}
+use Rattle.mg_make.proofs.ListFrames.{RunsStay, lex_at_stays, lex_stays, merging_stays_all}
 use Rattle.mg_make.proofs.SquareSteps.{summed_all, summed_none}
 use Rattle.mg_make.proofs.TermSteps.{lists_long}
 
@@ -100,7 +102,7 @@ pub record HasEnded (collection : List ℕ) (merge : Merging) (lists : Listing) 
   pub merging : IsMerging merge files []
   pub took : Took lists files (inverted collection) []
   pub terms : TookTerms lex files (terms_of collection)
-  pub sums : length sums ≡ lists.all → sums ≡ squares_to (length (documents collection)) (inverted collection)
+  pub sums_are : length sums ≡ lists.all → sums ≡ squares_to (length (documents collection)) (inverted collection)
 
 pub ended : (terms : List (List ℕ)) (docs : List ℕ) (collection : List ℕ) (n : ℕ) (merge : Merging) (lists : Listing) (lex : LexWriting) (summed : List ℕ) (f : Option Files) → n ≡ length terms →
     HasIndexed terms docs collection n merge lists lex summed f → HasEnded collection merge lists lex summed f
@@ -110,7 +112,7 @@ ended terms docs collection n merge lists lex summed f n_is has = record {
   merging = subst (λ xs. IsMerging merge f (by_terms n xs)) (drop_all n (inverted collection) (omega (arith, long))) has.list.merging;
   took = subst (λ xs. Took lists f xs []) whole has.list.took;
   terms = subst (λ ts. TookTerms lex f ts) (take_all n (terms_of collection) (omega (arith, terms_long collection, dictionary_long))) has.took;
-  sums = λ each. summed_all summed (length (documents collection)) (inverted collection) (each ∙ has.of.all_are) (subst (λ xs. AreSquares summed xs) whole has.list.summed);
+  sums_are = λ each. summed_all summed (length (documents collection)) (inverted collection) (each ∙ has.of.all_are) (subst (λ xs. AreSquares summed xs) whole has.list.summed);
 }
   where
     dictionary_long : length (dictionary collection) ≡ n
@@ -121,3 +123,16 @@ ended terms docs collection n merge lists lex summed f n_is has = record {
 
     whole : take n (inverted collection) ≡ inverted collection
     whole = take_all n (inverted collection) (omega (arith, long))
+
+-- the parts that both writers leave
+pub lists_are_there : ((collection : List ℕ) → entries_of (terms_of collection) ≡ lexicon collection) → (base collection : List ℕ) (w : Listing) (f g : Option Files) → w.post.name ≡ full_name base Post → w.skip.name ≡ full_name base Skip →
+    w.all ≡ length (documents collection) → TermsStand base f (terms_of collection) → WroteParts OfPostings base f g → InBytes w g (inverted collection) → ListsStand g base collection
+lists_are_there entries base collection w f g post skip all terms wrote bytes = record {
+  post = ap (λ n. bytes_at g n) (sym post) ∙ bytes.post ∙ ap (λ m. as_bytes (lists_bits m (inverted collection))) all;
+  skip = ap (λ n. bytes_at g n) (sym skip) ∙ bytes.skip ∙ ap (λ m. as_bytes (flat_map entry_bits (lists_entries m (inverted collection)))) all;
+  lex = bytes_stay f g (full_name base Lex) (lex_stays base f g wrote) ∙ terms.lex ∙ ap (λ es. front es) (entries collection);
+  lex_at = bytes_stay f g (full_name base LexAt) (lex_at_stays base f g wrote) ∙ terms.lex_at ∙ ap (λ es. whole_at es) (entries collection);
+}
+  where
+    bytes_stay : (f g : Option Files) (name : List ℕ) → file_at g name ≡ file_at f name → bytes_at g name ≡ bytes_at f name
+    bytes_stay f g name same = cc

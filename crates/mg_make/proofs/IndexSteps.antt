@@ -6,6 +6,7 @@ use Rattle.std.specs.declared.cmp.Ordering.TheVariants.{Less}
 use Rattle.std.specs.Cmp.Lexicographic.{slice_cmp}
 use Rattle.std.specs.List.Sorted.{IsStrictlySortedBy}
 use Rattle.std.specs.Ordering.{is_lt, nat_cmp}
+use Rattle.std.proofs.lemmas.Bool.{or_right}
 use Rattle.std.proofs.lemmas.List.{take_more}
 use Rattle.mg_dev.specs.declared.part.Part.TheVariants.{Lex, LexAt, Post, Skip}
 use Rattle.mg_dev.specs.Files.{Files, file_at}
@@ -127,4 +128,4 @@ above terms n count last t rising count_is before here = subst (λ m. (m == 0 ||
   where
     by_number : (n : ℕ) → ((k : ℕ) → k + 1 ≡ n → slice_get terms k ≡ Some last) → slice_get terms n ≡ Some t → (n == 0 || is_below last t) ≡ true
     by_number zero before here = refl
-    by_number (suc k) before here = let one : k + 1 ≡ suc k = omega arith in ap is_lt (next_above terms k last t rising (before k one) here)
+    by_number (suc k) before here = let one : k + 1 ≡ suc k = omega arith in or_right (suc k == 0) (is_below last t) (ap is_lt (next_above terms k last t rising (before k one) here))

@@ -188,3 +188,12 @@ stops_by_damage rose same (fault.TooManyRotations count) h not_so = absurd h
 -- a refusal that is passed on
 pub passed_on : {T : Type 0} {rose rose' same same' : Type 0} (r : Result T Fault) (e : Fault) → (y : Fault) × (r ≡ Err y) × (y ≡ e) → (rose → rose') → (same' → same) → ListStops rose same e → IfErr r (ListStops rose' same')
 passed_on r e p up down stops = rw (p.1, p.2) (stops_for e up down stops)
+
+-- where the lists of a collection are told by what is known of it
+pub passed_on_all : {T : Type 0} {rose rose' same : Type 0} (same' : List ℕ → Type 0) (r : Result T Fault) (e : Fault) → (y : Fault) × (r ≡ Err y) × (y ≡ e) → (rose → rose') → ((collection : List ℕ) → same' collection → same) → ListStops rose same e →
+    IfErr r (λ f. (collection : List ℕ) → ListStops rose' (same' collection) f)
+passed_on_all same' r e p up down stops = rw (p.1, p.2) (λ collection. stops_for e up (down collection) stops)
+
+pub passed_on_each : {T : Type 0} {rose rose' : Type 0} (same same' : List ℕ → Type 0) (r : Result T Fault) (e : Fault) → (y : Fault) × (r ≡ Err y) × (y ≡ e) → (rose → rose') → ((collection : List ℕ) → same' collection → same collection) →
+    ((collection : List ℕ) → ListStops rose (same collection) e) → IfErr r (λ f. (collection : List ℕ) → ListStops rose' (same' collection) f)
+passed_on_each same same' r e p up down stops = rw (p.1, p.2) (λ collection. stops_for e up (down collection) (stops collection))

@@ -188,6 +188,43 @@ fn finish<S: Store>(store: &mut S, writer: &mut IndexWriter<'_>) -> Result<Sizes
     })
 }
 
+/// Writes all lists and the lexicon, and sees that no posting is left.
+fn write_index<S: Store>(
+    store: &mut S,
+    merge: &mut Merge<'_>,
+    writer: &mut IndexWriter<'_>,
+    sums: &mut Vec<u64>,
+    table: &TermTable,
+    counts: &DocCounts,
+) -> Result<Sizes, Fault>
+    requires can { CanIndex table.now.terms counts.now.docs 0 merge.old writer.old.lists writer.old.lex sums.old.items (S.files store.old) }
+    requires sizes { AreListSizes counts.now.docs (length table.now.terms) writer.old.lists.all }
+    ensures stand { (collection : List ℕ) →
+        HasIndexed table.now.terms counts.now.docs collection 0 merge.old writer.old.lists writer.old.lex sums.old.items (S.files store.old) →
+        OnOk result (ListsStand (S.files store.new) merge.old.base collection) }
+    ensures sums { (collection : List ℕ) →
+        HasIndexed table.now.terms counts.now.docs collection 0 merge.old writer.old.lists writer.old.lex sums.old.items (S.files store.old) →
+        OnOk result (sums.new.items ≡ squares_to (length (documents collection)) (inverted collection)) }
+    ensures post_bytes { (collection : List ℕ) →
+        HasIndexed table.now.terms counts.now.docs collection 0 merge.old writer.old.lists writer.old.lex sums.old.items (S.files store.old) →
+        IfOk result (λ sizes. sizes.post_bytes ≡ length (post_bits collection) / 8) }
+    ensures skip_count { (collection : List ℕ) →
+        HasIndexed table.now.terms counts.now.docs collection 0 merge.old writer.old.lists writer.old.lex sums.old.items (S.files store.old) →
+        IfOk result (λ sizes. sizes.skip_count ≡ length (lists_entries (length (documents collection)) (inverted collection))) }
+    ensures refused { IfErr result (λ fault. (collection : List ℕ) → ListStops (Rose (S.faults store.old) (S.faults store.new))
+        (HasIndexed table.now.terms counts.now.docs collection 0 merge.old writer.old.lists writer.old.lex sums.old.items (S.files store.old)) fault) }
+    ensures same { SameMerge merge.old merge.new }
+    ensures wrote { WroteParts OfLists merge.old.base (S.files store.old) (S.files store.new) }
+    ensures later { S.faults store.old ≤ S.faults store.new }
+{
+    write_terms(store, merge, writer, sums, table, counts)?;
+    expect_end(store, merge)?;
+    match finish(store, writer) {
+        Ok(sizes) => Ok(sizes),
+        Err(refusal) => Err(Fault::of_store(refusal)),
+    }
+}
+
 /// Writes the list of each term, and what the lexicon tells of it, and adds the squared weights of
 /// the postings to the sums of their documents.
 pub(crate) fn write_lists<S: Store>(
@@ -224,10 +261,5 @@ pub(crate) fn write_lists<S: Store>(
     };
     runs_stay();
     squares_fit();
-    write_terms(store, merge, &mut writer, sums, table, counts)?;
-    expect_end(store, merge)?;
-    match finish(store, &mut writer) {
-        Ok(sizes) => Ok(sizes),
-        Err(refusal) => Err(Fault::of_store(refusal)),
-    }
+    write_index(store, merge, &mut writer, sums, table, counts)
 }
