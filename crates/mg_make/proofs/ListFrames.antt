@@ -1,5 +1,5 @@
 -- What the writers of lists and lexicon leave as it is, and why they stop.
-use Rattle.std.proofs.Common.{arith, ◌≡◌, ◌≢◌, ◌≤◌, ◌+◌, ℕ, List, refl, sym, ap, ◌∙◌, subst, Err, is_some, Result}
+use Rattle.std.proofs.Common.{arith, ◌≡◌, ◌≢◌, ◌≤◌, ◌+◌, ℕ, List, refl, sym, ap, ◌∙◌, subst, Ok, Err, is_some, Result}
 use Rattle.std.specs.Prelude.{IfErr}
 use Rattle.std.specs.declared.option.Option.{Option}
 use Rattle.mg_dev.specs.declared.device.PutErr.{PutErr}
@@ -197,3 +197,8 @@ passed_on_all same' r e p up down stops = rw (p.1, p.2) (λ collection. stops_fo
 pub passed_on_each : {T : Type 0} {rose rose' : Type 0} (same same' : List ℕ → Type 0) (r : Result T Fault) (e : Fault) → (y : Fault) × (r ≡ Err y) × (y ≡ e) → (rose → rose') → ((collection : List ℕ) → same' collection → same collection) →
     ((collection : List ℕ) → ListStops rose (same collection) e) → IfErr r (λ f. (collection : List ℕ) → ListStops rose' (same' collection) f)
 passed_on_each same same' r e p up down stops = rw (p.1, p.2) (λ collection. stops_for e up (down collection) (stops collection))
+
+pub stops_within : {T : Type 0} {rose rose' : Type 0} (same same' : List ℕ → Type 0) (r : Result T Fault) → (rose → rose') → ((collection : List ℕ) → same' collection → same collection) →
+    IfErr r (λ f. (collection : List ℕ) → ListStops rose (same collection) f) → IfErr r (λ f. (collection : List ℕ) → ListStops rose' (same' collection) f)
+stops_within same same' (Ok value) up down h = tt
+stops_within same same' (Err e) up down h = λ collection. stops_for e up (down collection) (h collection)

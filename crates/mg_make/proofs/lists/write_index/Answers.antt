@@ -56,3 +56,17 @@ returns-in-Ok-clause-skip_count g c = λ collection has.
     let e = ended c.args.table.now.terms c.args.counts.now.docs collection _ _ _ _ _ _ refl (c.in_ok-write_terms.ensures.indexed collection has) in
     c.in-Ok.ensures.skip_count collection e.all (subst (λ x. Took c.write_terms.new.writer.lists x (inverted collection) []) (sym c.expect_end.ensures.files) e.took)
 
+
+pub returns-in-Ok-clause-wrote : goal.returns-in-Ok-clause-wrote
+returns-in-Ok-clause-wrote g c =
+    let base = c.args.merge.now.base in
+    let terms = wrote_more OfLists base _ _ _ c.write_terms.ensures.wrote (wrote_none OfLists base _ _ c.expect_end.ensures.files) in
+    let own = c.in_ok-write_terms.ensures.can.base ∙ c.write_terms.ensures.same.base in
+    wrote_more OfLists base _ _ _ terms (subst (λ b. WroteParts OfLists b (g.S.Store.files c.expect_end.new.store) (g.S.Store.files c.finish.new.store)) own c.finish.ensures.wrote)
+
+pub returns-in-Err-clause-wrote : goal.returns-in-Err-clause-wrote
+returns-in-Err-clause-wrote g c =
+    let base = c.args.merge.now.base in
+    let terms = wrote_more OfLists base _ _ _ c.write_terms.ensures.wrote (wrote_none OfLists base _ _ c.expect_end.ensures.files) in
+    let own = c.in_ok-write_terms.ensures.can.base ∙ c.write_terms.ensures.same.base in
+    wrote_more OfLists base _ _ _ terms (subst (λ b. WroteParts OfLists b (g.S.Store.files c.expect_end.new.store) (g.S.Store.files c.finish.new.store)) own c.finish.ensures.wrote)
