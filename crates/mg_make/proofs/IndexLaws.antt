@@ -5,9 +5,10 @@ use Rattle.std.specs.declared.option.Option.{Option}
 use Rattle.std.proofs.lemmas.List.{get_or-map, get_or_default, length-map, length-replicate, same_lists}
 use Rattle.mg_dev.specs.declared.part.Part.{Part as AnyPart}
 use Rattle.mg_dev.specs.declared.part.Part.TheVariants.{Head, Words, Nonwords, Text, Places, Lex, LexAt, Post, Skip, Weights, Run, MergeA, MergeB, Plain}
-use Rattle.mg_dev.specs.Files.{Files, bytes_at, file_at}
+use Rattle.mg_dev.specs.Files.{Files, Reads, bytes_at, file_at}
 use Rattle.mg_dev.specs.Laws.{same_part_of_name}
 use Rattle.mg_dev.specs.Names.{full_name}
+use Rattle.mg_bits.specs.Writer.{WroteTo}
 use Rattle.mg_defs.specs.Bits.{Bits, filled}
 use Rattle.mg_defs.specs.CodedText.{as_bytes}
 use Rattle.mg_defs.specs.declared.Posting.{Posting}
@@ -122,3 +123,21 @@ pub size_is :
     ((all : ℕ) (lists : List (List Posting)) → filled (lists_bits all lists) ≡ lists_bits all lists) → ((bits : Bits) → filled bits ≡ bits → length (as_bytes bits) ≡ length bits / 8) →
     (collection : List ℕ) → length (post_bits collection) / 8 ≡ length (post_part collection)
 size_is whole size collection = sym (size (post_bits collection) (whole (length (documents collection)) (inverted collection)))
+
+-- ---- weights and the working parts
+
+pub weights_stay : (base : List ℕ) (f g : Option Files) → ((n : List ℕ) → n ≢ full_name base MergeA → n ≢ full_name base MergeB → file_at g n ≡ file_at f n) → bytes_at g (full_name base Weights) ≡ bytes_at f (full_name base Weights)
+weights_stay base f g others =
+    bytes_stay f g (full_name base Weights) (others (full_name base Weights) (λ e. not_first (same_part_of_name base Weights MergeA e)) (λ e. not_second (same_part_of_name base Weights MergeB e)))
+  where
+    not_first : Weights ≢ MergeA
+    not_first e = cc
+
+    not_second : Weights ≢ MergeB
+    not_second e = cc
+
+pub wrote_weights : (base : List ℕ) (f g : Option Files) (reads reads_now : Reads) → WroteTo (full_name base Weights) f g reads reads_now → WroteParts OfWeights base f g
+wrote_weights base f g reads reads_now wrote = record { told = wrote.told; others = λ name apart. wrote.others name (apart Weights tt) }
+
+pub wrote_merge_parts : (base : List ℕ) (f g : Option Files) → is_some g ≡ is_some f → ((n : List ℕ) → n ≢ full_name base MergeA → n ≢ full_name base MergeB → file_at g n ≡ file_at f n) → WroteParts OfWeights base f g
+wrote_merge_parts base f g told others = record { told = told; others = λ name apart. others name (apart MergeA tt) (apart MergeB tt) }

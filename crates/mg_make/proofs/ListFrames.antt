@@ -1,6 +1,6 @@
 -- What the writers of lists and lexicon leave as it is, and why they stop.
 use Rattle.std.proofs.Common.{arith, ◌≡◌, ◌≢◌, ◌≤◌, ◌+◌, ℕ, List, refl, sym, ap, ◌∙◌, subst, Ok, Err, is_some, Result}
-use Rattle.std.specs.Prelude.{IfErr}
+use Rattle.std.specs.Prelude.{IfErr, OnOk}
 use Rattle.std.specs.declared.option.Option.{Option}
 use Rattle.mg_dev.specs.declared.device.PutErr.{PutErr}
 use Rattle.mg_dev.specs.declared.device.PutErr.TheVariants as put
@@ -202,3 +202,8 @@ pub stops_within : {T : Type 0} {rose rose' : Type 0} (same same' : List ℕ →
     IfErr r (λ f. (collection : List ℕ) → ListStops rose (same collection) f) → IfErr r (λ f. (collection : List ℕ) → ListStops rose' (same' collection) f)
 stops_within same same' (Ok value) up down h = tt
 stops_within same same' (Err e) up down h = λ collection. stops_for e up (down collection) (h collection)
+
+-- a fact that needs no answer
+pub on_ok_of : {T E : Type 0} (r : Result T E) (fact : Type 0) → fact → OnOk r fact
+on_ok_of (Ok value) fact h = h
+on_ok_of (Err e) fact h = tt

@@ -5,7 +5,7 @@ ghost use Rattle.mg_dev.specs.Files.{file_at};
 ghost use Rattle.mg_dev.specs.Names.{full_name};
 ghost use Rattle.mg_dev.specs.declared.part.Part.TheVariants as part;
 
-use mg_dev::{FileRef, Part, PutErr, Store, names_apart};
+use mg_dev::{FileRef, Part, PutErr, Store};
 
 /// Empties both working parts of merging, and makes one that is missing.
 #[tactic(auto, using(mg_dev::specs::Laws::file_laws))]
