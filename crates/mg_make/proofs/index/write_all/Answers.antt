@@ -1,8 +1,7 @@
-use Rattle.std.proofs.Common.{◌∙◌, ℕ, List, length, sym, ap, subst}
+use Rattle.std.proofs.Common.{◌∙◌, length, sym, ap, subst}
 use Rattle.std.specs.List.{flat_map}
 use Rattle.std.proofs.lemmas.Result.{err_from_is_err_and}
 use Rattle.mg_make.specs.Index.{IsInverted, OfIndex, OfWeights}
-use Rattle.mg_make.specs.Listing.{HasLists}
 use Rattle.mg_make.specs.Plans.{Plan}
 use Rattle.mg_make.specs.Written.{OfLists}
 use Rattle.mg_make.proofs.IndexLaws.{index_stands, lists_of_inverted, of_index, size_is, weights_of_index, wrote_within, zeros}

@@ -1,4 +1,4 @@
-use Rattle.std.proofs.Common.{arith, ◌∙◌, [], length, refl, sym, ap, subst, is_some}
+use Rattle.std.proofs.Common.{◌∙◌, [], refl, sym, ap, subst, is_some}
 use Rattle.std.proofs.lemmas.Result.{err_from_is_err_and}
 use Rattle.mg_dev.specs.declared.part.Part.TheVariants.{Post, Skip}
 use Rattle.mg_dev.specs.Names.{full_name}
@@ -9,7 +9,7 @@ use Rattle.mg_post.specs.Writing.{Took}
 use Rattle.mg_make.specs.Listing.{ListsStand}
 use Rattle.mg_make.specs.Written.{OfLists, WroteParts}
 use Rattle.mg_make.proofs.IndexEnds.{ended}
-use Rattle.mg_make.proofs.ListFrames.{passed_on_all, rose_later, same_more, stops_by_store, stops_for, wrote_more, wrote_none}
+use Rattle.mg_make.proofs.ListFrames.{passed_on_all, rose_later, wrote_more, wrote_none}
 use Rattle.mg_make.proofs.ListSteps.{took_between}
 use Rattle.mg_make.proofs.lists.write_index.Goals as goal
 
@@ -55,7 +55,6 @@ pub returns-in-Ok-clause-skip_count : goal.returns-in-Ok-clause-skip_count
 returns-in-Ok-clause-skip_count g c = λ collection has.
     let e = ended c.args.table.now.terms c.args.counts.now.docs collection _ _ _ _ _ _ refl (c.in_ok-write_terms.ensures.indexed collection has) in
     c.in-Ok.ensures.skip_count collection e.all (subst (λ x. Took c.write_terms.new.writer.lists x (inverted collection) []) (sym c.expect_end.ensures.files) e.took)
-
 
 pub returns-in-Ok-clause-wrote : goal.returns-in-Ok-clause-wrote
 returns-in-Ok-clause-wrote g c =

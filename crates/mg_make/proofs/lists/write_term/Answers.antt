@@ -1,7 +1,6 @@
 use Rattle.std.proofs.Common.{arith, ◌∙◌, ◌+◌, ◌<◌, [], length, take, drop, get_or, sym, subst}
 use Rattle.std.proofs.lemmas.Result.{err_from_is_err_and}
 use Rattle.mg_defs.specs.Lists.{inverted}
-use Rattle.mg_make.specs.Listing.{HasIndexed}
 use Rattle.mg_make.specs.Written.{OfLists, WroteParts}
 use Rattle.mg_make.proofs.IndexSteps.{above, can_index_more, indexed_more, terms_beside}
 use Rattle.mg_make.proofs.ListFrames.{passed_on_all, wrote_lex, wrote_more, wrote_wider}

@@ -1,6 +1,6 @@
-use Rattle.std.proofs.Common.{arith, ◌∙◌, ◌≡◌, ◌+◌, length, sym, subst}
+use Rattle.std.proofs.Common.{arith, ◌∙◌, length, sym, subst}
 use Rattle.std.proofs.lemmas.Result.{err_from_is_err_and}
-use Rattle.mg_make.specs.Listing.{AreListSizes, CanIndex, HasIndexed}
+use Rattle.mg_make.specs.Listing.{AreListSizes}
 use Rattle.mg_make.specs.Written.{OfLists, WroteParts}
 use Rattle.mg_make.proofs.ListFrames.{passed_on_each, rose_later, same_more, wrote_more}
 use Rattle.mg_make.proofs.lists.write_terms.Goals as goal

@@ -1,8 +1,7 @@
-use Rattle.std.proofs.Common.{arith, ◌∙◌, ◌≡◌, ◌++◌, ◌∷◌, List, sym, ap, refl, IsSome}
+use Rattle.std.proofs.Common.{arith, ◌∙◌, ◌≡◌, ◌++◌, sym, ap}
 use Rattle.std.proofs.lemmas.Result.{err_from_is_err_and}
 use Rattle.mg_dev.specs.declared.part.Part.TheVariants.{Post, Skip}
 use Rattle.mg_dev.specs.Names.{full_name}
-use Rattle.mg_defs.specs.declared.Posting.{Posting}
 use Rattle.mg_defs.specs.declared.TermPosting.{TermPosting}
 use Rattle.mg_defs.specs.PostingLists.{term_list}
 use Rattle.mg_post.specs.Writing.{posting_of}

@@ -1,4 +1,4 @@
-use Rattle.std.proofs.Common.{arith, ◌∙◌, ◌≡◌, ◌<◌, ◌++◌, take, drop, sym, subst}
+use Rattle.std.proofs.Common.{arith, ◌∙◌, ◌≡◌, ◌++◌, take, drop, subst}
 use Rattle.std.proofs.lemmas.Result.{err_from_is_err_and}
 use Rattle.mg_make.specs.Listing.{IsInList, OfPostings}
 use Rattle.mg_make.specs.Written.{WroteParts}

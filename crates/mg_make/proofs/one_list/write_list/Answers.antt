@@ -1,4 +1,4 @@
-use Rattle.std.proofs.Common.{arith, ◌∙◌, ◌≡◌, ◌≤◌, ◌+◌, ◌/◌, ◌++◌, [], length, take, drop, sym, subst, ap, refl, is_some}
+use Rattle.std.proofs.Common.{arith, ◌∙◌, ◌≤◌, ◌+◌, ◌/◌, [], length, sym, subst, ap, is_some}
 use Rattle.std.proofs.lemmas.Result.{err_from_is_err_and}
 use Rattle.mg_dev.specs.Causes.{Rose}
 use Rattle.mg_defs.specs.Lists.{lists_bits, lists_entries}
