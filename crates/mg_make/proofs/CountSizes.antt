@@ -77,3 +77,8 @@ sizes_of_counts low c terms all fed are order short few = record {
       );
   documents = few;
 }
+
+-- documents that never fall up to one never fall up to a later one
+pub never_fall_to : (before : ℕ) (fed : List (ℕ × ℕ)) (after later : ℕ) → after ≤ later → NeverFall before fed after → NeverFall before fed later
+never_fall_to before [] after later le h = omega (arith, le, h)
+never_fall_to before (o ∷ fed) after later le h = (h.0, never_fall_to o.1 fed after later le h.1)

@@ -30,7 +30,8 @@ fn write_weights_part<S: Store>(
     base: &str,
     sums: &[u64],
 ) -> Result<(), PutErr>
-    ensures bytes { IsSome (S.files store.old) → OnOk result (bytes_at (S.files store.new) (full_name base.now part.Weights) ≡ flat_map (λ sum. four (root sum)) sums.now) }
+    ensures bytes { IsSome (S.files store.old) →
+        OnOk result (bytes_at (S.files store.new) (full_name base.now part.Weights) ≡ flat_map (λ sum. four (root sum)) sums.now) }
     ensures first { IsSome (S.files store.old) → OnOk result (file_at (S.files store.new) (full_name base.now part.MergeA) ≡ Some []) }
     ensures second { IsSome (S.files store.old) → OnOk result (file_at (S.files store.new) (full_name base.now part.MergeB) ≡ Some []) }
     ensures wrote { WroteParts OfWeights base.now (S.files store.old) (S.files store.new) }
@@ -59,9 +60,12 @@ pub(crate) fn write_all<S: Store>(
     requires sizes { AreListSizes counts.now.docs (length plan.now.terms.terms) (length plan.now.pairs) }
     requires left { (left : List TermPosting) × IsMerging merge.old (S.files store.old) left }
     requires zero { sums.old.items ≡ replicate (length plan.now.pairs) 0 }
-    ensures stand { (collection : List ℕ) → IsInverted plan.now counts.now collection merge.old (S.files store.old) → OnOk result (IndexStands (S.files store.new) base.now collection) }
-    ensures post_bytes { (collection : List ℕ) → IsInverted plan.now counts.now collection merge.old (S.files store.old) → IfOk result (λ sizes. sizes.post_bytes ≡ length (post_part collection)) }
-    ensures skip_count { (collection : List ℕ) → IsInverted plan.now counts.now collection merge.old (S.files store.old) → IfOk result (λ sizes. sizes.skip_count ≡ skip_count collection) }
+    ensures stand { (collection : List ℕ) → IsInverted plan.now counts.now collection merge.old (S.files store.old) →
+        OnOk result (IndexStands (S.files store.new) base.now collection) }
+    ensures post_bytes { (collection : List ℕ) → IsInverted plan.now counts.now collection merge.old (S.files store.old) →
+        IfOk result (λ sizes. sizes.post_bytes ≡ length (post_part collection)) }
+    ensures skip_count { (collection : List ℕ) → IsInverted plan.now counts.now collection merge.old (S.files store.old) →
+        IfOk result (λ sizes. sizes.skip_count ≡ skip_count collection) }
     ensures refused { IfErr result (λ fault. (collection : List ℕ) →
         ListStops (Rose (S.faults store.old) (S.faults store.new)) (IsInverted plan.now counts.now collection merge.old (S.files store.old)) fault) }
     ensures same { SameMerge merge.old merge.new }

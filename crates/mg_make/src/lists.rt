@@ -92,10 +92,12 @@ fn write_term<S: Store>(
     requires number { number < length table.now.terms }
     requires few { length table.now.terms ≤ 2 ^ 22 }
     requires rising { IsStrictlySortedBy (slice_cmp nat_cmp) table.now.terms }
-    ensures can { OnOk result (CanIndex table.now.terms counts.now.docs (number + 1) merge.new writer.new.lists writer.new.lex sums.new.items (S.files store.new)) }
+    ensures can { OnOk result
+        (CanIndex table.now.terms counts.now.docs (number + 1) merge.new writer.new.lists writer.new.lex sums.new.items (S.files store.new)) }
     ensures indexed { (collection : List ℕ) →
         HasIndexed table.now.terms counts.now.docs collection number merge.old writer.old.lists writer.old.lex sums.old.items (S.files store.old) →
-        OnOk result (HasIndexed table.now.terms counts.now.docs collection (number + 1) merge.new writer.new.lists writer.new.lex sums.new.items (S.files store.new)) }
+        OnOk result
+        (HasIndexed table.now.terms counts.now.docs collection (number + 1) merge.new writer.new.lists writer.new.lex sums.new.items (S.files store.new)) }
     ensures refused { IfErr result (λ fault. (collection : List ℕ) → ListStops (Rose (S.faults store.old) (S.faults store.new))
         (HasIndexed table.now.terms counts.now.docs collection number merge.old writer.old.lists writer.old.lex sums.old.items (S.files store.old)) fault) }
     ensures all { writer.new.lists.all ≡ writer.old.lists.all }
@@ -131,10 +133,13 @@ fn write_terms<S: Store>(
 ) -> Result<(), Fault>
     requires can { CanIndex table.now.terms counts.now.docs 0 merge.old writer.old.lists writer.old.lex sums.old.items (S.files store.old) }
     requires sizes { AreListSizes counts.now.docs (length table.now.terms) writer.old.lists.all }
-    ensures can { OnOk result (CanIndex table.now.terms counts.now.docs (length table.now.terms) merge.new writer.new.lists writer.new.lex sums.new.items (S.files store.new)) }
+    ensures can { OnOk result
+        (CanIndex table.now.terms counts.now.docs (length table.now.terms) merge.new writer.new.lists writer.new.lex sums.new.items (S.files store.new)) }
     ensures indexed { (collection : List ℕ) →
         HasIndexed table.now.terms counts.now.docs collection 0 merge.old writer.old.lists writer.old.lex sums.old.items (S.files store.old) →
-        OnOk result (HasIndexed table.now.terms counts.now.docs collection (length table.now.terms) merge.new writer.new.lists writer.new.lex sums.new.items (S.files store.new)) }
+        OnOk result
+        (HasIndexed table.now.terms counts.now.docs collection (length table.now.terms)
+        merge.new writer.new.lists writer.new.lex sums.new.items (S.files store.new)) }
     ensures refused { IfErr result (λ fault. (collection : List ℕ) → ListStops (Rose (S.faults store.old) (S.faults store.new))
         (HasIndexed table.now.terms counts.now.docs collection 0 merge.old writer.old.lists writer.old.lex sums.old.items (S.files store.old)) fault) }
     ensures all { writer.new.lists.all ≡ writer.old.lists.all }
@@ -151,7 +156,8 @@ fn write_terms<S: Store>(
 /// Sees that no posting is left.
 fn expect_end<S: Store>(store: &mut S, merge: &mut Merge<'_>) -> Result<(), Fault>
     requires left { (left : List TermPosting) × IsMerging merge.old (S.files store.old) left }
-    ensures refused { IfErr result (ListStops (Rose (S.faults store.old) (S.faults store.new)) (IsSome (S.files store.old) × IsMerging merge.old (S.files store.old) [])) }
+    ensures refused { IfErr result (ListStops (Rose (S.faults store.old) (S.faults store.new))
+        (IsSome (S.files store.old) × IsMerging merge.old (S.files store.old) [])) }
     ensures same { SameMerge merge.old merge.new }
     ensures files { S.files store.new ≡ S.files store.old }
     ensures later { S.faults store.old ≤ S.faults store.new }
@@ -169,11 +175,14 @@ fn finish<S: Store>(store: &mut S, writer: &mut IndexWriter<'_>) -> Result<Sizes
     requires lex { (terms : List Term) × TookTerms writer.old.lex (S.files store.old) terms }
     requires post { writer.old.lists.post.name ≡ full_name writer.old.lex.base part.Post }
     requires skip { writer.old.lists.skip.name ≡ full_name writer.old.lex.base part.Skip }
-    ensures stand { (collection : List ℕ) → IsSome (S.files store.old) → writer.old.lists.all ≡ length (documents collection) → Took writer.old.lists (S.files store.old) (inverted collection) [] →
+    ensures stand { (collection : List ℕ) → IsSome (S.files store.old) → writer.old.lists.all ≡ length (documents collection) →
+        Took writer.old.lists (S.files store.old) (inverted collection) [] →
         TookTerms writer.old.lex (S.files store.old) (terms_of collection) → OnOk result (ListsStand (S.files store.new) writer.old.lex.base collection) }
-    ensures post_bytes { (collection : List ℕ) → writer.old.lists.all ≡ length (documents collection) → Took writer.old.lists (S.files store.old) (inverted collection) [] →
+    ensures post_bytes { (collection : List ℕ) → writer.old.lists.all ≡ length (documents collection) →
+        Took writer.old.lists (S.files store.old) (inverted collection) [] →
         IfOk result (λ sizes. sizes.post_bytes ≡ length (post_bits collection) / 8) }
-    ensures skip_count { (collection : List ℕ) → writer.old.lists.all ≡ length (documents collection) → Took writer.old.lists (S.files store.old) (inverted collection) [] →
+    ensures skip_count { (collection : List ℕ) → writer.old.lists.all ≡ length (documents collection) →
+        Took writer.old.lists (S.files store.old) (inverted collection) [] →
         IfOk result (λ sizes. sizes.skip_count ≡ length (lists_entries (length (documents collection)) (inverted collection))) }
     ensures wrote { WroteParts OfLists writer.old.lex.base (S.files store.old) (S.files store.new) }
     ensures cause { HasPutCause (S.faults store.old) (S.faults store.new) result }

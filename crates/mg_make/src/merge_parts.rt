@@ -12,7 +12,8 @@ use mg_dev::{FileRef, Part, PutErr, Store};
 pub(crate) fn reset_merge_parts<S: Store>(store: &mut S, base: &str) -> Result<(), PutErr>
     ensures first { IsSome (S.files store.old) → OnOk result (file_at (S.files store.new) (full_name base.now part.MergeA) ≡ Some []) }
     ensures second { IsSome (S.files store.old) → OnOk result (file_at (S.files store.new) (full_name base.now part.MergeB) ≡ Some []) }
-    ensures others { (n : List ℕ) → n ≢ full_name base.now part.MergeA → n ≢ full_name base.now part.MergeB → file_at (S.files store.new) n ≡ file_at (S.files store.old) n }
+    ensures others { (n : List ℕ) → n ≢ full_name base.now part.MergeA → n ≢ full_name base.now part.MergeB →
+        file_at (S.files store.new) n ≡ file_at (S.files store.old) n }
     ensures told { is_some (S.files store.new) ≡ is_some (S.files store.old) }
     ensures cause { HasPutCause (S.faults store.old) (S.faults store.new) result }
 {

@@ -47,8 +47,10 @@ fn next_posting<S: Store>(
 ) -> Result<TermPosting, Fault>
     requires left { (left : List TermPosting) × IsMerging merge.old (S.files store.old) left }
     requires last { last ≤ 2 ^ 24 }
-    ensures left { (left : List TermPosting) → IsMerging merge.old (S.files store.old) left → OnOk result (IsMerging merge.new (S.files store.new) (drop 1 left)) }
-    ensures told { IsSome (S.files store.old) → (p : TermPosting) (left : List TermPosting) → IsMerging merge.old (S.files store.old) (p ∷ left) → IfOk result (λ posting. posting ≡ p) }
+    ensures left { (left : List TermPosting) → IsMerging merge.old (S.files store.old) left →
+        OnOk result (IsMerging merge.new (S.files store.new) (drop 1 left)) }
+    ensures told { IsSome (S.files store.old) → (p : TermPosting) (left : List TermPosting) → IsMerging merge.old (S.files store.old) (p ∷ left) →
+        IfOk result (λ posting. posting ≡ p) }
     ensures term { IfOk result (λ posting. posting.term ≡ number) }
     ensures follows { IfOk result (λ posting. Follows all last (posting_of posting.doc posting.count)) }
     ensures refused { IfErr result (ListStops (Rose (S.faults store.old) (S.faults store.new)) (HasNext number all last merge.old (S.files store.old))) }
@@ -78,7 +80,8 @@ fn add_square(sums: &mut Vec<u64>, doc: u32, count: u32)
     requires first { 1 ≤ doc }
     requires within { doc ≤ length sums.old.items }
     requires some { 1 ≤ count }
-    ensures summed { (lists : List (List Posting)) (ps : List Posting) → SquaresFit (lists ++ (ps ++ posting_of doc count ∷ []) ∷ []) → AreSquares sums.old.items (lists ++ ps ∷ []) →
+    ensures summed { (lists : List (List Posting)) (ps : List Posting) → SquaresFit (lists ++ (ps ++ posting_of doc count ∷ []) ∷ []) →
+        AreSquares sums.old.items (lists ++ ps ∷ []) →
         AreSquares sums.new.items (lists ++ (ps ++ posting_of doc count ∷ []) ∷ []) }
     ensures each { length sums.new.items ≡ length sums.old.items }
 {
@@ -99,8 +102,10 @@ fn write_posting<S: Store>(
     requires more { lists.old.pushed < lists.old.docs }
     requires total { lists.old.total < 2 ^ 32 }
     requires follows { Follows lists.old.all lists.old.last (posting_of posting.doc posting.count) }
-    ensures took { OnOk result ((done : List (List Posting)) (ps : List Posting) → Took lists.old (S.files store.old) done ps → Took lists.new (S.files store.new) done (ps ++ posting_of posting.doc posting.count ∷ [])) }
-    ensures summed { OnOk result ((done : List (List Posting)) (ps : List Posting) → SquaresFit (done ++ (ps ++ posting_of posting.doc posting.count ∷ []) ∷ []) → AreSquares sums.old.items (done ++ ps ∷ []) →
+    ensures took { OnOk result ((done : List (List Posting)) (ps : List Posting) → Took lists.old (S.files store.old) done ps →
+        Took lists.new (S.files store.new) done (ps ++ posting_of posting.doc posting.count ∷ [])) }
+    ensures summed { OnOk result ((done : List (List Posting)) (ps : List Posting) →
+        SquaresFit (done ++ (ps ++ posting_of posting.doc posting.count ∷ []) ∷ []) → AreSquares sums.old.items (done ++ ps ∷ []) →
         AreSquares sums.new.items (done ++ (ps ++ posting_of posting.doc posting.count ∷ []) ∷ [])) }
     ensures pushed { OnOk result (Pushed lists.old lists.new posting.doc) }
     ensures each { length sums.new.items ≡ length sums.old.items }
@@ -128,12 +133,14 @@ fn take_posting<S: Store>(
     requires more { lists.old.pushed < lists.old.docs }
     requires total { lists.old.total < 2 ^ 32 }
     ensures can { OnOk result (CanList merge.new lists.new sums.new.items (S.files store.new)) }
-    ensures told { IsSome (S.files store.old) → (done : List (List Posting)) (ps : List Posting) (p : Posting) (left : List Posting) (later : List TermPosting) →
+    ensures told { IsSome (S.files store.old) →
+        (done : List (List Posting)) (ps : List Posting) (p : Posting) (left : List Posting) (later : List TermPosting) →
         IsInList number merge.old lists.old sums.old.items (S.files store.old) done ps (p ∷ left) later →
         OnOk result (IsInList number merge.new lists.new sums.new.items (S.files store.new) done (ps ++ p ∷ []) left later) }
     ensures pushed { OnOk result (PushedMore lists.old lists.new 1) }
     ensures last { IfOk result (λ doc. lists.new.last ≡ doc) }
-    ensures refused { IfErr result (ListStops (Rose (S.faults store.old) (S.faults store.new)) (HasRest number 1 merge.old lists.old sums.old.items (S.files store.old))) }
+    ensures refused { IfErr result (ListStops (Rose (S.faults store.old) (S.faults store.new))
+        (HasRest number 1 merge.old lists.old sums.old.items (S.files store.old))) }
     ensures same { SameMerge merge.old merge.new }
     ensures files { SameFiles lists.old lists.new }
     ensures wrote { WroteParts OfPostings merge.old.base (S.files store.old) (S.files store.new) }
@@ -167,7 +174,8 @@ fn take_postings<S: Store>(
         IsInList number merge.old lists.old sums.old.items (S.files store.old) done ps left later →
         OnOk result (IsInList number merge.new lists.new sums.new.items (S.files store.new) done (ps ++ take docs left) (drop docs left) later) }
     ensures pushed { OnOk result (PushedMore lists.old lists.new docs) }
-    ensures refused { IfErr result (ListStops (Rose (S.faults store.old) (S.faults store.new)) (HasRest number docs merge.old lists.old sums.old.items (S.files store.old))) }
+    ensures refused { IfErr result (ListStops (Rose (S.faults store.old) (S.faults store.new))
+        (HasRest number docs merge.old lists.old sums.old.items (S.files store.old))) }
     ensures same { SameMerge merge.old merge.new }
     ensures files { SameFiles lists.old lists.new }
     ensures wrote { WroteParts OfPostings merge.old.base (S.files store.old) (S.files store.new) }
@@ -199,11 +207,14 @@ pub(crate) fn write_list<S: Store>(
         IsAtList number merge.old lists.old sums.old.items (S.files store.old) done (ps ∷ more) →
         OnOk result (IsAtList (number + 1) merge.new lists.new sums.new.items (S.files store.new) (done ++ ps ∷ []) more) }
     ensures post_at { IsSome (S.files store.old) → (done : List (List Posting)) (ps : List Posting) (more : List (List Posting)) → length ps ≡ docs →
-        IsAtList number merge.old lists.old sums.old.items (S.files store.old) done (ps ∷ more) → IfOk result (λ at. at.0 ≡ length (lists_bits lists.old.all done) / 8) }
+        IsAtList number merge.old lists.old sums.old.items (S.files store.old) done (ps ∷ more) →
+        IfOk result (λ at. at.0 ≡ length (lists_bits lists.old.all done) / 8) }
     ensures skip_at { IsSome (S.files store.old) → (done : List (List Posting)) (ps : List Posting) (more : List (List Posting)) → length ps ≡ docs →
-        IsAtList number merge.old lists.old sums.old.items (S.files store.old) done (ps ∷ more) → IfOk result (λ at. at.1 ≡ length (lists_entries lists.old.all done)) }
+        IsAtList number merge.old lists.old sums.old.items (S.files store.old) done (ps ∷ more) →
+        IfOk result (λ at. at.1 ≡ length (lists_entries lists.old.all done)) }
     ensures listed { OnOk result (ListedMore lists.old lists.new docs) }
-    ensures refused { IfErr result (ListStops (Rose (S.faults store.old) (S.faults store.new)) (HasList number docs merge.old lists.old sums.old.items (S.files store.old))) }
+    ensures refused { IfErr result (ListStops (Rose (S.faults store.old) (S.faults store.new))
+        (HasList number docs merge.old lists.old sums.old.items (S.files store.old))) }
     ensures same { SameMerge merge.old merge.new }
     ensures files { SameFiles lists.old lists.new }
     ensures wrote { WroteParts OfPostings merge.old.base (S.files store.old) (S.files store.new) }

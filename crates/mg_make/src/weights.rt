@@ -31,7 +31,8 @@ pub(crate) fn write_weights<S: Store>(
     base: &str,
     sums: &[u64],
 ) -> Result<(), PutErr>
-    ensures bytes { IsSome (S.files store.old) → OnOk result (bytes_at (S.files store.new) (full_name base.now part.Weights) ≡ flat_map (λ sum. four (root sum)) sums.now) }
+    ensures bytes { IsSome (S.files store.old) →
+        OnOk result (bytes_at (S.files store.new) (full_name base.now part.Weights) ≡ flat_map (λ sum. four (root sum)) sums.now) }
     ensures wrote { WroteTo (full_name base.now part.Weights) (S.files store.old) (S.files store.new) (S.reads store.old) (S.reads store.new) }
     ensures cause { HasPutCause (S.faults store.old) (S.faults store.new) result }
 {

@@ -1,6 +1,6 @@
-use Rattle.std.proofs.Common.{arith, ◌∙◌, length, sym, subst}
+use Rattle.std.proofs.Common.{arith, ◌∙◌, ℕ, List, length, sym, subst}
 use Rattle.std.proofs.lemmas.Result.{err_from_is_err_and}
-use Rattle.mg_make.specs.Listing.{AreListSizes}
+use Rattle.mg_make.specs.Listing.{AreListSizes, HasIndexed}
 use Rattle.mg_make.specs.Written.{OfLists, WroteParts}
 use Rattle.mg_make.proofs.ListFrames.{passed_on_each, rose_later, same_more, wrote_more}
 use Rattle.mg_make.proofs.lists.write_terms.Goals as goal
@@ -11,7 +11,10 @@ write_term-requires-clause-sizes g c = subst (λ m. AreListSizes c.args.counts.n
 pub returns-in_err-write_term-clause-refused : goal.returns-in_err-write_term-clause-refused
 returns-in_err-write_term-clause-refused g c =
     let inv = c.loop-number.invariant in
-    passed_on_each _ _ c.from_residual.result c.in_err-write_term.field-0.0 (err_from_is_err_and c.from_residual.result c.from_residual.ensures.1) (rose_later _ _ _ inv.later) inv.indexed c.in_err-write_term.ensures.refused
+    passed_on_each
+    (λ collection. HasIndexed c.args.table.now.terms c.args.counts.now.docs collection c.loop-number.number c.loop-number.merge c.loop-number.writer.lists c.loop-number.writer.lex c.loop-number.sums.items (g.S.Store.files c.loop-number.store))
+    (λ collection. HasIndexed c.args.table.now.terms c.args.counts.now.docs collection 0 c.args.merge.now c.args.writer.now.lists c.args.writer.now.lex c.args.sums.now.items (g.S.Store.files c.args.store.now))
+    c.from_residual.result c.in_err-write_term.field-0.0 (err_from_is_err_and c.from_residual.result c.from_residual.ensures.1) (rose_later _ _ _ inv.later) inv.indexed c.in_err-write_term.ensures.refused
 
 pub returns-in_err-write_term-clause-wrote : goal.returns-in_err-write_term-clause-wrote
 returns-in_err-write_term-clause-wrote g c =
