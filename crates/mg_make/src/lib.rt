@@ -6,7 +6,9 @@
 #![tactic(auto)]
 
 mod doc_counts;
+mod inverter;
 mod met;
 mod plan;
+mod second;
 
 pub use plan::{Plan, Room};
