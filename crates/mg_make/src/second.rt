@@ -20,9 +20,9 @@ use crate::inverter::Inverter;
 use crate::met::Met;
 use crate::plan::Plan;
 use mg_dev::{Fault, PutErr, Store, What};
-use mg_model::{terms_are_the_dictionary, words_have_terms};
+use mg_model::{symbol_and_piece, terms_are_the_dictionary, words_have_terms};
 use mg_parse::Stream;
-use mg_runs::{Merge, Pool};
+use mg_runs::{Merge, Pool, runs_stay};
 use mg_text::TextWriter;
 use std::alloc::Global;
 use std::marker::Model;
@@ -105,6 +105,7 @@ impl<'a> SecondPass<'a> {
         ensures faults { S.faults store.old ≤ S.faults store.new }
         ensures refused { IfErr result (λ fault. StopsBefore self.old (S.files store.old) (start_mark ∷ []) (Rose (S.faults store.old) (S.faults store.new)) fault) }
     {
+        runs_stay();
         let plan = self.plan;
         let at = self.doc as usize;
         if at >= plan.pairs.len() {
@@ -141,6 +142,8 @@ impl<'a> SecondPass<'a> {
         ensures refused { IfErr result (λ fault. StopsBefore self.old (S.files store.old) (piece_mark stream piece.now ∷ [])
             (Rose (S.faults store.old) (S.faults store.new)) fault) }
     {
+        runs_stay();
+        symbol_and_piece();
         if self.left == 0 {
             return Err(self.other_pairs());
         }
@@ -174,6 +177,7 @@ impl<'a> SecondPass<'a> {
         ensures faults { S.faults store.old ≤ S.faults store.new }
         ensures refused { IfErr result (λ fault. StopsBefore self.old (S.files store.old) (stop_mark ∷ []) (Rose (S.faults store.old) (S.faults store.new)) fault) }
     {
+        runs_stay();
         if self.left > 0 {
             return Err(self.other_pairs());
         }
@@ -260,6 +264,7 @@ impl<'a> SecondPass<'a> {
         ensures refused { IfErr result (λ fault. (collection : List ℕ) → HasWritten self.entry (S.files store.old) (marks collection) →
             FinishStops (Rose (S.faults store.old) (S.faults store.new)) (IsPlanOf self.entry.plan collection) (IsSome (S.files store.old)) fault) }
     {
+        runs_stay();
         let SecondPass {
             plan,
             mut text,
