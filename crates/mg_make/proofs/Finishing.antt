@@ -33,14 +33,12 @@ use Rattle.mg_make.specs.Second.{FinishStops, HasWritten, Inversion, IsWhole, co
 use Rattle.mg_make.specs.Written.{WroteParts}
 use Rattle.mg_make.proofs.Frames.{OthersStay, RunsStay, index_kept, places_file_kept, text_file_kept}
 use Rattle.mg_make.proofs.MarkFronts.{all_documents}
+use Rattle.mg_make.proofs.SecondSteps.{none_open}
 
 -- ---- content
 
 pub whole_is_closed : (s : Inversion) (files : Option Files) → IsWhole s files → s.text.is_open ≡ false
 whole_is_closed s files whole = whole.written.is_open ∙ marks_are_closed whole.collection
-
-pub none_open : (s : Inversion) (files : Option Files) (met : List Mark) → s.text.is_open ≡ false → HasWritten s files met → IsOnText s.text files (coded_by s.plan met) []
-none_open s files met closed is = subst (λ (bits : Bits). IsOnText s.text files (coded_by s.plan met) bits) (is.text.none closed) is.text
 
 pub documents_kept : (base own : List ℕ) (g h : Option Files) (docs : List Bits) → own ≡ base → WroteParts OfRuns own g h → DocumentsStand base g docs → DocumentsStand base h docs
 documents_kept base own g h docs same wrote stand =

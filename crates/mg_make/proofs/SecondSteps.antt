@@ -1,5 +1,5 @@
 -- What one mark more makes of what was written.
-use Rattle.std.proofs.Common.{◌≡◌, ◌≤◌, ◌<◌, ◌+◌, ◌*◌, ◌-◌, ◌++◌, ℕ, Bool, true, false, List, [], ◌∷◌, refl, sym, ap, ◌∙◌, subst, length, sum, take, drop, get_or, arith, append-nil, is_some}
+use Rattle.std.proofs.Common.{◌≡◌, ◌≤◌, ◌<◌, ◌+◌, ◌*◌, ◌-◌, ◌^◌, ◌++◌, ℕ, zero, suc, Bool, true, false, List, [], ◌∷◌, refl, sym, ap, ◌∙◌, subst, length, sum, take, drop, get_or, arith, append-nil, is_some}
 use Rattle.std.specs.declared.option.Option.{Option}
 use Rattle.std.proofs.lemmas.List.{get_or-drop}
 use Rattle.std.proofs.lemmas.List.Sums.{sum_by_more, sum_by-take-le}
@@ -9,7 +9,7 @@ use Rattle.mg_defs.specs.Bits.{Bits}
 use Rattle.mg_defs.specs.Codes.{gamma}
 use Rattle.mg_defs.specs.Marks.{Mark, start, piece, stop, starts, pieces_from, open_at, is_open_after, piece_bits, coded_from, open_from, terms_from, with_doc}
 use Rattle.mg_laws.proofs.MarkLaws.{coded_append, open_append, open_at_append, pieces_from_append, starts_append, terms_append}
-use Rattle.mg_text.specs.Writing.{Began, Ended, IsOnText, PutOne, TextWriting}
+use Rattle.mg_text.specs.Writing.{Began, Ended, IsOnText, PutOne, TextWriting, turn}
 use Rattle.mg_make.specs.Indexes.{HasTaken, Indexing}
 use Rattle.mg_make.specs.Plans.{IsPlan, Plan}
 use Rattle.mg_make.specs.Second.{HasWritten, Inversion, coded_by, occurring_by, open_by, term_at}
@@ -45,11 +45,34 @@ occurring_stop p met = terms_append p.terms.terms 0 met (stop ∷ []) ∙ append
 
 -- ---- sums
 
+-- what stands at a place of a list, which has it
+pub same_there : (xs : List ℕ) (k a b : ℕ) → k < length xs → get_or xs k a ≡ get_or xs k b
+same_there [] k a b h = absurd (omega arith)
+same_there (x ∷ xs) zero a b h = refl
+same_there (x ∷ xs) (suc k) a b h = same_there xs k a b (omega arith)
+
 pub sum_more : (xs : List ℕ) (i : ℕ) → i < length xs → sum (take (i + 1) xs) ≡ sum (take i xs) + get_or xs i 0
 sum_more xs i h = sum_by_more (λ x. x) xs i 0 h
 
 pub sum_front : (xs : List ℕ) (i : ℕ) → sum (take i xs) ≤ sum xs
 sum_front xs i = sum_by-take-le (λ x. x) xs i
+
+-- ---- what the writers ask for
+
+-- where no document is open, the text has no bits of one
+pub none_open : (s : Inversion) (files : Option Files) (met : List Mark) → s.text.is_open ≡ false → HasWritten s files met → IsOnText s.text files (coded_by s.plan met) []
+none_open s files met closed is = subst (λ (bits : Bits). IsOnText s.text files (coded_by s.plan met) bits) (is.text.none closed) is.text
+
+pub pairs_room : (s : Inversion) (files : Option Files) (met : List Mark) → HasWritten s files met → s.doc < length s.plan.pairs → s.text.pairs + get_or s.plan.pairs s.doc 0 ≤ 2 ^ 32 - 1
+pairs_room s files met is low =
+    let more = sum_more s.plan.pairs s.doc low in
+    let most = sum_front s.plan.pairs (s.doc + 1) in
+    let small = is.planned.small in
+    omega (arith, is.pairs, more, most, small)
+
+-- the stream whose turn it is
+pub turn_now : (s : Inversion) (files : Option Files) (met : List Mark) (kind : Stream) → ((left put pairs : ℕ) → left + put ≡ 2 * pairs → turn left ≡ turn put) → HasWritten s files met → s.text.is_open ≡ true → kind ≡ turn (pieces_from 0 met) → kind ≡ turn s.text.left
+turn_now s files met kind law is is_open at = at ∙ sym (law s.left (pieces_from 0 met) (get_or s.plan.pairs (s.doc - 1) 0) (is.put is_open)) ∙ ap turn is.left
 
 -- ---- steps
 
@@ -72,7 +95,7 @@ wrote_nothing s files text_base runs_base planned text index doc left docs pairs
 pub wrote_start : (old : Inversion) (w : TextWriting) (f g : Option Files) (met : List Mark) (pairs : ℕ) → old.text.is_open ≡ false → pairs ≡ get_or old.plan.pairs old.doc 0 → old.doc < length old.plan.pairs → ((docs : List Bits) → IsOnText old.text f docs [] → IsOnText w g docs (gamma (pairs + 1))) → Began old.text w pairs → w.base ≡ old.text.base
     → ((terms : ℕ) (fed : List (ℕ × ℕ)) → HasTaken old.index f terms fed → HasTaken old.index g terms fed) → HasWritten old f met → HasWritten (record { base = old.base; plan = old.plan; text = w; index = old.index; doc = old.doc + 1; left = 2 * pairs }) g (met ++ start ∷ [])
 wrote_start old w f g met pairs closed here room took began base kept is =
-    let none : IsOnText old.text f (coded_by old.plan met) [] = subst (λ (bits : Bits). IsOnText old.text f (coded_by old.plan met) bits) (is.text.none closed) is.text in
+    let none = none_open old f met closed is in
     let bits : gamma (pairs + 1) ≡ open_by old.plan (met ++ start ∷ []) = ap (λ n. gamma (n + 1)) (here ∙ ap (λ k. get_or old.plan.pairs k 0) is.doc) ∙ sym (open_start old.plan met) in
     let text : IsOnText w g (coded_by old.plan met) (gamma (pairs + 1)) = took (coded_by old.plan met) none in
     let text : IsOnText w g (coded_by old.plan (met ++ start ∷ [])) (gamma (pairs + 1)) = subst (λ (docs : List Bits). IsOnText w g docs (gamma (pairs + 1))) (sym (coded_start old.plan met)) text in
