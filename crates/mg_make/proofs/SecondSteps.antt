@@ -1,19 +1,25 @@
 -- What one mark more makes of what was written.
-use Rattle.std.proofs.Common.{◌≡◌, ◌≤◌, ◌<◌, ◌+◌, ◌*◌, ◌-◌, ◌^◌, ◌++◌, ℕ, zero, suc, Bool, true, false, List, [], ◌∷◌, refl, sym, ap, ◌∙◌, subst, length, sum, take, drop, get_or, arith, append-nil, is_some}
+use Rattle.std.proofs.Common.{◌≡◌, ◌≤◌, ◌<◌, ◌+◌, ◌*◌, ◌-◌, ◌^◌, ◌++◌, ℕ, zero, suc, Bool, true, false, List, [], ◌∷◌, refl, sym, ap, ◌∙◌, subst, length, sum, take, drop, get_or, arith, append-nil, is_some, Some}
 use Rattle.std.specs.declared.option.Option.{Option}
 use Rattle.std.proofs.lemmas.List.{get_or-drop}
 use Rattle.std.proofs.lemmas.List.Sums.{sum_by_more, sum_by-take-le}
 use Rattle.mg_dev.specs.Files.{Files}
 use Rattle.mg_defs.specs.declared.Stream.{Stream}
 use Rattle.mg_defs.specs.Bits.{Bits}
+use Rattle.mg_defs.specs.Canon.{codeword}
+use Rattle.mg_defs.specs.CodedText.{TextCode}
 use Rattle.mg_defs.specs.Codes.{gamma}
-use Rattle.mg_defs.specs.Marks.{Mark, start, piece, stop, starts, pieces_from, open_at, is_open_after, piece_bits, coded_from, open_from, terms_from, with_doc}
+use Rattle.mg_defs.specs.DocCounts.{NeverFall}
+use Rattle.mg_defs.specs.Marks.{Mark, code_of, start, piece, stop, starts, pieces_from, open_at, is_open_after, piece_bits, coded_from, open_from, terms_from, with_doc}
+use Rattle.mg_defs.specs.Sorted.{number_of}
+use Rattle.mg_laws.proofs.DocCountLaws.{met_in_order}
 use Rattle.mg_laws.proofs.MarkLaws.{coded_append, open_append, open_at_append, pieces_from_append, starts_append, terms_append}
 use Rattle.mg_text.specs.Writing.{Began, Ended, IsOnText, PutOne, TextWriting, turn}
-use Rattle.mg_make.specs.Indexes.{HasTaken, Indexing}
+use Rattle.mg_make.specs.Fronts.{IsFrontOf}
+use Rattle.mg_make.specs.Indexes.{HasTaken, Indexing, MayFollow}
 use Rattle.mg_make.specs.Plans.{IsPlan, Plan}
 use Rattle.mg_make.specs.Second.{HasWritten, Inversion, coded_by, occurring_by, open_by, term_at}
-use Rattle.mg_make.proofs.MarkFronts.{terms_more}
+use Rattle.mg_make.proofs.MarkFronts.{one_more_term, terms_more}
 
 -- ---- what a plan makes of one mark more
 
@@ -73,6 +79,24 @@ pairs_room s files met is low =
 -- the stream whose turn it is
 pub turn_now : (s : Inversion) (files : Option Files) (met : List Mark) (kind : Stream) → ((left put pairs : ℕ) → left + put ≡ 2 * pairs → turn left ≡ turn put) → HasWritten s files met → s.text.is_open ≡ true → kind ≡ turn (pieces_from 0 met) → kind ≡ turn s.text.left
 turn_now s files met kind law is is_open at = at ∙ sym (law s.left (pieces_from 0 met) (get_or s.plan.pairs (s.doc - 1) 0) (is.put is_open)) ∙ ap turn is.left
+
+-- the codeword of a symbol is that of its piece
+pub put_bits : (kind : Stream) (code model : TextCode) (symbol : ℕ) (x : List ℕ) (old w : TextWriting) (f g : Option Files) → model ≡ code → number_of (code_of kind model).pieces x ≡ symbol → ((docs : List Bits) (bits : Bits) → IsOnText old f docs bits → IsOnText w g docs (bits ++ codeword (code_of kind model).lengths symbol))
+    → (docs : List Bits) (bits : Bits) → IsOnText old f docs bits → IsOnText w g docs (bits ++ piece_bits code kind x)
+put_bits kind code model symbol x old w f g same number took docs bits on =
+    subst (λ (c : TextCode). IsOnText w g docs (bits ++ piece_bits c kind x)) same
+    (subst (λ (s : ℕ). IsOnText w g docs (bits ++ codeword (code_of kind model).lengths s)) (sym number) (took docs bits on))
+
+-- an occurrence more can be taken
+pub few_taken : (s : Inversion) (files : Option Files) (met : List Mark) (kind : Stream) (x : List ℕ) (term : ℕ) (collection : List ℕ) → Some term ≡ term_at kind s.plan.terms.terms x → HasWritten s files met → IsFrontOf (met ++ piece kind x ∷ []) collection → s.index.occurrences < 2 ^ 32 - 1
+few_taken s files met kind x term collection term_is is front =
+    let few = one_more_term s.plan.terms.terms met kind x term collection term_is front in
+    omega (arith, few, is.index.occurrences)
+
+pub may_follow : (s : Inversion) (files : Option Files) (met : List Mark) (term : ℕ) → term < length s.plan.terms.terms → 1 ≤ s.doc → s.index.occurrences < 2 ^ 32 - 1 → HasWritten s files met → MayFollow (length s.plan.terms.terms) (occurring_by s.plan met) term s.doc
+may_follow s files met term known some few is =
+    let doc : 0 + starts met ≡ s.doc = omega (arith, is.doc) in
+    record { known = known; some = some; order = subst (λ (n : ℕ). NeverFall 0 (occurring_by s.plan met) n) doc (met_in_order s.plan.terms.terms 0 met); few = omega (arith, few, is.index.occurrences) }
 
 -- ---- steps
 

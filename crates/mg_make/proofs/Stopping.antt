@@ -4,6 +4,7 @@ use Rattle.std.specs.Prelude.{IsErrOf}
 use Rattle.std.specs.Str.{bytes_eq}
 use Rattle.std.specs.declared.result.Result.{Result}
 use Rattle.std.specs.declared.option.Option.{Option}
+use Rattle.mg_dev.specs.Causes.{Rose}
 use Rattle.mg_dev.specs.Files.{Files}
 use Rattle.mg_dev.specs.Faults.{fault_of_store}
 use Rattle.mg_dev.specs.declared.device.PutErr.{PutErr}
@@ -20,6 +21,9 @@ use Rattle.mg_make.specs.Plans.{IsPlanOf, Plan}
 use Rattle.mg_make.specs.Second.{HasWritten, Inversion, IsChange}
 use Rattle.mg_make.specs.Written.{SecondStops}
 use Rattle.mg_make.proofs.MarkFronts.{has_symbol, more_documents, more_pieces, no_more_pieces}
+
+pub rose_before : (a b c : ℕ) → a ≤ b → Rose b c → Rose a c
+rose_before a b c less rose = omega (arith, less, rose)
 
 pub stops_store : (rose same : Type 0) (e : PutErr) (fault : Fault) → fault ≡ fault_of_store e → (IsErrOf {T = Unit {0}} (Err e) put.Failed → rose) → SecondStops rose same fault
 stops_store rose same put.Failed fault is cause = rw is (cause refl)

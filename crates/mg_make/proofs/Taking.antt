@@ -10,6 +10,7 @@ use Rattle.mg_make.specs.Fronts.{IsFrontOf}
 use Rattle.mg_make.specs.Plans.{IsPlanOf, Plan}
 use Rattle.mg_make.specs.Second.{HasWritten, Inversion, IsNext, SamePass, StopsBefore, WroteMarks}
 use Rattle.mg_make.specs.Written.{SecondStops}
+use Rattle.mg_make.proofs.Stopping.{rose_before}
 
 front_first : (met a b : List Mark) (collection : List ℕ) → IsFrontOf (met ++ (a ++ b)) collection → IsFrontOf (met ++ a) collection
 front_first met a b collection f = record {
@@ -47,9 +48,6 @@ stops_more rose now same fault more stops = absurd stops
 
 rose_later : (a b c : ℕ) → b ≤ c → Rose a b → Rose a c
 rose_later a b c less rose = omega (arith, less, rose)
-
-rose_before : (a b c : ℕ) → a ≤ b → Rose b c → Rose a c
-rose_before a b c less rose = omega (arith, less, rose)
 
 pub stops_first : (s : Inversion) (f : Option Files) (a b : List Mark) (x y z : ℕ) (fault : Fault) → y ≤ z → StopsBefore s f a (Rose x y) fault → StopsBefore s f (a ++ b) (Rose x z) fault
 stops_first s f a b x y z fault less stops = record { cause = λ met collection is front. stops_more (Rose x y) (Rose x z) (IsPlanOf s.plan collection) fault (rose_later x y z less) (stops.cause met collection is (front_first met a b collection front)) }

@@ -23,7 +23,7 @@ use mg_dev::{Fault, PutErr, Store, What};
 use mg_model::{symbol_and_piece, terms_are_the_dictionary, words_have_terms};
 use mg_parse::Stream;
 use mg_runs::{Merge, Pool, runs_stay};
-use mg_text::TextWriter;
+use mg_text::{TextWriter, pieces_make_documents};
 use std::alloc::Global;
 use std::marker::Model;
 
@@ -142,6 +142,7 @@ impl<'a> SecondPass<'a> {
         ensures refused { IfErr result (λ fault. StopsBefore self.old (S.files store.old) (piece_mark stream piece.now ∷ [])
             (Rose (S.faults store.old) (S.faults store.new)) fault) }
     {
+        pieces_make_documents();
         runs_stay();
         symbol_and_piece();
         if self.left == 0 {
