@@ -1,19 +1,9 @@
 -- What the second pass ends with, and why it does not.
 use Rattle.std.proofs.Common.{◌≡◌, ◌≤◌, ◌<◌, ◌+◌, ◌*◌, ◌-◌, ◌/◌, ◌^◌, ◌++◌, ℕ, true, false, min, max, List, [], ◌∷◌, refl, sym, ap, ◌∙◌, subst, length, arith, Err, Ok, IsSome, is_some, unwrap_or}
 use Rattle.std.specs.declared.option.Option.{Option}
-use Rattle.std.specs.Prelude.{IsErrOf}
-use Rattle.std.specs.declared.result.Result.{Result}
-use Rattle.mg_dev.specs.Causes.{Rose}
-use Rattle.mg_dev.specs.PartCauses.{IsCaused}
-use Rattle.mg_dev.specs.Faults.{fault_of_part, fault_of_store}
 use Rattle.mg_dev.specs.Files.{Files, bytes_at, file_at}
 use Rattle.mg_dev.specs.Names.{full_name}
-use Rattle.mg_dev.specs.declared.device.PutErr.{PutErr}
-use Rattle.mg_dev.specs.declared.device.PutErr.TheVariants as put
-use Rattle.mg_dev.specs.declared.fault.Fault.{Fault}
 use Rattle.mg_dev.specs.declared.part.Part.TheVariants.{Places, Run, Text}
-use Rattle.mg_dev.specs.declared.part_err.PartErr.{PartErr}
-use Rattle.mg_dev.specs.declared.part_err.PartErr.TheVariants.{Bad, Device, Memory}
 use Rattle.mg_defs.specs.Bits.{Bits, bits_of}
 use Rattle.mg_defs.specs.CodedText.{as_bytes}
 use Rattle.mg_defs.specs.Heads.{run_count}
@@ -22,14 +12,13 @@ use Rattle.mg_defs.specs.Postings.{postings}
 use Rattle.mg_defs.specs.RunBits.{run_part_bits}
 use Rattle.mg_laws.proofs.MarkLaws.{marks_are_closed}
 use Rattle.mg_laws.proofs.SizeLaws.{runs_in_one_form}
-use Rattle.mg_runs.specs.Cursors.{NoDamage}
-use Rattle.mg_runs.specs.Fed.{IsFed, cap_of}
+use Rattle.mg_runs.specs.Fed.{Inverting, IsFed, cap_of}
 use Rattle.mg_runs.specs.Left.{IsMerging, Merging}
 use Rattle.mg_text.specs.Writing.{DocumentsStand, IsOnText, text_bytes}
 use Rattle.mg_make.specs.Finishing.{EndsWith}
-use Rattle.mg_make.specs.Indexes.{HasTaken, OfRuns}
+use Rattle.mg_make.specs.Indexes.{HasTaken, Indexing, OfRuns}
 use Rattle.mg_make.specs.Plans.{IsPlanOf}
-use Rattle.mg_make.specs.Second.{FinishStops, HasWritten, Inversion, IsWhole, coded_by, occurring_by}
+use Rattle.mg_make.specs.Second.{HasWritten, Inversion, IsWhole, coded_by, occurring_by}
 use Rattle.mg_make.specs.Written.{WroteParts}
 use Rattle.mg_make.proofs.Frames.{OthersStay, RunsStay, index_kept, places_file_kept, text_file_kept}
 use Rattle.mg_make.proofs.MarkFronts.{all_documents}
@@ -48,29 +37,36 @@ documents_kept base own g h docs same wrote stand =
     subst (λ (b : List ℕ). DocumentsStand b h docs) refl (record { text = ap bits_of text ∙ stand.text; bytes = text ∙ stand.bytes; places = places ∙ stand.places })
 
 -- what the merge of the runs says of itself
-pub record IsMergeOf (s : Inversion) (g h : Option Files) (merge : Merging) (fed : List (ℕ × ℕ)) : Type 0 where
+pub record IsMergeOf (runs_in : Inverting) (g h : Option Files) (merge : Merging) (fed : List (ℕ × ℕ)) : Type 0 where
   pub left : IsMerging merge h (postings fed)
-  pub run : IsSome g → bytes_at h (full_name s.index.runs.base Run) ≡ as_bytes (run_part_bits (cap_of s.index.runs.pool) fed)
-  pub runs : merge.runs ≡ (length fed + cap_of s.index.runs.pool - 1) / cap_of s.index.runs.pool
-  pub peak : merge.peak ≡ max (12 * min (length fed) (cap_of s.index.runs.pool)) (64 * min ((length fed + cap_of s.index.runs.pool - 1) / cap_of s.index.runs.pool) (s.index.runs.pool.limit / 64))
-  pub base : merge.base ≡ s.index.runs.base
+  pub run : IsSome g → bytes_at h (full_name runs_in.base Run) ≡ as_bytes (run_part_bits (cap_of runs_in.pool) fed)
+  pub runs : merge.runs ≡ (length fed + cap_of runs_in.pool - 1) / cap_of runs_in.pool
+  pub peak : merge.peak ≡ max (12 * min (length fed) (cap_of runs_in.pool)) (64 * min ((length fed + cap_of runs_in.pool - 1) / cap_of runs_in.pool) (runs_in.pool.limit / 64))
+  pub base : merge.base ≡ runs_in.base
 
-pub ends_with : (s : Inversion) (met : List Mark) (f g h : Option Files) (size : ℕ) (merge : Merging) → s.text.is_open ≡ false → length s.plan.pairs ≤ s.doc → is_some g ≡ is_some f → OthersStay s.text.base f g → ((docs : List Bits) → IsOnText s.text f docs [] → IsSome f → DocumentsStand s.text.base g docs)
-    → ((docs : List Bits) → IsOnText s.text f docs [] → size ≡ length (text_bytes docs)) → RunsStay → WroteParts OfRuns s.index.runs.base g h → ((fed : List (ℕ × ℕ)) → IsFed s.index.runs g fed → IsMergeOf s g h merge fed) → HasWritten s f met
-    → EndsWith s met f h (record { text_bytes = size; merge = merge; counts = s.index.counts; occurrences = s.index.occurrences })
-ends_with s met f g h size merge closed all told others finished answer stay wrote merged is =
+-- what both writers did
+pub record Finished (s : Inversion) (f g h : Option Files) (size : ℕ) (merge : Merging) (index : Indexing) : Type 0 where
+  pub told : is_some g ≡ is_some f
+  pub others : OthersStay s.text.base f g
+  pub stands : (docs : List Bits) → IsOnText s.text f docs [] → IsSome f → DocumentsStand s.text.base g docs
+  pub answer : (docs : List Bits) → IsOnText s.text f docs [] → size ≡ length (text_bytes docs)
+  pub wrote : WroteParts OfRuns index.runs.base g h
+  pub merged : (fed : List (ℕ × ℕ)) → IsFed index.runs g fed → IsMergeOf index.runs g h merge fed
+
+ends_by : (s : Inversion) (met : List Mark) (f g h : Option Files) (size : ℕ) (merge : Merging) → s.text.is_open ≡ false → length s.plan.pairs ≤ s.doc → RunsStay → Finished s f g h size merge s.index → HasWritten s f met → EndsWith s met f h (record { text_bytes = size; merge = merge; counts = s.index.counts; occurrences = s.index.occurrences })
+ends_by s met f g h size merge closed all stay done is =
     let on : IsOnText s.text f (coded_by s.plan met) [] = none_open s f met closed is in
     let fed : List (ℕ × ℕ) = occurring_by s.plan met in
-    let taken = index_kept stay s.index s.text.base f g (length s.plan.terms.terms) fed (is.text_base ∙ sym is.runs_base) told others is.index in
-    let it = merged fed taken.runs in
+    let taken = index_kept stay s.index s.text.base f g (length s.plan.terms.terms) fed (is.text_base ∙ sym is.runs_base) done.told done.others is.index in
+    let it = done.merged fed taken.runs in
     let least = taken.runs.least in
     let some : 1 ≤ cap_of s.index.runs.pool = omega arith in
     let count = runs_in_one_form (length fed) (cap_of s.index.runs.pool) some in
     record {
       documents = omega (arith, is.doc, is.within);
-      text = λ t. documents_kept s.base s.index.runs.base g h (coded_by s.plan met) is.runs_base wrote (subst (λ (b : List ℕ). DocumentsStand b g (coded_by s.plan met)) is.text_base (finished (coded_by s.plan met) on t));
-      size = answer (coded_by s.plan met) on;
-      run = λ t. ap (λ b. bytes_at h (full_name b Run)) (sym is.runs_base) ∙ it.run (told ∙ t);
+      text = λ t. documents_kept s.base s.index.runs.base g h (coded_by s.plan met) is.runs_base done.wrote (subst (λ (b : List ℕ). DocumentsStand b g (coded_by s.plan met)) is.text_base (done.stands (coded_by s.plan met) on t));
+      size = done.answer (coded_by s.plan met) on;
+      run = λ t. ap (λ b. bytes_at h (full_name b Run)) (sym is.runs_base) ∙ it.run (done.told ∙ t);
       merge = it.left;
       base = it.base ∙ is.runs_base;
       runs = it.runs ∙ count;
@@ -79,6 +75,12 @@ ends_with s met f g h size merge closed all told others finished answer stay wro
       occurrences = is.index.occurrences;
     }
 
+pub ends_with : (s : Inversion) (met : List Mark) (f g h : Option Files) (size : ℕ) (merge : Merging) (index : Indexing) → index ≡ s.index → s.text.is_open ≡ false → length s.plan.pairs ≤ s.doc → RunsStay → Finished s f g h size merge index → HasWritten s f met
+    → EndsWith s met f h (record { text_bytes = size; merge = merge; counts = index.counts; occurrences = index.occurrences })
+ends_with s met f g h size merge index same closed all stay done is =
+    subst (λ (i : Indexing). Finished s f g h size merge i → EndsWith s met f h (record { text_bytes = size; merge = merge; counts = i.counts; occurrences = i.occurrences })) (sym same)
+    (λ it. ends_by s met f g h size merge closed all stay it is) done
+
 -- ---- refusals
 
 pub fewer_documents : (s : Inversion) (files : Option Files) (collection : List ℕ) → HasWritten s files (marks collection) → s.doc < length s.plan.pairs → ¬ IsPlanOf s.plan collection
@@ -86,12 +88,3 @@ fewer_documents s files collection is few of =
     let all = all_documents collection in
     let same = ap length of.pairs in
     omega (arith, all, same, is.doc)
-
-pub finish_store : (rose same told : Type 0) (e : PutErr) (fault : Fault) → fault ≡ fault_of_store e → (IsErrOf {T = ℕ} (Err e) put.Failed → rose) → FinishStops rose same told fault
-finish_store rose same told put.Failed fault is cause = rw is (cause refl)
-finish_store rose same told put.Memory fault is cause = rw is tt
-
-pub finish_part : {T : Type 0} → (a b c : ℕ) (same told : Type 0) (e : PartErr) (fault : Fault) → fault ≡ fault_of_part e → a ≤ b → IsCaused {T = T} b c (Err e) → (told → NoDamage {T = T} (Err e)) → FinishStops (Rose a c) same told fault
-finish_part a b c same told Device fault is less cause whole = rw is (omega (arith, less, cause))
-finish_part a b c same told Memory fault is less cause whole = rw is tt
-finish_part a b c same told (Bad bad) fault is less cause whole = rw is (λ t. whole t)
