@@ -24,6 +24,9 @@ wrote_none base f = record { told = refl; others = λ name away. refl }
 pub wrote_both : (base : List ℕ) (f g h : Option Files) → WroteSecond base f g → WroteSecond base g h → WroteSecond base f h
 wrote_both base f g h a b = record { told = b.told ∙ a.told; others = λ name away. b.others name away ∙ a.others name away }
 
+pub wrote_for : (base own : List ℕ) (f g : Option Files) → own ≡ base → WroteSecond own f g → WroteSecond base f g
+wrote_for base own f g same wrote = subst (λ (b : List ℕ). WroteSecond b f g) same wrote
+
 -- what a call of the writer of the text leaves as it was
 abbrev pub OthersStay : List ℕ → Option Files → Option Files → Type 0
 OthersStay base f g = (n : List ℕ) → n ≢ full_name base Text → n ≢ full_name base Places → file_at g n ≡ file_at f n

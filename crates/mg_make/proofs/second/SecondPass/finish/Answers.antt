@@ -1,7 +1,9 @@
 use Rattle.std.proofs.Common.{◌≡◌, ◌≤◌, ◌<◌, ℕ, List, length, sym, ap, ◌∙◌, subst, arith}
+use Rattle.mg_defs.specs.Marks.{marks}
 use Rattle.mg_runs.specs.Fed.{IsFed}
 use Rattle.mg_make.specs.Indexes.{Indexing}
 use Rattle.mg_make.specs.Plans.{Plan}
+use Rattle.mg_make.specs.Second.{occurring_by}
 use Rattle.mg_make.proofs.Finishing.{ends_with, fewer_documents, whole_is_closed}
 use Rattle.mg_make.proofs.Frames.{index_kept, runs_alone, runs_wrote, text_wrote, wrote_both}
 use Rattle.mg_make.proofs.SecondSteps.{none_open}
@@ -33,7 +35,8 @@ merge-requires g c =
     let whole = rw (← c.self.view_is) at c.requires.whole in
     let is = whole.written in
     let taken = index_kept c.runs_stay.ensures.fed _ _ _ _ _ _ (is.text_base ∙ sym is.runs_base) c.finish.ensures.told c.finish.ensures.others is.index in
-    record { fed = (_, subst (λ (i : Indexing). IsFed i.runs (g.S.Store.files c.finish.new.store) _) (sym c.index.view_is) taken.runs) }
+    let fed = occurring_by c.self.inside.plan.now (marks whole.collection) in
+    record { fed = (fed, subst (λ (i : Indexing). IsFed i.runs (g.S.Store.files c.finish.new.store) fed) (sym c.index.view_is) taken.runs) }
 
 pub returns-in-Ok-merge-clause-ends : goal.returns-in-Ok-merge-clause-ends
 returns-in-Ok-merge-clause-ends g c =
