@@ -7,17 +7,19 @@ use Rattle.mg_dev.specs.declared.part.Part.TheVariants.{Places, Run, Text}
 use Rattle.mg_defs.specs.Bits.{Bits, bits_of}
 use Rattle.mg_defs.specs.CodedText.{as_bytes}
 use Rattle.mg_defs.specs.Heads.{run_count}
-use Rattle.mg_defs.specs.Marks.{Mark, is_open_after, marks, starts}
+use Rattle.mg_defs.specs.Marks.{Mark, coded_from, is_open_after, marks, starts, terms_from}
+use Rattle.mg_defs.specs.Occurrences.{occurrences}
 use Rattle.mg_defs.specs.Postings.{postings}
 use Rattle.mg_defs.specs.RunBits.{run_part_bits}
-use Rattle.mg_laws.proofs.MarkLaws.{marks_are_closed}
+use Rattle.mg_laws.proofs.MarkLaws.{marks_are_closed, marks_have_occurrences, marks_have_text}
 use Rattle.mg_laws.proofs.SizeLaws.{runs_in_one_form}
 use Rattle.mg_runs.specs.Fed.{Inverting, IsFed, cap_of}
 use Rattle.mg_runs.specs.Left.{IsMerging, Merging}
+use Rattle.mg_text.specs.Documents.{coded_docs}
 use Rattle.mg_text.specs.Writing.{DocumentsStand, IsOnText, text_bytes}
 use Rattle.mg_make.specs.Finishing.{EndsWith}
 use Rattle.mg_make.specs.Indexes.{HasTaken, Indexing, OfRuns}
-use Rattle.mg_make.specs.Plans.{IsPlanOf}
+use Rattle.mg_make.specs.Plans.{IsPlanOf, Plan}
 use Rattle.mg_make.specs.Second.{HasWritten, Inversion, IsWhole, coded_by, occurring_by}
 use Rattle.mg_make.specs.Written.{WroteParts}
 use Rattle.mg_make.proofs.Frames.{OthersStay, RunsStay, index_kept, places_file_kept, text_file_kept}
@@ -80,6 +82,15 @@ pub ends_with : (s : Inversion) (met : List Mark) (f g h : Option Files) (size :
 ends_with s met f g h size merge index same closed all stay done is =
     subst (λ (i : Indexing). Finished s f g h size merge i → EndsWith s met f h (record { text_bytes = size; merge = merge; counts = i.counts; occurrences = i.occurrences })) (sym same)
     (λ it. ends_by s met f g h size merge closed all stay it is) done
+
+-- ---- the plan of a collection
+
+-- by the plan of a collection the text is the collection's, and so are the occurrences
+pub planned_text : (p : Plan) (collection : List ℕ) → IsPlanOf p collection → coded_by p (marks collection) ≡ coded_docs p.code collection
+planned_text p collection of = ap (λ ns. coded_from p.code ns [] (marks collection)) of.pairs ∙ marks_have_text p.code collection
+
+pub planned_occurrences : (p : Plan) (collection : List ℕ) → IsPlanOf p collection → occurring_by p (marks collection) ≡ occurrences collection
+planned_occurrences p collection of = ap (λ ts. terms_from ts 0 (marks collection)) of.terms ∙ marks_have_occurrences collection
 
 -- ---- refusals
 

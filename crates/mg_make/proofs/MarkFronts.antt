@@ -166,7 +166,7 @@ is_met : (met : List Mark) (kind : Stream) (x collection : List ℕ) → IsFront
 is_met met kind x collection f =
     let there : Contains (pieces_among kind (piece kind x ∷ f.after)) x = contains-from (pieces_among kind (piece kind x ∷ f.after)) x (comes kind x f.after) in
     let whole : all_pieces kind collection ≡ pieces_among kind met ++ pieces_among kind (piece kind x ∷ f.after) =
-        sym (marks_have_pieces kind collection) ∙ ap (pieces_among kind) (whole_is met (piece kind x) collection f) ∙ pieces_append kind met (piece kind x ∷ f.after)
+    sym (marks_have_pieces kind collection) ∙ ap (pieces_among kind) (whole_is met (piece kind x) collection f) ∙ pieces_append kind met (piece kind x ∷ f.after)
     in
     ap (list_any (bytes_eq x)) whole ∙ has-from (pieces_among kind met ++ pieces_among kind (piece kind x ∷ f.after)) x (Contains-append_right (pieces_among kind met) (pieces_among kind (piece kind x ∷ f.after)) x there)
 

@@ -1,10 +1,11 @@
 -- What a second pass hands on at its end.
-use Rattle.std.specs.Prelude.{◌≡◌, ℕ, List, length}
+use Rattle.std.specs.Prelude.{◌≡◌, ℕ, false, List, length}
 use Rattle.std.specs.Option.{IsSome}
 use Rattle.std.specs.declared.option.Option.{Option}
-use Rattle.mg_dev.specs.Files.{Files, bytes_at}
-use Rattle.mg_dev.specs.Names.{full_name}
-use Rattle.mg_dev.specs.declared.part.Part.TheVariants.{Run}
+use Rattle.mg_dev.specs.Files.{Files, Reads, bytes_at}
+use Rattle.mg_dev.specs.Names.{full_name, same_part}
+use Rattle.mg_dev.specs.declared.part.Part.{Part as AnyPart}
+use Rattle.mg_dev.specs.declared.part.Part.TheVariants.{MergeA, MergeB, Run}
 use Rattle.mg_defs.specs.CodedText.{as_bytes}
 use Rattle.mg_defs.specs.Heads.{run_count}
 use Rattle.mg_defs.specs.Marks.{Mark, starts}
@@ -21,7 +22,7 @@ use Rattle.mg_make.specs.declared.second.Inverted.{Inverted}
 abbrev pub budget_of : Inversion → ℕ
 budget_of s = s.index.runs.pool.limit
 
--- This is what a pass ends with that wrote these marks, as many documents as were planned: the parts are written, the merge has all postings, and the numbers are those of the marks.
+-- A pass that wrote these marks ends with this: the parts are written, the merge has all postings, and the numbers are those of the marks. There are as many documents as were planned.
 pub record EndsWith (s : Inversion) (met : List Mark) (files_before files_now : Option Files) (r : Inverted) : Type 0 where
   pub documents : starts met ≡ length s.plan.pairs
   pub text : IsSome files_before → DocumentsStand s.base files_now (coded_by s.plan met)
@@ -33,3 +34,7 @@ pub record EndsWith (s : Inversion) (met : List Mark) (files_before files_now : 
   pub peak : r.merge.peak ≡ pool_peak (length (occurring_by s.plan met)) (budget_of s)
   pub counts : AreDocCounts r.counts (length s.plan.terms.terms) (occurring_by s.plan met)
   pub occurrences : r.occurrences ≡ length (occurring_by s.plan met)
+
+-- no part was read but those of the runs
+abbrev pub ReadRuns : Reads → Reads → Type 0
+ReadRuns before now = (p : AnyPart) → same_part p Run ≡ false → same_part p MergeA ≡ false → same_part p MergeB ≡ false → now p ≡ before p

@@ -1,6 +1,7 @@
 -- The second pass: text and runs from the marks of a collection, by the plan of the first pass.
-use Rattle.std.specs.Prelude.{◌≡◌, ◌≢◌, ◌≤◌, ◌+◌, ◌*◌, ◌-◌, ℕ, true, List, [], ◌++◌, length, get_or, sum, take, None}
+use Rattle.std.specs.Prelude.{◌≡◌, ◌≢◌, ◌≤◌, ◌+◌, ◌*◌, ◌-◌, ℕ, true, List, [], ◌++◌, length, get_or, sum, take, None, IfErr}
 use Rattle.std.specs.declared.option.Option.{Option}
+use Rattle.std.specs.declared.result.Result.{Result}
 use Rattle.mg_dev.specs.Files.{Files}
 use Rattle.mg_dev.specs.declared.fault.Fault.{Fault}
 use Rattle.mg_dev.specs.declared.fault.Fault.TheVariants.{Changed, Damaged, Memory, StoreFault}
@@ -91,6 +92,10 @@ IsChange fault = ⊥
 -- why these marks, which come next in a collection, are not written
 pub record StopsBefore (s : Inversion) (files : Option Files) (next : List Mark) (store_rose : Type 0) (fault : Fault) : Type 0 where
   pub cause : (met : List Mark) (collection : List ℕ) → HasWritten s files met → IsFrontOf (met ++ next) collection → SecondStops store_rose (IsPlanOf s.plan collection) fault
+
+-- these marks are refused only for such a reason
+abbrev pub HasStopCause : Inversion → Option Files → List Mark → Type 0 → Result (Unit {0}) Fault → Type 0
+HasStopCause s files next store_rose result = IfErr result (λ fault. StopsBefore s files next store_rose fault)
 
 -- why the pass can't be ended: as before, and where the store does not tell its files, damage of the runs
 abbrev pub FinishStops : Type 0 → Type 0 → Type 0 → Fault → Type 0

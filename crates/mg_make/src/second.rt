@@ -9,10 +9,10 @@ ghost use Rattle.mg_dev.specs.Causes.{HasPutCause, Rose};
 ghost use Rattle.mg_dev.specs.Files.{SameReads};
 ghost use Rattle.mg_defs.specs.Marks.{Mark, code_of, marks, start as start_mark, piece as piece_mark, stop as stop_mark};
 ghost use Rattle.mg_make.specs.DocCounting.{AreDocCounts};
-ghost use Rattle.mg_make.specs.Finishing.{EndsWith};
+ghost use Rattle.mg_make.specs.Finishing.{EndsWith, ReadRuns};
 ghost use Rattle.mg_make.specs.Meeting.{marks_of, only_if};
 ghost use Rattle.mg_make.specs.Plans.{IsPlan, IsPlanOf};
-ghost use Rattle.mg_make.specs.Second.{FinishStops, HasWritten, IsChange, IsNext, IsWhole, SamePass, StopsBefore, WroteMarks, term_at};
+ghost use Rattle.mg_make.specs.Second.{FinishStops, HasStopCause, HasWritten, IsChange, IsNext, IsWhole, SamePass, WroteMarks, term_at};
 ghost use Rattle.mg_make.specs.Written.{WroteSecond};
 
 use crate::doc_counts::DocCounts;
@@ -103,7 +103,7 @@ impl<'a> SecondPass<'a> {
         ensures wrote { WroteSecond self.old.base (S.files store.old) (S.files store.new) }
         ensures reads { SameReads (S.reads store.old) (S.reads store.new) }
         ensures faults { S.faults store.old ≤ S.faults store.new }
-        ensures refused { IfErr result (λ fault. StopsBefore self.old (S.files store.old) (start_mark ∷ []) (Rose (S.faults store.old) (S.faults store.new)) fault) }
+        ensures refused { HasStopCause self.old (S.files store.old) (start_mark ∷ []) (Rose (S.faults store.old) (S.faults store.new)) result }
     {
         runs_stay();
         let plan = self.plan;
@@ -139,8 +139,7 @@ impl<'a> SecondPass<'a> {
         ensures wrote { WroteSecond self.old.base (S.files store.old) (S.files store.new) }
         ensures reads { SameReads (S.reads store.old) (S.reads store.new) }
         ensures faults { S.faults store.old ≤ S.faults store.new }
-        ensures refused { IfErr result (λ fault. StopsBefore self.old (S.files store.old) (piece_mark stream piece.now ∷ [])
-            (Rose (S.faults store.old) (S.faults store.new)) fault) }
+        ensures refused { HasStopCause self.old (S.files store.old) (piece_mark stream piece.now ∷ []) (Rose (S.faults store.old) (S.faults store.new)) result }
     {
         pieces_make_documents();
         runs_stay();
@@ -176,7 +175,7 @@ impl<'a> SecondPass<'a> {
         ensures wrote { WroteSecond self.old.base (S.files store.old) (S.files store.new) }
         ensures reads { SameReads (S.reads store.old) (S.reads store.new) }
         ensures faults { S.faults store.old ≤ S.faults store.new }
-        ensures refused { IfErr result (λ fault. StopsBefore self.old (S.files store.old) (stop_mark ∷ []) (Rose (S.faults store.old) (S.faults store.new)) fault) }
+        ensures refused { HasStopCause self.old (S.files store.old) (stop_mark ∷ []) (Rose (S.faults store.old) (S.faults store.new)) result }
     {
         runs_stay();
         if self.left > 0 {
@@ -196,7 +195,7 @@ impl<'a> SecondPass<'a> {
         ensures wrote { WroteSecond self.old.base (S.files store.old) (S.files store.new) }
         ensures reads { SameReads (S.reads store.old) (S.reads store.new) }
         ensures faults { S.faults store.old ≤ S.faults store.new }
-        ensures refused { IfErr result (λ fault. StopsBefore self.old (S.files store.old) (only_if begins start_mark) (Rose (S.faults store.old) (S.faults store.new)) fault) }
+        ensures refused { HasStopCause self.old (S.files store.old) (only_if begins start_mark) (Rose (S.faults store.old) (S.faults store.new)) result }
     {
         if begins { self.begin(store) } else { Ok(()) }
     }
@@ -215,7 +214,7 @@ impl<'a> SecondPass<'a> {
         ensures wrote { WroteSecond self.old.base (S.files store.old) (S.files store.new) }
         ensures reads { SameReads (S.reads store.old) (S.reads store.new) }
         ensures faults { S.faults store.old ≤ S.faults store.new }
-        ensures refused { IfErr result (λ fault. StopsBefore self.old (S.files store.old) (only_if ends (piece_mark stream piece.now)) (Rose (S.faults store.old) (S.faults store.new)) fault) }
+        ensures refused { HasStopCause self.old (S.files store.old) (only_if ends (piece_mark stream piece.now)) (Rose (S.faults store.old) (S.faults store.new)) result }
     {
         if ends {
             self.piece(store, stream, piece)
@@ -232,7 +231,7 @@ impl<'a> SecondPass<'a> {
         ensures wrote { WroteSecond self.old.base (S.files store.old) (S.files store.new) }
         ensures reads { SameReads (S.reads store.old) (S.reads store.new) }
         ensures faults { S.faults store.old ≤ S.faults store.new }
-        ensures refused { IfErr result (λ fault. StopsBefore self.old (S.files store.old) (only_if ends stop_mark) (Rose (S.faults store.old) (S.faults store.new)) fault) }
+        ensures refused { HasStopCause self.old (S.files store.old) (only_if ends stop_mark) (Rose (S.faults store.old) (S.faults store.new)) result }
     {
         if ends { self.end(store) } else { Ok(()) }
     }
@@ -245,7 +244,7 @@ impl<'a> SecondPass<'a> {
         ensures wrote { WroteSecond self.old.base (S.files store.old) (S.files store.new) }
         ensures reads { SameReads (S.reads store.old) (S.reads store.new) }
         ensures faults { S.faults store.old ≤ S.faults store.new }
-        ensures refused { IfErr result (λ fault. StopsBefore self.old (S.files store.old) (marks_of met.now) (Rose (S.faults store.old) (S.faults store.new)) fault) }
+        ensures refused { HasStopCause self.old (S.files store.old) (marks_of met.now) (Rose (S.faults store.old) (S.faults store.new)) result }
     {
         self.begin_if(store, met.begins())?;
         self.piece_if(store, met.has_piece(), met.kind(), met.piece())?;
@@ -261,6 +260,7 @@ impl<'a> SecondPass<'a> {
         ensures ends { (met : List Mark) → HasWritten self.entry (S.files store.old) met →
             IfOk result (λ inverted. EndsWith self.entry met (S.files store.old) (S.files store.new) inverted) }
         ensures wrote { WroteSecond self.entry.base (S.files store.old) (S.files store.new) }
+        ensures reads { ReadRuns (S.reads store.old) (S.reads store.new) }
         ensures faults { S.faults store.old ≤ S.faults store.new }
         ensures refused { IfErr result (λ fault. (collection : List ℕ) → HasWritten self.entry (S.files store.old) (marks collection) →
             FinishStops (Rose (S.faults store.old) (S.faults store.new)) (IsPlanOf self.entry.plan collection) (IsSome (S.files store.old)) fault) }
@@ -343,7 +343,8 @@ fn unknown(stream: Stream) -> Fault
 fn term_of(plan: &Plan, stream: Stream, symbol: u32) -> Option<u32>
     requires plan { IsPlan plan.now }
     requires symbol { symbol < length (code_of stream plan.now.code).pieces }
-    ensures term { (piece : List ℕ) → slice_get (code_of stream plan.now.code).pieces symbol ≡ Some piece → result ≡ term_at stream plan.now.terms.terms piece }
+    ensures term { (piece : List ℕ) → slice_get (code_of stream plan.now.code).pieces symbol ≡ Some piece →
+        result ≡ term_at stream plan.now.terms.terms piece }
     ensures known { (term : ℕ) → result ≡ Some term → term < length plan.now.terms.terms }
 {
     terms_are_the_dictionary();

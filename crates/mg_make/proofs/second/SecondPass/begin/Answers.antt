@@ -55,5 +55,5 @@ returns-clause-written g c =
     let here : c.index-pairs.result.now ≡ get_or c.self.inside.plan.now.pairs c.self.inside.doc 0 = c.index-pairs.ensures ∙ same_there _ _ _ 0 within ∙ ap (λ ns. get_or ns c.self.inside.doc 0) same in
     rw (c.from-2.ensures, ← c.self.view_is)
     (record {
-      behind = λ met is. wrote_start _ _ _ _ met c.index-pairs.result.now closed here low c.in-Ok.ensures.took c.in-Ok.ensures.began c.begin_doc.ensures.base (λ terms fed taken. index_kept c.runs_stay.ensures.fed _ _ _ _ terms fed (is.text_base ∙ sym is.runs_base) c.begin_doc.ensures.told c.begin_doc.ensures.others taken) is
+      behind = λ met is. wrote_start _ _ _ _ met c.index-pairs.result.now closed here low c.in-Ok.ensures.took c.in-Ok.ensures.began c.begin_doc.ensures.base (λ terms fed taken. index_kept c.runs_stay.ensures.fed _ _ _ _ terms fed (is.text_base ∙ sym is.runs_base) c.begin_doc.ensures.told c.begin_doc.ensures.others taken) is;
     })

@@ -46,20 +46,20 @@ returns-in-Ok-merge-clause-ends g c =
     let all : length c.self.inside.plan.now.pairs ≤ c.self.inside.doc = omega (arith, long, c.len.ensures, c.if-doc-len.false) in
     rw (← c.self.view_is)
     (λ met is. ends_with _ met _ (g.S.Store.files c.finish.new.store) _ c.in-Ok.size c.in-Ok-merge.merge _ c.index.view_is closed all c.runs_stay.ensures.fed
-      (record {
-        told = c.finish.ensures.told;
-        others = c.finish.ensures.others;
-        stands = c.in-Ok.ensures.finished;
-        answer = c.in-Ok.ensures.answer;
-        wrote = runs_alone _ _ _ c.merge.ensures.worked.told c.merge.ensures.worked.others;
-        merged = λ fed on. record {
-          left = c.in-Ok-merge.ensures.left fed on;
-          run = λ t. c.in-Ok-merge.ensures.run_bytes t fed on;
-          runs = c.in-Ok-merge.ensures.runs fed on;
-          peak = c.in-Ok-merge.ensures.peak fed on;
-          base = c.in-Ok-merge.ensures.base;
-        };
-      }) is)
+    (record {
+      told = c.finish.ensures.told;
+      others = c.finish.ensures.others;
+      stands = c.in-Ok.ensures.finished;
+      answer = c.in-Ok.ensures.answer;
+      wrote = runs_alone _ _ _ c.merge.ensures.worked.told c.merge.ensures.worked.others;
+      merged = λ fed on. record {
+        left = c.in-Ok-merge.ensures.left fed on;
+        run = λ t. c.in-Ok-merge.ensures.run_bytes t fed on;
+        runs = c.in-Ok-merge.ensures.runs fed on;
+        peak = c.in-Ok-merge.ensures.peak fed on;
+        base = c.in-Ok-merge.ensures.base;
+      };
+    }) is)
 
 pub returns-in-Ok-merge-clause-wrote : goal.returns-in-Ok-merge-clause-wrote
 returns-in-Ok-merge-clause-wrote g c =
