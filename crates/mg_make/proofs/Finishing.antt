@@ -1,13 +1,12 @@
 -- What the second pass ends with, and why it does not.
-use Rattle.std.proofs.Common.{◌≡◌, ◌≤◌, ◌<◌, ◌+◌, ◌*◌, ◌-◌, ◌/◌, ◌^◌, ◌++◌, ℕ, true, false, min, max, List, [], ◌∷◌, refl, sym, ap, ◌∙◌, subst, length, arith, Err, Ok, IsSome, is_some, unwrap_or}
+use Rattle.std.proofs.Common.{◌≡◌, ◌≤◌, ◌<◌, ◌+◌, ◌*◌, ◌-◌, ◌/◌, ℕ, false, min, max, List, [], refl, sym, ap, ◌∙◌, subst, length, arith, IsSome, is_some, unwrap_or}
 use Rattle.std.specs.declared.option.Option.{Option}
-use Rattle.mg_dev.specs.Files.{Files, bytes_at, file_at}
+use Rattle.mg_dev.specs.Files.{Files, bytes_at}
 use Rattle.mg_dev.specs.Names.{full_name}
 use Rattle.mg_dev.specs.declared.part.Part.TheVariants.{Places, Run, Text}
 use Rattle.mg_defs.specs.Bits.{Bits, bits_of}
 use Rattle.mg_defs.specs.CodedText.{as_bytes}
-use Rattle.mg_defs.specs.Heads.{run_count}
-use Rattle.mg_defs.specs.Marks.{Mark, coded_from, is_open_after, marks, starts, terms_from}
+use Rattle.mg_defs.specs.Marks.{Mark, coded_from, marks, terms_from}
 use Rattle.mg_defs.specs.Occurrences.{occurrences}
 use Rattle.mg_defs.specs.Postings.{postings}
 use Rattle.mg_defs.specs.RunBits.{run_part_bits}
@@ -18,7 +17,7 @@ use Rattle.mg_runs.specs.Left.{IsMerging, Merging}
 use Rattle.mg_text.specs.Documents.{coded_docs}
 use Rattle.mg_text.specs.Writing.{DocumentsStand, IsOnText, text_bytes}
 use Rattle.mg_make.specs.Finishing.{EndsWith}
-use Rattle.mg_make.specs.Indexes.{HasTaken, Indexing, OfRuns}
+use Rattle.mg_make.specs.Indexes.{Indexing, OfRuns}
 use Rattle.mg_make.specs.Plans.{IsPlanOf, Plan}
 use Rattle.mg_make.specs.Second.{HasWritten, Inversion, IsWhole, coded_by, occurring_by}
 use Rattle.mg_make.specs.Written.{WroteParts}

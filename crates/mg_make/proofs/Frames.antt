@@ -1,5 +1,5 @@
 -- What the text and the runs took stays where the other one is written, and which files a step writes.
-use Rattle.std.proofs.Common.{◌≡◌, ◌≢◌, ◌++◌, ℕ, List, [], refl, sym, ap, ◌∙◌, subst, arith, is_some}
+use Rattle.std.proofs.Common.{◌≡◌, ◌≢◌, ℕ, List, refl, ap, ◌∙◌, subst, arith, is_some}
 use Rattle.std.specs.declared.option.Option.{Option}
 use Rattle.mg_dev.specs.declared.part.Part.{Part as AnyPart}
 use Rattle.mg_dev.specs.declared.part.Part.TheVariants.{MergeA, MergeB, Places, Run, Text}

@@ -1,5 +1,5 @@
 -- In a collection marks follow one another in order: a start where no document is open, words and others in turn, and an end behind an other.
-use Rattle.std.proofs.Common.{◌≡◌, ◌≤◌, ◌<◌, ◌+◌, ◌*◌, ◌/◌, ◌%◌, ◌-◌, ◌==◌, ◌^◌, ◌++◌, ℕ, zero, suc, Bool, true, false, if◌then◌else◌, List, [], ◌∷◌, refl, sym, ap, ◌∙◌, subst, length, length-append, map, arith, get_or, append_assoc, append-nil}
+use Rattle.std.proofs.Common.{◌≡◌, ◌≤◌, ◌<◌, ◌+◌, ◌*◌, ◌/◌, ◌%◌, ◌-◌, ◌==◌, ◌^◌, ◌++◌, ℕ, suc, Bool, true, false, if◌then◌else◌, List, [], ◌∷◌, refl, sym, ap, ◌∙◌, subst, length, length-append, arith, get_or, append_assoc, append-nil}
 use Rattle.std.specs.Prelude.{Contains, None, Some, position}
 use Rattle.std.specs.List.{flat_map, list_any}
 use Rattle.std.specs.Str.{bytes_eq}
@@ -10,7 +10,6 @@ use Rattle.std.specs.declared.option.Option.{Option}
 use Rattle.mg_defs.specs.declared.Stream.{Stream}
 use Rattle.mg_defs.specs.declared.Stream.TheVariants.{Words, Others}
 use Rattle.mg_defs.specs.Marks.{Mark, start, piece, stop, marks, marks_of_document, marks_of_pairs, pieces_among, starts, pairs_from, pieces_from, pair_counts, open_at, is_open_after, with_doc, terms_from}
-use Rattle.mg_defs.specs.Occurrences.{occurrences}
 use Rattle.mg_defs.specs.Parse.{Pair, parse}
 use Rattle.mg_defs.specs.Sorted.{number_of}
 use Rattle.mg_defs.specs.Split.{documents}

@@ -1,5 +1,5 @@
 -- What one mark more makes of what was written.
-use Rattle.std.proofs.Common.{◌≡◌, ◌≤◌, ◌<◌, ◌+◌, ◌*◌, ◌-◌, ◌^◌, ◌++◌, ℕ, zero, suc, Bool, true, false, List, [], ◌∷◌, refl, sym, ap, ◌∙◌, subst, length, sum, take, drop, get_or, arith, append-nil, is_some, Some}
+use Rattle.std.proofs.Common.{◌≡◌, ◌≤◌, ◌<◌, ◌+◌, ◌*◌, ◌-◌, ◌^◌, ◌++◌, ℕ, zero, suc, true, false, List, [], ◌∷◌, refl, sym, ap, ◌∙◌, subst, length, sum, take, get_or, arith, append-nil, Some}
 use Rattle.std.specs.declared.option.Option.{Option}
 use Rattle.std.proofs.lemmas.List.{get_or-drop}
 use Rattle.std.proofs.lemmas.List.Sums.{sum_by_more, sum_by-take-le}
@@ -10,7 +10,7 @@ use Rattle.mg_defs.specs.Canon.{codeword}
 use Rattle.mg_defs.specs.CodedText.{TextCode}
 use Rattle.mg_defs.specs.Codes.{gamma}
 use Rattle.mg_defs.specs.DocCounts.{NeverFall}
-use Rattle.mg_defs.specs.Marks.{Mark, code_of, start, piece, stop, starts, pieces_from, open_at, is_open_after, piece_bits, coded_from, open_from, terms_from, with_doc}
+use Rattle.mg_defs.specs.Marks.{Mark, code_of, start, piece, stop, starts, pieces_from, piece_bits, with_doc}
 use Rattle.mg_defs.specs.Sorted.{number_of}
 use Rattle.mg_laws.proofs.DocCountLaws.{met_in_order}
 use Rattle.mg_laws.proofs.MarkLaws.{coded_append, open_append, open_at_append, pieces_from_append, starts_append, terms_append}

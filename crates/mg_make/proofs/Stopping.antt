@@ -1,8 +1,7 @@
 -- Why the second pass stops: what it takes is not what was counted.
-use Rattle.std.proofs.Common.{◌≡◌, ◌≢◌, ◌≤◌, ◌<◌, ◌+◌, ◌*◌, ◌-◌, ◌++◌, ℕ, true, List, [], ◌∷◌, refl, sym, ap, ◌∙◌, length, get_or, arith, Err, None, position}
+use Rattle.std.proofs.Common.{◌≡◌, ◌≤◌, ◌<◌, ◌-◌, ◌++◌, ℕ, true, List, [], ◌∷◌, refl, sym, ap, ◌∙◌, length, get_or, arith, Err, None, position}
 use Rattle.std.specs.Prelude.{IsErrOf}
 use Rattle.std.specs.Str.{bytes_eq}
-use Rattle.std.specs.declared.result.Result.{Result}
 use Rattle.std.specs.declared.option.Option.{Option}
 use Rattle.mg_dev.specs.Causes.{Rose}
 use Rattle.mg_dev.specs.Files.{Files}
@@ -11,10 +10,9 @@ use Rattle.mg_dev.specs.declared.device.PutErr.{PutErr}
 use Rattle.mg_dev.specs.declared.device.PutErr.TheVariants as put
 use Rattle.mg_dev.specs.declared.fault.Fault.{Fault}
 use Rattle.mg_dev.specs.declared.fault.Fault.TheVariants.{Changed}
-use Rattle.mg_dev.specs.declared.what.What.{What}
 use Rattle.mg_defs.specs.declared.Stream.{Stream}
 use Rattle.mg_defs.specs.declared.Stream.TheVariants.{Words, Others}
-use Rattle.mg_defs.specs.Marks.{Mark, code_of, pair_counts, pieces_from, start, piece, stop, starts}
+use Rattle.mg_defs.specs.Marks.{Mark, code_of, pair_counts, start, piece, stop, starts}
 use Rattle.mg_defs.specs.Vocabulary.{sorted_pieces}
 use Rattle.mg_make.specs.Fronts.{IsFrontOf}
 use Rattle.mg_make.specs.Plans.{IsPlanOf, Plan}

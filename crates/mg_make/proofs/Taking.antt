@@ -1,5 +1,5 @@
 -- Marks that are written in parts, one part after another.
-use Rattle.std.proofs.Common.{◌≡◌, ◌≤◌, ◌++◌, ℕ, Bool, true, false, List, [], ◌∷◌, refl, sym, ap, ◌∙◌, subst, arith, append_assoc, append-nil, Ok, Err}
+use Rattle.std.proofs.Common.{◌≤◌, ◌++◌, ℕ, List, [], refl, sym, ap, ◌∙◌, subst, append_assoc, append-nil, Ok, Err}
 use Rattle.std.specs.Prelude.{IfErr, OnOk}
 use Rattle.std.specs.declared.option.Option.{Option}
 use Rattle.std.specs.declared.result.Result.{Result}

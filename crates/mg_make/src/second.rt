@@ -105,6 +105,7 @@ impl<'a> SecondPass<'a> {
         ensures faults { S.faults store.old ≤ S.faults store.new }
         ensures refused { HasStopCause self.old (S.files store.old) (start_mark ∷ []) (Rose (S.faults store.old) (S.faults store.new)) result }
     {
+        // A law: what the runs took stays while the text is written.
         runs_stay();
         let plan = self.plan;
         let at = self.doc as usize;
@@ -141,6 +142,7 @@ impl<'a> SecondPass<'a> {
         ensures faults { S.faults store.old ≤ S.faults store.new }
         ensures refused { HasStopCause self.old (S.files store.old) (piece_mark stream piece.now ∷ []) (Rose (S.faults store.old) (S.faults store.new)) result }
     {
+        // Laws: of the stream whose turn it is, of runs while the text is written, of symbols.
         pieces_make_documents();
         runs_stay();
         symbol_and_piece();
@@ -177,6 +179,7 @@ impl<'a> SecondPass<'a> {
         ensures faults { S.faults store.old ≤ S.faults store.new }
         ensures refused { HasStopCause self.old (S.files store.old) (stop_mark ∷ []) (Rose (S.faults store.old) (S.faults store.new)) result }
     {
+        // A law: what the runs took stays while the text is written.
         runs_stay();
         if self.left > 0 {
             return Err(self.other_pairs());
@@ -265,6 +268,7 @@ impl<'a> SecondPass<'a> {
         ensures refused { IfErr result (λ fault. (collection : List ℕ) → HasWritten self.entry (S.files store.old) (marks collection) →
             FinishStops (Rose (S.faults store.old) (S.faults store.new)) (IsPlanOf self.entry.plan collection) (IsSome (S.files store.old)) fault) }
     {
+        // A law: what the runs took stays while the text is written.
         runs_stay();
         let SecondPass {
             plan,
@@ -347,6 +351,7 @@ fn term_of(plan: &Plan, stream: Stream, symbol: u32) -> Option<u32>
         result ≡ term_at stream plan.now.terms.terms piece }
     ensures known { (term : ℕ) → result ≡ Some term → term < length plan.now.terms.terms }
 {
+    // Laws: the empty word alone has no term, and each word's number stands at its symbol.
     terms_are_the_dictionary();
     words_have_terms();
     match stream {

@@ -1,4 +1,4 @@
-use Rattle.std.proofs.Common.{◌≡◌, ◌≤◌, ◌<◌, ◌+◌, ℕ, List, length, get_or, sym, ap, ◌∙◌, arith}
+use Rattle.std.proofs.Common.{◌≡◌, ◌≤◌, ◌<◌, length, get_or, sym, ap, ◌∙◌, arith}
 use Rattle.mg_make.specs.Plans.{Plan}
 use Rattle.mg_make.proofs.Frames.{index_kept, text_wrote}
 use Rattle.mg_make.proofs.MarkFronts.{closed_at_start}

@@ -1,4 +1,4 @@
-use Rattle.std.proofs.Common.{◌≡◌, ◌≤◌, ◌<◌, ℕ, List, sym, ap, ◌∙◌, arith}
+use Rattle.std.proofs.Common.{◌≡◌, sym, ◌∙◌, arith}
 use Rattle.mg_make.proofs.Frames.{index_kept}
 use Rattle.mg_make.proofs.MarkFronts.{open_at_stop}
 use Rattle.mg_make.proofs.SecondSteps.{wrote_stop}

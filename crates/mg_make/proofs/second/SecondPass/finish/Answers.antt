@@ -1,4 +1,4 @@
-use Rattle.std.proofs.Common.{◌≡◌, ◌≤◌, ◌<◌, ℕ, List, length, sym, ap, ◌∙◌, subst, arith}
+use Rattle.std.proofs.Common.{◌≤◌, ◌<◌, length, sym, ap, ◌∙◌, subst, arith}
 use Rattle.mg_defs.specs.Marks.{marks}
 use Rattle.mg_runs.specs.Fed.{IsFed}
 use Rattle.mg_make.specs.Indexes.{Indexing}

@@ -1,7 +1,7 @@
-use Rattle.std.proofs.Common.{◌≡◌, ◌≤◌, ◌<◌, ◌++◌, ℕ, List, [], Option, None, Some, position, slice_get, length, refl, subst, sym, ap, ◌∙◌, arith, append-nil}
+use Rattle.std.proofs.Common.{◌≡◌, ◌≤◌, ◌<◌, ◌++◌, ℕ, List, None, Some, position, slice_get, length, refl, subst, sym, ap, ◌∙◌, arith, append-nil}
 use Rattle.std.specs.Str.{bytes_eq}
 use Rattle.mg_defs.specs.CodedText.{TextCode}
-use Rattle.mg_defs.specs.Marks.{code_of, starts, with_doc}
+use Rattle.mg_defs.specs.Marks.{code_of, with_doc}
 use Rattle.mg_make.specs.Indexes.{HasTaken}
 use Rattle.mg_make.specs.Plans.{Plan}
 use Rattle.mg_make.specs.Second.{occurring_by}

@@ -1,4 +1,4 @@
-use Rattle.std.proofs.Common.{◌≡◌, refl, sym, ◌∙◌}
+use Rattle.std.proofs.Common.{refl, sym}
 use Rattle.mg_make.proofs.Frames.{runs_wrote, text_kept, text_wrote, wrote_both}
 use Rattle.mg_make.proofs.SecondSteps.{wrote_nothing}
 use Rattle.mg_make.proofs.second.SecondPass.start.Goals as goal

@@ -1,4 +1,4 @@
-use Rattle.std.proofs.Common.{◌≡◌, ◌++◌, ◌∙◌, List, []}
+use Rattle.std.proofs.Common.{◌++◌, ◌∙◌}
 use Rattle.std.proofs.lemmas.Result.{err_from_is_err_and}
 use Rattle.mg_make.proofs.Frames.{wrote_both, wrote_for}
 use Rattle.mg_make.proofs.Taking.{begin_part, end_part, if_err, marks_both, next_first, next_then, on_ok, other_part, piece_part, stops_first, stops_then}
