@@ -22,7 +22,8 @@ use Rattle.mg_make.specs.declared.second.Inverted.{Inverted}
 abbrev pub budget_of : Inversion → ℕ
 budget_of s = s.index.runs.pool.limit
 
--- A pass that wrote these marks ends with this: the parts are written, the merge has all postings, and the numbers are those of the marks. There are as many documents as were planned.
+-- A pass that wrote these marks ends with this: the parts are written, the merge has all postings, and the numbers are those of the marks.
+-- There are as many documents as were planned.
 pub record EndsWith (s : Inversion) (met : List Mark) (files_before files_now : Option Files) (r : Inverted) : Type 0 where
   pub documents : starts met ≡ length s.plan.pairs
   pub text : IsSome files_before → DocumentsStand s.base files_now (coded_by s.plan met)

@@ -91,7 +91,8 @@ IsChange fault = ⊥
 
 -- why these marks, which come next in a collection, are not written
 pub record StopsBefore (s : Inversion) (files : Option Files) (next : List Mark) (store_rose : Type 0) (fault : Fault) : Type 0 where
-  pub cause : (met : List Mark) (collection : List ℕ) → HasWritten s files met → IsFrontOf (met ++ next) collection → SecondStops store_rose (IsPlanOf s.plan collection) fault
+  pub cause : (met : List Mark) (collection : List ℕ) → HasWritten s files met → IsFrontOf (met ++ next) collection
+      → SecondStops store_rose (IsPlanOf s.plan collection) fault
 
 -- these marks are refused only for such a reason
 abbrev pub HasStopCause : Inversion → Option Files → List Mark → Type 0 → Result (Unit {0}) Fault → Type 0

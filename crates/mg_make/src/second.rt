@@ -217,7 +217,8 @@ impl<'a> SecondPass<'a> {
         ensures wrote { WroteSecond self.old.base (S.files store.old) (S.files store.new) }
         ensures reads { SameReads (S.reads store.old) (S.reads store.new) }
         ensures faults { S.faults store.old ≤ S.faults store.new }
-        ensures refused { HasStopCause self.old (S.files store.old) (only_if ends (piece_mark stream piece.now)) (Rose (S.faults store.old) (S.faults store.new)) result }
+        ensures refused { HasStopCause self.old (S.files store.old) (only_if ends (piece_mark stream piece.now))
+            (Rose (S.faults store.old) (S.faults store.new)) result }
     {
         if ends {
             self.piece(store, stream, piece)
