@@ -2,3 +2,4 @@ pub mod Meeting
 pub mod DocCounting
 pub mod Plans
 pub mod Written
+pub mod Scanning

@@ -8,5 +8,6 @@
 mod doc_counts;
 mod met;
 mod plan;
+mod scanner;
 
 pub use plan::{Plan, Room};
