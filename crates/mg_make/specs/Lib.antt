@@ -3,3 +3,4 @@ pub mod DocCounting
 pub mod Plans
 pub mod Written
 pub mod Scanning
+pub mod Counting

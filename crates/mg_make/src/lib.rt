@@ -5,9 +5,12 @@
 //! two texts for a merge. Nothing here reads a collection.
 #![tactic(auto)]
 
+mod count;
+mod counts;
 mod doc_counts;
 mod met;
 mod plan;
 mod scanner;
 
+pub use count::Count;
 pub use plan::{Plan, Room};

@@ -1,7 +1,8 @@
 //! What is met in a collection, byte by byte.
-ghost use Rattle.std.specs.Prelude.{◌≡◌, ◌<◌, ◌++◌, ◌∷◌, ◌^◌, ℕ, List, [], length};
+ghost use Rattle.std.specs.Prelude.{◌≡◌, ◌<◌, ◌++◌, ◌∷◌, ◌^◌, ℕ, List, [], false, length};
 ghost use Rattle.mg_defs.specs.declared.Stream.TheVariants.{Words};
 ghost use Rattle.mg_defs.specs.Marks.{Mark, marks};
+ghost use Rattle.mg_defs.specs.Pieces.{left_at_end};
 ghost use Rattle.mg_defs.specs.Split.{has_open_end};
 ghost use Rattle.mg_make.specs.Meeting.{marks_of};
 ghost use Rattle.mg_make.specs.Scanning.{HasMet, HasRead, closing_marks, joined_marks};
@@ -49,19 +50,28 @@ fn read_byte(reader: &mut PieceReader, byte: u8, met: &mut Met, begins: bool)
     let _ = reader.offer(byte);
 }
 
+/// Tells the pieces that are left at a document's end.
+fn tell_left(reader: &PieceReader, met: &mut Met, begins: bool)
+    ensures met { marks_of met.new ≡ joined_marks begins reader.now.kind (left_at_end reader.now.kind reader.now.piece) }
+    ensures ends { met.new.ends ≡ false }
+{
+    met.restart(begins);
+    match reader.ends() {
+        0 => {}
+        1 => met.tell(reader.kind(), reader.piece()),
+        _ => {
+            met.tell(reader.kind(), reader.piece());
+            met.tell_other();
+        }
+    }
+}
+
 /// Ends a document, and begins to read another.
 fn end_document(reader: &mut PieceReader, met: &mut Met, begins: bool)
     ensures met { marks_of met.new ≡ closing_marks begins reader.old }
     ensures reader { reader.new ≡ record { kind = Words; piece = [] } }
 {
-    met.restart(begins);
-    let left = reader.ends();
-    if left > 0 {
-        met.tell(reader.kind(), reader.piece());
-    }
-    if left > 1 {
-        met.tell_other();
-    }
+    tell_left(reader, met, begins);
     met.end();
     *reader = PieceReader::new();
 }
