@@ -1,5 +1,5 @@
 -- What is met in bytes, one after the other, and that it is what is met first of all bytes that follow.
-use Rattle.std.proofs.Common.{◌≡◌, ◌≢◌, ◌<◌, ℕ, Bool, true, false, not, cond, List, [], ◌∷◌, ◌++◌, length, refl, sym, ap, subst, ◌∙◌, arith, inl, inr, append_assoc, append-nil, ◌==◌}
+use Rattle.std.proofs.Common.{◌≡◌, ◌≢◌, ◌≤◌, ◌<◌, ℕ, Bool, true, false, not, cond, List, [], ◌∷◌, ◌++◌, length, refl, sym, ap, subst, ◌∙◌, arith, inl, inr, append_assoc, append-nil, ◌==◌}
 use Rattle.std.specs.List.{flat_map}
 use Rattle.std.proofs.lemmas.Bool.{cases_Bool, cases_eq, ne_eqb}
 use Rattle.mg_defs.specs.declared.Stream.{Stream}
@@ -47,7 +47,7 @@ marks-of_document doc told rest h =
 read-taken : (old new : Reading) (byte : ℕ) (told : List (List ℕ)) (doc : List ℕ) → Fits old byte → new ≡ record { kind = old.kind; piece = old.piece ++ byte ∷ [] } → Reads old told doc (byte ∷ []) → Reads new told (doc ++ byte ∷ []) []
 read-taken old new byte told doc fits is h = subst (λ (r : Reading). Reads r told (doc ++ byte ∷ []) []) (sym is) (reads_taken old told doc byte fits.kind fits.room h)
 
-abbrev turned : Reading → Reading
+abbrev pub turned : Reading → Reading
 turned r = record { kind = other_kind r.kind; piece = [] }
 
 -- no piece ends before it
@@ -106,11 +106,16 @@ with_other m = record { begins = m.begins; has_piece = m.has_piece; has_other = 
 abbrev pub with_end : Meeting → Meeting
 with_end m = record { begins = m.begins; has_piece = m.has_piece; has_other = m.has_other; ends = true; kind = m.kind; bytes = m.bytes }
 
-pub met-one : (m0 m1 m2 : Meeting) (begins : Bool) (kind : Stream) (bytes : List ℕ) → m1 ≡ restarted begins m0 → m2 ≡ with_piece kind bytes m1 → marks_of m2 ≡ joined_marks begins kind (bytes ∷ [])
-met-one m0 m1 m2 begins kind bytes is one = ap (λ (m : Meeting). marks_of m) one ∙ ap (λ (m : Meeting). marks_of (with_piece kind bytes m)) is
+-- a piece of a reader was told, and maybe an empty one
+pub met-one : (m0 m1 m2 : Meeting) (begins : Bool) (kind : Stream) (bytes : List ℕ) (old now : Reading) → m1 ≡ restarted begins m0 → m2 ≡ with_piece kind bytes m1 → kind ≡ now.kind → bytes ≡ now.piece → now ≡ old → marks_of m2 ≡ joined_marks begins old.kind (old.piece ∷ [])
+met-one m0 m1 m2 begins kind bytes old now is one k p same =
+    ap (λ (m : Meeting). marks_of m) one ∙ ap (λ (m : Meeting). marks_of (with_piece kind bytes m)) is
+    ∙ ap (λ (x : Stream). joined_marks begins x (bytes ∷ [])) k ∙ ap (λ (x : List ℕ). joined_marks begins now.kind (x ∷ [])) p ∙ ap (λ (r : Reading). joined_marks begins r.kind (r.piece ∷ [])) same
 
-pub met-two : (m0 m1 m2 m3 : Meeting) (begins : Bool) (kind : Stream) (bytes : List ℕ) → m1 ≡ restarted begins m0 → m2 ≡ with_piece kind bytes m1 → m3 ≡ with_other m2 → marks_of m3 ≡ joined_marks begins kind (bytes ∷ [] ∷ [])
-met-two m0 m1 m2 m3 begins kind bytes is one two = ap (λ (m : Meeting). marks_of m) two ∙ ap (λ (m : Meeting). marks_of (with_other m)) one ∙ ap (λ (m : Meeting). marks_of (with_other (with_piece kind bytes m))) is
+pub met-two : (m0 m1 m2 m3 : Meeting) (begins : Bool) (kind : Stream) (bytes : List ℕ) (old now : Reading) → m1 ≡ restarted begins m0 → m2 ≡ with_piece kind bytes m1 → m3 ≡ with_other m2 → kind ≡ now.kind → bytes ≡ now.piece → now ≡ old → marks_of m3 ≡ joined_marks begins old.kind (old.piece ∷ [] ∷ [])
+met-two m0 m1 m2 m3 begins kind bytes old now is one two k p same =
+    ap (λ (m : Meeting). marks_of m) two ∙ ap (λ (m : Meeting). marks_of (with_other m)) one ∙ ap (λ (m : Meeting). marks_of (with_other (with_piece kind bytes m))) is
+    ∙ ap (λ (x : Stream). joined_marks begins x (bytes ∷ [] ∷ [])) k ∙ ap (λ (x : List ℕ). joined_marks begins now.kind (x ∷ [] ∷ [])) p ∙ ap (λ (r : Reading). joined_marks begins r.kind (r.piece ∷ [] ∷ [])) same
 
 pub met-end : (m0 m1 : Meeting) → m0.ends ≡ false → m1 ≡ with_end m0 → marks_of m1 ≡ marks_of m0 ++ stop ∷ []
 met-end m0 m1 none is =

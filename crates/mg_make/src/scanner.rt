@@ -37,13 +37,15 @@ fn read_byte(reader: &mut PieceReader, byte: u8, met: &mut Met, begins: bool)
     ensures met { (ended : List (List ℕ)) × HasRead reader.old reader.new byte ended × (marks_of met.new ≡ joined_marks begins reader.old.kind ended) }
 {
     met.restart(begins);
-    if let Offer::Taken = reader.offer(byte) {
-        return;
+    match reader.offer(byte) {
+        Offer::Taken => return,
+        Offer::Ended => {}
     }
     met.tell(reader.kind(), reader.piece());
     reader.turn();
-    if let Offer::Taken = reader.offer(byte) {
-        return;
+    match reader.offer(byte) {
+        Offer::Taken => return,
+        Offer::Ended => {}
     }
     met.tell_other();
     reader.turn();
