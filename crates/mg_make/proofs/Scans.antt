@@ -203,6 +203,13 @@ met-close s seen m fed met stands is h = record {
       ∙ sym (ap docs_marks (closed-close fed)) ∙ sym (append-nil (docs_marks (closed_documents (fed ++ 2 ∷ []))));
 }
 
+pub met-closed : (s : Scanning) (seen : Seen) (reading : Reading) (m : Meeting) (fed : List ℕ) (met : List Mark) (byte : ℕ) → byte ≡ 2 → reading ≡ record { kind = Words; piece = [] } → StandsFor seen (fed ++ byte ∷ []) → marks_of m ≡ closing_marks (not s.is_open) s.reading → HasMet s fed met
+  → HasMet (record { seen = seen; reading = reading; is_open = false; met = m }) (fed ++ byte ∷ []) (met ++ marks_of m)
+met-closed s seen reading m fed met byte is empty stands closes h =
+    let two = met-close s seen m fed met (subst (λ b. StandsFor seen (fed ++ b ∷ [])) is stands) closes h in
+    subst (λ (r : Reading). HasMet (record { seen = seen; reading = r; is_open = false; met = m }) (fed ++ byte ∷ []) (met ++ marks_of m)) (sym empty)
+    (subst (λ b. HasMet (record { seen = seen; reading = record { kind = Words; piece = [] }; is_open = false; met = m }) (fed ++ b ∷ []) (met ++ marks_of m)) (sym is) two)
+
 -- nothing was taken
 pub met-nothing : (s : Scanning) → StandsFor s.seen [] → s.reading ≡ record { kind = Words; piece = [] } → s.is_open ≡ false → HasMet s [] []
 met-nothing s stands reading closed = record {
