@@ -8,6 +8,7 @@ ghost use Rattle.mg_make.specs.Meeting.{marks_of, only_if};
 
 use crate::met::Met;
 use mg_dev::Fault;
+use mg_laws::marks_add_up;
 use mg_model::{Stream, Vocab, VocabErr};
 use std::alloc::Global;
 use std::marker::Model;
@@ -74,6 +75,7 @@ impl Counts {
         ensures counted { OnOk result ((before : List Mark) → IsCounted self.old before → IsCounted self.new (before ++ marks_of met.now)) }
         ensures refused { IfErr result (λ fault. (before : List Mark) → IsCounted self.old before → StopsAt before (marks_of met.now) fault) }
     {
+        marks_add_up();
         self.begin_if(met.begins())?;
         self.piece_if(met.has_piece(), met.kind(), met.piece())?;
         self.piece_if(met.has_other(), met.other_kind(), &[])?;
@@ -85,6 +87,7 @@ impl Counts {
         ensures counted { OnOk result ((met : List Mark) → IsCounted self.old met → IsCounted self.new (met ++ only_if begins start)) }
         ensures refused { IfErr result (λ fault. (met : List Mark) → IsCounted self.old met → StopsAt met (only_if begins start) fault) }
     {
+        marks_add_up();
         if !begins {
             return Ok(());
         }
@@ -103,6 +106,7 @@ impl Counts {
         ensures counted { OnOk result ((met : List Mark) → IsCounted self.old met → IsCounted self.new (met ++ only_if is_met (piece stream bytes.now))) }
         ensures refused { IfErr result (λ fault. (met : List Mark) → IsCounted self.old met → StopsAt met (only_if is_met (piece stream bytes.now)) fault) }
     {
+        marks_add_up();
         if !is_met {
             return Ok(());
         }
@@ -119,6 +123,7 @@ impl Counts {
         ensures counted { OnOk result ((met : List Mark) → IsCounted self.old met → IsCounted self.new (met ++ only_if ends stop)) }
         ensures refused { IfErr result (λ fault. fault ≡ Memory) }
     {
+        marks_add_up();
         if !ends {
             return Ok(());
         }
