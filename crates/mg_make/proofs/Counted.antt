@@ -1,6 +1,6 @@
 -- Marks that are counted, one after the other, and the one with which a limit is passed.
 use Rattle.std.proofs.Common.{◌≡◌, ◌≤◌, ◌<◌, ◌+◌, ◌/◌, ◌^◌, ℕ, Bool, true, false, List, [], ◌∷◌, ◌++◌, length, refl, sym, ap, subst, ◌∙◌, arith, append_assoc, append-nil, length-append, cond}
-use Rattle.std.specs.Result.{OnOk}
+use Rattle.std.specs.Result.{IfErr, IsErrAnd, OnOk}
 use Rattle.std.specs.Str.{bytes_eq}
 use Rattle.std.specs.declared.result.Result.{Result}
 use Rattle.std.specs.declared.result.Result.TheVariants.{Ok, Err}
@@ -218,23 +218,16 @@ stops-sooner met a b (TooManyPieces stream) h = (h.0, passes-sooner met a b (pie
 stops-sooner met a b Memory h = tt
 stops-sooner met a b fault h = absurd h
 
--- the marks of what is met, by the answers of its calls
-pub parts-are : (m : Meeting) (begins has_piece has_other ends : Bool) (kind other : Stream) (bytes : List ℕ) → begins ≡ m.begins → has_piece ≡ m.has_piece → has_other ≡ m.has_other → ends ≡ m.ends → kind ≡ m.kind → other ≡ other_kind m.kind → bytes ≡ m.bytes
-  → only_if begins start ++ (only_if has_piece (piece kind bytes) ++ (only_if has_other (piece other []) ++ only_if ends stop)) ≡ marks_of m
-parts-are m begins has_piece has_other ends kind other bytes b p o e k l x =
-    ap (λ b. only_if b start ++ (only_if has_piece (piece kind bytes) ++ (only_if has_other (piece other []) ++ only_if ends stop))) b
-    ∙ ap (λ p. only_if m.begins start ++ (only_if p (piece kind bytes) ++ (only_if has_other (piece other []) ++ only_if ends stop))) p
-    ∙ ap (λ o. only_if m.begins start ++ (only_if m.has_piece (piece kind bytes) ++ (only_if o (piece other []) ++ only_if ends stop))) o
-    ∙ ap (λ e. only_if m.begins start ++ (only_if m.has_piece (piece kind bytes) ++ (only_if m.has_other (piece other []) ++ only_if e stop))) e
-    ∙ ap (λ k. only_if m.begins start ++ (only_if m.has_piece (piece k bytes) ++ (only_if m.has_other (piece other []) ++ only_if m.ends stop))) k
-    ∙ ap (λ l. only_if m.begins start ++ (only_if m.has_piece (piece m.kind bytes) ++ (only_if m.has_other (piece l []) ++ only_if m.ends stop))) l
-    ∙ ap (λ (x : List ℕ). only_if m.begins start ++ (only_if m.has_piece (piece m.kind x) ++ (only_if m.has_other (piece (other_kind m.kind) []) ++ only_if m.ends stop))) x
-
 -- ---- answers of calls
 
 pub ok-both : {T E : Type 0} (r : Result T E) (A B C : Type 0) → OnOk r A → OnOk r B → (A → B → C) → OnOk r C
 ok-both (Ok x) A B C a b f = f a b
 ok-both (Err e) A B C a b f = tt
+
+-- a refusal is passed on
+pub passed-on : {T E : Type 0} (r : Result T E) (refusal : E) (Q : E → Type 0) → IsErrAnd r (λ e. e ≡ refusal) → Q refusal → IfErr r Q
+passed-on (Ok x) refusal Q h q = tt
+passed-on (Err e) refusal Q h q = subst Q (sym h) q
 
 -- a mark that is met
 pub met-mark : (is_met : Bool) (mark : Mark) → is_met ≡ true → only_if is_met mark ≡ mark ∷ []
@@ -252,3 +245,48 @@ pub other-stops : (laws : AddUp) (c : Counting) (met : List Mark) (bytes : List 
 other-stops laws c met bytes (TooManyPieces stream) counted h = (bytes, subst (λ k. PassesAfter met (piece Others bytes ∷ []) (piece k bytes)) (sym h.0) (other-passes laws c met bytes h.1 h.2 counted))
 other-stops laws c met bytes Memory counted h = tt
 other-stops laws c met bytes fault counted h = absurd h
+
+-- ---- what is met with one byte
+
+abbrev pub begin_of : Meeting → List Mark
+begin_of m = only_if m.begins start
+
+abbrev pub piece_of : Meeting → List Mark
+piece_of m = only_if m.has_piece (piece m.kind m.bytes)
+
+abbrev pub other_of : Meeting → List Mark
+other_of m = only_if m.has_other (piece (other_kind m.kind) [])
+
+abbrev pub end_of : Meeting → List Mark
+end_of m = only_if m.ends stop
+
+pub piece-is : (m : Meeting) (has_piece : Bool) (kind : Stream) (bytes : List ℕ) → has_piece ≡ m.has_piece → kind ≡ m.kind → bytes ≡ m.bytes → only_if has_piece (piece kind bytes) ≡ piece_of m
+piece-is m has_piece kind bytes p k x =
+    ap (λ b. only_if b (piece kind bytes)) p ∙ ap (λ s. only_if m.has_piece (piece s bytes)) k ∙ ap (λ (y : List ℕ). only_if m.has_piece (piece m.kind y)) x
+
+pub other-is : (m : Meeting) (has_other : Bool) (other : Stream) → has_other ≡ m.has_other → other ≡ other_kind m.kind → only_if has_other (piece other []) ≡ other_of m
+other-is m has_other other o k = ap (λ b. only_if b (piece other [])) o ∙ ap (λ s. only_if m.has_other (piece s [])) k
+
+-- in turn, they are all of them
+in-turn : (before a b c d : List Mark) → before ++ (a ++ (b ++ (c ++ d))) ≡ (((before ++ a) ++ b) ++ c) ++ d
+in-turn before a b c d = sym (append_assoc ((before ++ a) ++ b) c d ∙ append_assoc (before ++ a) b (c ++ d) ∙ append_assoc before a (b ++ (c ++ d)))
+
+pub in-all : (c : Counting) (m : Meeting) (before : List Mark) → IsCounted c ((((before ++ begin_of m) ++ piece_of m) ++ other_of m) ++ end_of m) → IsCounted c (before ++ marks_of m)
+in-all c m before h = subst (IsCounted c) (sym (in-turn before (begin_of m) (piece_of m) (other_of m) (end_of m))) h
+
+pub few-other : (laws : AddUp) (m : Meeting) (before : List Mark) → AreFew (before ++ marks_of m) → AreFew (((before ++ begin_of m) ++ piece_of m) ++ other_of m)
+few-other laws m before h = few-front laws (((before ++ begin_of m) ++ piece_of m) ++ other_of m) (end_of m) (subst AreFew (in-turn before (begin_of m) (piece_of m) (other_of m) (end_of m)) h)
+
+pub few-piece : (laws : AddUp) (m : Meeting) (before : List Mark) → AreFew (before ++ marks_of m) → AreFew ((before ++ begin_of m) ++ piece_of m)
+few-piece laws m before h = few-front laws ((before ++ begin_of m) ++ piece_of m) (other_of m) (few-other laws m before h)
+
+pub stops-begin : (m : Meeting) (before : List Mark) (fault : Fault) → StopsAt before (begin_of m) fault → StopsAt before (marks_of m) fault
+stops-begin m before fault h = stops-sooner before (begin_of m) (piece_of m ++ (other_of m ++ end_of m)) fault h
+
+pub stops-piece : (m : Meeting) (before : List Mark) (fault : Fault) → StopsAt (before ++ begin_of m) (piece_of m) fault → StopsAt before (marks_of m) fault
+stops-piece m before fault h = stops-later before (begin_of m) (piece_of m ++ (other_of m ++ end_of m)) fault (stops-sooner (before ++ begin_of m) (piece_of m) (other_of m ++ end_of m) fault h)
+
+pub stops-other : (m : Meeting) (before : List Mark) (fault : Fault) → StopsAt ((before ++ begin_of m) ++ piece_of m) (other_of m) fault → StopsAt before (marks_of m) fault
+stops-other m before fault h =
+    stops-later before (begin_of m) (piece_of m ++ (other_of m ++ end_of m)) fault
+    (stops-later (before ++ begin_of m) (piece_of m) (other_of m ++ end_of m) fault (stops-sooner ((before ++ begin_of m) ++ piece_of m) (other_of m) (end_of m) fault h))
