@@ -1,2 +1,4 @@
 pub mod Scans
 pub mod Counted
+pub mod Planned
+pub mod Fed

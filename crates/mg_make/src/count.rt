@@ -1,12 +1,15 @@
 //! The first pass over the bytes of a collection.
 ghost use Rattle.std.specs.Prelude.{◌≡◌, ◌<◌, ◌≤◌, ◌-◌, ◌^◌, ◌++◌, ◌∷◌, ℕ, List, [], length, IfErr, IfOk, OnOk};
-ghost use Rattle.mg_make.specs.Counting.{CountStops, EndStops, HasCounted, IsCountOf};
+ghost use Rattle.mg_defs.specs.Marks.{Mark, marks};
+ghost use Rattle.mg_make.specs.Counting.{AreFew, CountStops, EndStops, HasCounted, IsCountOf};
 ghost use Rattle.mg_make.specs.Plans.{IsPlan, IsPlanOf, IsRoomFor};
+ghost use Rattle.mg_make.specs.Scanning.{HasMet, Scanning};
 
 use crate::counts::Counts;
 use crate::plan::{Plan, Room};
 use crate::scanner::Scanner;
 use mg_dev::Fault;
+use mg_laws::{few_of_each, marks_add_up, marks_have_all};
 use std::alloc::Global;
 use std::marker::Model;
 
@@ -26,6 +29,16 @@ impl Model for Count {
     ghost Value = { FirstPass };
 
     ghost view = { λ c. record { scanning = c.scanner; counting = c.counts } };
+}
+
+/// What is met in fewer than 2^32 bytes has so few pieces that their numbers fit in four bytes.
+fn few_are_met()
+    ensures met { (s : Scanning) (fed : List ℕ) (met : List Mark) → HasMet s fed met → length fed < 2 ^ 32 → AreFew met }
+    ensures all { (collection : List ℕ) → length collection < 2 ^ 32 → AreFew (marks collection) }
+{
+    few_of_each();
+    marks_add_up();
+    marks_have_all();
 }
 
 impl Count {
@@ -48,6 +61,7 @@ impl Count {
         ensures given { OnOk result ((fed : List ℕ) → HasCounted self.old fed → HasCounted self.new (fed ++ byte ∷ [])) }
         ensures refused { IfErr result (λ fault. (fed : List ℕ) → HasCounted self.old fed → CountStops (fed ++ byte ∷ []) fault) }
     {
+        few_are_met();
         self.scanner.take(byte);
         self.counts.take(self.scanner.met())
     }
@@ -64,6 +78,7 @@ impl Count {
         ensures room { IfOk result (λ r. IsRoomFor r.1 r.0 budget) }
         ensures refused { IfErr result (λ fault. (fed : List ℕ) → HasCounted self fed → EndStops fed fault) }
     {
+        few_are_met();
         let Count {
             mut scanner,
             mut counts,
