@@ -34,7 +34,7 @@ same-few : (a b : List (List ℕ)) → a ≡ b → length (sorted_distinct b) �
 same-few a b is h = subst (λ (l : List (List ℕ)). length (sorted_distinct l) ≤ version_2.pieces) (sym is) h
 
 pub start-counted : (laws : AddUp) (c : Counting) (met : List Mark) → c.documents < 2 ^ 24 → IsCounted c met
-  → IsCounted (record { words = c.words; others = c.others; pairs = c.pairs; pieces = 0; documents = c.documents + 1 }) (met ++ start ∷ [])
+    → IsCounted (record { words = c.words; others = c.others; pairs = c.pairs; pieces = 0; documents = c.documents + 1 }) (met ++ start ∷ [])
 start-counted laws c met room h =
     let words = no-piece laws Words met start refl in
     let others = no-piece laws Others met start refl in
@@ -52,7 +52,7 @@ start-counted laws c met room h =
     }
 
 pub stop-counted : (laws : AddUp) (c : Counting) (met : List Mark) → IsCounted c met
-  → IsCounted (record { words = c.words; others = c.others; pairs = c.pairs ++ c.pieces / 2 ∷ []; pieces = 0; documents = c.documents }) (met ++ stop ∷ [])
+    → IsCounted (record { words = c.words; others = c.others; pairs = c.pairs ++ c.pieces / 2 ∷ []; pieces = 0; documents = c.documents }) (met ++ stop ∷ [])
 stop-counted laws c met h =
     let words = no-piece laws Words met stop refl in
     let others = no-piece laws Others met stop refl in
@@ -79,7 +79,7 @@ few-entries : (new : List (List ℕ × ℕ)) (pieces : List (List ℕ)) → new 
 few-entries new pieces is few = omega (arith, few, ap length is, length-of_vocabulary pieces)
 
 pub word-counted : (laws : AddUp) (c : Counting) (new : List (List ℕ × ℕ)) (met : List Mark) (bytes : List ℕ) → new ≡ counted bytes c.words → length new ≤ 2 ^ 22 → IsCounted c met
-  → IsCounted (record { words = new; others = c.others; pairs = c.pairs; pieces = c.pieces + 1; documents = c.documents }) (met ++ piece Words bytes ∷ [])
+    → IsCounted (record { words = new; others = c.others; pairs = c.pairs; pieces = c.pieces + 1; documents = c.documents }) (met ++ piece Words bytes ∷ [])
 word-counted laws c new met bytes is few h =
     let mark : Mark = piece Words bytes in
     let words = entries-more laws Words c.words new met bytes refl is h.words in
@@ -98,7 +98,7 @@ word-counted laws c new met bytes is few h =
     }
 
 pub other-counted : (laws : AddUp) (c : Counting) (new : List (List ℕ × ℕ)) (met : List Mark) (bytes : List ℕ) → new ≡ counted bytes c.others → length new ≤ 2 ^ 22 → IsCounted c met
-  → IsCounted (record { words = c.words; others = new; pairs = c.pairs; pieces = c.pieces + 1; documents = c.documents }) (met ++ piece Others bytes ∷ [])
+    → IsCounted (record { words = c.words; others = new; pairs = c.pairs; pieces = c.pieces + 1; documents = c.documents }) (met ++ piece Others bytes ∷ [])
 other-counted laws c new met bytes is few h =
     let mark : Mark = piece Others bytes in
     let others = entries-more laws Others c.others new met bytes refl is h.others in
@@ -135,7 +135,7 @@ one-new bytes (e ∷ entries) none =
     ap (λ b. length (cond b ((e.0, e.1 + 1) ∷ entries) (e ∷ counted bytes entries))) parts.0 ∙ omega (arith, more)
 
 past-entries : (laws : AddUp) (kind : Stream) (entries : List (List ℕ × ℕ)) (met : List Mark) (bytes : List ℕ) → pieces_among kind (piece kind bytes ∷ []) ≡ bytes ∷ [] → has_piece entries bytes ≡ false → length entries ≡ 2 ^ 22 → entries ≡ vocabulary (pieces_among kind met)
-  → length (sorted_distinct (pieces_among kind (met ++ piece kind bytes ∷ []))) ≡ 2 ^ 22 + 1
+    → length (sorted_distinct (pieces_among kind (met ++ piece kind bytes ∷ []))) ≡ 2 ^ 22 + 1
 past-entries laws kind entries met bytes one new full h =
     let all = entries-more laws kind entries (counted bytes entries) met bytes one refl h in
     omega (arith, full, one-new bytes entries new, ap length all, length-of_vocabulary (pieces_among kind (met ++ piece kind bytes ∷ [])))

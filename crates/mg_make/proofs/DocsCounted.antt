@@ -1,5 +1,5 @@
 -- How many documents have a term, after one occurrence more.
-use Rattle.std.proofs.Common.{◌≡◌, ◌≢◌, ◌≤◌, ◌<◌, ◌+◌, ◌==◌, ◌⊎◌, ℕ, Bool, true, false, cond, zero, List, [], ◌∷◌, ◌++◌, length, map, get_or, set, nat_lt, refl, sym, ap, subst, ◌∙◌, arith, inl, inr, length-set}
+use Rattle.std.proofs.Common.{◌≡◌, ◌≢◌, ◌≤◌, ◌<◌, ◌+◌, ◌==◌, ◌⊎◌, ℕ, Bool, true, false, cond, zero, List, [], ◌∷◌, ◌++◌, map, get_or, set, nat_lt, refl, sym, ap, subst, ◌∙◌, arith, inl, inr, length-set}
 use Rattle.std.specs.Prelude.{count_by}
 use Rattle.std.proofs.lemmas.Bool.{cases_Bool, cases_eq, eq-eqb, eqb-true, lt-ltb, ne_eqb}
 use Rattle.std.proofs.lemmas.List.{get_or-set_other, get_or-set_same, map-append}
@@ -124,7 +124,7 @@ other-term : (a b : ℕ) → (a == b) ≡ false → b ≢ a
 other-term a b h e = absurd (let is : (a == b) ≡ true = eq-eqb a b (sym e) in let no : true ≡ false = sym is ∙ h in cc)
 
 order-more : (last_more : LastMore) (c : DocCounting) (terms term doc : ℕ) (fed : List (ℕ × ℕ)) → AreDocCounts c terms fed → last_with term 0 fed ≤ doc
-  → (t d : ℕ) → 1 ≤ times t d (map once (fed ++ (term, doc) ∷ [])) → d ≤ last_with t 0 (fed ++ (term, doc) ∷ [])
+    → (t d : ℕ) → 1 ≤ times t d (map once (fed ++ (term, doc) ∷ [])) → d ≤ last_with t 0 (fed ++ (term, doc) ∷ [])
 order-more last_more c terms term doc fed h low t d some = by (term == t) (doc == d) refl refl
   where
     all : times t d (map once (fed ++ (term, doc) ∷ [])) ≡ times t d (map once fed) + part_at t d (once (term, doc))
@@ -167,7 +167,7 @@ doc-known last_more c terms term doc fed some h is = record {
 
 -- in another one, which is later
 pub doc-fresh : (last_more : LastMore) (c : DocCounting) (terms term doc : ℕ) (fed : List (ℕ × ℕ)) → term < terms → AreDocCounts c terms fed → last_with term 0 fed < doc
-  → AreDocCounts (record { docs = set c.docs term (get_or c.docs term 0 + 1); last = set c.last term doc }) terms (fed ++ (term, doc) ∷ [])
+    → AreDocCounts (record { docs = set c.docs term (get_or c.docs term 0 + 1); last = set c.last term doc }) terms (fed ++ (term, doc) ∷ [])
 doc-fresh last_more c terms term doc fed within h later = record {
   doc_size = length-set c.docs term (get_or c.docs term 0 + 1) ∙ h.doc_size;
   last_size = length-set c.last term doc ∙ h.last_size;

@@ -1,10 +1,10 @@
 -- The plan of a collection from its counts.
-use Rattle.std.proofs.Common.{◌≡◌, ◌≤◌, ◌<◌, ◌-◌, ◌^◌, ℕ, Bool, List, length, refl, sym, ap, subst, ◌∙◌, arith}
+use Rattle.std.proofs.Common.{◌≡◌, ◌≤◌, ◌<◌, ◌^◌, ℕ, List, length, ap, subst, ◌∙◌, arith}
 use Rattle.std.specs.Prelude.{sum}
 use Rattle.std.proofs.lemmas.List.{length-map}
 use Rattle.mg_defs.specs.declared.Stream.{Stream}
 use Rattle.mg_defs.specs.declared.Stream.TheVariants.{Words, Others}
-use Rattle.mg_defs.specs.CodedText.{IsCodeOf, IsHuffman, StreamCode, TextCode}
+use Rattle.mg_defs.specs.CodedText.{IsCodeOf, IsHuffman, StreamCode}
 use Rattle.mg_defs.specs.Heads.{limits}
 use Rattle.mg_defs.specs.Limits.{IsWithinLimits}
 use Rattle.mg_defs.specs.Marks.{AreWithin, marks, pair_counts, pairs_from, pieces_among}
@@ -37,7 +37,7 @@ code-is laws kind collection entries code is pieces lengths =
     }
 
 pub plan-of : (laws : PlanLaws) (counts : Counting) (words others : List (List ℕ × ℕ)) (p : Plan) (collection : List ℕ) → IsCountOf counts p.open_end collection → words ≡ counts.words → others ≡ counts.others → p.pairs ≡ counts.pairs
-  → p.code.words.pieces ≡ sorted_of words → p.code.others.pieces ≡ sorted_of others → IsHuffman (counts_of words) p.code.words.lengths → IsHuffman (counts_of others) p.code.others.lengths → p.terms ≡ terms_and_numbers p.code.words.pieces → IsPlanOf p collection
+    → p.code.words.pieces ≡ sorted_of words → p.code.others.pieces ≡ sorted_of others → IsHuffman (counts_of words) p.code.words.lengths → IsHuffman (counts_of others) p.code.others.lengths → p.terms ≡ terms_and_numbers p.code.words.pieces → IsPlanOf p collection
 plan-of laws counts words others p collection h words_are others_are pairs word_pieces other_pieces word_lengths other_lengths table =
     let word_code = code-is laws Words collection words p.code.words (words_are ∙ h.counted.words) word_pieces word_lengths in
     let other_code = code-is laws Others collection others p.code.others (others_are ∙ h.counted.others) other_pieces other_lengths in

@@ -1,14 +1,14 @@
 -- What is met in bytes, one after the other, and that it is what is met first of all bytes that follow.
-use Rattle.std.proofs.Common.{◌≡◌, ◌≢◌, ◌≤◌, ◌<◌, ℕ, Bool, true, false, not, cond, List, [], ◌∷◌, ◌++◌, length, refl, sym, ap, subst, ◌∙◌, arith, inl, inr, append_assoc, append-nil, ◌==◌}
+use Rattle.std.proofs.Common.{◌≡◌, ◌≢◌, ◌≤◌, ℕ, Bool, true, false, not, cond, List, [], ◌∷◌, ◌++◌, length, refl, sym, ap, subst, ◌∙◌, arith, inl, inr, append_assoc, append-nil}
 use Rattle.std.specs.List.{flat_map}
-use Rattle.std.proofs.lemmas.Bool.{cases_Bool, cases_eq, ne_eqb}
+use Rattle.std.proofs.lemmas.Bool.{cases_eq, ne_eqb}
 use Rattle.mg_defs.specs.declared.Stream.{Stream}
 use Rattle.mg_defs.specs.declared.Stream.TheVariants.{Words, Others}
 use Rattle.mg_defs.specs.Marks.{Mark, start, piece, stop, marks, marks_of_document, marks_of_pairs}
 use Rattle.mg_defs.specs.Parse.{Pair, parse, is_of_kind}
 use Rattle.mg_defs.specs.Pieces.{Reading, Reads, left_at_end, other_kind, pieces, pieces_from}
 use Rattle.mg_defs.specs.Split.{closed_documents, documents, has_open_end, open_part}
-use Rattle.mg_defs.proofs.ClosedLaws.{closed-byte, closed-close, documents-are, end-is, open-byte, open-close}
+use Rattle.mg_defs.proofs.ClosedLaws.{closed-byte, closed-close, documents-are, open-byte, open-close}
 use Rattle.mg_defs.proofs.PieceLaws.{reads_end, reads_new, reads_next, reads_taken, reads_turned}
 use Rattle.mg_defs.proofs.SplitLaws.{has_open_end-push}
 use Rattle.mg_parse.specs.Offered.{Ends, Fits, Offered}
@@ -163,7 +163,7 @@ met-more s fed met new h xs is =
 
 -- after a byte of a document
 pub met-byte : (s : Scanning) (seen : Seen) (reading : Reading) (m : Meeting) (fed : List ℕ) (met : List Mark) (byte : ℕ) (ended : List (List ℕ)) → byte ≢ 2 → StandsFor seen (fed ++ byte ∷ []) → HasRead s.reading reading byte ended → marks_of m ≡ joined_marks (not s.is_open) s.reading.kind ended → HasMet s fed met
-  → HasMet (record { seen = seen; reading = reading; is_open = true; met = m }) (fed ++ byte ∷ []) (met ++ marks_of m)
+    → HasMet (record { seen = seen; reading = reading; is_open = true; met = m }) (fed ++ byte ∷ []) (met ++ marks_of m)
 met-byte s seen reading m fed met byte ended ne stands read is h =
     let kinds : marks_of_pieces Words h.told ++ marks_of_pieces s.reading.kind ended ≡ marks_of_pieces Words (h.told ++ ended) = ap (λ k. marks_of_pieces Words h.told ++ marks_of_pieces k ended) h.kind ∙ sym (marks-append Words h.told ended) in
     record {
@@ -189,7 +189,7 @@ one-more (d ∷ docs) doc = ap (λ (r : List Mark). marks_of_document d ++ r) (o
 
 -- after the byte that closes a document
 pub met-close : (s : Scanning) (seen : Seen) (m : Meeting) (fed : List ℕ) (met : List Mark) → StandsFor seen (fed ++ 2 ∷ []) → marks_of m ≡ closing_marks (not s.is_open) s.reading → HasMet s fed met
-  → HasMet (record { seen = seen; reading = record { kind = Words; piece = [] }; is_open = false; met = m }) (fed ++ 2 ∷ []) (met ++ marks_of m)
+    → HasMet (record { seen = seen; reading = record { kind = Words; piece = [] }; is_open = false; met = m }) (fed ++ 2 ∷ []) (met ++ marks_of m)
 met-close s seen m fed met stands is h = record {
   seen = stands;
   same = sym (has_open_end-push fed 2);
@@ -204,7 +204,7 @@ met-close s seen m fed met stands is h = record {
 }
 
 pub met-closed : (s : Scanning) (seen : Seen) (reading : Reading) (m : Meeting) (fed : List ℕ) (met : List Mark) (byte : ℕ) → byte ≡ 2 → reading ≡ record { kind = Words; piece = [] } → StandsFor seen (fed ++ byte ∷ []) → marks_of m ≡ closing_marks (not s.is_open) s.reading → HasMet s fed met
-  → HasMet (record { seen = seen; reading = reading; is_open = false; met = m }) (fed ++ byte ∷ []) (met ++ marks_of m)
+    → HasMet (record { seen = seen; reading = reading; is_open = false; met = m }) (fed ++ byte ∷ []) (met ++ marks_of m)
 met-closed s seen reading m fed met byte is empty stands closes h =
     let two = met-close s seen m fed met (subst (λ b. StandsFor seen (fed ++ b ∷ [])) is stands) closes h in
     subst (λ (r : Reading). HasMet (record { seen = seen; reading = r; is_open = false; met = m }) (fed ++ byte ∷ []) (met ++ marks_of m)) (sym empty)

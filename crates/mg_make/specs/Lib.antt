@@ -4,3 +4,4 @@ pub mod Plans
 pub mod Written
 pub mod Scanning
 pub mod Counting
+pub mod Summaries

@@ -11,6 +11,8 @@ mod doc_counts;
 mod met;
 mod plan;
 mod scanner;
+mod summary;
 
 pub use count::Count;
 pub use plan::{Plan, Room};
+pub use summary::Summary;

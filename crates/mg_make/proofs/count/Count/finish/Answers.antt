@@ -1,8 +1,8 @@
-use Rattle.std.proofs.Common.{◌≡◌, ◌<◌, ◌^◌, ◌++◌, List, ℕ, [], length, ap, sym, subst, ◌∙◌}
+use Rattle.std.proofs.Common.{◌≡◌, ◌++◌, List, ℕ, ap, sym, subst, ◌∙◌}
 use Rattle.mg_dev.specs.declared.fault.Fault.{Fault}
 use Rattle.mg_dev.specs.declared.fault.Fault.TheVariants.{Memory}
 use Rattle.mg_defs.specs.Marks.{Mark, marks}
-use Rattle.mg_make.specs.Counting.{AreFew, EndStops, FirstPass, HasCounted, IsCounted, IsCountOf, StopsAt}
+use Rattle.mg_make.specs.Counting.{AreFew, EndStops, FirstPass, HasCounted, IsCounted}
 use Rattle.mg_make.specs.Meeting.{Meeting, marks_of}
 use Rattle.mg_make.proofs.Counted.{passed-on}
 use Rattle.mg_make.proofs.Fed.{end-stops}

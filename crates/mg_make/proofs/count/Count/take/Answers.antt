@@ -1,10 +1,8 @@
-use Rattle.std.proofs.Common.{◌≡◌, ◌<◌, ◌^◌, ◌++◌, ◌∷◌, List, ℕ, [], length, length-append, ap, arith, sym, subst}
+use Rattle.std.proofs.Common.{◌++◌, ◌∷◌, List, ℕ, [], length-append, arith, sym, subst}
 use Rattle.std.proofs.lemmas.Result.{IfErr-weaker, on_ok_weaker}
-use Rattle.mg_dev.specs.declared.fault.Fault.{Fault}
 use Rattle.mg_defs.specs.Marks.{Mark}
 use Rattle.mg_make.specs.Counting.{AreFew, CountStops, FirstPass, HasCounted, IsCounted, StopsAt}
 use Rattle.mg_make.specs.Meeting.{Meeting, marks_of}
-use Rattle.mg_make.specs.Scanning.{HasMet}
 use Rattle.mg_make.proofs.Fed.{count-stops}
 use Rattle.mg_make.proofs.count.Count.take.Goals as goal
 

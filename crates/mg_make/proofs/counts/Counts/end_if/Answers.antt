@@ -1,4 +1,4 @@
-use Rattle.std.proofs.Common.{◌≡◌, ◌<◌, ◌^◌, ◌++◌, ◌∷◌, ◌/◌, List, ℕ, [], ap, arith, sym, subst}
+use Rattle.std.proofs.Common.{◌≡◌, ◌++◌, ◌∷◌, List, ℕ, [], ap, arith, sym, subst}
 use Rattle.mg_defs.specs.Marks.{Mark, stop}
 use Rattle.mg_make.specs.Counting.{Counting, IsCounted}
 use Rattle.mg_make.proofs.Counted.{AddUp, few-now, met-mark, stop-counted}

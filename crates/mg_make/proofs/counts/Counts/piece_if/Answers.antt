@@ -1,6 +1,5 @@
-use Rattle.std.proofs.Common.{◌≡◌, ◌≤◌, ◌<◌, ◌^◌, ◌++◌, ◌∷◌, ◌+◌, List, ℕ, [], length, ap, arith, sym, subst, ◌∙◌}
+use Rattle.std.proofs.Common.{◌≡◌, ◌≤◌, ◌^◌, ◌++◌, ◌+◌, List, ℕ, length, ap, arith, sym, subst}
 use Rattle.std.proofs.lemmas.Result.{IfErr-weaker}
-use Rattle.mg_dev.specs.declared.fault.Fault.{Fault}
 use Rattle.mg_defs.specs.declared.Stream.TheVariants.{Words, Others}
 use Rattle.mg_defs.specs.Marks.{Mark, piece}
 use Rattle.mg_defs.specs.Vocabulary.{counted, total}

@@ -1,10 +1,10 @@
-use Rattle.std.proofs.Common.{◌≡◌, ◌++◌, List, ℕ, ap, sym, subst}
+use Rattle.std.proofs.Common.{◌++◌, List, ap, sym, subst}
 use Rattle.std.proofs.lemmas.Result.{on_ok_weaker}
 use Rattle.mg_dev.specs.declared.fault.Fault.{Fault}
-use Rattle.mg_defs.specs.Marks.{Mark, piece, start, stop}
+use Rattle.mg_defs.specs.Marks.{Mark, start, stop}
 use Rattle.mg_make.specs.Counting.{AreFew, Counting, IsCounted, StopsAt}
 use Rattle.mg_make.specs.Meeting.{Meeting, marks_of, only_if}
-use Rattle.mg_make.proofs.Counted.{AddUp, begin_of, end_of, few-other, few-piece, in-all, other-is, other_of, passed-on, piece-is, piece_of, stops-begin, stops-other, stops-piece}
+use Rattle.mg_make.proofs.Counted.{AddUp, begin_of, few-other, few-piece, in-all, other-is, other_of, passed-on, piece-is, piece_of, stops-begin, stops-other, stops-piece}
 use Rattle.mg_make.proofs.counts.Counts.take.Goals as goal
 
 abbrev Refused : Counting → Meeting → Fault → Type 0
@@ -25,8 +25,7 @@ piece_if-requires-clause-few c =
     let m : Meeting = c.args.met.now in
     let few = c.requires.few in
     let begin = ap (λ b. only_if b start) c.begins.ensures in
-    let one = piece-is m c.has_piece.result c.kind.result c.piece.result.now c.has_piece.ensures c.kind.ensures c.piece.ensures.bytes in
-    (
+    let one = piece-is m c.has_piece.result c.kind.result c.piece.result.now c.has_piece.ensures c.kind.ensures c.piece.ensures.bytes in (
       few.0 ++ begin_of m,
       subst (λ (x : List Mark). IsCounted c.begin_if.new.self (few.0 ++ x)) begin (c.in_ok-begin_if.ensures.counted few.0 few.1),
       subst (λ (x : List Mark). AreFew ((few.0 ++ begin_of m) ++ x)) (sym one) (few-piece laws m few.0 few.2),
@@ -52,8 +51,7 @@ piece_if-requires-2-clause-few c =
     let begin = ap (λ b. only_if b start) c.begins.ensures in
     let one = piece-is m c.has_piece.result c.kind.result c.piece.result.now c.has_piece.ensures c.kind.ensures c.piece.ensures.bytes in
     let two = other-is m c.has_other.result c.other_kind.result c.has_other.ensures c.other_kind.ensures in
-    let begun = subst (λ (x : List Mark). IsCounted c.begin_if.new.self (few.0 ++ x)) begin (c.in_ok-begin_if.ensures.counted few.0 few.1) in
-    (
+    let begun = subst (λ (x : List Mark). IsCounted c.begin_if.new.self (few.0 ++ x)) begin (c.in_ok-begin_if.ensures.counted few.0 few.1) in (
       (few.0 ++ begin_of m) ++ piece_of m,
       subst (λ (x : List Mark). IsCounted c.piece_if.new.self ((few.0 ++ begin_of m) ++ x)) one (c.in_ok-piece_if.ensures.counted (few.0 ++ begin_of m) begun),
       subst (λ (x : List Mark). AreFew (((few.0 ++ begin_of m) ++ piece_of m) ++ x)) (sym two) (few-other laws m few.0 few.2),

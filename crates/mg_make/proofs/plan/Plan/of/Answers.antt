@@ -1,4 +1,3 @@
-use Rattle.std.proofs.Common.{List, ℕ}
 use Rattle.mg_make.specs.Plans.{Plan}
 use Rattle.mg_make.proofs.Planned.{PlanLaws, plan-is, plan-of}
 use Rattle.mg_make.proofs.plan.Plan.of.Goals as goal

@@ -1,5 +1,4 @@
-use Rattle.std.proofs.Common.{◌≡◌, List, ℕ, ap, sym, subst}
-use Rattle.mg_defs.specs.Marks.{Mark}
+use Rattle.std.proofs.Common.{ap, sym, subst}
 use Rattle.mg_make.specs.Meeting.{Meeting, marks_of}
 use Rattle.mg_make.specs.Scanning.{HasMet, Scanning}
 use Rattle.mg_make.proofs.Scans.{end-closed, end-open}

@@ -1,5 +1,4 @@
-use Rattle.std.proofs.Common.{◌≡◌, ◌≢◌, List, ℕ, refl, sym, subst}
-use Rattle.mg_defs.specs.Marks.{Mark}
+use Rattle.std.proofs.Common.{◌≢◌, refl, sym, subst}
 use Rattle.mg_make.specs.Scanning.{HasMet, Scanning}
 use Rattle.mg_make.proofs.Scans.{met-byte, met-closed}
 use Rattle.mg_make.proofs.scanner.Scanner.take.Goals as goal
