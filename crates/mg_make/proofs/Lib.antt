@@ -4,3 +4,8 @@ pub mod SecondSteps
 pub mod Stopping
 pub mod Finishing
 pub mod Taking
+pub mod Scans
+pub mod Counted
+pub mod Planned
+pub mod Fed
+pub mod DocsCounted

@@ -6,3 +6,6 @@ pub mod Fronts
 pub mod Indexes
 pub mod Second
 pub mod Finishing
+pub mod Scanning
+pub mod Counting
+pub mod Summaries

@@ -5,10 +5,16 @@
 //! two texts for a merge. Nothing here reads a collection.
 #![tactic(auto)]
 
+mod count;
+mod counts;
 mod doc_counts;
 mod inverter;
 mod met;
 mod plan;
+mod scanner;
 mod second;
+mod summary;
 
+pub use count::Count;
 pub use plan::{Plan, Room};
+pub use summary::Summary;
