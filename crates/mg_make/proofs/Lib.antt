@@ -7,3 +7,14 @@ pub mod IndexSteps
 pub mod WeightSteps
 pub mod IndexLaws
 pub mod IndexEnds
+pub mod MarkFronts
+pub mod Frames
+pub mod SecondSteps
+pub mod Stopping
+pub mod Finishing
+pub mod Taking
+pub mod Scans
+pub mod Counted
+pub mod Planned
+pub mod Fed
+pub mod DocsCounted

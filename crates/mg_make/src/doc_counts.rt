@@ -6,6 +6,7 @@ ghost use Rattle.std.specs.Prelude.{◌≡◌, ◌≤◌, ◌<◌, ◌++◌, ◌
 ghost use Rattle.mg_defs.specs.DocCounts.{last_with};
 ghost use Rattle.mg_make.specs.DocCounting.{AreDocCounts};
 
+use mg_laws::documents_are_counted;
 use std::alloc::{AllocError, Global};
 use std::marker::Model;
 
@@ -43,6 +44,7 @@ impl DocCounts {
             AreDocCounts self.new (length self.old.docs) (fed ++ (term, doc) ∷ []) }
         ensures size { length self.new.docs ≡ length self.old.docs }
     {
+        documents_are_counted();
         let at = term as usize;
         if self.last[at] != doc {
             self.last[at] = doc;

@@ -5,13 +5,21 @@
 //! two texts for a merge. Nothing here reads a collection.
 #![tactic(auto)]
 
+mod count;
+mod counts;
 mod doc_counts;
 mod index;
+mod inverter;
 mod lists;
 mod merge_parts;
 mod met;
 mod one_list;
 mod plan;
+mod scanner;
+mod second;
+mod summary;
 mod weights;
 
+pub use count::Count;
 pub use plan::{Plan, Room};
+pub use summary::Summary;

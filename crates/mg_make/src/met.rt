@@ -3,8 +3,9 @@
 //! A byte may begin a document, end the piece before it and the document too. So at most four things
 //! are met with it, always in the same order, and the second of two pieces is empty: the other of a
 //! pair that the document's end leaves without one. One block of bytes serves for every piece.
-ghost use Rattle.std.specs.Prelude.{◌≡◌, ◌≤◌, length};
+ghost use Rattle.std.specs.Prelude.{◌≡◌, ◌≤◌, [], true, false, length, take};
 ghost use Rattle.mg_defs.specs.Pieces.{other_kind};
+ghost use Rattle.mg_make.specs.Meeting.{marks_of};
 
 use mg_parse::{PIECE_BYTES, Stream};
 use std::marker::Model;
@@ -33,7 +34,66 @@ impl Model for Met {
     ghost invariant = { λ m. m.len ≤ 255 };
 }
 
+/// The bytes at the front of a buffer; answers how many these are.
+fn copy_into(bytes: &[u8], buffer: &mut [u8; PIECE_BYTES]) -> usize
+    requires { length bytes.now ≤ 255 }
+    ensures bytes { take result buffer.new ≡ bytes.now }
+    ensures short { result ≤ 255 }
+{
+    buffer[..bytes.len()].copy_from_slice(bytes);
+    bytes.len()
+}
+
 impl Met {
+    /// Nothing is met.
+    pub(crate) fn new() -> Self
+        ensures { marks_of result ≡ [] }
+    {
+        Met {
+            begins: false,
+            has_piece: false,
+            has_other: false,
+            ends: false,
+            kind: Stream::Words,
+            piece: [0; PIECE_BYTES],
+            len: 0,
+        }
+    }
+
+    /// Forgets what was met, for the next byte, with which a document may begin.
+    pub(crate) fn restart(&mut self, begins: bool)
+        ensures { self.new ≡ record { begins = begins; has_piece = false; has_other = false; ends = false; kind = self.old.kind; bytes = self.old.bytes } }
+    {
+        self.begins = begins;
+        self.has_piece = false;
+        self.has_other = false;
+        self.ends = false;
+    }
+
+    /// A piece ends, of at most 255 bytes.
+    pub(crate) fn tell(&mut self, kind: Stream, piece: &[u8])
+        requires { length piece.now ≤ 255 }
+        ensures { self.new ≡ record { begins = self.old.begins; has_piece = true; has_other = self.old.has_other; ends = self.old.ends; kind = kind; bytes = piece.now } }
+    {
+        self.has_piece = true;
+        self.kind = kind;
+        self.len = copy_into(piece, &mut self.piece);
+    }
+
+    /// An empty piece of the other kind follows.
+    pub(crate) fn tell_other(&mut self)
+        ensures { self.new ≡ record { begins = self.old.begins; has_piece = self.old.has_piece; has_other = true; ends = self.old.ends; kind = self.old.kind; bytes = self.old.bytes } }
+    {
+        self.has_other = true;
+    }
+
+    /// The document ends.
+    pub(crate) fn end(&mut self)
+        ensures { self.new ≡ record { begins = self.old.begins; has_piece = self.old.has_piece; has_other = self.old.has_other; ends = true; kind = self.old.kind; bytes = self.old.bytes } }
+    {
+        self.ends = true;
+    }
+
     /// Whether a document begins.
     pub(crate) fn begins(&self) -> bool
         ensures { result ≡ self.now.begins }
