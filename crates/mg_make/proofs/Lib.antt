@@ -18,3 +18,5 @@ pub mod Counted
 pub mod Planned
 pub mod Fed
 pub mod DocsCounted
+pub mod SetFrames
+pub mod PutSteps

@@ -11,3 +11,4 @@ pub mod Finishing
 pub mod Scanning
 pub mod Counting
 pub mod Summaries
+pub mod Putting

@@ -17,9 +17,12 @@ mod one_list;
 mod plan;
 mod scanner;
 mod second;
+mod set_parts;
 mod summary;
 mod weights;
+mod writer;
 
 pub use count::Count;
 pub use plan::{Plan, Room};
 pub use summary::Summary;
+pub use writer::SetWriter;
