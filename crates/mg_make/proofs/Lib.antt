@@ -20,3 +20,4 @@ pub mod Fed
 pub mod DocsCounted
 pub mod SetFrames
 pub mod PutSteps
+pub mod EndSteps

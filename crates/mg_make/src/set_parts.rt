@@ -88,12 +88,15 @@ pub(crate) fn end_pass<'a, S: Store>(
         IfOk result (λ inverted. EndsWith pass.entry (marks fed) (S.files store.old) (S.files store.new) inverted) }
     ensures wrote { WroteSecond pass.entry.base (S.files store.old) (S.files store.new) }
     ensures later { S.faults store.old ≤ S.faults store.new }
-    ensures refused { IfErr result (λ fault. (fed : List ℕ) (met : List Mark) → HasMet scanner.old fed met → HasWritten pass.entry (S.files store.old) met →
+    ensures refused { IfErr result (λ fault. (fed : List ℕ) (met : List Mark) → HasMet scanner.old fed met → HasWritten pass.entry (S.files store.old) met → length fed < 2 ^ 32 →
         ListStops (Rose (S.faults store.old) (S.faults store.new)) (IsSome (S.files store.old) × IsPlanOf pass.entry.plan fed) fault) }
 {
     let mut pass = pass;
     scanner.finish();
-    pass.take(store, scanner.met())?;
+    match pass.take(store, scanner.met()) {
+        Ok(()) => {}
+        Err(refusal) => return Err(refusal),
+    }
     pass.finish(store)
 }
 
