@@ -18,3 +18,4 @@ pub mod Counted
 pub mod Planned
 pub mod Fed
 pub mod DocsCounted
+pub mod Handing

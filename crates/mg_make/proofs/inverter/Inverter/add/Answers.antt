@@ -1,5 +1,4 @@
-use Rattle.std.proofs.Common.{◌≡◌, ◌≤◌, ◌+◌, ◌++◌, ◌∷◌, ℕ, List, [], length, length-append, subst, sym, ap, ◌∙◌, arith}
-use Rattle.mg_defs.specs.DocCounts.{last_with}
+use Rattle.std.proofs.Common.{◌++◌, ◌∷◌, ℕ, [], length-append, subst, sym, arith}
 use Rattle.mg_laws.proofs.DocCountLaws.{last_is_low}
 use Rattle.mg_make.specs.DocCounting.{AreDocCounts}
 use Rattle.mg_make.proofs.inverter.Inverter.add.Goals as goal
