@@ -1,5 +1,5 @@
 -- Whatever occurrences were counted, the lengths of lists are within what the writers of lists take.
-use Rattle.std.proofs.Common.{arith, ◌≡◌, ◌≤◌, ◌<◌, ◌+◌, ◌^◌, ◌==◌, ℕ, zero, suc, Bool, cond, List, [], ◌∷◌, length, take, get_or, map, refl, sym, ap, ◌∙◌, add-one}
+use Rattle.std.proofs.Common.{arith, ◌≡◌, ◌≤◌, ◌<◌, ◌+◌, ◌^◌, ◌==◌, ℕ, zero, suc, Bool, cond, List, [], ◌∷◌, length, take, get_or, refl, sym, ap, add-one}
 use Rattle.std.specs.Prelude.{nat_lt, sum, count_by}
 use Rattle.std.proofs.lemmas.Bool.Decides.{nat_tests}
 use Rattle.std.proofs.lemmas.List.{take_all}

@@ -1,5 +1,5 @@
 -- Lists and lexicon before the first term and after the last one.
-use Rattle.std.proofs.Common.{arith, ◌≡◌, ◌≤◌, ◌<◌, ◌+◌, ◌^◌, ℕ, zero, suc, List, [], ◌∷◌, length, map, take, drop, refl, sym, ap, subst, ◌∙◌, IsSome, is_some}
+use Rattle.std.proofs.Common.{arith, ◌≡◌, ◌≤◌, ◌<◌, ◌+◌, ◌^◌, ℕ, suc, List, [], ◌∷◌, length, map, take, refl, sym, ap, subst, ◌∙◌, IsSome}
 use Rattle.std.specs.Prelude.{replicate}
 use Rattle.std.specs.declared.option.Option.{Option}
 use Rattle.std.specs.List.{AllByRecursion, enumerate_from, flat_map}
@@ -8,7 +8,6 @@ use Rattle.mg_dev.specs.declared.part.Part.TheVariants.{Lex, LexAt, Post, Skip}
 use Rattle.mg_dev.specs.Files.{Files, bytes_at, file_at}
 use Rattle.mg_dev.specs.Names.{full_name}
 use Rattle.mg_defs.proofs.ListLaws.{list_rises}
-use Rattle.mg_defs.specs.declared.Posting.{Posting}
 use Rattle.mg_defs.specs.declared.TermPosting.{TermPosting}
 use Rattle.mg_defs.specs.CodedText.{as_bytes}
 use Rattle.mg_defs.specs.Front.{front, whole_at}
@@ -22,7 +21,7 @@ use Rattle.mg_lex.specs.Terms.{Term, entries_of, terms_of}
 use Rattle.mg_lex.specs.Writing.{LexWriting, TermsStand, TookTerms}
 use Rattle.mg_post.specs.Writing.{InBytes, Listing, Took}
 use Rattle.mg_runs.specs.Left.{IsMerging, Merging}
-use Rattle.mg_make.specs.Listing.{AreOfCollection, AreSquares, CanIndex, CanList, HasIndexed, HasLists, IsAtList, ListsStand, OfPostings}
+use Rattle.mg_make.specs.Listing.{AreOfCollection, AreSquares, CanIndex, HasIndexed, HasLists, ListsStand, OfPostings}
 use Rattle.mg_make.specs.Written.{OfLists, WroteParts}
 use Rattle.mg_make.proofs.ListFrames.{RunsStay, lex_at_stays, lex_stays, merging_stays_all}
 use Rattle.mg_make.proofs.SquareSteps.{summed_all, summed_none}

@@ -1,5 +1,5 @@
 -- Lists, lexicon, weights and the working parts side by side, and what was inverted of a collection.
-use Rattle.std.proofs.Common.{arith, ◌≡◌, ◌≢◌, ◌≤◌, ◌<◌, ◌+◌, ◌*◌, ◌/◌, ℕ, List, [], ◌∷◌, length, map, get_or, refl, sym, ap, subst, ◌∙◌, Some, IsSome, is_some}
+use Rattle.std.proofs.Common.{arith, ◌≡◌, ◌≢◌, ◌<◌, ◌/◌, ℕ, List, [], length, map, get_or, sym, ap, subst, ◌∙◌, Some, is_some}
 use Rattle.std.specs.Prelude.{replicate}
 use Rattle.std.specs.declared.option.Option.{Option}
 use Rattle.std.proofs.lemmas.List.{get_or-map, get_or_default, length-map, length-replicate, same_lists}
@@ -23,9 +23,9 @@ use Rattle.mg_defs.specs.Split.{documents}
 use Rattle.mg_defs.specs.Stands.{post_part, weights_part}
 use Rattle.mg_defs.specs.Terms.{dictionary}
 use Rattle.mg_runs.specs.Left.{IsMerging, Merging}
-use Rattle.mg_make.specs.DocCounting.{AreDocCounts, DocCounting}
+use Rattle.mg_make.specs.DocCounting.{DocCounting}
 use Rattle.mg_make.specs.Index.{IndexStands, IsInverted, OfIndex, OfWeights}
-use Rattle.mg_make.specs.Listing.{AreOfCollection, HasLists, ListsStand}
+use Rattle.mg_make.specs.Listing.{HasLists, ListsStand}
 use Rattle.mg_make.specs.Plans.{Plan}
 use Rattle.mg_make.specs.Written.{OfLists, WroteParts}
 use Rattle.mg_make.proofs.TermSteps.{lists_long}

@@ -1,6 +1,6 @@
 -- Lists and lexicon side by side: one term more.
-use Rattle.std.proofs.Common.{arith, ◌≡◌, ◌≢◌, ◌≤◌, ◌<◌, ◌+◌, ◌^◌, ℕ, zero, suc, true, List, [], ◌∷◌, ◌++◌, length, take, drop, get_or, refl, sym, ap, subst, ◌∙◌, Some, IsSome, is_some, ◌||◌, ◌==◌}
-use Rattle.std.specs.Prelude.{slice_get, slice_index, sum, replicate}
+use Rattle.std.proofs.Common.{arith, ◌≡◌, ◌≢◌, ◌<◌, ◌+◌, ℕ, zero, suc, true, List, [], ◌∷◌, ◌++◌, length, take, drop, get_or, refl, sym, ap, subst, ◌∙◌, Some, is_some, ◌||◌, ◌==◌}
+use Rattle.std.specs.Prelude.{slice_get, slice_index}
 use Rattle.std.specs.declared.option.Option.{Option}
 use Rattle.std.specs.declared.cmp.Ordering.TheVariants.{Less}
 use Rattle.std.specs.Cmp.Lexicographic.{slice_cmp}
@@ -12,17 +12,15 @@ use Rattle.mg_dev.specs.declared.part.Part.TheVariants.{Lex, LexAt, Post, Skip}
 use Rattle.mg_dev.specs.Files.{Files, file_at}
 use Rattle.mg_dev.specs.Names.{full_name}
 use Rattle.mg_defs.specs.declared.Posting.{Posting}
-use Rattle.mg_defs.specs.declared.TermPosting.{TermPosting}
 use Rattle.mg_defs.specs.Front.{is_below}
 use Rattle.mg_defs.specs.Lists.{inverted}
 use Rattle.mg_defs.specs.PostingLists.{by_terms}
-use Rattle.mg_defs.specs.Terms.{dictionary}
 use Rattle.mg_lex.specs.Terms.{Term, terms_of}
 use Rattle.mg_lex.specs.Writing.{LexWriting, TookTerms}
 use Rattle.mg_post.specs.Writing.{Listing, Took}
-use Rattle.mg_runs.specs.Left.{IsMerging, Merging}
-use Rattle.mg_make.specs.Listing.{AreListSizes, AreOfCollection, CanIndex, CanList, HasIndexed, IsAtList, ListedMore, OfPostings, SameMerge}
-use Rattle.mg_make.specs.Written.{OfLists, WroteParts}
+use Rattle.mg_runs.specs.Left.{Merging}
+use Rattle.mg_make.specs.Listing.{AreOfCollection, CanIndex, CanList, HasIndexed, IsAtList, ListedMore, OfPostings, SameMerge}
+use Rattle.mg_make.specs.Written.{WroteParts}
 use Rattle.mg_make.proofs.ListFrames.{RunsStay, lex_at_stays, lex_stays, merging_stays_all, post_stays, skip_stays, wrote_lex}
 use Rattle.mg_make.proofs.TermSteps.{lists_long, number_within, sizes_more}
 

@@ -21,3 +21,4 @@ pub mod DocsCounted
 pub mod SetFrames
 pub mod PutSteps
 pub mod EndSteps
+pub mod Handing

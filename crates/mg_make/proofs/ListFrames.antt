@@ -1,5 +1,5 @@
 -- What the writers of lists and lexicon leave as it is, and why they stop.
-use Rattle.std.proofs.Common.{arith, ◌≡◌, ◌≢◌, ◌≤◌, ◌+◌, ℕ, List, refl, sym, ap, ◌∙◌, subst, Ok, Err, is_some, Result}
+use Rattle.std.proofs.Common.{arith, ◌≡◌, ◌≢◌, ◌≤◌, ℕ, List, refl, sym, ap, ◌∙◌, subst, Ok, Err, is_some, Result}
 use Rattle.std.specs.Prelude.{IfErr, OnOk}
 use Rattle.std.specs.declared.option.Option.{Option}
 use Rattle.mg_dev.specs.declared.device.PutErr.{PutErr}

@@ -1,5 +1,5 @@
 -- One posting more of a list, over any store and over one that tells its files.
-use Rattle.std.proofs.Common.{arith, ◌≡◌, ◌≤◌, ◌<◌, ◌+◌, ◌^◌, ℕ, List, [], ◌∷◌, ◌++◌, length, take, drop, refl, sym, ap, subst, ◌∙◌, append_assoc, append-nil, IsSome, is_some, get_or, length-drop}
+use Rattle.std.proofs.Common.{arith, ◌≡◌, ◌≤◌, ◌<◌, ◌+◌, ℕ, List, [], ◌∷◌, ◌++◌, length, take, drop, sym, ap, subst, ◌∙◌, append_assoc, IsSome, is_some, get_or, length-drop}
 use Rattle.std.proofs.lemmas.List.{drop_all, drop_more, nil_from_length, take_all, take_more}
 use Rattle.std.specs.declared.option.Option.{Option}
 use Rattle.std.specs.List.{AllByRecursion}
@@ -11,7 +11,7 @@ use Rattle.mg_defs.specs.declared.TermPosting.{TermPosting}
 use Rattle.mg_defs.specs.Lists.{Follows, Rises}
 use Rattle.mg_defs.specs.PostingLists.{by_terms, term_list}
 use Rattle.mg_defs.specs.Squares.{squares}
-use Rattle.mg_post.specs.Writing.{IsBetween, Listing, Pushed, SameFiles, Took, posting_of}
+use Rattle.mg_post.specs.Writing.{IsBetween, Listing, SameFiles, Took}
 use Rattle.mg_runs.specs.Left.{IsMerging, Merging}
 use Rattle.mg_make.specs.Listing.{AreSquares, CanList, HasNext, HasList, HasRest, IsAtList, IsInList, OfPostings, PushedMore, SameMerge, SquaresFit}
 use Rattle.mg_make.specs.Written.{WroteParts}

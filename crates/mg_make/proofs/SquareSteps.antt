@@ -1,10 +1,10 @@
 -- Sums of squared weights, one posting and one list after the other.
-use Rattle.std.proofs.Common.{arith, zero, suc, ◌≢◌, length-set, get_or-set_other, ◌≡◌, ◌≤◌, ◌<◌, ◌+◌, ◌-◌, ◌*◌, ◌^◌, ◌==◌, ℕ, List, [], ◌∷◌, ◌++◌, length, map, get_or, set, min, cond, sum_by, refl, sym, ap, subst, ◌∙◌, inl, inr, append_assoc}
-use Rattle.std.specs.Prelude.{replicate, nat_eq}
+use Rattle.std.proofs.Common.{arith, zero, suc, ◌≢◌, length-set, get_or-set_other, ◌≡◌, ◌≤◌, ◌<◌, ◌+◌, ◌-◌, ◌*◌, ◌^◌, ℕ, List, [], ◌∷◌, ◌++◌, length, get_or, set, min, cond, sum_by, refl, sym, ap, ◌∙◌, inl, inr}
+use Rattle.std.specs.Prelude.{replicate}
 use Rattle.std.proofs.lemmas.Bool.{eq-eqb, ne_eqb, cases_eq}
 use Rattle.std.proofs.lemmas.Grind.{get_or-set_at}
 use Rattle.std.proofs.lemmas.List.{same_lists, get_or-map, get_or_default, length-map}
-use Rattle.std.proofs.lemmas.List.Sums.{sum_by-cons, sum_by-append, sum_by_push}
+use Rattle.std.proofs.lemmas.List.Sums.{sum_by-append, sum_by_push}
 use Rattle.mg_defs.specs.declared.Posting.{Posting}
 use Rattle.mg_defs.specs.Squares.{numbers_from, square_at, squares, squares_to}
 use Rattle.mg_defs.specs.Weights.{weight_in_doc}

@@ -1,15 +1,15 @@
 -- One term more of the lexicon, with its list.
-use Rattle.std.proofs.Common.{arith, ◌≡◌, ◌≤◌, ◌<◌, ◌+◌, ◌/◌, ◌^◌, ℕ, zero, suc, true, cond, List, [], ◌∷◌, ◌++◌, length, map, take, drop, get_or, refl, sym, ap, subst, ◌∙◌, add-one, inl, inr, Some, IsSome, is_some, ◌||◌, ◌==◌}
+use Rattle.std.proofs.Common.{arith, ◌≡◌, ◌≤◌, ◌<◌, ◌+◌, ◌/◌, ℕ, zero, suc, true, cond, List, [], ◌∷◌, ◌++◌, length, map, take, drop, get_or, refl, sym, ap, subst, ◌∙◌, add-one, inl, inr, Some}
 use Rattle.std.specs.Prelude.{count_by, slice_get, slice_index, sum}
 use Rattle.std.specs.declared.option.Option.{Option}
-use Rattle.std.specs.List.{AllByRecursion, enumerate_from, flat_map, list_any}
+use Rattle.std.specs.List.{enumerate_from, flat_map, list_any}
 use Rattle.std.specs.Str.{bytes_eq}
 use Rattle.std.proofs.lemmas.Bool.{false≢true, or_cases}
-use Rattle.std.proofs.lemmas.List.{drop_more, get_or-map, length-map, take_more}
+use Rattle.std.proofs.lemmas.List.{drop_more, get_or-map, length-map}
 use Rattle.std.proofs.lemmas.List.Elements.{Contains-get_or}
 use Rattle.std.proofs.lemmas.List.Folds.{list_any-append}
 use Rattle.std.proofs.lemmas.List.Sums.{sum_by-cons, sum_by_more, sum_by_more_le}
-use Rattle.std.proofs.lemmas.Option.{get_or_from_slice_get, slice_get-get_or}
+use Rattle.std.proofs.lemmas.Option.{get_or_from_slice_get}
 use Rattle.mg_dev.specs.Files.{Files}
 use Rattle.mg_defs.proofs.SortedLaws.{has-from, has-sorted}
 use Rattle.mg_defs.proofs.StandGrow.{docs-are}
@@ -19,10 +19,10 @@ use Rattle.mg_defs.specs.Lists.{inverted, lists_bits, lists_entries, postings}
 use Rattle.mg_defs.specs.Split.{documents}
 use Rattle.mg_defs.specs.Terms.{all_terms, dictionary, docs, same_term, terms}
 use Rattle.mg_lex.specs.Terms.{Term, terms_of}
-use Rattle.mg_lex.specs.Writing.{LexWriting, TookTerms}
+use Rattle.mg_lex.specs.Writing.{LexWriting}
 use Rattle.mg_post.specs.Writing.{Listing}
 use Rattle.mg_runs.specs.Left.{Merging}
-use Rattle.mg_make.specs.Listing.{AreListSizes, AreOfCollection, HasIndexed, HasList, IsAtList}
+use Rattle.mg_make.specs.Listing.{AreOfCollection, HasIndexed, HasList, IsAtList}
 
 -- ---- terms in a row
 

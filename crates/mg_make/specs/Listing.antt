@@ -4,10 +4,10 @@ use Rattle.std.specs.List.{AllByRecursion}
 use Rattle.std.specs.Option.{IsSome}
 use Rattle.std.specs.declared.option.Option.{Option}
 use Rattle.mg_dev.specs.declared.part.Part.{Part as AnyPart}
-use Rattle.mg_dev.specs.declared.part.Part.TheVariants.{Head, Lex, LexAt, MergeA, MergeB, Post, Skip, Weights}
+use Rattle.mg_dev.specs.declared.part.Part.TheVariants.{Lex, LexAt, Post, Skip}
 use Rattle.mg_dev.specs.declared.fault.Fault.{Fault}
 use Rattle.mg_dev.specs.declared.fault.Fault.TheVariants.{Changed, Damaged, Memory, StoreFault}
-use Rattle.mg_dev.specs.Files.{Files, bytes_at, file_at}
+use Rattle.mg_dev.specs.Files.{Files, bytes_at}
 use Rattle.mg_dev.specs.Names.{full_name}
 use Rattle.mg_defs.specs.declared.Posting.{Posting}
 use Rattle.mg_defs.specs.declared.TermPosting.{TermPosting}
@@ -17,7 +17,6 @@ use Rattle.mg_defs.specs.Lists.{Follows, Rises, inverted, post_bits, skip_bits}
 use Rattle.mg_defs.specs.PostingLists.{by_terms, term_list}
 use Rattle.mg_defs.specs.Split.{documents}
 use Rattle.mg_defs.specs.Squares.{squares}
-use Rattle.mg_defs.specs.Stands.{post_part, weights_part}
 use Rattle.mg_defs.specs.Terms.{dictionary}
 use Rattle.mg_lex.specs.Terms.{Term, terms_of}
 use Rattle.mg_lex.specs.Writing.{LexWriting, TookTerms}

@@ -1,4 +1,4 @@
-use Rattle.std.proofs.Common.{arith, ◌∙◌, ℕ, List, length, sym, subst}
+use Rattle.std.proofs.Common.{arith, ◌∙◌, length, sym, subst}
 use Rattle.std.proofs.lemmas.Result.{err_from_is_err_and}
 use Rattle.mg_make.specs.Listing.{AreListSizes, HasIndexed}
 use Rattle.mg_make.specs.Written.{OfLists, WroteParts}
