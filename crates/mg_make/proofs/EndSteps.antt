@@ -20,7 +20,8 @@ use Rattle.mg_make.specs.DocCounting.{AreDocCounts}
 use Rattle.mg_make.specs.Finishing.{EndsWith, budget_of}
 use Rattle.mg_make.specs.Fronts.{IsFrontOf}
 use Rattle.mg_make.specs.Listing.{ListStops}
-use Rattle.mg_make.specs.Plans.{IsPlanOf, Plan}
+use Rattle.mg_make.specs.Plans.{IsPlanOf}
+use Rattle.mg_make.specs.Putting.{IsHanded}
 use Rattle.mg_make.specs.Scanning.{HasMet, Scanning}
 use Rattle.mg_make.specs.Second.{FinishStops, HasWritten, Inversion, IsNext, IsWhole, SamePass, StopsBefore, WroteMarks, coded_by, occurring_by}
 use Rattle.mg_make.specs.Written.{SecondStops, WroteSecond}
@@ -42,26 +43,20 @@ is_whole s f fed written = record { collection = fed; written = written }
 
 -- ---- what is handed on
 
-module _ (old new : Inversion) (f g h : Option Files) (same : SamePass old new) (told : is_some g ≡ is_some f) (met : List Mark) where
-  pub ends_before : (r : Inverted) → EndsWith new met g h r → EndsWith old met f h r
-  ends_before r ends = record {
-    documents = ends.documents ∙ ap (λ (p : Plan). length p.pairs) same.plan;
-    text = λ is. subst (λ b. DocumentsStand b h (coded_by old.plan met)) same.base (subst (λ (p : Plan). DocumentsStand new.base h (coded_by p met)) same.plan (ends.text (told ∙ is)));
-    size = ends.size ∙ ap (λ (p : Plan). length (text_bytes (coded_by p met))) same.plan;
-    run = λ is. subst (λ b. bytes_at h (full_name b Run) ≡ as_bytes (run_part_bits (run_cap (budget_of old)) (occurring_by old.plan met))) same.base
-      (subst (λ n. bytes_at h (full_name new.base Run) ≡ as_bytes (run_part_bits (run_cap n) (occurring_by old.plan met))) same.limit
-      (subst (λ (p : Plan). bytes_at h (full_name new.base Run) ≡ as_bytes (run_part_bits (run_cap (budget_of new)) (occurring_by p met))) same.plan (ends.run (told ∙ is))));
-    merge = subst (λ (p : Plan). IsMerging r.merge h (postings (occurring_by p met))) same.plan ends.merge;
-    base = ends.base ∙ same.base;
-    runs = ends.runs ∙ ap (λ (p : Plan). run_count (length (occurring_by p met)) (run_cap (budget_of new))) same.plan ∙ ap (λ n. run_count (length (occurring_by old.plan met)) (run_cap n)) same.limit;
-    peak = ends.peak ∙ ap (λ (p : Plan). pool_peak (length (occurring_by p met)) (budget_of new)) same.plan ∙ ap (λ n. pool_peak (length (occurring_by old.plan met)) n) same.limit;
-    counts = subst (λ (p : Plan). AreDocCounts r.counts (length p.terms.terms) (occurring_by p met)) same.plan ends.counts;
-    occurrences = ends.occurrences ∙ ap (λ (p : Plan). length (occurring_by p met)) same.plan;
-  }
-
-  pub ends_all : (r : Result Inverted Fault) → IfOk r (λ inverted. EndsWith new met g h inverted) → IfOk r (λ inverted. EndsWith old met f h inverted)
-  ends_all (Ok inverted) ends = ends_before inverted ends
-  ends_all (Err fault) ends = tt
+pub handed_all : (r : Result Inverted Fault) (old new : Inversion) (f g h : Option Files) (fed : List ℕ) → SamePass old new → is_some g ≡ is_some f → length fed < 2 ^ 32 → HasWritten new g (marks fed)
+  → IfOk r (λ inverted. EndsWith new (marks fed) g h inverted) → IfOk r (λ inverted. IsHanded old.plan (budget_of old) old.base fed f h inverted)
+handed_all (Err fault) old new f g h fed same told few written ends = tt
+handed_all (Ok inverted) old new f g h fed same told few written ends = record {
+  few = few;
+  pass = new;
+  middle = g;
+  written = written;
+  ends = ends;
+  plan_is = same.plan;
+  limit_is = same.limit;
+  base_is = same.base;
+  told = told;
+}
 
 -- ---- why it stops
 

@@ -1,5 +1,5 @@
 -- A set that is being written.
-use Rattle.std.specs.Prelude.{◌≡◌, ◌≢◌, ◌⊎◌, ℕ, List, [], length, replicate, Some}
+use Rattle.std.specs.Prelude.{◌≡◌, ◌≢◌, ◌⊎◌, ◌<◌, ◌^◌, ℕ, List, [], length, replicate, Some}
 use Rattle.std.specs.Option.{IsSome, is_some}
 use Rattle.std.specs.declared.option.Option.{Option}
 use Rattle.mg_dev.specs.declared.part.Part.{Part as AnyPart}
@@ -9,16 +9,17 @@ use Rattle.mg_dev.specs.Files.{Files, bytes_at, file_at}
 use Rattle.mg_dev.specs.Names.{full_name}
 use Rattle.mg_defs.specs.CodedText.{IsTextCode, TextCode, as_bytes, pieces_part, places_of, text_of}
 use Rattle.mg_defs.specs.Limits.{IsWithinLimits}
-use Rattle.mg_defs.specs.Marks.{Mark}
+use Rattle.mg_defs.specs.Marks.{Mark, marks}
 use Rattle.mg_defs.specs.Occurrences.{occurrences}
 use Rattle.mg_defs.specs.RunBits.{run_part_bits}
 use Rattle.mg_model.specs.Models.{PartsHold}
-use Rattle.mg_make.specs.Finishing.{budget_of}
+use Rattle.mg_make.specs.Finishing.{EndsWith, budget_of}
 use Rattle.mg_make.specs.Index.{IndexStands}
 use Rattle.mg_make.specs.Plans.{Plan}
 use Rattle.mg_make.specs.Scanning.{HasMet, Scanning}
 use Rattle.mg_make.specs.Second.{HasWritten, Inversion}
-use Rattle.mg_make.specs.Written.{OfSecond, WroteParts}
+use Rattle.mg_make.specs.Written.{OfSecond}
+use Rattle.mg_make.specs.declared.second.Inverted.{Inverted}
 
 -- ---- names
 
@@ -78,3 +79,17 @@ pub record IsReady (cap : ℕ) (files : Option Files) (base : List ℕ) (code : 
   pub places : bytes_at files (full_name base part.Places) ≡ places_of 2 code collection
   pub run : bytes_at files (full_name base Run) ≡ as_bytes (run_part_bits cap (occurrences collection))
   pub index : IndexStands files base collection
+
+-- ---- what the second pass hands on
+
+-- A pass that wrote all marks of these bytes, by this plan and in a pool of so many bytes, ended so.
+pub record IsHanded (plan : Plan) (limit : ℕ) (base fed : List ℕ) (before now : Option Files) (r : Inverted) : Type 0 where
+  pub few : length fed < 2 ^ 32
+  pub pass : Inversion
+  pub middle : Option Files
+  pub written : HasWritten pass middle (marks fed)
+  pub ends : EndsWith pass (marks fed) middle now r
+  pub plan_is : pass.plan ≡ plan
+  pub limit_is : budget_of pass ≡ limit
+  pub base_is : pass.base ≡ base
+  pub told : is_some middle ≡ is_some before

@@ -4,27 +4,27 @@
 //! What is written here may be parts of no collection, where the bytes are not those that were counted or
 //! where a store gives back other bytes than it got. So each step says what it wrote for the bytes that
 //! came, and which numbers it hands on whatever comes.
-ghost use Rattle.std.specs.Prelude.{◌≡◌, ◌≤◌, ◌<◌, ◌^◌, ℕ, List, [], length, replicate, IfErr, IfOk, OnOk, Some};
+ghost use Rattle.std.specs.Prelude.{◌≡◌, ◌≤◌, ◌<◌, ◌^◌, ℕ, List, [], Option, length, replicate, IfErr, IfOk, OnOk, Some};
 ghost use Rattle.std.specs.Option.{IsSome};
 ghost use Rattle.mg_dev.specs.Causes.{HasPutCause, Rose};
-ghost use Rattle.mg_dev.specs.Files.{file_at};
+ghost use Rattle.mg_dev.specs.Files.{Files, file_at};
 ghost use Rattle.mg_dev.specs.Names.{full_name};
 ghost use Rattle.mg_dev.specs.declared.part.Part.TheVariants as part;
 ghost use Rattle.mg_defs.specs.Heads.{IsWithin};
-ghost use Rattle.mg_defs.specs.Marks.{Mark, marks};
+ghost use Rattle.mg_defs.specs.Marks.{Mark};
 ghost use Rattle.mg_defs.specs.Occurrences.{occurrences};
 ghost use Rattle.mg_defs.specs.Stands.{head_of};
 ghost use Rattle.mg_defs.specs.Summaries.{pool_peak, run_cap};
 ghost use Rattle.mg_layout.specs.HeadAnswers.{fields_of};
 ghost use Rattle.mg_model.specs.Models.{PartsHold};
 ghost use Rattle.mg_make.specs.DocCounting.{AreDocCounts};
-ghost use Rattle.mg_make.specs.Finishing.{EndsWith, budget_of};
+ghost use Rattle.mg_make.specs.Finishing.{budget_of};
 ghost use Rattle.mg_make.specs.Listing.{ListStops};
 ghost use Rattle.mg_make.specs.Plans.{IsPlan, IsPlanOf};
-ghost use Rattle.mg_make.specs.Putting.{IsReady, IsUnbuilt, OfPass};
+ghost use Rattle.mg_make.specs.Putting.{IsHanded, IsUnbuilt, OfPass};
 ghost use Rattle.mg_make.specs.Scanning.{HasMet};
-ghost use Rattle.mg_make.specs.Second.{HasWritten, Inversion};
-ghost use Rattle.mg_make.specs.Index.{OfIndex};
+ghost use Rattle.mg_make.specs.Second.{HasWritten};
+ghost use Rattle.mg_make.specs.Index.{IndexStands, OfIndex};
 ghost use Rattle.mg_make.specs.Written.{WroteParts, WroteSecond};
 
 use crate::doc_counts::DocCounts;
@@ -84,8 +84,8 @@ pub(crate) fn end_pass<'a, S: Store>(
     pass: SecondPass<'a>,
 ) -> Result<Inverted<'a>, Fault>
     requires put { (fed : List ℕ) × (met : List Mark) × HasMet scanner.old fed met × HasWritten pass (S.files store.old) met × (length fed < 2 ^ 32) }
-    ensures ends { (fed : List ℕ) (met : List Mark) → HasMet scanner.old fed met → HasWritten pass.entry (S.files store.old) met →
-        IfOk result (λ inverted. EndsWith pass.entry (marks fed) (S.files store.old) (S.files store.new) inverted) }
+    ensures handed { (fed : List ℕ) (met : List Mark) → HasMet scanner.old fed met → HasWritten pass.entry (S.files store.old) met → length fed < 2 ^ 32 →
+        IfOk result (λ inverted. IsHanded pass.entry.plan (budget_of pass.entry) pass.entry.base fed (S.files store.old) (S.files store.new) inverted) }
     ensures wrote { WroteSecond pass.entry.base (S.files store.old) (S.files store.new) }
     ensures later { S.faults store.old ≤ S.faults store.new }
     ensures refused { IfErr result (λ fault. (fed : List ℕ) (met : List Mark) → HasMet scanner.old fed met → HasWritten pass.entry (S.files store.old) met → length fed < 2 ^ 32 →
@@ -100,8 +100,9 @@ pub(crate) fn end_pass<'a, S: Store>(
     pass.finish(store)
 }
 
-/// Writes lists, lexicon and weights, and makes the head that belongs to the set.
-pub(crate) fn write_index<S: Store>(
+/// Writes lists, lexicon and weights, and makes the head that belongs to the set, with the greatest use of
+/// the pool.
+pub(crate) fn write_rest<S: Store>(
     alloc: Global,
     store: &mut S,
     base: &str,
@@ -109,10 +110,22 @@ pub(crate) fn write_index<S: Store>(
     inverted: Inverted<'_>,
     sums: &mut Vec<u64>,
     size: u64,
+    limit: u64,
 ) -> Result<(Head, u64), Fault>
-    requires base { inverted.merge.base ≡ base.now }
-    requires zero { sums.old.items ≡ replicate (length plan.now.pairs) 0 }
+    requires handed { (fed : List ℕ) × (before : Option Files) × IsHanded plan.now limit base.now fed before (S.files store.old) inverted × (size ≡ length fed) }
     requires plan { IsPlan plan.now }
+    requires zero { sums.old.items ≡ replicate (length plan.now.pairs) 0 }
+    ensures within { IfOk result (λ made. IsWithin (fields_of made.0)) }
+    ensures head { (fed : List ℕ) (before : Option Files) → IsHanded plan.now limit base.now fed before (S.files store.old) inverted.entry → size ≡ length fed → IsSome (S.files store.old) →
+        IsPlanOf plan.now fed → IfOk result (λ made. fields_of made.0 ≡ head_of 2 (run_cap limit) plan.now.code fed) }
+    ensures peak { (fed : List ℕ) (before : Option Files) → IsHanded plan.now limit base.now fed before (S.files store.old) inverted.entry → IsPlanOf plan.now fed →
+        IfOk result (λ made. made.1 ≡ pool_peak (length (occurrences fed)) limit) }
+    ensures stand { (fed : List ℕ) (before : Option Files) → IsHanded plan.now limit base.now fed before (S.files store.old) inverted.entry → IsSome (S.files store.old) → IsPlanOf plan.now fed →
+        OnOk result (IndexStands (S.files store.new) base.now fed) }
+    ensures wrote { WroteParts OfIndex base.now (S.files store.old) (S.files store.new) }
+    ensures later { S.faults store.old ≤ S.faults store.new }
+    ensures refused { IfErr result (λ fault. (fed : List ℕ) (before : Option Files) → IsHanded plan.now limit base.now fed before (S.files store.old) inverted.entry →
+        ListStops (Rose (S.faults store.old) (S.faults store.new)) (IsSome (S.files store.old) × IsPlanOf plan.now fed) fault) }
 {
     let Inverted {
         text_bytes,
@@ -120,14 +133,17 @@ pub(crate) fn write_index<S: Store>(
         counts,
         occurrences,
     } = inverted;
-    let sizes = write_all(alloc, store, base, &mut merge, plan, &counts, sums)?;
+    let sizes = match write_all(alloc, store, base, &mut merge, plan, &counts, sums) {
+        Ok(sizes) => sizes,
+        Err(refusal) => return Err(refusal),
+    };
     let head = Head {
         version: BUILT,
         documents: plan.pairs.len() as u32,
         words: plan.model.canon(Stream::Words).count(),
         others: plan.model.canon(Stream::Others).count(),
         terms: plan.table.count(),
-        cap: 0,
+        cap: (limit / 12) as u32,
         open_end: plan.open_end,
         collection: size,
         occurrences,

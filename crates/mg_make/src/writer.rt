@@ -31,6 +31,7 @@ use std::marker::Model;
 pub struct SetWriter<'a> {
     base: &'a str,
     plan: &'a Plan,
+    limit: u64,
     scanner: Scanner,
     pass: SecondPass<'a>,
     sums: Vec<u64>,
@@ -42,7 +43,7 @@ impl<'a> Model for SetWriter<'a> {
 
     ghost Value = { Putting };
 
-    ghost view = { λ w. record { base = w.base.now; plan = w.plan.now; limit = w.pass.index.runs.pool.limit; scanning = w.scanner; pass = w.pass; sums = w.sums.items; size = w.size } };
+    ghost view = { λ w. record { base = w.base.now; plan = w.plan.now; limit = w.limit; scanning = w.scanner; pass = w.pass; sums = w.sums.items; size = w.size } };
 }
 
 impl<'a> SetWriter<'a> {
@@ -65,11 +66,13 @@ impl<'a> SetWriter<'a> {
         ensures cause { HasPutCause (S.faults store.old) (S.faults store.new) result }
     {
         let Room { pool, counts, sums } = room;
+        let limit = pool.limit();
         reset_head(store, base)?;
         let pass = open_parts(alloc, store, base, plan, pool, counts)?;
         Ok(SetWriter {
             base,
             plan,
+            limit,
             scanner: Scanner::new(),
             pass,
             sums,

@@ -2,8 +2,9 @@ use Rattle.std.proofs.Common.{arith, ◌≡◌, ◌∙◌, ◌++◌, ◌≤◌, 
 use Rattle.mg_defs.specs.Marks.{Mark, marks}
 use Rattle.mg_make.specs.Meeting.{Meeting, marks_of}
 use Rattle.mg_make.specs.Scanning.{HasMet}
+use Rattle.mg_make.specs.Second.{HasWritten}
 use Rattle.mg_make.proofs.Frames.{wrote_both, wrote_for}
-use Rattle.mg_make.proofs.EndSteps.{all_written, end_refused, ends_all, is_whole, last_marks, rose_behind, stops_before}
+use Rattle.mg_make.proofs.EndSteps.{all_written, end_refused, handed_all, is_whole, last_marks, rose_behind, stops_before}
 use Rattle.mg_make.proofs.set_parts.end_pass.Goals as goal
 
 pub take-requires : goal.take-requires
@@ -28,13 +29,15 @@ finish-requires-2 g c =
     record { whole = is_whole c.take.new.self (g.S.Store.files c.take.new.store) c.requires.put.0
       (all_written c.args.pass c.take.new.self (g.S.Store.files c.args.store.now) (g.S.Store.files c.take.new.store) c.requires.put.0 c.requires.put.1 next c.in-Ok.ensures.written c.requires.put.3 (whole c.requires.put.0 c.requires.put.1 c.requires.put.2)) }
 
-pub returns-clause-ends : goal.returns-clause-ends
-returns-clause-ends g c = λ fed met scanned written.
+pub returns-clause-handed : goal.returns-clause-handed
+returns-clause-handed g c = λ fed met scanned written few.
     let next = marks_of c.met.result.now in
     let whole : ((fed : List ℕ) (met : List Mark) → HasMet c.args.scanner.now fed met → marks fed ≡ met ++ next)
         = λ fed met h. subst (λ (m : Meeting). marks fed ≡ met ++ marks_of m) (sym c.met.ensures) (c.finish.ensures.met fed met h) in
-    ends_all c.args.pass c.take.new.self (g.S.Store.files c.args.store.now) (g.S.Store.files c.take.new.store) (g.S.Store.files c.finish-2.new.store) c.in-Ok.ensures.same c.in-Ok.ensures.wrote.told (marks fed) c.finish-2.result
-      (c.finish-2.ensures.ends (marks fed) (all_written c.args.pass c.take.new.self (g.S.Store.files c.args.store.now) (g.S.Store.files c.take.new.store) fed met next c.in-Ok.ensures.written written (whole fed met scanned)))
+    let all : HasWritten c.take.new.self (g.S.Store.files c.take.new.store) (marks fed)
+        = all_written c.args.pass c.take.new.self (g.S.Store.files c.args.store.now) (g.S.Store.files c.take.new.store) fed met next c.in-Ok.ensures.written written (whole fed met scanned) in
+    handed_all c.finish-2.result c.args.pass c.take.new.self (g.S.Store.files c.args.store.now) (g.S.Store.files c.take.new.store) (g.S.Store.files c.finish-2.new.store) fed c.in-Ok.ensures.same c.in-Ok.ensures.wrote.told few all
+      (c.finish-2.ensures.ends (marks fed) all)
 
 pub returns-clause-wrote : goal.returns-clause-wrote
 returns-clause-wrote g c = wrote_both c.args.pass.base _ _ _ c.in-Ok.ensures.wrote (wrote_for c.args.pass.base c.take.new.self.base _ _ c.in-Ok.ensures.same.base c.finish-2.ensures.wrote)
