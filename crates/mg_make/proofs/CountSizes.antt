@@ -60,21 +60,24 @@ sum_first docs fed (suc n) le each =
       ap (λ m. count_by (is_under m) (postings fed)) (add-one n),
     )
 
+-- together the terms have no more documents than occurrences
+pub together : (c : DocCounting) (terms : ℕ) (fed : List (ℕ × ℕ)) → AreDocCounts c terms fed → sum c.docs ≤ length fed
+together c terms fed are =
+    omega (
+      arith,
+      ap (λ xs. sum xs) (take_all (length c.docs) c.docs (omega arith)),
+      sum_first c.docs fed (length c.docs) (omega arith) (λ k lt. are.docs k (omega (arith, lt, are.doc_size))),
+      count_by-le-length (is_under (length c.docs)) (postings fed),
+      length_postings fed,
+    )
+
 pub sizes_of_counts :
     ((term doc : ℕ) (fed : List (ℕ × ℕ)) → NeverFall 0 fed doc → last_with term 0 fed ≤ doc) →
     (c : DocCounting) (terms all : ℕ) (fed : List (ℕ × ℕ)) → AreDocCounts c terms fed → NeverFall 0 fed all → length fed < 2 ^ 32 → all ≤ 2 ^ 24 → AreListSizes c.docs terms all
 sizes_of_counts low c terms all fed are order short few = record {
   each = are.doc_size;
   within = λ k lt. omega (arith, are.few k lt, are.last k lt, low k all fed order);
-  total =
-      omega (
-        arith,
-        ap (λ xs. sum xs) (take_all (length c.docs) c.docs (omega arith)),
-        sum_first c.docs fed (length c.docs) (omega arith) (λ k lt. are.docs k (omega (arith, lt, are.doc_size))),
-        count_by-le-length (is_under (length c.docs)) (postings fed),
-        length_postings fed,
-        short,
-      );
+  total = omega (arith, together c terms fed are, short);
   documents = few;
 }
 

@@ -22,3 +22,4 @@ pub mod SetFrames
 pub mod PutSteps
 pub mod EndSteps
 pub mod Handing
+pub mod RestSteps

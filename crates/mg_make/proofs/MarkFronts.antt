@@ -180,7 +180,7 @@ has_symbol met kind x collection f none =
 
 -- ---- occurrences
 
-same_number : (a b : List (List ℕ)) (doc from : ℕ) (met : List Mark) → length (terms_from a doc met) ≡ length (terms_from b from met)
+pub same_number : (a b : List (List ℕ)) (doc from : ℕ) (met : List Mark) → length (terms_from a doc met) ≡ length (terms_from b from met)
 same_number a b doc from [] = refl
 same_number a b doc from (start ∷ met) = same_number a b (doc + 1) (from + 1) met
 same_number a b doc from (piece Words [] ∷ met) = same_number a b doc from met

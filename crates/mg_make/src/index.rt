@@ -1,5 +1,5 @@
 //! Lists, lexicon and weights, from what was inverted.
-ghost use Rattle.std.specs.Prelude.{◌≡◌, ◌≤◌, ℕ, List, [], flat_map, length, replicate, IfOk, IfErr, OnOk, IsSome, Some};
+ghost use Rattle.std.specs.Prelude.{◌≡◌, ◌≤◌, ℕ, List, [], flat_map, length, replicate, IfOk, IfErr, OnOk, IsSome, Some, sum};
 ghost use Rattle.mg_dev.specs.Causes.{HasPutCause, Rose};
 ghost use Rattle.mg_dev.specs.Files.{bytes_at, file_at};
 ghost use Rattle.mg_dev.specs.Names.{full_name};
@@ -66,6 +66,7 @@ pub(crate) fn write_all<S: Store>(
         IfOk result (λ sizes. sizes.post_bytes ≡ length (post_part collection)) }
     ensures skip_count { (collection : List ℕ) → IsInverted plan.now counts.now collection merge.old (S.files store.old) →
         IfOk result (λ sizes. sizes.skip_count ≡ skip_count collection) }
+    ensures few { IfOk result (λ sizes. sizes.skip_count ≤ sum counts.now.docs) }
     ensures refused { IfErr result (λ fault. (collection : List ℕ) →
         ListStops (Rose (S.faults store.old) (S.faults store.new)) (IsInverted plan.now counts.now collection merge.old (S.files store.old)) fault) }
     ensures same { SameMerge merge.old merge.new }

@@ -3,7 +3,7 @@
 //! Postings come by term and then by document. So list by list is written as they come, and beside it
 //! what the lexicon tells of its term. What a posting adds to the weight of its document goes into the
 //! document's sum at once: no list is kept.
-ghost use Rattle.std.specs.Prelude.{◌≡◌, ◌≢◌, ◌<◌, ◌≤◌, ◌+◌, ◌*◌, ◌/◌, ◌^◌, ◌++◌, ◌∷◌, ℕ, List, [], length, replicate, IfOk, IfErr, OnOk, IsSome, is_some};
+ghost use Rattle.std.specs.Prelude.{◌≡◌, ◌≢◌, ◌<◌, ◌≤◌, ◌+◌, ◌*◌, ◌/◌, ◌^◌, ◌++◌, ◌∷◌, ℕ, List, [], length, replicate, IfOk, IfErr, OnOk, IsSome, is_some, sum};
 ghost use Rattle.std.specs.Cmp.Lexicographic.{slice_cmp};
 ghost use Rattle.std.specs.List.Sorted.{IsStrictlySortedBy};
 ghost use Rattle.std.specs.Ordering.{nat_cmp};
@@ -184,6 +184,7 @@ fn finish<S: Store>(store: &mut S, writer: &mut IndexWriter<'_>) -> Result<Sizes
     ensures skip_count { (collection : List ℕ) → writer.old.lists.all ≡ length (documents collection) →
         Took writer.old.lists (S.files store.old) (inverted collection) [] →
         IfOk result (λ sizes. sizes.skip_count ≡ length (lists_entries (length (documents collection)) (inverted collection))) }
+    ensures few { IfOk result (λ sizes. sizes.skip_count ≤ writer.old.lists.total) }
     ensures wrote { WroteParts OfLists writer.old.lex.base (S.files store.old) (S.files store.new) }
     ensures cause { HasPutCause (S.faults store.old) (S.faults store.new) result }
 {
@@ -220,6 +221,7 @@ fn write_index<S: Store>(
     ensures skip_count { (collection : List ℕ) →
         HasIndexed table.now.terms counts.now.docs collection 0 merge.old writer.old.lists writer.old.lex sums.old.items (S.files store.old) →
         IfOk result (λ sizes. sizes.skip_count ≡ length (lists_entries (length (documents collection)) (inverted collection))) }
+    ensures few { IfOk result (λ sizes. sizes.skip_count ≤ sum counts.now.docs) }
     ensures refused { IfErr result (λ fault. (collection : List ℕ) → ListStops (Rose (S.faults store.old) (S.faults store.new))
         (HasIndexed table.now.terms counts.now.docs collection 0 merge.old writer.old.lists writer.old.lex sums.old.items (S.files store.old)) fault) }
     ensures same { SameMerge merge.old merge.new }
@@ -257,6 +259,7 @@ pub(crate) fn write_lists<S: Store>(
         IfOk result (λ sizes. sizes.post_bytes ≡ length (post_bits collection) / 8) }
     ensures skip_count { (collection : List ℕ) → HasLists table.now.terms counts.now.docs (length sums.old.items) collection merge.old (S.files store.old) →
         IfOk result (λ sizes. sizes.skip_count ≡ length (lists_entries (length (documents collection)) (inverted collection))) }
+    ensures few { IfOk result (λ sizes. sizes.skip_count ≤ sum counts.now.docs) }
     ensures refused { IfErr result (λ fault. (collection : List ℕ) → ListStops (Rose (S.faults store.old) (S.faults store.new))
         (HasLists table.now.terms counts.now.docs (length sums.old.items) collection merge.old (S.files store.old)) fault) }
     ensures same { SameMerge merge.old merge.new }

@@ -33,6 +33,14 @@ impl Model for Plan {
 }
 
 impl Plan {
+    /// The number of documents.
+    pub(crate) fn documents(&self) -> u32
+        requires { length self.now.pairs ≤ 2 ^ 24 }
+        ensures { result ≡ length self.now.pairs }
+    {
+        self.pairs.len() as u32
+    }
+
     /// The plan of a collection of which these are the counts.
     pub(crate) fn of(alloc: Global, counts: Counts, open_end: bool) -> Result<Self, AllocError>
         requires counted { (collection : List ℕ) × IsCountOf counts open_end collection }

@@ -36,6 +36,7 @@ use mg_dev::{Fault, FileRef, Part, PutErr, Store};
 use mg_layout::{BUILT, Head};
 use mg_model::Stream;
 use mg_runs::Pool;
+use mg_text::text_has_its_documents;
 use std::alloc::Global;
 
 /// Empties the head, so that the files stand for no collection.
@@ -133,13 +134,15 @@ pub(crate) fn write_rest<S: Store>(
         counts,
         occurrences,
     } = inverted;
+    // By this law a text has as many bytes as its documents' codes make.
+    text_has_its_documents();
     let sizes = match write_all(alloc, store, base, &mut merge, plan, &counts, sums) {
         Ok(sizes) => sizes,
         Err(refusal) => return Err(refusal),
     };
     let head = Head {
         version: BUILT,
-        documents: plan.pairs.len() as u32,
+        documents: plan.documents(),
         words: plan.model.canon(Stream::Words).count(),
         others: plan.model.canon(Stream::Others).count(),
         terms: plan.table.count(),

@@ -1,4 +1,4 @@
-use Rattle.std.proofs.Common.{◌∙◌, ◌/◌, [], length, ap}
+use Rattle.std.proofs.Common.{arith, ◌∙◌, ◌/◌, [], length, ap}
 use Rattle.mg_defs.specs.Lists.{inverted, lists_bits, lists_entries}
 use Rattle.mg_lex.specs.Terms.{terms_of}
 use Rattle.mg_make.specs.Written.{OfLists}
@@ -46,3 +46,10 @@ returns-clause-skip_count g c = λ collection all took.
     let base = c.args.writer.now.lex.base in
     let still = took_beside c.lists_stay.ensures base c.args.writer.now.lists _ _ (inverted collection) [] c.requires.post c.requires.skip c.finish.ensures.told c.finish.ensures.others took in
     (c.in_ok-post_bytes.ensures.answer (inverted collection) still).1 ∙ ap (λ m. length (lists_entries m (inverted collection))) all
+
+pub returns-clause-few : goal.returns-clause-few
+returns-clause-few g c =
+    let base = c.args.writer.now.lex.base in
+    let took = c.requires.lists.1 in
+    let still = took_beside c.lists_stay.ensures base c.args.writer.now.lists _ _ c.requires.lists.0 [] c.requires.post c.requires.skip c.finish.ensures.told c.finish.ensures.others took in
+    omega (arith, (c.in_ok-post_bytes.ensures.answer c.requires.lists.0 still).1, took.first, took.room)
