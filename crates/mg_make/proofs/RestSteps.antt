@@ -98,5 +98,21 @@ pub few_occurring : (plan : Plan) (fed : List ℕ) → length (occurring_by plan
 few_occurring plan fed = omega (arith, same_number plan.terms.terms (dictionary fed) 0 0 (marks fed), ap length (marks_have_occurrences fed), few_occurrences fed)
 
 -- heads of the same numbers are the same
+made_of : ℕ → ℕ → ℕ → ℕ → ℕ → ℕ → Bool → ℕ → ℕ → ℕ → ℕ → ℕ → ℕ → Head
+made_of v d w o t c e b n r x p k = record { version = v; documents = d; words = w; others = o; terms = t; cap = c; open_end = e; collection = b; occurrences = n; runs = r; text_bytes = x; post_bytes = p; skip_count = k }
+
 pub same_heads : (a b : Head) → a.version ≡ b.version → a.documents ≡ b.documents → a.words ≡ b.words → a.others ≡ b.others → a.terms ≡ b.terms → a.cap ≡ b.cap → a.open_end ≡ b.open_end → a.collection ≡ b.collection → a.occurrences ≡ b.occurrences → a.runs ≡ b.runs → a.text_bytes ≡ b.text_bytes → a.post_bytes ≡ b.post_bytes → a.skip_count ≡ b.skip_count → a ≡ b
-same_heads a b e0 e1 e2 e3 e4 e5 e6 e7 e8 e9 e10 e11 e12 = cc
+same_heads a b e0 e1 e2 e3 e4 e5 e6 e7 e8 e9 e10 e11 e12 =
+    ap (λ x. made_of x a.documents a.words a.others a.terms a.cap a.open_end a.collection a.occurrences a.runs a.text_bytes a.post_bytes a.skip_count) e0
+    ∙ ap (λ x. made_of b.version x a.words a.others a.terms a.cap a.open_end a.collection a.occurrences a.runs a.text_bytes a.post_bytes a.skip_count) e1
+    ∙ ap (λ x. made_of b.version b.documents x a.others a.terms a.cap a.open_end a.collection a.occurrences a.runs a.text_bytes a.post_bytes a.skip_count) e2
+    ∙ ap (λ x. made_of b.version b.documents b.words x a.terms a.cap a.open_end a.collection a.occurrences a.runs a.text_bytes a.post_bytes a.skip_count) e3
+    ∙ ap (λ x. made_of b.version b.documents b.words b.others x a.cap a.open_end a.collection a.occurrences a.runs a.text_bytes a.post_bytes a.skip_count) e4
+    ∙ ap (λ x. made_of b.version b.documents b.words b.others b.terms x a.open_end a.collection a.occurrences a.runs a.text_bytes a.post_bytes a.skip_count) e5
+    ∙ ap (λ x. made_of b.version b.documents b.words b.others b.terms b.cap x a.collection a.occurrences a.runs a.text_bytes a.post_bytes a.skip_count) e6
+    ∙ ap (λ x. made_of b.version b.documents b.words b.others b.terms b.cap b.open_end x a.occurrences a.runs a.text_bytes a.post_bytes a.skip_count) e7
+    ∙ ap (λ x. made_of b.version b.documents b.words b.others b.terms b.cap b.open_end b.collection x a.runs a.text_bytes a.post_bytes a.skip_count) e8
+    ∙ ap (λ x. made_of b.version b.documents b.words b.others b.terms b.cap b.open_end b.collection b.occurrences x a.text_bytes a.post_bytes a.skip_count) e9
+    ∙ ap (λ x. made_of b.version b.documents b.words b.others b.terms b.cap b.open_end b.collection b.occurrences b.runs x a.post_bytes a.skip_count) e10
+    ∙ ap (λ x. made_of b.version b.documents b.words b.others b.terms b.cap b.open_end b.collection b.occurrences b.runs b.text_bytes x a.skip_count) e11
+    ∙ ap (λ x. made_of b.version b.documents b.words b.others b.terms b.cap b.open_end b.collection b.occurrences b.runs b.text_bytes b.post_bytes x) e12
