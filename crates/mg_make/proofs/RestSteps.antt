@@ -98,7 +98,7 @@ pub few_occurring : (plan : Plan) (fed : List ℕ) → length (occurring_by plan
 few_occurring plan fed = omega (arith, same_number plan.terms.terms (dictionary fed) 0 0 (marks fed), ap length (marks_have_occurrences fed), few_occurrences fed)
 
 -- heads of the same numbers are the same
-made_of : ℕ → ℕ → ℕ → ℕ → ℕ → ℕ → Bool → ℕ → ℕ → ℕ → ℕ → ℕ → ℕ → Head
+abbrev made_of : ℕ → ℕ → ℕ → ℕ → ℕ → ℕ → Bool → ℕ → ℕ → ℕ → ℕ → ℕ → ℕ → Head
 made_of v d w o t c e b n r x p k = record { version = v; documents = d; words = w; others = o; terms = t; cap = c; open_end = e; collection = b; occurrences = n; runs = r; text_bytes = x; post_bytes = p; skip_count = k }
 
 pub same_heads : (a b : Head) → a.version ≡ b.version → a.documents ≡ b.documents → a.words ≡ b.words → a.others ≡ b.others → a.terms ≡ b.terms → a.cap ≡ b.cap → a.open_end ≡ b.open_end → a.collection ≡ b.collection → a.occurrences ≡ b.occurrences → a.runs ≡ b.runs → a.text_bytes ≡ b.text_bytes → a.post_bytes ≡ b.post_bytes → a.skip_count ≡ b.skip_count → a ≡ b
