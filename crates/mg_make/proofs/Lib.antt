@@ -23,3 +23,5 @@ pub mod PutSteps
 pub mod EndSteps
 pub mod Handing
 pub mod RestSteps
+pub mod HeadLaws
+pub mod ReadySteps

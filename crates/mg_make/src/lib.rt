@@ -25,4 +25,4 @@ mod writer;
 pub use count::Count;
 pub use plan::{Plan, Room};
 pub use summary::Summary;
-pub use writer::SetWriter;
+pub use writer::{SetWriter, empty_heads_stand_for_none};

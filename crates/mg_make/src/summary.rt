@@ -1,4 +1,9 @@
 //! The numbers of a set that was made.
+ghost use Rattle.std.specs.Prelude.{◌≡◌};
+ghost use Rattle.mg_layout.specs.HeadAnswers.{fields_of};
+ghost use Rattle.mg_make.specs.Summaries.{summary_by};
+
+use mg_layout::Head;
 
 /// What the files stand for, in numbers, and how much memory their postings were sorted in.
 #[derive(Clone, Copy, Debug, PartialEq, Eq)]
@@ -18,4 +23,22 @@ pub struct Summary {
     pub peak: u64,
     /// The size of the pool, in bytes.
     pub budget: u64,
+}
+
+impl Summary {
+    /// The numbers of a head, with the greatest use of a pool and its size.
+    pub(crate) fn of(head: &Head, peak: u64, budget: u64) -> Self
+        ensures { result ≡ summary_by (fields_of head.now) peak budget }
+    {
+        Summary {
+            documents: head.documents,
+            words: head.words,
+            others: head.others,
+            terms: head.terms,
+            occurrences: head.occurrences,
+            runs: head.runs,
+            peak,
+            budget,
+        }
+    }
 }
