@@ -23,3 +23,6 @@ mod weights;
 pub use count::Count;
 pub use plan::{Plan, Room};
 pub use summary::Summary;
+
+#[cfg(test)]
+mod index_tests;
