@@ -26,3 +26,6 @@ pub use count::Count;
 pub use plan::{Plan, Room};
 pub use summary::Summary;
 pub use writer::{SetWriter, empty_heads_stand_for_none};
+
+#[cfg(test)]
+mod index_tests;
