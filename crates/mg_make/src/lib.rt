@@ -12,6 +12,8 @@ mod met;
 mod plan;
 mod scanner;
 mod summary;
+#[cfg(test)]
+mod tests;
 
 pub use count::Count;
 pub use plan::{Plan, Room};
