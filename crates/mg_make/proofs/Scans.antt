@@ -15,7 +15,7 @@ use Rattle.mg_parse.specs.Offered.{Ends, Fits, Offered}
 use Rattle.mg_parse.specs.Seen.{Seen, StandsFor}
 use Rattle.mg_parse.specs.declared.reader.Offer.{Offer}
 use Rattle.mg_parse.specs.declared.reader.Offer.TheVariants.{Taken, Ended}
-use Rattle.mg_make.specs.Meeting.{Meeting, marks_of, only_if}
+use Rattle.mg_make.specs.Meeting.{Meeting, marks_of, only_if, restarted, with_end, with_other, with_piece}
 use Rattle.mg_make.specs.Scanning.{HasMet, HasRead, Scanning, closing_marks, joined_marks, kind_after, marks_of_open, marks_of_pieces}
 
 -- ---- pieces in turn
@@ -93,18 +93,6 @@ read-two_ended old next last new byte Taken ends is again then o = record {
 }
 
 -- ---- what is met
-
-abbrev pub restarted : Bool → Meeting → Meeting
-restarted begins m = record { begins = begins; has_piece = false; has_other = false; ends = false; kind = m.kind; bytes = m.bytes }
-
-abbrev pub with_piece : Stream → List ℕ → Meeting → Meeting
-with_piece kind bytes m = record { begins = m.begins; has_piece = true; has_other = m.has_other; ends = m.ends; kind = kind; bytes = bytes }
-
-abbrev pub with_other : Meeting → Meeting
-with_other m = record { begins = m.begins; has_piece = m.has_piece; has_other = true; ends = m.ends; kind = m.kind; bytes = m.bytes }
-
-abbrev pub with_end : Meeting → Meeting
-with_end m = record { begins = m.begins; has_piece = m.has_piece; has_other = m.has_other; ends = true; kind = m.kind; bytes = m.bytes }
 
 -- a piece of a reader was told, and maybe an empty one
 pub met-one : (m0 m1 m2 : Meeting) (begins : Bool) (kind : Stream) (bytes : List ℕ) (old now : Reading) → m1 ≡ restarted begins m0 → m2 ≡ with_piece kind bytes m1 → kind ≡ now.kind → bytes ≡ now.piece → now ≡ old → marks_of m2 ≡ joined_marks begins old.kind (old.piece ∷ [])

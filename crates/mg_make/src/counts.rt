@@ -47,6 +47,7 @@ fn count_in(vocab: &mut Vocab, stream: Stream, bytes: &[u8]) -> Result<(), Fault
 {
     match vocab.count(bytes) {
         Ok(()) => {
+            // For the proof: no vocabulary has more than 2^22 entries.
             let _ = vocab.len();
             Ok(())
         }

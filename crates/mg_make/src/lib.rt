@@ -29,3 +29,5 @@ pub use writer::{SetWriter, empty_heads_stand_for_none};
 
 #[cfg(test)]
 mod index_tests;
+#[cfg(test)]
+mod tests;

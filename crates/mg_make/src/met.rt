@@ -3,9 +3,9 @@
 //! A byte may begin a document, end the piece before it and the document too. So at most four things
 //! are met with it, always in the same order, and the second of two pieces is empty: the other of a
 //! pair that the document's end leaves without one. One block of bytes serves for every piece.
-ghost use Rattle.std.specs.Prelude.{◌≡◌, ◌≤◌, [], true, false, length, take};
+ghost use Rattle.std.specs.Prelude.{◌≡◌, ◌≤◌, [], length, take};
 ghost use Rattle.mg_defs.specs.Pieces.{other_kind};
-ghost use Rattle.mg_make.specs.Meeting.{marks_of};
+ghost use Rattle.mg_make.specs.Meeting.{marks_of, restarted, with_end, with_other, with_piece};
 
 use mg_parse::{PIECE_BYTES, Stream};
 use std::marker::Model;
@@ -29,7 +29,14 @@ impl Model for Met {
 
     ghost Value = { Meeting };
 
-    ghost view = { λ m. record { begins = m.begins; has_piece = m.has_piece; has_other = m.has_other; ends = m.ends; kind = m.kind; bytes = take m.len m.piece } };
+    ghost view = { λ m. record {
+      begins = m.begins;
+      has_piece = m.has_piece;
+      has_other = m.has_other;
+      ends = m.ends;
+      kind = m.kind;
+      bytes = take m.len m.piece;
+    } };
 
     ghost invariant = { λ m. m.len ≤ 255 };
 }
@@ -62,7 +69,7 @@ impl Met {
 
     /// Forgets what was met, for the next byte, with which a document may begin.
     pub(crate) fn restart(&mut self, begins: bool)
-        ensures { self.new ≡ record { begins = begins; has_piece = false; has_other = false; ends = false; kind = self.old.kind; bytes = self.old.bytes } }
+        ensures { self.new ≡ restarted begins self.old }
     {
         self.begins = begins;
         self.has_piece = false;
@@ -73,7 +80,7 @@ impl Met {
     /// A piece ends, of at most 255 bytes.
     pub(crate) fn tell(&mut self, kind: Stream, piece: &[u8])
         requires { length piece.now ≤ 255 }
-        ensures { self.new ≡ record { begins = self.old.begins; has_piece = true; has_other = self.old.has_other; ends = self.old.ends; kind = kind; bytes = piece.now } }
+        ensures { self.new ≡ with_piece kind piece.now self.old }
     {
         self.has_piece = true;
         self.kind = kind;
@@ -82,14 +89,14 @@ impl Met {
 
     /// An empty piece of the other kind follows.
     pub(crate) fn tell_other(&mut self)
-        ensures { self.new ≡ record { begins = self.old.begins; has_piece = self.old.has_piece; has_other = true; ends = self.old.ends; kind = self.old.kind; bytes = self.old.bytes } }
+        ensures { self.new ≡ with_other self.old }
     {
         self.has_other = true;
     }
 
     /// The document ends.
     pub(crate) fn end(&mut self)
-        ensures { self.new ≡ record { begins = self.old.begins; has_piece = self.old.has_piece; has_other = self.old.has_other; ends = true; kind = self.old.kind; bytes = self.old.bytes } }
+        ensures { self.new ≡ with_end self.old }
     {
         self.ends = true;
     }
