@@ -25,3 +25,4 @@ pub mod Handing
 pub mod RestSteps
 pub mod HeadLaws
 pub mod ReadySteps
+pub mod HeadSteps
