@@ -1,0 +1,143 @@
+-- Lists, lexicon, weights and the working parts side by side, and what was inverted of a collection.
+use Rattle.std.proofs.Common.{arith, ◌≡◌, ◌≢◌, ◌<◌, ◌/◌, ℕ, List, [], length, map, get_or, sym, ap, subst, ◌∙◌, Some, is_some}
+use Rattle.std.specs.Prelude.{replicate}
+use Rattle.std.specs.declared.option.Option.{Option}
+use Rattle.std.proofs.lemmas.List.{get_or-map, get_or_default, length-map, length-replicate, same_lists}
+use Rattle.mg_dev.specs.declared.part.Part.{Part as AnyPart}
+use Rattle.mg_dev.specs.declared.part.Part.TheVariants.{Head, Words, Nonwords, Text, Places, Lex, LexAt, Post, Skip, Weights, Run, MergeA, MergeB, Plain}
+use Rattle.mg_dev.specs.Files.{Files, Reads, bytes_at, file_at}
+use Rattle.mg_dev.specs.Laws.{same_part_of_name}
+use Rattle.mg_dev.specs.Names.{full_name}
+use Rattle.mg_bits.specs.Writer.{WroteTo}
+use Rattle.mg_defs.specs.Bits.{Bits, filled}
+use Rattle.mg_defs.specs.CodedText.{as_bytes}
+use Rattle.mg_defs.specs.declared.Posting.{Posting}
+use Rattle.mg_defs.specs.DocCounts.{docs_with}
+use Rattle.mg_defs.specs.Lists.{inverted, lists_bits, post_bits}
+use Rattle.mg_defs.specs.Marks.{pair_counts}
+use Rattle.mg_defs.specs.Occurrences.{occurrences}
+use Rattle.mg_defs.specs.Parse.{parse}
+use Rattle.mg_defs.specs.PostingLists.{by_terms}
+use Rattle.mg_defs.specs.Postings.{postings}
+use Rattle.mg_defs.specs.Split.{documents}
+use Rattle.mg_defs.specs.Stands.{post_part, weights_part}
+use Rattle.mg_defs.specs.Terms.{dictionary}
+use Rattle.mg_runs.specs.Left.{IsMerging, Merging}
+use Rattle.mg_make.specs.DocCounting.{DocCounting}
+use Rattle.mg_make.specs.Index.{IndexStands, IsInverted, OfIndex, OfWeights}
+use Rattle.mg_make.specs.Listing.{HasLists, ListsStand}
+use Rattle.mg_make.specs.Plans.{Plan}
+use Rattle.mg_make.specs.Written.{OfLists, WroteParts}
+use Rattle.mg_make.proofs.TermSteps.{lists_long}
+
+-- ---- what was written
+
+pub wrote_within : (P Q : AnyPart → Type 0) (base : List ℕ) (f g : Option Files) → ((p : AnyPart) → P p → Q p) → WroteParts P base f g → WroteParts Q base f g
+wrote_within P Q base f g wider wrote = record { told = wrote.told; others = λ name apart. wrote.others name (λ p of_p. apart p (wider p of_p)) }
+
+pub of_index : (p : AnyPart) → OfLists p → OfIndex p
+of_index Head h = absurd h
+of_index Words h = absurd h
+of_index Nonwords h = absurd h
+of_index Text h = absurd h
+of_index Places h = absurd h
+of_index Lex h = tt
+of_index LexAt h = tt
+of_index Post h = tt
+of_index Skip h = tt
+of_index Weights h = absurd h
+of_index Run h = absurd h
+of_index MergeA h = absurd h
+of_index MergeB h = absurd h
+of_index Plain h = absurd h
+
+pub weights_of_index : (p : AnyPart) → OfWeights p → OfIndex p
+weights_of_index Head h = absurd h
+weights_of_index Words h = absurd h
+weights_of_index Nonwords h = absurd h
+weights_of_index Text h = absurd h
+weights_of_index Places h = absurd h
+weights_of_index Lex h = absurd h
+weights_of_index LexAt h = absurd h
+weights_of_index Post h = absurd h
+weights_of_index Skip h = absurd h
+weights_of_index Weights h = tt
+weights_of_index Run h = absurd h
+weights_of_index MergeA h = tt
+weights_of_index MergeB h = tt
+weights_of_index Plain h = absurd h
+
+-- a part of another kind stays
+pub part_stays : (P : AnyPart → Type 0) (base : List ℕ) (f g : Option Files) (part : AnyPart) → (P part → ⊥) → WroteParts P base f g → file_at g (full_name base part) ≡ file_at f (full_name base part)
+part_stays P base f g part none wrote = wrote.others (full_name base part) (λ p of_p e. none (subst P (sym (same_part_of_name base part p e)) of_p))
+
+bytes_stay : (f g : Option Files) (name : List ℕ) → file_at g name ≡ file_at f name → bytes_at g name ≡ bytes_at f name
+bytes_stay f g name same = cc
+
+-- lists and lexicon stay while weights are written
+pub index_stands : (base collection : List ℕ) (f g : Option Files) → ListsStand f base collection → WroteParts OfWeights base f g → bytes_at g (full_name base Weights) ≡ weights_part collection →
+    file_at g (full_name base MergeA) ≡ Some [] → file_at g (full_name base MergeB) ≡ Some [] → IndexStands g base collection
+index_stands base collection f g lists wrote weights first second = record {
+  post = bytes_stay f g (full_name base Post) (part_stays OfWeights base f g Post (λ h. h) wrote) ∙ lists.post;
+  skip = bytes_stay f g (full_name base Skip) (part_stays OfWeights base f g Skip (λ h. h) wrote) ∙ lists.skip;
+  lex = bytes_stay f g (full_name base Lex) (part_stays OfWeights base f g Lex (λ h. h) wrote) ∙ lists.lex;
+  lex_at = bytes_stay f g (full_name base LexAt) (part_stays OfWeights base f g LexAt (λ h. h) wrote) ∙ lists.lex_at;
+  weights = weights;
+  merge_a = first;
+  merge_b = second;
+}
+
+-- ---- what was inverted
+
+pub zeros : (sums : List ℕ) (n : ℕ) → sums ≡ replicate n 0 → length sums ≡ n
+zeros sums n is = ap (λ (xs : List ℕ). length xs) is ∙ length-replicate n 0
+
+pub zeros_own : (sums : List ℕ) (n : ℕ) → sums ≡ replicate n 0 → sums ≡ replicate (length sums) 0
+zeros_own sums n is = is ∙ ap (λ m. replicate m 0) (sym (zeros sums n is))
+
+pub lists_of_inverted :
+    ((collection : List ℕ) → postings (occurrences collection) ≡ by_terms 0 (inverted collection)) → ((collection : List ℕ) (term : ℕ) → docs_with term (occurrences collection) ≡ length (get_or (inverted collection) term [])) →
+    (p : Plan) (counts : DocCounting) (collection : List ℕ) (merge : Merging) (files : Option Files) (all : ℕ) → all ≡ length p.pairs → IsInverted p counts collection merge files →
+    HasLists p.terms.terms counts.docs all collection merge files
+lists_of_inverted in_lists counted p counts collection merge files all all_is is = record {
+  told = is.told;
+  of = record { terms_are = is.plan_is.terms; docs_are = docs_are; all_are = all_is ∙ ap (λ (xs : List ℕ). length xs) is.plan_is.pairs ∙ pairs_long; few = is.few };
+  merging = subst (λ xs. IsMerging merge files xs) (in_lists collection) is.merging;
+}
+  where
+    pairs_long : length (pair_counts collection) ≡ length (documents collection)
+    pairs_long = length-map (documents collection) (λ doc. length (parse doc))
+
+    terms_long : length counts.docs ≡ length (dictionary collection)
+    terms_long = is.counts_are.doc_size ∙ ap (λ (xs : List (List ℕ)). length xs) is.plan_is.terms
+
+    docs_are : counts.docs ≡ map length (inverted collection)
+    docs_are =
+        same_lists counts.docs (map length (inverted collection)) (terms_long ∙ sym (length-map (inverted collection) (λ (ps : List Posting). length ps) ∙ lists_long collection)) (λ k d lt.
+        let within : k < length (inverted collection) = omega (arith, lt, terms_long, lists_long collection) in
+        get_or_default counts.docs k d 0 lt ∙ is.counts_are.docs k (omega (arith, lt, is.counts_are.doc_size)) ∙ counted collection k
+        ∙ sym (get_or-map (λ (ps : List Posting). length ps) (inverted collection) k [] d within))
+
+-- the size of the bits in bytes
+pub size_is :
+    ((all : ℕ) (lists : List (List Posting)) → filled (lists_bits all lists) ≡ lists_bits all lists) → ((bits : Bits) → filled bits ≡ bits → length (as_bytes bits) ≡ length bits / 8) →
+    (collection : List ℕ) → length (post_bits collection) / 8 ≡ length (post_part collection)
+size_is whole size collection = sym (size (post_bits collection) (whole (length (documents collection)) (inverted collection)))
+
+-- ---- weights and the working parts
+
+pub weights_stay : (base : List ℕ) (f g : Option Files) → ((n : List ℕ) → n ≢ full_name base MergeA → n ≢ full_name base MergeB → file_at g n ≡ file_at f n) → bytes_at g (full_name base Weights) ≡ bytes_at f (full_name base Weights)
+weights_stay base f g others =
+    bytes_stay f g (full_name base Weights) (others (full_name base Weights) (λ e. not_first (same_part_of_name base Weights MergeA e)) (λ e. not_second (same_part_of_name base Weights MergeB e)))
+  where
+    not_first : Weights ≢ MergeA
+    not_first e = cc
+
+    not_second : Weights ≢ MergeB
+    not_second e = cc
+
+pub wrote_weights : (base : List ℕ) (f g : Option Files) (reads reads_now : Reads) → WroteTo (full_name base Weights) f g reads reads_now → WroteParts OfWeights base f g
+wrote_weights base f g reads reads_now wrote = record { told = wrote.told; others = λ name apart. wrote.others name (apart Weights tt) }
+
+pub wrote_merge_parts : (base : List ℕ) (f g : Option Files) → is_some g ≡ is_some f → ((n : List ℕ) → n ≢ full_name base MergeA → n ≢ full_name base MergeB → file_at g n ≡ file_at f n) → WroteParts OfWeights base f g
+wrote_merge_parts base f g told others = record { told = told; others = λ name apart. others name (apart MergeA tt) (apart MergeB tt) }

@@ -1,0 +1,115 @@
+-- A set that is being written, from step to step.
+use Rattle.std.proofs.Common.{append-nil, arith, ◌≡◌, ◌≢◌, ◌≤◌, ◌<◌, ◌^◌, ◌+◌, ◌-◌, ◌⊎◌, ◌∙◌, inl, inr, ℕ, List, [], ◌∷◌, ◌++◌, length, replicate, refl, sym, ap, subst, Ok, Err, IsSome, is_some, Some}
+use Rattle.std.proofs.lemmas.List.{append_assoc, length_push}
+use Rattle.std.specs.Prelude.{IfErr, OnOk, Result}
+use Rattle.std.specs.declared.option.Option.{Option}
+use Rattle.mg_dev.specs.declared.fault.Fault.{Fault}
+use Rattle.mg_dev.specs.declared.part.Part.TheVariants.{Head, Plain}
+use Rattle.mg_dev.specs.Files.{Files, file_at}
+use Rattle.mg_dev.specs.Names.{full_name}
+use Rattle.mg_defs.specs.Marks.{Mark, marks}
+use Rattle.mg_model.specs.Models.{PartsHold}
+use Rattle.mg_make.specs.Finishing.{budget_of}
+use Rattle.mg_make.specs.Fronts.{IsFrontOf}
+use Rattle.mg_make.specs.Meeting.{marks_of}
+use Rattle.mg_make.specs.Plans.{IsPlanOf, Plan}
+use Rattle.mg_make.specs.Putting.{HasPut, IsUnbuilt, OfPass, OthersSame, Putting}
+use Rattle.mg_make.specs.Scanning.{HasMet, Scanning}
+use Rattle.mg_make.specs.Second.{HasStopCause, HasWritten, Inversion, IsNext, SamePass, StopsBefore, WroteMarks}
+use Rattle.mg_make.specs.Written.{SecondStops, WroteParts, WroteSecond}
+use Rattle.mg_make.proofs.Scans.{marks-go_on}
+use Rattle.mg_make.proofs.SetFrames.{head_of_second, kept, models_of_second, others_kept, others_of_second, pass_from}
+
+-- the view of a writer with these parts
+abbrev pub writing : List ℕ → Plan → ℕ → List ℕ → ℕ → Scanning → Inversion → Putting
+writing base plan limit sums size scanning pass = record { base = base; plan = plan; limit = limit; scanning = scanning; pass = pass; sums = sums; size = size }
+
+-- ---- the start
+
+pub put_nothing : (base : List ℕ) (plan : Plan) (limit : ℕ) (sums : List ℕ) (scanning : Scanning) (pass : Inversion) (f g h : Option Files) → HasMet scanning [] [] → HasWritten pass h [] → pass.base ≡ base → pass.plan ≡ plan → budget_of pass ≡ limit
+  → is_some g ≡ is_some f → (IsSome f → file_at g (full_name base Head) ≡ Some []) → WroteParts OfPass base g h → (IsSome g → PartsHold h base plan.code) → sums ≡ replicate (length plan.pairs) 0
+  → HasPut (writing base plan limit sums 0 scanning pass) h []
+put_nothing base plan limit sums scanning pass f g h scanned written base_is plan_is limit_is told gone wrote models sums_are = record {
+  met = [];
+  scanned = scanned;
+  written = written;
+  base_is = base_is;
+  plan_is = plan_is;
+  limit_is = limit_is;
+  head = λ is. kept OfPass base g h Head (λ q of n. omega (arith, n, (pass_from q of).0)) wrote ∙ gone (sym told ∙ sym wrote.told ∙ is);
+  models = λ is. models (sym wrote.told ∙ is);
+  sums_are = sums_are;
+  size_is = refl;
+}
+
+-- what stands where the head was emptied and parts were written
+pub unbuilt_behind : (base : List ℕ) (f g h : Option Files) → (IsSome f → file_at g (full_name base Head) ≡ Some []) → WroteParts OfPass base g h → IsUnbuilt base f h
+unbuilt_behind base f g h gone wrote = inr (λ told. kept OfPass base g h Head (λ q of n. omega (arith, n, (pass_from q of).0)) wrote ∙ gone told)
+
+pub head_others : (base : List ℕ) (f g : Option Files) → WroteParts (λ p. p ≡ Head) base f g → OthersSame base f g
+head_others base f g wrote = record { told = wrote.told; others = λ name apart. wrote.others name (λ q is e. apart q (λ plain. other (sym is ∙ plain)) e) }
+  where
+    other : Head ≡ Plain → ⊥
+    other same = cc
+
+pub pass_others : (base : List ℕ) (f g : Option Files) → WroteParts OfPass base f g → OthersSame base f g
+pass_others base f g wrote = others_kept OfPass base f g (λ q of. (pass_from q of).1) wrote
+
+-- ---- a byte
+
+-- the bytes so far begin with the marks that were met in them
+pub front_met : (s : Scanning) (fed : List ℕ) (met : List Mark) → HasMet s fed met → length fed < 2 ^ 32 → IsFrontOf met fed
+front_met s fed met scanned few = front (marks-go_on s fed met scanned [])
+  where
+    front : (rest : List Mark) × (marks (fed ++ []) ≡ met ++ rest) → IsFrontOf met fed
+    front go = record { after = go.0; whole = ap marks (sym (append-nil fed)) ∙ go.1; few = few }
+
+-- and so do they with whatever follows
+pub front_more : (s : Scanning) (fed more : List ℕ) (met : List Mark) → HasMet s fed met → length (fed ++ more) < 2 ^ 32 → IsFrontOf met (fed ++ more)
+front_more s fed more met scanned few = front (marks-go_on s fed met scanned more)
+  where
+    front : (rest : List Mark) × (marks (fed ++ more) ≡ met ++ rest) → IsFrontOf met (fed ++ more)
+    front go = record { after = go.0; whole = go.1; few = few }
+
+module _ (base : List ℕ) (plan : Plan) (limit : ℕ) (sums : List ℕ) (size : ℕ) (scanning scanned : Scanning) (old new : Inversion) (f g : Option Files) (byte : ℕ) (next : List Mark)
+    (takes : (fed : List ℕ) (met : List Mark) → HasMet scanning fed met → HasMet scanned (fed ++ byte ∷ []) (met ++ next)) where
+
+  -- the marks that one byte more gives come next
+  pub next_marks : (fed : List ℕ) → HasPut (writing base plan limit sums size scanning old) f fed → length fed < 2 ^ 32 - 1 → IsNext old f next
+  next_marks fed put few = record {
+    met = put.met;
+    collection = fed ++ byte ∷ [];
+    written = put.written;
+    front = front_met scanned (fed ++ byte ∷ []) (put.met ++ next) (takes fed put.met put.scanned) (subst (λ n. n < 2 ^ 32) (sym (length_push fed byte)) (omega (arith, few)));
+  }
+
+  pub put_more : (fed : List ℕ) → WroteMarks old new f g next → SamePass old new → WroteSecond old.base f g → HasPut (writing base plan limit sums size scanning old) f fed → HasPut (writing base plan limit sums (size + 1) scanned new) g (fed ++ byte ∷ [])
+  put_more fed wrote same only put =
+    let second : WroteSecond base f g = subst (λ b. WroteSecond b f g) put.base_is only in
+    record {
+      met = put.met ++ next;
+      scanned = takes fed put.met put.scanned;
+      written = wrote.behind put.met put.written;
+      base_is = same.base ∙ put.base_is;
+      plan_is = same.plan ∙ put.plan_is;
+      limit_is = same.limit ∙ put.limit_is;
+      head = λ is. head_of_second base f g second ∙ put.head (sym second.told ∙ is);
+      models = λ is. models_of_second base f g plan.code second (put.models (sym second.told ∙ is));
+      sums_are = put.sums_are;
+      size_is = ap (λ n. n + 1) put.size_is ∙ sym (length_push fed byte);
+    }
+
+  -- the head stays empty, and other files stay
+  pub put_head : (fed : List ℕ) → WroteSecond old.base f g → HasPut (writing base plan limit sums size scanning old) f fed → IsSome f → file_at g (full_name base Head) ≡ Some []
+  put_head fed only put told = head_of_second base f g (subst (λ b. WroteSecond b f g) put.base_is only) ∙ put.head told
+
+  pub put_others : (fed : List ℕ) → WroteSecond old.base f g → HasPut (writing base plan limit sums size scanning old) f fed → OthersSame base f g
+  put_others fed only put = others_of_second base f g (subst (λ b. WroteSecond b f g) put.base_is only)
+
+  -- why it is not written
+  pub put_stops : (rose : Type 0) (fault : Fault) (fed more : List ℕ) → StopsBefore old f next rose fault → HasPut (writing base plan limit sums size scanning old) f fed → length (fed ++ byte ∷ more) < 2 ^ 32 → SecondStops rose (IsPlanOf plan (fed ++ byte ∷ more)) fault
+  put_stops rose fault fed more stops put few =
+    let all : (fed ++ byte ∷ []) ++ more ≡ fed ++ byte ∷ more = append_assoc fed (byte ∷ []) more in
+    subst (λ p. SecondStops rose (IsPlanOf p (fed ++ byte ∷ more)) fault) put.plan_is
+      (stops.cause put.met (fed ++ byte ∷ more) put.written
+        (subst (λ bytes. IsFrontOf (put.met ++ next) bytes) all (front_more scanned (fed ++ byte ∷ []) more (put.met ++ next) (takes fed put.met put.scanned) (subst (λ bytes. length bytes < 2 ^ 32) (sym all) few))))

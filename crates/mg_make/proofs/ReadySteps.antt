@@ -1,0 +1,117 @@
+-- What stands before the head is appended, and behind it.
+use Rattle.std.proofs.Common.{arith, ◌≡◌, ◌≢◌, ◌≤◌, ◌<◌, ◌^◌, ◌+◌, ◌/◌, ◌⊎◌, ◌∙◌, inl, inr, ℕ, List, [], ◌++◌, length, take, refl, sym, ap, subst, Ok, Err, IsSome, is_some, Some}
+use Rattle.std.specs.Prelude.{IfErr, IfOk, OnOk, Result}
+use Rattle.std.specs.declared.option.Option.{Option}
+use Rattle.mg_dev.specs.declared.part.Part.{Part}
+use Rattle.mg_dev.specs.declared.fault.Fault.{Fault}
+use Rattle.mg_dev.specs.declared.fault.Fault.TheVariants as cause
+use Rattle.mg_dev.specs.declared.part.Part.TheVariants.{Head, Nonwords, Places, Run, Text, Words}
+use Rattle.mg_dev.specs.Files.{Files, bytes_at, file_at}
+use Rattle.mg_dev.specs.Names.{full_name, number}
+use Rattle.mg_defs.specs.Bits.{Bits}
+use Rattle.mg_defs.specs.CodedText.{TextCode, as_bytes, places_of, text_of}
+use Rattle.mg_defs.specs.Marks.{marks}
+use Rattle.mg_defs.specs.Occurrences.{occurrences}
+use Rattle.mg_defs.specs.RunBits.{run_part_bits}
+use Rattle.mg_defs.specs.Summaries.{run_cap}
+use Rattle.mg_text.specs.Documents.{TextHolds, coded_docs}
+use Rattle.mg_text.specs.Writing.{DocumentsStand, text_bytes}
+use Rattle.mg_make.specs.Finishing.{budget_of}
+use Rattle.mg_make.specs.Index.{IndexStands, OfIndex}
+use Rattle.mg_make.specs.Listing.{ListStops}
+use Rattle.mg_make.specs.Plans.{IsPlanOf, Plan}
+use Rattle.mg_make.specs.Putting.{HasPut, IsHanded, IsReady, OthersSame, Putting}
+use Rattle.mg_make.specs.Second.{coded_by, occurring_by}
+use Rattle.mg_make.specs.Written.{WroteParts, WroteSecond}
+use Rattle.mg_make.specs.declared.second.Inverted.{Inverted}
+use Rattle.mg_make.proofs.Finishing.{planned_occurrences, planned_text}
+use Rattle.mg_make.proofs.SetFrames.{bytes_kept, index_from, kept, models_of_second, others_kept}
+
+-- the laws of text that a caller takes from mg_text
+pub record TextLaws : Type 0 where
+  pub text : (code : TextCode) (collection : List ℕ) → text_bytes (coded_docs code collection) ≡ text_of code collection
+  pub holds : (base : List ℕ) (files : Option Files) (code : TextCode) (collection : List ℕ) → DocumentsStand base files (coded_docs code collection) → TextHolds base files code collection
+  pub bytes : (base : List ℕ) (files : Option Files) (docs : List Bits) → DocumentsStand base files docs → bytes_at files (full_name base Text) ≡ text_bytes docs
+
+module _ (laws : TextLaws) (w : Putting) (fed : List ℕ) (f g h : Option Files) (r : Inverted) (put : HasPut w f fed) (told : IsSome f) (plan_of : IsPlanOf w.plan fed)
+    (second : WroteSecond w.base f g) (handed : IsHanded w.plan w.limit w.base fed f g r) (wrote : WroteParts OfIndex w.base g h) where
+
+  documents_stand : DocumentsStand w.base g (coded_docs w.plan.code fed)
+  documents_stand = subst (λ docs. DocumentsStand w.base g docs) (planned_text w.plan fed plan_of)
+      (subst (λ (p : Plan). DocumentsStand w.base g (coded_by p (marks fed))) handed.plan_is
+      (subst (λ b. DocumentsStand b g (coded_by handed.pass.plan (marks fed))) handed.base_is (handed.ends.text (handed.told ∙ told))))
+
+  run_stands : bytes_at g (full_name w.base Run) ≡ as_bytes (run_part_bits (run_cap w.limit) (occurrences fed))
+  run_stands = subst (λ b. bytes_at g (full_name b Run) ≡ as_bytes (run_part_bits (run_cap w.limit) (occurrences fed))) handed.base_is
+      (handed.ends.run (handed.told ∙ told)
+      ∙ ap (λ (p : Plan). as_bytes (run_part_bits (run_cap (budget_of handed.pass)) (occurring_by p (marks fed)))) handed.plan_is
+      ∙ ap (λ n. as_bytes (run_part_bits (run_cap n) (occurring_by w.plan (marks fed)))) handed.limit_is
+      ∙ ap (λ os. as_bytes (run_part_bits (run_cap w.limit) os)) (planned_occurrences w.plan fed plan_of))
+
+  -- a part below the fifth, and Run, are as they were
+  behind : (p : Part) → (number p ≤ 4) ⊎ (number p ≡ 10) → bytes_at h (full_name w.base p) ≡ bytes_at g (full_name w.base p)
+  behind p (inl low) = bytes_kept g h _ (kept OfIndex w.base g h p (λ q of is. omega (arith, is, low, (index_from q of).0)) wrote)
+  behind p (inr ten) = bytes_kept g h _ (kept OfIndex w.base g h p (λ q of is. absurd ((index_from q of).2 (is ∙ ten))) wrote)
+
+  pub ready_by : IndexStands h w.base fed → IsReady (run_cap w.limit) h w.base w.plan.code fed
+  ready_by index =
+    let models = models_of_second w.base f g w.plan.code second (put.models told) in
+    record {
+      limits = plan_of.limits;
+      code_is = plan_of.code;
+      words = behind Words (inl (omega arith)) ∙ models.words;
+      nonwords = behind Nonwords (inl (omega arith)) ∙ models.others;
+      text = behind Text (inl (omega arith)) ∙ laws.bytes w.base g _ documents_stand ∙ laws.text w.plan.code fed;
+      places = behind Places (inl (omega arith)) ∙ (laws.holds w.base g w.plan.code fed documents_stand).places;
+      run = behind Run (inr refl) ∙ run_stands;
+      index = index;
+    }
+
+-- ---- from step to step
+
+pub put_few : (w : Putting) (f : Option Files) (fed some : List ℕ) → HasPut w f fed → HasPut w f some → length some < 2 ^ 32 → length fed < 2 ^ 32
+put_few w f fed some put other few = omega (arith, put.size_is, other.size_is, few)
+
+pub handed_for : (p q : Plan) (l m : ℕ) (a b fed : List ℕ) (f g : Option Files) (r : Inverted) → p ≡ q → l ≡ m → a ≡ b → IsHanded p l a fed f g r → IsHanded q m b fed f g r
+handed_for p q l m a b fed f g r one two three handed = subst (λ x. IsHanded x m b fed f g r) one (subst (λ x. IsHanded p x b fed f g r) two (subst (λ x. IsHanded p l x fed f g r) three handed))
+
+pub handed_by_all : (result : Result Inverted Fault) (p q : Plan) (l m : ℕ) (a b fed : List ℕ) (f g : Option Files) → p ≡ q → l ≡ m → a ≡ b → IfOk result (λ r. IsHanded p l a fed f g r) → IfOk result (λ r. IsHanded q m b fed f g r)
+handed_by_all (Ok r) p q l m a b fed f g one two three handed = handed_for p q l m a b fed f g r one two three handed
+handed_by_all (Err fault) p q l m a b fed f g one two three handed = tt
+
+pub index_others : (base : List ℕ) (f g : Option Files) → WroteParts OfIndex base f g → OthersSame base f g
+index_others base f g wrote = others_kept OfIndex base f g (λ q of. (index_from q of).1) wrote
+
+pub head_of_index : (base : List ℕ) (f g : Option Files) → WroteParts OfIndex base f g → file_at g (full_name base Head) ≡ file_at f (full_name base Head)
+head_of_index base f g wrote = kept OfIndex base f g Head (λ q of is. omega (arith, is, (index_from q of).0)) wrote
+
+-- ---- why it stops
+
+pub list_wider : (rose now same less : Type 0) (fault : Fault) → (rose → now) → (less → same) → ListStops rose same fault → ListStops now less fault
+list_wider rose now same less cause.StoreFault grows back stop = grows stop
+list_wider rose now same less cause.Memory grows back stop = tt
+list_wider rose now same less (cause.Changed what first second) grows back stop = (stop.0, λ is. stop.1 (back is))
+list_wider rose now same less (cause.Damaged bad) grows back stop = λ is. stop (back is)
+list_wider rose now same less cause.Usage grows back stop = absurd stop
+list_wider rose now same less cause.ReadFault grows back stop = absurd stop
+list_wider rose now same less cause.WriteFault grows back stop = absurd stop
+list_wider rose now same less cause.NotBuilt grows back stop = absurd stop
+list_wider rose now same less cause.NoCollection grows back stop = absurd stop
+list_wider rose now same less (cause.TooLarge bytes most) grows back stop = absurd stop
+list_wider rose now same less cause.TooManyDocuments grows back stop = absurd stop
+list_wider rose now same less (cause.TooManyPieces stream) grows back stop = absurd stop
+list_wider rose now same less (cause.NameClash p) grows back stop = absurd stop
+list_wider rose now same less cause.InputTooLong grows back stop = absurd stop
+list_wider rose now same less cause.SameName grows back stop = absurd stop
+list_wider rose now same less (cause.TooManyRotations count) grows back stop = absurd stop
+
+-- of the parts behind the second pass, for the bytes that were put
+pub rest_refused : {T : Type 0} (result : Result T Fault) (w : Putting) (f g : Option Files) (r : Inverted) (rose now : Type 0) → (rose → now) → (IsSome f → IsSome g) → ((fed : List ℕ) → HasPut w f fed → IsHanded w.plan w.limit w.base fed f g r)
+  → IfErr result (λ fault. (fed : List ℕ) (before : Option Files) → IsHanded w.plan w.limit w.base fed before g r → ListStops rose (IsSome g × IsPlanOf w.plan fed) fault)
+  → IfErr result (λ fault. (fed : List ℕ) → HasPut w f fed → ListStops now (IsSome f × IsPlanOf w.plan fed) fault)
+rest_refused (Ok value) w f g r rose now grows still handed stop = tt
+rest_refused (Err fault) w f g r rose now grows still handed stop = λ fed put. list_wider rose now _ _ fault grows (λ both. (still both.0, both.1)) (stop fed f (handed fed put))
+
+pub ready_all : {T : Type 0} (result : Result T Fault) (w : Putting) (fed : List ℕ) (h : Option Files) → OnOk result (IndexStands h w.base fed) → (IndexStands h w.base fed → IsReady (run_cap w.limit) h w.base w.plan.code fed) → OnOk result (IsReady (run_cap w.limit) h w.base w.plan.code fed)
+ready_all (Ok value) w fed h stands by = by stands
+ready_all (Err fault) w fed h stands by = tt

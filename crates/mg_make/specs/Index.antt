@@ -1,0 +1,50 @@
+-- Lists, lexicon and weights of a collection as they stand, and from what they are written.
+use Rattle.std.specs.Prelude.{◌≡◌, ◌<◌, ◌^◌, ℕ, List, [], length, Some}
+use Rattle.std.specs.Option.{IsSome}
+use Rattle.std.specs.declared.option.Option.{Option}
+use Rattle.mg_dev.specs.declared.part.Part.{Part as AnyPart}
+use Rattle.mg_dev.specs.declared.part.Part.TheVariants.{Lex, LexAt, MergeA, MergeB, Post, Skip, Weights}
+use Rattle.mg_dev.specs.Files.{Files, bytes_at, file_at}
+use Rattle.mg_dev.specs.Names.{full_name}
+use Rattle.mg_defs.specs.CodedText.{as_bytes}
+use Rattle.mg_defs.specs.Lexicon.{lex_at_bytes, lex_bytes}
+use Rattle.mg_defs.specs.Lists.{skip_bits}
+use Rattle.mg_defs.specs.Occurrences.{occurrences}
+use Rattle.mg_defs.specs.Postings.{postings}
+use Rattle.mg_defs.specs.Stands.{post_part, weights_part}
+use Rattle.mg_runs.specs.Left.{IsMerging, Merging}
+use Rattle.mg_make.specs.DocCounting.{AreDocCounts, DocCounting}
+use Rattle.mg_make.specs.Plans.{IsPlanOf, Plan}
+
+-- The store tells its files, plan and counts are those of a collection, and the merge has the postings of all its occurrences left.
+pub record IsInverted (p : Plan) (counts : DocCounting) (collection : List ℕ) (merge : Merging) (files : Option Files) : Type 0 where
+  pub told : IsSome files
+  pub plan_is : IsPlanOf p collection
+  pub few : length collection < 2 ^ 32
+  pub counts_are : AreDocCounts counts (length p.terms.terms) (occurrences collection)
+  pub merging : IsMerging merge files (postings (occurrences collection))
+
+-- the parts of lists, lexicon and weights are those of a collection, and the working parts are there and empty
+pub record IndexStands (files : Option Files) (base collection : List ℕ) : Type 0 where
+  pub post : bytes_at files (full_name base Post) ≡ post_part collection
+  pub skip : bytes_at files (full_name base Skip) ≡ as_bytes (skip_bits collection)
+  pub lex : bytes_at files (full_name base Lex) ≡ lex_bytes collection
+  pub lex_at : bytes_at files (full_name base LexAt) ≡ lex_at_bytes collection
+  pub weights : bytes_at files (full_name base Weights) ≡ weights_part collection
+  pub merge_a : file_at files (full_name base MergeA) ≡ Some []
+  pub merge_b : file_at files (full_name base MergeB) ≡ Some []
+
+-- the parts of weights, and the working parts
+abbrev pub OfWeights : AnyPart → Type 0
+OfWeights Weights = Unit {0}
+OfWeights MergeA = Unit {0}
+OfWeights MergeB = Unit {0}
+OfWeights p = ⊥
+
+-- those, and the parts of lists and the lexicon
+abbrev pub OfIndex : AnyPart → Type 0
+OfIndex Lex = Unit {0}
+OfIndex LexAt = Unit {0}
+OfIndex Post = Unit {0}
+OfIndex Skip = Unit {0}
+OfIndex p = OfWeights p

@@ -1,0 +1,14 @@
+pub mod Meeting
+pub mod DocCounting
+pub mod Plans
+pub mod Written
+pub mod Listing
+pub mod Index
+pub mod Fronts
+pub mod Indexes
+pub mod Second
+pub mod Finishing
+pub mod Scanning
+pub mod Counting
+pub mod Summaries
+pub mod Putting

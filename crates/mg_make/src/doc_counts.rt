@@ -1,0 +1,62 @@
+//! How many documents have each term.
+//!
+//! A list is begun with the number of its documents, so they are counted while the occurrences go by:
+//! eight bytes a term, and no posting is held outside the pool.
+ghost use Rattle.std.specs.Prelude.{◌≡◌, ◌≤◌, ◌<◌, ◌++◌, ◌∷◌, ℕ, List, [], length, slice_index, IfOk};
+ghost use Rattle.mg_defs.specs.DocCounts.{last_with};
+ghost use Rattle.mg_make.specs.DocCounting.{AreDocCounts};
+
+use mg_laws::documents_are_counted;
+use std::alloc::{AllocError, Global};
+use std::marker::Model;
+
+/// Of each term, how many documents have it so far, and the last of these.
+#[derive(Drop)]
+pub(crate) struct DocCounts {
+    docs: Vec<u32>,
+    last: Vec<u32>,
+}
+
+impl Model for DocCounts {
+    ghost use Rattle.mg_make.specs.DocCounting.{DocCounting};
+
+    ghost Value = { DocCounting };
+
+    ghost view = { λ c. record { docs = c.docs.items; last = c.last.items } };
+}
+
+impl DocCounts {
+    /// No document, for each of so many terms.
+    pub(crate) fn new(alloc: Global, terms: u32) -> Result<Self, AllocError>
+        ensures counts { IfOk result (λ c. AreDocCounts c terms []) }
+    {
+        let docs = vec![in alloc; 0; terms as usize]?;
+        let last = vec![in alloc; 0; terms as usize]?;
+        Ok(DocCounts { docs, last })
+    }
+
+    /// One occurrence more of a term, in a document that is not before those of the other ones.
+    pub(crate) fn count(&mut self, term: u32, doc: u32)
+        requires term { term < length self.old.docs }
+        requires counts { (fed : List (ℕ × ℕ)) × AreDocCounts self.old (length self.old.docs) fed × (last_with term 0 fed ≤ doc) }
+        requires some { 1 ≤ doc }
+        ensures counts { (fed : List (ℕ × ℕ)) → AreDocCounts self.old (length self.old.docs) fed → last_with term 0 fed ≤ doc →
+            AreDocCounts self.new (length self.old.docs) (fed ++ (term, doc) ∷ []) }
+        ensures size { length self.new.docs ≡ length self.old.docs }
+    {
+        documents_are_counted();
+        let at = term as usize;
+        if self.last[at] != doc {
+            self.last[at] = doc;
+            self.docs[at] += 1;
+        }
+    }
+
+    /// How many documents have a term.
+    pub(crate) fn docs(&self, term: u32) -> u32
+        requires { term < length self.now.docs }
+        ensures { result ≡ slice_index self.now.docs term }
+    {
+        self.docs[term as usize]
+    }
+}

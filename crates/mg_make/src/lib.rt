@@ -1,0 +1,33 @@
+//! A set of files from the bytes of a collection, given twice: first they are counted, then they are
+//! written.
+//!
+//! What comes here is a byte at a time, whatever it comes from: the collection's own file for a build,
+//! two texts for a merge. Nothing here reads a collection.
+#![tactic(auto)]
+
+mod count;
+mod counts;
+mod doc_counts;
+mod index;
+mod inverter;
+mod lists;
+mod merge_parts;
+mod met;
+mod one_list;
+mod plan;
+mod scanner;
+mod second;
+mod set_parts;
+mod summary;
+mod weights;
+mod writer;
+
+pub use count::Count;
+pub use plan::{Plan, Room};
+pub use summary::Summary;
+pub use writer::{SetWriter, empty_heads_stand_for_none};
+
+#[cfg(test)]
+mod index_tests;
+#[cfg(test)]
+mod tests;

@@ -1,0 +1,277 @@
+//! All lists, the lexicon, and the sums of squared weights, from the postings that a merge has left.
+//!
+//! Postings come by term and then by document. So list by list is written as they come, and beside it
+//! what the lexicon tells of its term. What a posting adds to the weight of its document goes into the
+//! document's sum at once: no list is kept.
+ghost use Rattle.std.specs.Prelude.{◌≡◌, ◌≢◌, ◌<◌, ◌≤◌, ◌+◌, ◌*◌, ◌/◌, ◌^◌, ◌++◌, ◌∷◌, ℕ, List, [], length, replicate, IfOk, IfErr, OnOk, IsSome, is_some, sum};
+ghost use Rattle.std.specs.Cmp.Lexicographic.{slice_cmp};
+ghost use Rattle.std.specs.List.Sorted.{IsStrictlySortedBy};
+ghost use Rattle.std.specs.Ordering.{nat_cmp};
+ghost use Rattle.mg_dev.specs.Causes.{HasPutCause, Rose};
+ghost use Rattle.mg_dev.specs.Files.{file_at};
+ghost use Rattle.mg_dev.specs.Names.{full_name};
+ghost use Rattle.mg_dev.specs.declared.part.Part.TheVariants as part;
+ghost use Rattle.mg_defs.specs.declared.Posting.{Posting};
+ghost use Rattle.mg_defs.specs.declared.TermPosting.{TermPosting};
+ghost use Rattle.mg_defs.specs.Lists.{inverted, lists_entries, post_bits};
+ghost use Rattle.mg_defs.specs.Split.{documents};
+ghost use Rattle.mg_defs.specs.Squares.{squares_to};
+ghost use Rattle.mg_lex.specs.Terms.{Term, terms_of};
+ghost use Rattle.mg_lex.specs.Writing.{TookTerms};
+ghost use Rattle.mg_post.specs.Writing.{Took};
+ghost use Rattle.mg_runs.specs.Left.{IsMerging};
+ghost use Rattle.mg_make.specs.Listing.{AreListSizes, CanIndex, HasIndexed, HasLists, ListStops, ListsStand, SameMerge};
+ghost use Rattle.mg_make.specs.Written.{OfLists, WroteParts};
+
+use crate::doc_counts::DocCounts;
+use crate::one_list::{stray, write_list};
+use mg_dev::{Fault, PutErr, Store};
+use mg_laws::squares_fit;
+use mg_layout::TermInfo;
+use mg_lex::{LexWriter, lexicon_has_its_terms, terms_stay};
+use mg_model::TermTable;
+use mg_post::{ListWriter, lists_stay};
+use mg_runs::{Merge, runs_stay};
+use std::alloc::Global;
+
+/// The bytes of Post, and the number of skip entries.
+#[derive(Drop)]
+pub(crate) struct Sizes {
+    pub(crate) post_bytes: u64,
+    pub(crate) skip_count: u64,
+}
+
+/// The writers of lists and of the lexicon of one set.
+#[derive(Drop)]
+struct IndexWriter<'a> {
+    lists: ListWriter<'a>,
+    lex: LexWriter<'a>,
+}
+
+/// Writers of lists among so many documents and of their lexicon, whose parts are emptied.
+fn start_writers<'a, S: Store>(
+    alloc: Global,
+    store: &mut S,
+    base: &'a str,
+    all: u32,
+) -> Result<IndexWriter<'a>, PutErr>
+    requires all { all ≤ 2 ^ 24 }
+    ensures lists { IfOk result (λ w. Took w.lists (S.files store.new) [] []) }
+    ensures lex { IfOk result (λ w. TookTerms w.lex (S.files store.new) []) }
+    ensures post { IfOk result (λ w. w.lists.post.name ≡ full_name base.entry.now part.Post) }
+    ensures skip { IfOk result (λ w. w.lists.skip.name ≡ full_name base.entry.now part.Skip) }
+    ensures base { IfOk result (λ w. w.lex.base ≡ base.entry.now) }
+    ensures all { IfOk result (λ w. w.lists.all ≡ all) }
+    ensures nothing { IfOk result (λ w. w.lists.total ≡ 0) }
+    ensures wrote { WroteParts OfLists base.entry.now (S.files store.old) (S.files store.new) }
+    ensures cause { HasPutCause (S.faults store.old) (S.faults store.new) result }
+{
+    let lists = match ListWriter::start(alloc, store, base, all) {
+        Ok(lists) => lists,
+        Err(refusal) => return Err(refusal),
+    };
+    lists_stay();
+    match LexWriter::start(alloc, store, base) {
+        Ok(lex) => Ok(IndexWriter { lists, lex }),
+        Err(refusal) => Err(refusal),
+    }
+}
+
+/// Writes the list of a term, and what the lexicon tells of it.
+fn write_term<S: Store>(
+    store: &mut S,
+    merge: &mut Merge<'_>,
+    writer: &mut IndexWriter<'_>,
+    sums: &mut Vec<u64>,
+    table: &TermTable,
+    counts: &DocCounts,
+    number: u32,
+) -> Result<(), Fault>
+    requires can { CanIndex table.now.terms counts.now.docs number merge.old writer.old.lists writer.old.lex sums.old.items (S.files store.old) }
+    requires sizes { AreListSizes counts.now.docs (length table.now.terms) writer.old.lists.all }
+    requires number { number < length table.now.terms }
+    requires few { length table.now.terms ≤ 2 ^ 22 }
+    requires rising { IsStrictlySortedBy (slice_cmp nat_cmp) table.now.terms }
+    ensures can { OnOk result
+        (CanIndex table.now.terms counts.now.docs (number + 1) merge.new writer.new.lists writer.new.lex sums.new.items (S.files store.new)) }
+    ensures indexed { (collection : List ℕ) →
+        HasIndexed table.now.terms counts.now.docs collection number merge.old writer.old.lists writer.old.lex sums.old.items (S.files store.old) →
+        OnOk result
+        (HasIndexed table.now.terms counts.now.docs collection (number + 1) merge.new writer.new.lists writer.new.lex sums.new.items (S.files store.new)) }
+    ensures refused { IfErr result (λ fault. (collection : List ℕ) → ListStops (Rose (S.faults store.old) (S.faults store.new))
+        (HasIndexed table.now.terms counts.now.docs collection number merge.old writer.old.lists writer.old.lex sums.old.items (S.files store.old)) fault) }
+    ensures all { writer.new.lists.all ≡ writer.old.lists.all }
+    ensures same { SameMerge merge.old merge.new }
+    ensures wrote { WroteParts OfLists merge.old.base (S.files store.old) (S.files store.new) }
+    ensures later { S.faults store.old ≤ S.faults store.new }
+{
+    let docs = counts.docs(number);
+    let (post_at, skip_at) = write_list(store, merge, &mut writer.lists, sums, number, docs)?;
+    let info = TermInfo {
+        number,
+        docs,
+        post_at,
+        skip_at,
+    };
+    runs_stay();
+    lists_stay();
+    terms_stay();
+    match writer.lex.push(store, table.term(number), &info) {
+        Ok(()) => Ok(()),
+        Err(refusal) => Err(Fault::of_store(refusal)),
+    }
+}
+
+/// Writes the lists of all terms, and what the lexicon tells of them.
+fn write_terms<S: Store>(
+    store: &mut S,
+    merge: &mut Merge<'_>,
+    writer: &mut IndexWriter<'_>,
+    sums: &mut Vec<u64>,
+    table: &TermTable,
+    counts: &DocCounts,
+) -> Result<(), Fault>
+    requires can { CanIndex table.now.terms counts.now.docs 0 merge.old writer.old.lists writer.old.lex sums.old.items (S.files store.old) }
+    requires sizes { AreListSizes counts.now.docs (length table.now.terms) writer.old.lists.all }
+    ensures can { OnOk result
+        (CanIndex table.now.terms counts.now.docs (length table.now.terms) merge.new writer.new.lists writer.new.lex sums.new.items (S.files store.new)) }
+    ensures indexed { (collection : List ℕ) →
+        HasIndexed table.now.terms counts.now.docs collection 0 merge.old writer.old.lists writer.old.lex sums.old.items (S.files store.old) →
+        OnOk result
+        (HasIndexed table.now.terms counts.now.docs collection (length table.now.terms)
+        merge.new writer.new.lists writer.new.lex sums.new.items (S.files store.new)) }
+    ensures refused { IfErr result (λ fault. (collection : List ℕ) → ListStops (Rose (S.faults store.old) (S.faults store.new))
+        (HasIndexed table.now.terms counts.now.docs collection 0 merge.old writer.old.lists writer.old.lex sums.old.items (S.files store.old)) fault) }
+    ensures all { writer.new.lists.all ≡ writer.old.lists.all }
+    ensures same { SameMerge merge.old merge.new }
+    ensures wrote { WroteParts OfLists merge.old.base (S.files store.old) (S.files store.new) }
+    ensures later { S.faults store.old ≤ S.faults store.new }
+{
+    for number in 0..table.count() {
+        write_term(store, merge, writer, sums, table, counts, number)?;
+    }
+    Ok(())
+}
+
+/// Sees that no posting is left.
+fn expect_end<S: Store>(store: &mut S, merge: &mut Merge<'_>) -> Result<(), Fault>
+    requires left { (left : List TermPosting) × IsMerging merge.old (S.files store.old) left }
+    ensures refused { IfErr result (ListStops (Rose (S.faults store.old) (S.faults store.new))
+        (IsSome (S.files store.old) × IsMerging merge.old (S.files store.old) [])) }
+    ensures same { SameMerge merge.old merge.new }
+    ensures files { S.files store.new ≡ S.files store.old }
+    ensures later { S.faults store.old ≤ S.faults store.new }
+{
+    match merge.next(store) {
+        Ok(None) => Ok(()),
+        Ok(Some(_)) => Err(stray(1, 0, 0)),
+        Err(refusal) => Err(Fault::from(refusal)),
+    }
+}
+
+/// Writes what both writers hold.
+fn finish<S: Store>(store: &mut S, writer: &mut IndexWriter<'_>) -> Result<Sizes, PutErr>
+    requires lists { (done : List (List Posting)) × Took writer.old.lists (S.files store.old) done [] }
+    requires lex { (terms : List Term) × TookTerms writer.old.lex (S.files store.old) terms }
+    requires post { writer.old.lists.post.name ≡ full_name writer.old.lex.base part.Post }
+    requires skip { writer.old.lists.skip.name ≡ full_name writer.old.lex.base part.Skip }
+    ensures stand { (collection : List ℕ) → IsSome (S.files store.old) → writer.old.lists.all ≡ length (documents collection) →
+        Took writer.old.lists (S.files store.old) (inverted collection) [] →
+        TookTerms writer.old.lex (S.files store.old) (terms_of collection) → OnOk result (ListsStand (S.files store.new) writer.old.lex.base collection) }
+    ensures post_bytes { (collection : List ℕ) → writer.old.lists.all ≡ length (documents collection) →
+        Took writer.old.lists (S.files store.old) (inverted collection) [] →
+        IfOk result (λ sizes. sizes.post_bytes ≡ length (post_bits collection) / 8) }
+    ensures skip_count { (collection : List ℕ) → writer.old.lists.all ≡ length (documents collection) →
+        Took writer.old.lists (S.files store.old) (inverted collection) [] →
+        IfOk result (λ sizes. sizes.skip_count ≡ length (lists_entries (length (documents collection)) (inverted collection))) }
+    ensures few { IfOk result (λ sizes. sizes.skip_count ≤ writer.old.lists.total) }
+    ensures wrote { WroteParts OfLists writer.old.lex.base (S.files store.old) (S.files store.new) }
+    ensures cause { HasPutCause (S.faults store.old) (S.faults store.new) result }
+{
+    writer.lex.finish(store)?;
+    lists_stay();
+    lexicon_has_its_terms();
+    let (post_bytes, skip_count) = writer.lists.finish(store)?;
+    Ok(Sizes {
+        post_bytes,
+        skip_count,
+    })
+}
+
+/// Writes all lists and the lexicon, and sees that no posting is left.
+fn write_index<S: Store>(
+    store: &mut S,
+    merge: &mut Merge<'_>,
+    writer: &mut IndexWriter<'_>,
+    sums: &mut Vec<u64>,
+    table: &TermTable,
+    counts: &DocCounts,
+) -> Result<Sizes, Fault>
+    requires can { CanIndex table.now.terms counts.now.docs 0 merge.old writer.old.lists writer.old.lex sums.old.items (S.files store.old) }
+    requires sizes { AreListSizes counts.now.docs (length table.now.terms) writer.old.lists.all }
+    ensures stand { (collection : List ℕ) →
+        HasIndexed table.now.terms counts.now.docs collection 0 merge.old writer.old.lists writer.old.lex sums.old.items (S.files store.old) →
+        OnOk result (ListsStand (S.files store.new) merge.old.base collection) }
+    ensures sums { (collection : List ℕ) →
+        HasIndexed table.now.terms counts.now.docs collection 0 merge.old writer.old.lists writer.old.lex sums.old.items (S.files store.old) →
+        OnOk result (sums.new.items ≡ squares_to (length (documents collection)) (inverted collection)) }
+    ensures post_bytes { (collection : List ℕ) →
+        HasIndexed table.now.terms counts.now.docs collection 0 merge.old writer.old.lists writer.old.lex sums.old.items (S.files store.old) →
+        IfOk result (λ sizes. sizes.post_bytes ≡ length (post_bits collection) / 8) }
+    ensures skip_count { (collection : List ℕ) →
+        HasIndexed table.now.terms counts.now.docs collection 0 merge.old writer.old.lists writer.old.lex sums.old.items (S.files store.old) →
+        IfOk result (λ sizes. sizes.skip_count ≡ length (lists_entries (length (documents collection)) (inverted collection))) }
+    ensures few { IfOk result (λ sizes. sizes.skip_count ≤ sum counts.now.docs) }
+    ensures refused { IfErr result (λ fault. (collection : List ℕ) → ListStops (Rose (S.faults store.old) (S.faults store.new))
+        (HasIndexed table.now.terms counts.now.docs collection 0 merge.old writer.old.lists writer.old.lex sums.old.items (S.files store.old)) fault) }
+    ensures same { SameMerge merge.old merge.new }
+    ensures wrote { WroteParts OfLists merge.old.base (S.files store.old) (S.files store.new) }
+    ensures later { S.faults store.old ≤ S.faults store.new }
+{
+    write_terms(store, merge, writer, sums, table, counts)?;
+    expect_end(store, merge)?;
+    match finish(store, writer) {
+        Ok(sizes) => Ok(sizes),
+        Err(refusal) => Err(Fault::of_store(refusal)),
+    }
+}
+
+/// Writes the list of each term, and what the lexicon tells of it, and adds the squared weights of
+/// the postings to the sums of their documents.
+pub(crate) fn write_lists<S: Store>(
+    alloc: Global,
+    store: &mut S,
+    base: &str,
+    merge: &mut Merge<'_>,
+    table: &TermTable,
+    counts: &DocCounts,
+    sums: &mut Vec<u64>,
+) -> Result<Sizes, Fault>
+    requires base { merge.old.base ≡ base.now }
+    requires sizes { AreListSizes counts.now.docs (length table.now.terms) (length sums.old.items) }
+    requires left { (left : List TermPosting) × IsMerging merge.old (S.files store.old) left }
+    requires zero { sums.old.items ≡ replicate (length sums.old.items) 0 }
+    ensures stand { (collection : List ℕ) → HasLists table.now.terms counts.now.docs (length sums.old.items) collection merge.old (S.files store.old) →
+        OnOk result (ListsStand (S.files store.new) base.now collection) }
+    ensures sums { (collection : List ℕ) → HasLists table.now.terms counts.now.docs (length sums.old.items) collection merge.old (S.files store.old) →
+        OnOk result (sums.new.items ≡ squares_to (length (documents collection)) (inverted collection)) }
+    ensures post_bytes { (collection : List ℕ) → HasLists table.now.terms counts.now.docs (length sums.old.items) collection merge.old (S.files store.old) →
+        IfOk result (λ sizes. sizes.post_bytes ≡ length (post_bits collection) / 8) }
+    ensures skip_count { (collection : List ℕ) → HasLists table.now.terms counts.now.docs (length sums.old.items) collection merge.old (S.files store.old) →
+        IfOk result (λ sizes. sizes.skip_count ≡ length (lists_entries (length (documents collection)) (inverted collection))) }
+    ensures few { IfOk result (λ sizes. sizes.skip_count ≤ sum counts.now.docs) }
+    ensures refused { IfErr result (λ fault. (collection : List ℕ) → ListStops (Rose (S.faults store.old) (S.faults store.new))
+        (HasLists table.now.terms counts.now.docs (length sums.old.items) collection merge.old (S.files store.old)) fault) }
+    ensures same { SameMerge merge.old merge.new }
+    ensures wrote { WroteParts OfLists base.now (S.files store.old) (S.files store.new) }
+    ensures later { S.faults store.old ≤ S.faults store.new }
+{
+    let all = sums.len() as u32;
+    let mut writer = match start_writers(alloc, store, base, all) {
+        Ok(writer) => writer,
+        Err(refusal) => return Err(Fault::of_store(refusal)),
+    };
+    runs_stay();
+    squares_fit();
+    write_index(store, merge, &mut writer, sums, table, counts)
+}

@@ -1,0 +1,103 @@
+//! What the first pass hands on: by what the second writes, and room for what it counts.
+//!
+//! Both are made before anything is written. So a build that lacks memory for them has left all files
+//! as they were.
+ghost use Rattle.std.specs.Prelude.{◌≡◌, ◌≤◌, ◌<◌, ◌^◌, ℕ, Bool, List, length, replicate, IfOk};
+ghost use Rattle.mg_make.specs.Counting.{IsCountOf};
+ghost use Rattle.mg_make.specs.Plans.{IsPlan, IsPlanOf, IsRoomFor};
+
+use crate::counts::Counts;
+use crate::doc_counts::DocCounts;
+use mg_laws::{few_of_each, limits_of_marks, marks_have_all};
+use mg_model::{TermTable, TextModel, collections_have_models, terms_are_the_dictionary};
+use mg_runs::Pool;
+use std::alloc::{AllocError, Global};
+use std::marker::Model;
+
+/// The models of both streams, their terms, the pairs of each document, and whether the last one is
+/// open.
+#[derive(Drop)]
+pub struct Plan {
+    pub(crate) model: TextModel,
+    pub(crate) table: TermTable,
+    pub(crate) pairs: Vec<u32>,
+    pub(crate) open_end: bool,
+}
+
+impl Model for Plan {
+    ghost use Rattle.mg_make.specs.Plans.{Plan as Planned};
+
+    ghost Value = { Planned };
+
+    ghost view = { λ p. record { code = p.model; pairs = p.pairs.items; terms = p.table; open_end = p.open_end } };
+}
+
+impl Plan {
+    /// The number of documents.
+    pub(crate) fn documents(&self) -> u32
+        requires { length self.now.pairs ≤ 2 ^ 24 }
+        ensures { result ≡ length self.now.pairs }
+    {
+        self.pairs.len() as u32
+    }
+
+    /// The plan of a collection of which these are the counts.
+    pub(crate) fn of(alloc: Global, counts: Counts, open_end: bool) -> Result<Self, AllocError>
+        requires counted { (collection : List ℕ) × IsCountOf counts open_end collection }
+        ensures plan { IfOk result (λ plan. IsPlan plan) }
+        ensures of { (collection : List ℕ) → IsCountOf counts open_end collection → IfOk result (λ plan. IsPlanOf plan collection) }
+    {
+        few_of_each();
+        limits_of_marks();
+        marks_have_all();
+        collections_have_models();
+        terms_are_the_dictionary();
+        let (words, others, pairs) = counts.into_parts();
+        let model = TextModel::of(alloc, words, others)?;
+        let table = TermTable::of(alloc, &model)?;
+        Ok(Plan {
+            model,
+            table,
+            pairs,
+            open_end,
+        })
+    }
+}
+
+/// The pool of the runs, and room for the documents of each term and the sums of squared weights of
+/// each document.
+#[derive(Drop)]
+pub struct Room {
+    pub(crate) pool: Pool,
+    pub(crate) counts: DocCounts,
+    pub(crate) sums: Vec<u64>,
+}
+
+impl Model for Room {
+    ghost use Rattle.mg_make.specs.Plans.{Rooming};
+
+    ghost Value = { Rooming };
+
+    ghost view = { λ r. record { pool = r.pool; counts = r.counts; sums = r.sums.items } };
+}
+
+/// So many sums, of nothing yet.
+fn no_sums(alloc: Global, count: usize) -> Result<Vec<u64>, AllocError>
+    ensures { IfOk result (λ sums. sums.items ≡ replicate count 0) }
+{
+    vec![in alloc; 0; count]
+}
+
+impl Room {
+    /// Room for what a plan's second pass counts, with a pool of so many bytes.
+    pub(crate) fn new(alloc: Global, plan: &Plan, budget: u64) -> Result<Self, AllocError>
+        requires least { 4096 ≤ budget }
+        requires most { budget ≤ 2 ^ 30 }
+        ensures { IfOk result (λ room. IsRoomFor room plan.now budget) }
+    {
+        let pool = Pool::new(alloc, budget)?;
+        let counts = DocCounts::new(alloc, plan.table.count())?;
+        let sums = no_sums(alloc, plan.pairs.len())?;
+        Ok(Room { pool, counts, sums })
+    }
+}

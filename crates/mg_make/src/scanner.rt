@@ -1,0 +1,137 @@
+//! What is met in a collection, byte by byte.
+ghost use Rattle.std.specs.Prelude.{◌≡◌, ◌<◌, ◌++◌, ◌∷◌, ◌^◌, ℕ, List, [], false, length};
+ghost use Rattle.mg_defs.specs.declared.Stream.TheVariants.{Words};
+ghost use Rattle.mg_defs.specs.Marks.{Mark, marks};
+ghost use Rattle.mg_defs.specs.Pieces.{left_at_end};
+ghost use Rattle.mg_defs.specs.Split.{has_open_end};
+ghost use Rattle.mg_make.specs.Meeting.{marks_of};
+ghost use Rattle.mg_make.specs.Scanning.{HasMet, HasRead, closing_marks, joined_marks};
+
+use crate::met::Met;
+use mg_parse::{Offer, PieceReader, SplitEvent, Splitter};
+use std::marker::Model;
+
+/// Takes the bytes of a collection, and tells of each what is met with it.
+///
+/// It keeps the piece that is read and the one that ended, and nothing of what came before: what is
+/// met stands until the next byte is taken.
+#[derive(Drop)]
+pub(crate) struct Scanner {
+    splitter: Splitter,
+    reader: PieceReader,
+    is_open: bool,
+    met: Met,
+}
+
+impl Model for Scanner {
+    ghost use Rattle.mg_make.specs.Scanning.{Scanning};
+
+    ghost Value = { Scanning };
+
+    ghost view = { λ s. record { seen = s.splitter; reading = s.reader; is_open = s.is_open; met = s.met } };
+}
+
+/// Reads a byte of a document. Up to two pieces end before it, of which the second is empty: it lies
+/// between a full piece and a byte of the same kind.
+fn read_byte(reader: &mut PieceReader, byte: u8, met: &mut Met, begins: bool)
+    ensures met { (ended : List (List ℕ)) × HasRead reader.old reader.new byte ended × (marks_of met.new ≡ joined_marks begins reader.old.kind ended) }
+{
+    met.restart(begins);
+    match reader.offer(byte) {
+        Offer::Taken => return,
+        Offer::Ended => {}
+    }
+    met.tell(reader.kind(), reader.piece());
+    reader.turn();
+    match reader.offer(byte) {
+        Offer::Taken => return,
+        Offer::Ended => {}
+    }
+    met.tell_other();
+    reader.turn();
+    let _ = reader.offer(byte);
+}
+
+/// Tells the pieces that are left at a document's end.
+fn tell_left(reader: &PieceReader, met: &mut Met, begins: bool)
+    ensures met { marks_of met.new ≡ joined_marks begins reader.now.kind (left_at_end reader.now.kind reader.now.piece) }
+    ensures ends { met.new.ends ≡ false }
+{
+    met.restart(begins);
+    match reader.ends() {
+        0 => {}
+        1 => met.tell(reader.kind(), reader.piece()),
+        _ => {
+            met.tell(reader.kind(), reader.piece());
+            met.tell_other();
+        }
+    }
+}
+
+/// Ends a document, and begins to read another.
+fn end_document(reader: &mut PieceReader, met: &mut Met, begins: bool)
+    ensures met { marks_of met.new ≡ closing_marks begins reader.old }
+    ensures reader { reader.new ≡ record { kind = Words; piece = [] } }
+{
+    tell_left(reader, met, begins);
+    met.end();
+    *reader = PieceReader::new();
+}
+
+impl Scanner {
+    /// Has taken nothing.
+    pub(crate) fn new() -> Self
+        ensures { HasMet result [] [] }
+    {
+        Scanner {
+            splitter: Splitter::new(),
+            reader: PieceReader::new(),
+            is_open: false,
+            met: Met::new(),
+        }
+    }
+
+    /// Takes the next byte, of fewer than 2^32 in all before it.
+    #[inline]
+    pub(crate) fn take(&mut self, byte: u8)
+        requires some { (fed : List ℕ) × (met : List Mark) × HasMet self.old fed met × (length fed < 2 ^ 32) }
+        ensures met { (fed : List ℕ) (met : List Mark) → HasMet self.old fed met → HasMet self.new (fed ++ byte ∷ []) (met ++ marks_of self.new.met) }
+    {
+        let begins = !self.is_open;
+        match self.splitter.feed(byte) {
+            SplitEvent::Close => {
+                end_document(&mut self.reader, &mut self.met, begins);
+                self.is_open = false;
+            }
+            SplitEvent::Byte => {
+                read_byte(&mut self.reader, byte, &mut self.met, begins);
+                self.is_open = true;
+            }
+        }
+    }
+
+    /// Takes the end of the collection, where a document may be open.
+    pub(crate) fn finish(&mut self)
+        ensures met { (fed : List ℕ) (met : List Mark) → HasMet self.old fed met → marks fed ≡ met ++ marks_of self.new.met }
+    {
+        if self.is_open {
+            end_document(&mut self.reader, &mut self.met, false);
+        } else {
+            self.met.restart(false);
+        }
+    }
+
+    /// Whether bytes came after the last document that was closed.
+    pub(crate) fn is_open(&self) -> bool
+        ensures { (fed : List ℕ) (met : List Mark) → HasMet self.now fed met → result ≡ has_open_end fed }
+    {
+        self.is_open
+    }
+
+    /// What is met with the last byte, or with the end.
+    pub(crate) fn met(&self) -> &Met
+        ensures { result.now ≡ self.now.met }
+    {
+        &self.met
+    }
+}

@@ -1,0 +1,159 @@
+//! The parts of a set: those that are written before the first byte comes, and those that follow the
+//! last.
+//!
+//! What is written here may be parts of no collection, where the bytes are not those that were counted or
+//! where a store gives back other bytes than it got. So each step says what it wrote for the bytes that
+//! came, and which numbers it hands on whatever comes.
+ghost use Rattle.std.specs.Prelude.{◌≡◌, ◌≤◌, ◌<◌, ◌^◌, ℕ, List, [], Option, length, replicate, IfErr, IfOk, OnOk, Some};
+ghost use Rattle.std.specs.Option.{IsSome};
+ghost use Rattle.mg_dev.specs.Causes.{HasPutCause, Rose};
+ghost use Rattle.mg_dev.specs.Files.{Files, file_at};
+ghost use Rattle.mg_dev.specs.Names.{full_name};
+ghost use Rattle.mg_dev.specs.declared.part.Part.TheVariants as part;
+ghost use Rattle.mg_defs.specs.Heads.{IsWithin};
+ghost use Rattle.mg_defs.specs.Marks.{Mark};
+ghost use Rattle.mg_defs.specs.Occurrences.{occurrences};
+ghost use Rattle.mg_defs.specs.Stands.{head_of};
+ghost use Rattle.mg_defs.specs.Summaries.{pool_peak, run_cap};
+ghost use Rattle.mg_layout.specs.HeadAnswers.{fields_of};
+ghost use Rattle.mg_model.specs.Models.{PartsHold};
+ghost use Rattle.mg_make.specs.DocCounting.{AreDocCounts};
+ghost use Rattle.mg_make.specs.Finishing.{budget_of};
+ghost use Rattle.mg_make.specs.Listing.{ListStops};
+ghost use Rattle.mg_make.specs.Plans.{IsPlan, IsPlanOf};
+ghost use Rattle.mg_make.specs.Putting.{IsHanded, IsUnbuilt, OfPass};
+ghost use Rattle.mg_make.specs.Scanning.{HasMet};
+ghost use Rattle.mg_make.specs.Second.{HasWritten};
+ghost use Rattle.mg_make.specs.Index.{IndexStands, OfIndex};
+ghost use Rattle.mg_make.specs.Written.{WroteParts, WroteSecond};
+
+use crate::doc_counts::DocCounts;
+use crate::index::write_all;
+use crate::plan::Plan;
+use crate::scanner::Scanner;
+use crate::second::{Inverted, SecondPass};
+use mg_dev::{Fault, FileRef, Part, PutErr, Store};
+use mg_layout::{BUILT, Head};
+use mg_model::Stream;
+use mg_runs::Pool;
+use mg_text::text_has_its_documents;
+use std::alloc::Global;
+
+/// Empties the head, so that the files stand for no collection.
+#[tactic(auto, using(mg_dev::specs::Laws::file_laws))]
+pub(crate) fn reset_head<S: Store>(store: &mut S, base: &str) -> Result<(), PutErr>
+    ensures empty { IsSome (S.files store.old) → OnOk result (file_at (S.files store.new) (full_name base.now part.Head) ≡ Some []) }
+    ensures unbuilt { IsUnbuilt base.now (S.files store.old) (S.files store.new) }
+    ensures wrote { WroteParts (λ p. p ≡ part.Head) base.now (S.files store.old) (S.files store.new) }
+    ensures cause { HasPutCause (S.faults store.old) (S.faults store.new) result }
+{
+    let head = FileRef {
+        base,
+        part: Part::Head,
+    };
+    store.reset(&head)
+}
+
+/// Writes the models, and begins text and runs.
+pub(crate) fn open_parts<'a, S: Store>(
+    alloc: Global,
+    store: &mut S,
+    base: &'a str,
+    plan: &'a Plan,
+    pool: Pool,
+    counts: DocCounts,
+) -> Result<SecondPass<'a>, PutErr>
+    requires plan { IsPlan plan.now }
+    requires pool { pool ≡ record { entries = []; slots = []; peak = 0; limit = pool.limit } }
+    requires counts { AreDocCounts counts (length plan.now.terms.terms) [] }
+    ensures written { IfOk result (λ pass. HasWritten pass (S.files store.new) []) }
+    ensures base { IfOk result (λ pass. pass.base ≡ base.entry.now) }
+    ensures plan { IfOk result (λ pass. pass.plan ≡ plan.entry.now) }
+    ensures limit { IfOk result (λ pass. budget_of pass ≡ pool.limit) }
+    ensures models { IsSome (S.files store.old) → OnOk result (PartsHold (S.files store.new) base.entry.now plan.entry.now.code) }
+    ensures wrote { WroteParts OfPass base.entry.now (S.files store.old) (S.files store.new) }
+    ensures cause { HasPutCause (S.faults store.old) (S.faults store.new) result }
+{
+    plan.model.write(alloc, store, base)?;
+    SecondPass::start(alloc, store, base, plan, pool, counts)
+}
+
+/// Ends what was put: what is met at the end is written, and then text and runs are ended.
+pub(crate) fn end_pass<'a, S: Store>(
+    store: &mut S,
+    scanner: &mut Scanner,
+    pass: SecondPass<'a>,
+) -> Result<Inverted<'a>, Fault>
+    requires put { (fed : List ℕ) × (met : List Mark) × HasMet scanner.old fed met × HasWritten pass (S.files store.old) met × (length fed < 2 ^ 32) }
+    ensures handed { (fed : List ℕ) (met : List Mark) → HasMet scanner.old fed met → HasWritten pass.entry (S.files store.old) met → length fed < 2 ^ 32 →
+        IfOk result (λ inverted. IsHanded pass.entry.plan (budget_of pass.entry) pass.entry.base fed (S.files store.old) (S.files store.new) inverted) }
+    ensures wrote { WroteSecond pass.entry.base (S.files store.old) (S.files store.new) }
+    ensures later { S.faults store.old ≤ S.faults store.new }
+    ensures refused { IfErr result (λ fault. (fed : List ℕ) (met : List Mark) → HasMet scanner.old fed met → HasWritten pass.entry (S.files store.old) met → length fed < 2 ^ 32 →
+        ListStops (Rose (S.faults store.old) (S.faults store.new)) (IsSome (S.files store.old) × IsPlanOf pass.entry.plan fed) fault) }
+{
+    let mut pass = pass;
+    scanner.finish();
+    match pass.take(store, scanner.met()) {
+        Ok(()) => {}
+        Err(refusal) => return Err(refusal),
+    }
+    pass.finish(store)
+}
+
+/// Writes lists, lexicon and weights, and makes the head that belongs to the set, with the greatest use of
+/// the pool.
+pub(crate) fn write_rest<S: Store>(
+    alloc: Global,
+    store: &mut S,
+    base: &str,
+    plan: &Plan,
+    inverted: Inverted<'_>,
+    sums: &mut Vec<u64>,
+    size: u64,
+    limit: u64,
+) -> Result<(Head, u64), Fault>
+    requires handed { (fed : List ℕ) × (before : Option Files) × IsHanded plan.now limit base.now fed before (S.files store.old) inverted × (size ≡ length fed) }
+    requires plan { IsPlan plan.now }
+    requires zero { sums.old.items ≡ replicate (length plan.now.pairs) 0 }
+    ensures within { IfOk result (λ made. IsWithin (fields_of made.0)) }
+    ensures head { (fed : List ℕ) (before : Option Files) → IsHanded plan.now limit base.now fed before (S.files store.old) inverted.entry → size ≡ length fed → IsSome (S.files store.old) →
+        IsPlanOf plan.now fed → IfOk result (λ made. fields_of made.0 ≡ head_of 2 (run_cap limit) plan.now.code fed) }
+    ensures peak { (fed : List ℕ) (before : Option Files) → IsHanded plan.now limit base.now fed before (S.files store.old) inverted.entry → IsPlanOf plan.now fed →
+        IfOk result (λ made. made.1 ≡ pool_peak (length (occurrences fed)) limit) }
+    ensures stand { (fed : List ℕ) (before : Option Files) → IsHanded plan.now limit base.now fed before (S.files store.old) inverted.entry → IsSome (S.files store.old) → IsPlanOf plan.now fed →
+        OnOk result (IndexStands (S.files store.new) base.now fed) }
+    ensures wrote { WroteParts OfIndex base.now (S.files store.old) (S.files store.new) }
+    ensures later { S.faults store.old ≤ S.faults store.new }
+    ensures refused { IfErr result (λ fault. (fed : List ℕ) (before : Option Files) → IsHanded plan.now limit base.now fed before (S.files store.old) inverted.entry →
+        ListStops (Rose (S.faults store.old) (S.faults store.new)) (IsSome (S.files store.old) × IsPlanOf plan.now fed) fault) }
+{
+    let Inverted {
+        text_bytes,
+        mut merge,
+        counts,
+        occurrences,
+    } = inverted;
+    // By this law a text has as many bytes as its documents' codes make.
+    text_has_its_documents();
+    let sizes = match write_all(alloc, store, base, &mut merge, plan, &counts, sums) {
+        Ok(sizes) => sizes,
+        Err(refusal) => return Err(refusal),
+    };
+    let head = Head {
+        version: BUILT,
+        documents: plan.documents(),
+        words: plan.model.canon(Stream::Words).count(),
+        others: plan.model.canon(Stream::Others).count(),
+        terms: plan.table.count(),
+        cap: (limit / 12) as u32,
+        open_end: plan.open_end,
+        collection: size,
+        occurrences,
+        runs: merge.runs(),
+        text_bytes,
+        post_bytes: sizes.post_bytes,
+        skip_count: sizes.skip_count,
+    };
+    Ok((head, merge.peak()))
+}

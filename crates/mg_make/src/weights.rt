@@ -1,0 +1,51 @@
+//! The weights of documents, from the sums of their squared weights.
+ghost use Rattle.std.specs.Prelude.{◌≡◌, ◌++◌, ℕ, List, flat_map, OnOk, IsSome};
+ghost use Rattle.mg_dev.specs.Causes.{HasPutCause};
+ghost use Rattle.mg_dev.specs.Files.{bytes_at};
+ghost use Rattle.mg_dev.specs.Names.{full_name};
+ghost use Rattle.mg_dev.specs.declared.part.Part.TheVariants as part;
+ghost use Rattle.mg_bits.specs.Writer.{WroteTo, put_to};
+ghost use Rattle.mg_defs.specs.Fixed.{isqrt as root};
+ghost use Rattle.mg_defs.specs.Numbers.{four};
+
+use mg_bits::PageWriter;
+use mg_dev::{FileRef, Part, PutErr, Store};
+use mg_fixed::isqrt;
+use std::alloc::Global;
+
+/// Writes the root of one sum.
+#[tactic(auto, unfolding(mg_defs::specs::Numbers::four))]
+fn put_root<S: Store>(w: &mut PageWriter<'_>, store: &mut S, sum: u64) -> Result<(), PutErr>
+    ensures bytes { IsSome (S.files store.old) → OnOk result (put_to w.new (S.files store.new) ≡ put_to w.old (S.files store.old) ++ four (root sum)) }
+    ensures name { w.new.name ≡ w.old.name }
+    ensures wrote { WroteTo w.old.name (S.files store.old) (S.files store.new) (S.reads store.old) (S.reads store.new) }
+    ensures cause { HasPutCause (S.faults store.old) (S.faults store.new) result }
+{
+    w.put_all(store, &isqrt(sum).to_be_bytes())
+}
+
+/// Writes the root of each sum in 4 bytes.
+pub(crate) fn write_weights<S: Store>(
+    alloc: Global,
+    store: &mut S,
+    base: &str,
+    sums: &[u64],
+) -> Result<(), PutErr>
+    ensures bytes { IsSome (S.files store.old) →
+        OnOk result (bytes_at (S.files store.new) (full_name base.now part.Weights) ≡ flat_map (λ sum. four (root sum)) sums.now) }
+    ensures wrote { WroteTo (full_name base.now part.Weights) (S.files store.old) (S.files store.new) (S.reads store.old) (S.reads store.new) }
+    ensures cause { HasPutCause (S.faults store.old) (S.faults store.new) result }
+{
+    let file = FileRef {
+        base,
+        part: Part::Weights,
+    };
+    let mut writer = match PageWriter::start(alloc, store, file) {
+        Ok(writer) => writer,
+        Err(refusal) => return Err(refusal),
+    };
+    for sum in sums {
+        put_root(&mut writer, store, *sum)?;
+    }
+    writer.finish(store)
+}
