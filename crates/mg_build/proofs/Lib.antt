@@ -1,2 +1,6 @@
 mod DocumentLaws
 mod StopLaws
+mod PassLaws
+mod PutLaws
+mod NameLaws
+mod BuildLaws

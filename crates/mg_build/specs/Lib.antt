@@ -1,2 +1,4 @@
 pub mod Outcomes
 pub mod Documents
+pub mod Sources
+pub mod Building

@@ -1,12 +1,18 @@
-//! The collection of a set of files.
+//! The collection of a set of files, built and printed.
 //!
-//! A set that stands for a collection is printed as the collection's bytes, document by document, through one
+//! A build reads the collection twice, a page at a time: first it is counted, then it is written; what is made of the bytes is
+//! mg_make's. A set that stands for a collection is printed as the collection's bytes, document by document, through one
 //! buffer, so that small documents cost no put of their own. Nothing that the files hold is trusted.
 #![tactic(auto)]
 
+mod building;
 mod decoding;
 mod documents;
+mod names;
+mod passes;
+mod source;
 
+pub use building::build;
 pub use decoding::decode;
 
 #[cfg(test)]

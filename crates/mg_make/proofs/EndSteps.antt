@@ -44,7 +44,7 @@ is_whole s f fed written = record { collection = fed; written = written }
 -- ---- what is handed on
 
 pub handed_all : (r : Result Inverted Fault) (old new : Inversion) (f g h : Option Files) (fed : List ℕ) → SamePass old new → is_some g ≡ is_some f → length fed < 2 ^ 32 → HasWritten new g (marks fed)
-  → IfOk r (λ inverted. EndsWith new (marks fed) g h inverted) → IfOk r (λ inverted. IsHanded old.plan (budget_of old) old.base fed f h inverted)
+    → IfOk r (λ inverted. EndsWith new (marks fed) g h inverted) → IfOk r (λ inverted. IsHanded old.plan (budget_of old) old.base fed f h inverted)
 handed_all (Err fault) old new f g h fed same told few written ends = tt
 handed_all (Ok inverted) old new f g h fed same told few written ends = record {
   few = few;
@@ -104,10 +104,10 @@ rose_behind a b c up rose = omega (arith, up, rose)
 
 -- why the end is refused, by what was put
 pub end_refused : {T : Type 0} (r : Result T Fault) (scanning : Scanning) (old new : Inversion) (f g : Option Files) (next : List Mark) (rose now : Type 0) → (rose → now) → SamePass old new → is_some g ≡ is_some f → WroteMarks old new f g next
-  → ((fed : List ℕ) (met : List Mark) → HasMet scanning fed met → marks fed ≡ met ++ next)
-  → IfErr r (λ fault. (collection : List ℕ) → HasWritten new g (marks collection) → FinishStops rose (IsPlanOf new.plan collection) (IsSome g) fault)
-  → IfErr r (λ fault. (fed : List ℕ) (met : List Mark) → HasMet scanning fed met → HasWritten old f met → length fed < 2 ^ 32 → ListStops now (IsSome f × IsPlanOf old.plan fed) fault)
+    → ((fed : List ℕ) (met : List Mark) → HasMet scanning fed met → marks fed ≡ met ++ next)
+    → IfErr r (λ fault. (collection : List ℕ) → HasWritten new g (marks collection) → FinishStops rose (IsPlanOf new.plan collection) (IsSome g) fault)
+    → IfErr r (λ fault. (fed : List ℕ) (met : List Mark) → HasMet scanning fed met → HasWritten old f met → length fed < 2 ^ 32 → ListStops now (IsSome f × IsPlanOf old.plan fed) fault)
 end_refused (Ok value) scanning old new f g next rose now grows same told wrote whole stop = tt
 end_refused (Err fault) scanning old new f g next rose now grows same told wrote whole stop = λ fed met scanned written few.
     stops_finish rose now (IsPlanOf new.plan fed) (IsSome g) (IsPlanOf old.plan fed) (IsSome f) fault grows (λ is. subst (λ p. IsPlanOf p fed) (sym same.plan) is) (λ is. told ∙ is)
-      (stop fed (all_written old new f g fed met next wrote written (whole fed met scanned)))
+    (stop fed (all_written old new f g fed met next wrote written (whole fed met scanned)))

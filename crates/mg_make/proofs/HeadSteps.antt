@@ -43,7 +43,6 @@ append_others base piece f g r after = record {
 
 module _ (base fed : List ℕ) (cap : ℕ) (code : TextCode) (f g : Option Files) (count : ℕ) (told : IsSome f) (ready : IsReady cap f base code fed) (gone : file_at f (full_name base Head) ≡ Some [])
     (low : 341 ≤ cap) (high : cap ≤ 89478485) (grew : g ≡ grown f (full_name base Head) (take count (heads.head_bytes (head_of 2 cap code fed)))) where
-
   bytes : List ℕ
   bytes = heads.head_bytes (head_of 2 cap code fed)
 
@@ -98,12 +97,12 @@ stands_of cap files base collection stands = record { told = stands.told; stand 
 
 -- whatever of the head was appended
 pub left_here : (base fed : List ℕ) (cap : ℕ) (code : TextCode) (f g : Option Files) → IsSome f → IsReady cap f base code fed → file_at f (full_name base Head) ≡ Some [] → 341 ≤ cap → cap ≤ 89478485
-  → GrewInPart f g (full_name base Head) (heads.head_bytes (head_of 2 cap code fed)) → StandsForNone g base ⊎ Stands g base fed
+    → GrewInPart f g (full_name base Head) (heads.head_bytes (head_of 2 cap code fed)) → StandsForNone g base ⊎ Stands g base fed
 left_here base fed cap code f g told ready gone low high (inl same) = inl (empty_stands_for_none base g (ap (λ files. file_at files (full_name base Head)) same ∙ gone))
 left_here base fed cap code f g told ready gone low high (inr (k, within, grew)) = elim (cases_lt k (length (heads.head_bytes (head_of 2 cap code fed)))) [
-    | inl cut ↦ inl (none_here base fed cap code f g k told ready gone low high grew cut)
-    | inr whole ↦ inr (stands_of cap g base fed (stands_here base fed cap code f g k told ready gone low high grew whole))
-  ]
+  | inl cut ↦ inl (none_here base fed cap code f g k told ready gone low high grew cut)
+  | inr whole ↦ inr (stands_of cap g base fed (stands_here base fed cap code f g k told ready gone low high grew whole))
+]
 
 -- the whole head
 pub grown_whole : (f g : Option Files) (name piece : List ℕ) → g ≡ grown f name piece → g ≡ grown f name (take (length piece) piece)

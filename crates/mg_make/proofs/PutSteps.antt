@@ -27,8 +27,8 @@ writing base plan limit sums size scanning pass = record { base = base; plan = p
 -- ---- the start
 
 pub put_nothing : (base : List ℕ) (plan : Plan) (limit : ℕ) (sums : List ℕ) (scanning : Scanning) (pass : Inversion) (f g h : Option Files) → HasMet scanning [] [] → HasWritten pass h [] → pass.base ≡ base → pass.plan ≡ plan → budget_of pass ≡ limit
-  → is_some g ≡ is_some f → (IsSome f → file_at g (full_name base Head) ≡ Some []) → WroteParts OfPass base g h → (IsSome g → PartsHold h base plan.code) → sums ≡ replicate (length plan.pairs) 0
-  → HasPut (writing base plan limit sums 0 scanning pass) h []
+    → is_some g ≡ is_some f → (IsSome f → file_at g (full_name base Head) ≡ Some []) → WroteParts OfPass base g h → (IsSome g → PartsHold h base plan.code) → sums ≡ replicate (length plan.pairs) 0
+    → HasPut (writing base plan limit sums 0 scanning pass) h []
 put_nothing base plan limit sums scanning pass f g h scanned written base_is plan_is limit_is told gone wrote models sums_are = record {
   met = [];
   scanned = scanned;
@@ -73,7 +73,6 @@ front_more s fed more met scanned few = front (marks-go_on s fed met scanned mor
 
 module _ (base : List ℕ) (plan : Plan) (limit : ℕ) (sums : List ℕ) (size : ℕ) (scanning scanned : Scanning) (old new : Inversion) (f g : Option Files) (byte : ℕ) (next : List Mark)
     (takes : (fed : List ℕ) (met : List Mark) → HasMet scanning fed met → HasMet scanned (fed ++ byte ∷ []) (met ++ next)) where
-
   -- the marks that one byte more gives come next
   pub next_marks : (fed : List ℕ) → HasPut (writing base plan limit sums size scanning old) f fed → length fed < 2 ^ 32 - 1 → IsNext old f next
   next_marks fed put few = record {
@@ -85,19 +84,19 @@ module _ (base : List ℕ) (plan : Plan) (limit : ℕ) (sums : List ℕ) (size :
 
   pub put_more : (fed : List ℕ) → WroteMarks old new f g next → SamePass old new → WroteSecond old.base f g → HasPut (writing base plan limit sums size scanning old) f fed → HasPut (writing base plan limit sums (size + 1) scanned new) g (fed ++ byte ∷ [])
   put_more fed wrote same only put =
-    let second : WroteSecond base f g = subst (λ b. WroteSecond b f g) put.base_is only in
-    record {
-      met = put.met ++ next;
-      scanned = takes fed put.met put.scanned;
-      written = wrote.behind put.met put.written;
-      base_is = same.base ∙ put.base_is;
-      plan_is = same.plan ∙ put.plan_is;
-      limit_is = same.limit ∙ put.limit_is;
-      head = λ is. head_of_second base f g second ∙ put.head (sym second.told ∙ is);
-      models = λ is. models_of_second base f g plan.code second (put.models (sym second.told ∙ is));
-      sums_are = put.sums_are;
-      size_is = ap (λ n. n + 1) put.size_is ∙ sym (length_push fed byte);
-    }
+      let second : WroteSecond base f g = subst (λ b. WroteSecond b f g) put.base_is only in
+      record {
+        met = put.met ++ next;
+        scanned = takes fed put.met put.scanned;
+        written = wrote.behind put.met put.written;
+        base_is = same.base ∙ put.base_is;
+        plan_is = same.plan ∙ put.plan_is;
+        limit_is = same.limit ∙ put.limit_is;
+        head = λ is. head_of_second base f g second ∙ put.head (sym second.told ∙ is);
+        models = λ is. models_of_second base f g plan.code second (put.models (sym second.told ∙ is));
+        sums_are = put.sums_are;
+        size_is = ap (λ n. n + 1) put.size_is ∙ sym (length_push fed byte);
+      }
 
   -- the head stays empty, and other files stay
   pub put_head : (fed : List ℕ) → WroteSecond old.base f g → HasPut (writing base plan limit sums size scanning old) f fed → IsSome f → file_at g (full_name base Head) ≡ Some []
@@ -109,7 +108,7 @@ module _ (base : List ℕ) (plan : Plan) (limit : ℕ) (sums : List ℕ) (size :
   -- why it is not written
   pub put_stops : (rose : Type 0) (fault : Fault) (fed more : List ℕ) → StopsBefore old f next rose fault → HasPut (writing base plan limit sums size scanning old) f fed → length (fed ++ byte ∷ more) < 2 ^ 32 → SecondStops rose (IsPlanOf plan (fed ++ byte ∷ more)) fault
   put_stops rose fault fed more stops put few =
-    let all : (fed ++ byte ∷ []) ++ more ≡ fed ++ byte ∷ more = append_assoc fed (byte ∷ []) more in
-    subst (λ p. SecondStops rose (IsPlanOf p (fed ++ byte ∷ more)) fault) put.plan_is
+      let all : (fed ++ byte ∷ []) ++ more ≡ fed ++ byte ∷ more = append_assoc fed (byte ∷ []) more in
+      subst (λ p. SecondStops rose (IsPlanOf p (fed ++ byte ∷ more)) fault) put.plan_is
       (stops.cause put.met (fed ++ byte ∷ more) put.written
-        (subst (λ bytes. IsFrontOf (put.met ++ next) bytes) all (front_more scanned (fed ++ byte ∷ []) more (put.met ++ next) (takes fed put.met put.scanned) (subst (λ bytes. length bytes < 2 ^ 32) (sym all) few))))
+      (subst (λ bytes. IsFrontOf (put.met ++ next) bytes) all (front_more scanned (fed ++ byte ∷ []) more (put.met ++ next) (takes fed put.met put.scanned) (subst (λ bytes. length bytes < 2 ^ 32) (sym all) few))))

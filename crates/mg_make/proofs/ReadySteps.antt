@@ -35,7 +35,6 @@ pub record TextLaws : Type 0 where
 
 module _ (laws : TextLaws) (w : Putting) (fed : List ℕ) (f g h : Option Files) (r : Inverted) (put : HasPut w f fed) (told : IsSome f) (plan_of : IsPlanOf w.plan fed)
     (second : WroteSecond w.base f g) (handed : IsHanded w.plan w.limit w.base fed f g r) (wrote : WroteParts OfIndex w.base g h) where
-
   documents_stand : DocumentsStand w.base g (coded_docs w.plan.code fed)
   documents_stand = subst (λ docs. DocumentsStand w.base g docs) (planned_text w.plan fed plan_of)
       (subst (λ (p : Plan). DocumentsStand w.base g (coded_by p (marks fed))) handed.plan_is
@@ -55,17 +54,17 @@ module _ (laws : TextLaws) (w : Putting) (fed : List ℕ) (f g h : Option Files)
 
   pub ready_by : IndexStands h w.base fed → IsReady (run_cap w.limit) h w.base w.plan.code fed
   ready_by index =
-    let models = models_of_second w.base f g w.plan.code second (put.models told) in
-    record {
-      limits = plan_of.limits;
-      code_is = plan_of.code;
-      words = behind Words (inl (omega arith)) ∙ models.words;
-      nonwords = behind Nonwords (inl (omega arith)) ∙ models.others;
-      text = behind Text (inl (omega arith)) ∙ laws.bytes w.base g _ documents_stand ∙ laws.text w.plan.code fed;
-      places = behind Places (inl (omega arith)) ∙ (laws.holds w.base g w.plan.code fed documents_stand).places;
-      run = behind Run (inr refl) ∙ run_stands;
-      index = index;
-    }
+      let models = models_of_second w.base f g w.plan.code second (put.models told) in
+      record {
+        limits = plan_of.limits;
+        code_is = plan_of.code;
+        words = behind Words (inl (omega arith)) ∙ models.words;
+        nonwords = behind Nonwords (inl (omega arith)) ∙ models.others;
+        text = behind Text (inl (omega arith)) ∙ laws.bytes w.base g _ documents_stand ∙ laws.text w.plan.code fed;
+        places = behind Places (inl (omega arith)) ∙ (laws.holds w.base g w.plan.code fed documents_stand).places;
+        run = behind Run (inr refl) ∙ run_stands;
+        index = index;
+      }
 
 -- ---- from step to step
 
@@ -107,8 +106,8 @@ list_wider rose now same less (cause.TooManyRotations count) grows back stop = a
 
 -- of the parts behind the second pass, for the bytes that were put
 pub rest_refused : {T : Type 0} (result : Result T Fault) (w : Putting) (f g : Option Files) (r : Inverted) (rose now : Type 0) → (rose → now) → (IsSome f → IsSome g) → ((fed : List ℕ) → HasPut w f fed → IsHanded w.plan w.limit w.base fed f g r)
-  → IfErr result (λ fault. (fed : List ℕ) (before : Option Files) → IsHanded w.plan w.limit w.base fed before g r → ListStops rose (IsSome g × IsPlanOf w.plan fed) fault)
-  → IfErr result (λ fault. (fed : List ℕ) → HasPut w f fed → ListStops now (IsSome f × IsPlanOf w.plan fed) fault)
+    → IfErr result (λ fault. (fed : List ℕ) (before : Option Files) → IsHanded w.plan w.limit w.base fed before g r → ListStops rose (IsSome g × IsPlanOf w.plan fed) fault)
+    → IfErr result (λ fault. (fed : List ℕ) → HasPut w f fed → ListStops now (IsSome f × IsPlanOf w.plan fed) fault)
 rest_refused (Ok value) w f g r rose now grows still handed stop = tt
 rest_refused (Err fault) w f g r rose now grows still handed stop = λ fed put. list_wider rose now _ _ fault grows (λ both. (still both.0, both.1)) (stop fed f (handed fed put))
 

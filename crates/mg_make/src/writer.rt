@@ -142,9 +142,7 @@ impl<'a> SetWriter<'a> {
             Ok(inverted) => inverted,
             Err(refusal) => return Err(refusal),
         };
-        write_rest(
-            alloc, store, base, plan, inverted, &mut sums, size, limit,
-        )
+        write_rest(alloc, store, base, plan, inverted, &mut sums, size, limit)
     }
 
     /// Ends the bytes, merges the runs, writes lists, lexicon and weights, and last appends the head.
@@ -186,5 +184,4 @@ impl<'a> SetWriter<'a> {
 /// A set whose head is empty stands for no collection.
 pub fn empty_heads_stand_for_none()
     ensures { (base : List ℕ) (now : Option Files) → file_at now (full_name base part.Head) ≡ Some [] → StandsForNone now base }
-{
-}
+{}

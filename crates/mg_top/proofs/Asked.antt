@@ -3,9 +3,10 @@ use Rattle.std.proofs.Common.{◌≡◌, ℕ, List, Option, Some, sym, subst}
 use Rattle.mg_dev.specs.declared.fault.Fault.{Fault}
 use Rattle.mg_dev.specs.declared.fault.Fault.TheVariants.{Usage}
 use Rattle.mg_dev.specs.declared.status.Status.{Status}
-use Rattle.mg_words.specs.Tasks.{Task, decode}
+use Rattle.mg_words.specs.Tasks.{Task, build, decode}
 use Rattle.mg_top.specs.Ends.{IfStopped, ToldWhy}
 use Rattle.mg_top.specs.Runs.{Run, Stops}
+use Rattle.mg_top.specs.Built.{Built}
 use Rattle.mg_top.specs.Decoded.{Decoded}
 use Rattle.mg_top.specs.Does.{Does, Ran}
 
@@ -17,5 +18,13 @@ pub ran_decode : (task : Option Task) (name : List ℕ) (run : Run) → task ≡
 ran_decode task name run is decoded told = record {
   usage = λ stops. absurd (no_usage run _ decoded.cause (λ bad. bad) stops);
   does = subst (λ (t : Option Task). Does t run) (sym is) decoded;
+  told = told;
+}
+
+pub ran_build : (task : Option Task) (name base : List ℕ) (budget : ℕ) (run : Run) → task ≡ Some (build name base budget) → Built name base budget run
+    → ToldWhy run.status run.err.written run.err_now.written run.err.faults run.err_now.faults run.err.lacks run.err_now.lacks → Ran task run
+ran_build task name base budget run is built told = record {
+  usage = λ stops. absurd (no_usage run _ built.cause (λ bad. bad) stops);
+  does = subst (λ (t : Option Task). Does t run) (sym is) built;
   told = told;
 }

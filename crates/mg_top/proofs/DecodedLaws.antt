@@ -1,5 +1,5 @@
 -- What a decoding answered is what the run did.
-use Rattle.std.proofs.Common.{◌≡◌, ◌∙◌, ◌⊎◌, ◌≤◌, ℕ, List, [], Ok, Err, IsSome, Option, sym, subst, inl, inr}
+use Rattle.std.proofs.Common.{◌≡◌, ◌∙◌, ◌⊎◌, ◌≤◌, ℕ, List, [], Ok, Err, IsSome, Option, sym, ap, subst, inl, inr}
 use Rattle.std.specs.Prelude.{Result, IfErr}
 use Rattle.mg_dev.specs.Files.{bytes_at}
 use Rattle.mg_dev.specs.Names.{full_name, number}
@@ -7,15 +7,15 @@ use Rattle.mg_dev.specs.Streams.{appended, AfterPut}
 use Rattle.mg_dev.specs.declared.part.Part.{Part}
 use Rattle.mg_dev.specs.declared.part.Part.TheVariants as part
 use Rattle.mg_dev.specs.declared.fault.Fault.{Fault}
-use Rattle.mg_dev.specs.declared.fault.Fault.TheVariants.{Usage, StoreFault, ReadFault, WriteFault, NotBuilt, Damaged, NoCollection, TooLarge, TooManyDocuments, TooManyPieces, Changed, Memory, NameClash, InputTooLong, SameName, TooManyRotations}
+use Rattle.mg_dev.specs.declared.fault.Fault.TheVariants.{StoreFault, NotBuilt, Memory}
 use Rattle.mg_dev.specs.declared.status.Status.{Status}
-use Rattle.mg_dev.specs.declared.status.Status.TheVariants.{Done}
+use Rattle.mg_dev.specs.declared.status.Status.TheVariants.{Done, Stopped}
 use Rattle.mg_layout.specs.Stands.{Stands}
 use Rattle.mg_build.specs.Outcomes.{DecodeStops, IsDone}
 use Rattle.mg_top.specs.Ends.{IfStopped}
 use Rattle.mg_top.specs.Runs.{Run, StoreFailed, OutputFailed, Stops}
 use Rattle.mg_top.specs.Decoded.{Decoded}
-use Rattle.mg_top.proofs.Endings.{status_of, err_by, stopped_by, unless_by}
+use Rattle.mg_top.proofs.Endings.{status_of, err_by, stopped_by, unless_by, only_lacks}
 use Rattle.mg_top.proofs.Grown.{put_grew}
 
 put_when_done : (r : Result (Unit {0}) Fault) (old new : Option (List ℕ)) (bytes : List ℕ) → status_of r ≡ Done → AfterPut old new bytes r → new ≡ appended old bytes
@@ -24,22 +24,7 @@ put_when_done (Err f) old new bytes is put = cc
 
 done_or : (run : Run) (r : Result (Unit {0}) Fault) → run.status ≡ status_of r → IsDone r → (run.status ≡ Done) ⊎ Stops run Memory
 done_or run (Ok u) is done = inl is
-done_or run (Err Memory) is done = inr is
-done_or run (Err Usage) is done = absurd done
-done_or run (Err StoreFault) is done = absurd done
-done_or run (Err ReadFault) is done = absurd done
-done_or run (Err WriteFault) is done = absurd done
-done_or run (Err NotBuilt) is done = absurd done
-done_or run (Err (Damaged bad)) is done = absurd done
-done_or run (Err NoCollection) is done = absurd done
-done_or run (Err (TooLarge size most)) is done = absurd done
-done_or run (Err TooManyDocuments) is done = absurd done
-done_or run (Err (TooManyPieces stream)) is done = absurd done
-done_or run (Err (Changed what first second)) is done = absurd done
-done_or run (Err (NameClash p)) is done = absurd done
-done_or run (Err InputTooLong) is done = absurd done
-done_or run (Err SameName) is done = absurd done
-done_or run (Err (TooManyRotations count)) is done = absurd done
+done_or run (Err fault) is done = inr (is ∙ ap Stopped (only_lacks (Unit {0}) fault done))
 
 module _ (base : List ℕ) (run : Run) (r : Result (Unit {0}) Fault) (is : run.status ≡ status_of r)
     (content : (collection : List ℕ) → Stands run.store.files base collection → AfterPut run.out.written run.out_now.written collection r)

@@ -1,6 +1,9 @@
 mod Complete
 mod Endings
 mod Grown
+mod LineLaws
+mod BuiltLaws
+mod QueriedLaws
 mod ScannedLaws
 mod DecodedLaws
 mod NothingDone

@@ -1,20 +1,27 @@
 -- A run that lacked memory before it touched a device does what each tool allows.
-use Rattle.std.proofs.Common.{◌≡◌, ◌∙◌, ℕ, List, Option, None, Some, sym, ap, subst, inr}
-use Rattle.mg_dev.specs.Files.{bytes_at}
+use Rattle.std.proofs.Common.{◌≡◌, ◌∙◌, ℕ, List, Option, None, Some, sym, ap, subst, inl, inr, arith}
+use Rattle.std.specs.Option.{is_some}
+use Rattle.mg_dev.specs.Files.{bytes_at, file_at}
 use Rattle.mg_dev.specs.StreamLaws.{grew_nothing}
 use Rattle.mg_dev.specs.Streams.{GrewByPrefix}
 use Rattle.mg_dev.specs.declared.part.Part.{Part}
+use Rattle.mg_dev.specs.declared.part.Part.TheVariants as part
 use Rattle.mg_dev.specs.declared.fault.Fault.{Fault}
-use Rattle.mg_dev.specs.declared.fault.Fault.TheVariants.{Usage, Memory}
+use Rattle.mg_dev.specs.declared.fault.Fault.TheVariants.{Usage, WriteFault, Memory}
 use Rattle.mg_dev.specs.declared.status.Status.{Status}
 use Rattle.mg_dev.specs.declared.status.Status.TheVariants.{Done, Stopped}
 use Rattle.mg_defs.specs.Replies.{session}
+use Rattle.mg_defs.specs.Summaries.{summary_text}
+use Rattle.mg_make.specs.Given.{OthersSame}
+use Rattle.mg_session.specs.Serves as serves
 use Rattle.mg_plain.specs.Scans.{StopsFor}
 use Rattle.mg_build.specs.Outcomes.{DecodeStops}
 use Rattle.mg_words.specs.Tasks.{Task, build, query, decode, scan, trial, migrate, check, wild, phrase, merge}
 use Rattle.mg_top.specs.Ends.{IfStopped, ToldWhy}
 use Rattle.mg_top.specs.Runs.{Run, SaysNothing, KeepsFiles, Stops, StoreFailed, InputFailed, OutputFailed}
+use Rattle.mg_top.specs.Built.{Built, BuildStops, collection_of}
 use Rattle.mg_top.specs.Decoded.{Decoded}
+use Rattle.mg_top.specs.Queried.{Queried}
 use Rattle.mg_top.specs.Scanned.{Scanned}
 use Rattle.mg_top.specs.Does.{Does, NotUnderstood, Ran}
 
@@ -59,6 +66,47 @@ module _ (run : Run) (stops : Stops run Memory) (store : run.store_now ≡ run.s
     reads = λ p other. same_reads p;
   }
 
+  not_write : Stops run WriteFault → ⊥
+  not_write is = let bad : Stopped Memory ≡ Stopped WriteFault = sym stops ∙ is in cc
+
+  same_files : (base : List ℕ) → OthersSame base run.store.files run.store_now.files
+  same_files base = record { told = ap is_some files; others = λ name apart. ap (λ f. file_at f name) files }
+
+  made : (n base : List ℕ) (budget : ℕ) → Built n base budget run
+  made n base budget = record {
+    done = λ told is. absurd (not_done is);
+    printed = λ told is. absurd (not_done is);
+    prefix = λ told. prefix (summary_text (collection_of n run) budget);
+    silent = λ fault early is. silent;
+    unchanged = λ fault early is. files;
+    kept = λ told is. absurd (not_write is);
+    left = λ told. inl files;
+    others = same_files base;
+    cause = caused (BuildStops (StoreFailed run) (OutputFailed run) run.store.files n base) tt;
+    clash = λ p plain is. inr stops;
+    missing = λ told apart none. inr (inr stops);
+    large = λ told apart more. inr (inr stops);
+    documents = λ bytes there apart few passes. inr (inr stops);
+    pieces = λ bytes stream word there apart few passes. inr (inr stops);
+    complete = λ bytes there apart within no_store no_output. inr stops;
+    input = input;
+  }
+
+  queried : (n : List ℕ) → Queried n run
+  queried n = record {
+    done = λ c given stands some is. absurd (not_done is);
+    left = λ given some is. absurd (not_done is);
+    within = λ given some is. absurd (not_done is);
+    prefix = λ c given stands some. prefix (session c given);
+    silent = λ is. silent;
+    cause = caused (serves.StopsFor (StoreFailed run) (InputFailed run) (OutputFailed run) run.store.files n run.input.left) tt;
+    not_built = λ told none. inr (inr stops);
+    complete = λ c given stands some short no_store no_input no_output. inr stops;
+    files = files;
+    pages = λ head code c given stands some. record { post = rw (same_reads part.Post) (omega arith); text = rw (same_reads part.Text) (omega arith) };
+    unread = λ p never. same_reads p;
+  }
+
   decoded : (n : List ℕ) → Decoded n run
   decoded n = record {
     done = λ c stands is. absurd (not_done is);
@@ -74,8 +122,8 @@ module _ (run : Run) (stops : Stops run Memory) (store : run.store_now ≡ run.s
 
   nothing_done : (task : Option Task) → Does task run
   nothing_done None = not_understood
-  nothing_done (Some (build c n b)) = not_understood
-  nothing_done (Some (query n)) = not_understood
+  nothing_done (Some (build c n b)) = made c n b
+  nothing_done (Some (query n)) = queried n
   nothing_done (Some (decode n)) = decoded n
   nothing_done (Some (scan n)) = scanned n
   nothing_done (Some (trial s d)) = not_understood

@@ -4,10 +4,13 @@
 //! what its one clause says. That clause is a table: for what the words ask, a record a tool, over what
 //! the devices told and counted before the run and after it, and the status. It is generic over the
 //! store, the input and the outputs; tests run it over devices in memory, the program over files and
-//! standard streams. Built so far: `decode` and `scan`.
+//! standard streams. Built so far: `build`, `query`, `decode` and `scan`.
 #![tactic(auto)]
 
+mod building;
 mod decoding;
+mod lines;
+mod querying;
 mod scanning;
 mod stopping;
 #[cfg(test)]

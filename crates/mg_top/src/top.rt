@@ -4,7 +4,9 @@ ghost use Rattle.mg_words.specs.Tasks.{task_of};
 ghost use Rattle.mg_top.specs.Runs.{Run};
 ghost use Rattle.mg_top.specs.Does.{Ran, built};
 
+use crate::building::run_build;
 use crate::decoding::run_decode;
+use crate::querying::run_query;
 use crate::scanning::run_scan;
 use crate::stopping::stopped;
 use mg_dev::{Fault, Sink, Source, Status, Store};
@@ -17,6 +19,8 @@ use std::alloc::{AllocError, Global};
 ///
 /// | Words | Record | What is printed |
 /// |---|---|---|
+/// | `build COLLECTION NAME [--budget BYTES]` | `Built` | the numbers of the set that it makes of the collection |
+/// | `query NAME` | `Queried` | the session that the input asks of the set |
 /// | `decode NAME` | `Decoded` | the collection of the set |
 /// | `scan COLLECTION` | `Scanned` | the session that the input asks of the collection's documents |
 ///
@@ -43,6 +47,16 @@ pub fn run<S: Store, I: Source, O: Sink, E: Sink>(
     }) }
 {
     match read_words(alloc, words) {
+        Ok(
+            Some(
+                Task::Build {
+                    collection,
+                    name,
+                    budget,
+                },
+            ),
+        ) => run_build(alloc, collection, name, budget, store, out, err),
+        Ok(Some(Task::Query { name })) => run_query(alloc, name, store, input, out, err),
         Ok(Some(Task::Decode { name })) => run_decode(alloc, name, store, out, err),
         Ok(Some(Task::Scan { collection })) => {
             run_scan(alloc, collection, store, input, out, err)

@@ -31,7 +31,7 @@ returns-in-Ok-write-clause-stands g c = λ fed told put plan_of.
     let gone = c.in-Ok.ensures.gone told in
     let still : IsSome (g.S.Store.files c.write_parts.new.store) = c.in-Ok.ensures.others.told ∙ told in
     let grew : (g.S.Store.files c.write.new.store) ≡ grown (g.S.Store.files c.write_parts.new.store) (full_name c.args.self.base Head) piece = subst (λ h. (g.S.Store.files c.write.new.store) ≡ grown (g.S.Store.files c.write_parts.new.store) (full_name c.args.self.base Head) (heads.head_bytes h)) head
-      (subst (λ b. (g.S.Store.files c.write.new.store) ≡ grown (g.S.Store.files c.write_parts.new.store) (full_name b Head) (heads.head_bytes (fields_of c.in-Ok.made.0))) (ap (λ (v : Putting). v.base) c.self.view_is) c.in-Ok-write.ensures.content) in
+    (subst (λ b. (g.S.Store.files c.write.new.store) ≡ grown (g.S.Store.files c.write_parts.new.store) (full_name b Head) (heads.head_bytes (fields_of c.in-Ok.made.0))) (ap (λ (v : Putting). v.base) c.self.view_is) c.in-Ok-write.ensures.content) in
     stands_here c.args.self.base fed cap c.args.self.plan.code (g.S.Store.files c.write_parts.new.store) (g.S.Store.files c.write.new.store) (length piece) still ready gone within.cap_low within.cap_high (grown_whole (g.S.Store.files c.write_parts.new.store) (g.S.Store.files c.write.new.store) (full_name c.args.self.base Head) piece grew) (omega arith)
 
 pub returns-in-Ok-write-clause-merge_a : goal.returns-in-Ok-write-clause-merge_a
@@ -44,7 +44,7 @@ returns-in-Ok-write-clause-merge_a g c = λ fed told put plan_of.
     let gone = c.in-Ok.ensures.gone told in
     let still : IsSome (g.S.Store.files c.write_parts.new.store) = c.in-Ok.ensures.others.told ∙ told in
     let grew : (g.S.Store.files c.write.new.store) ≡ grown (g.S.Store.files c.write_parts.new.store) (full_name c.args.self.base Head) piece = subst (λ h. (g.S.Store.files c.write.new.store) ≡ grown (g.S.Store.files c.write_parts.new.store) (full_name c.args.self.base Head) (heads.head_bytes h)) head
-      (subst (λ b. (g.S.Store.files c.write.new.store) ≡ grown (g.S.Store.files c.write_parts.new.store) (full_name b Head) (heads.head_bytes (fields_of c.in-Ok.made.0))) (ap (λ (v : Putting). v.base) c.self.view_is) c.in-Ok-write.ensures.content) in
+    (subst (λ b. (g.S.Store.files c.write.new.store) ≡ grown (g.S.Store.files c.write_parts.new.store) (full_name b Head) (heads.head_bytes (fields_of c.in-Ok.made.0))) (ap (λ (v : Putting). v.base) c.self.view_is) c.in-Ok-write.ensures.content) in
     merge_a_here c.args.self.base fed cap c.args.self.plan.code (g.S.Store.files c.write_parts.new.store) (g.S.Store.files c.write.new.store) (length piece) still ready gone within.cap_low within.cap_high (grown_whole (g.S.Store.files c.write_parts.new.store) (g.S.Store.files c.write.new.store) (full_name c.args.self.base Head) piece grew)
 
 pub returns-in-Ok-write-clause-merge_b : goal.returns-in-Ok-write-clause-merge_b
@@ -57,7 +57,7 @@ returns-in-Ok-write-clause-merge_b g c = λ fed told put plan_of.
     let gone = c.in-Ok.ensures.gone told in
     let still : IsSome (g.S.Store.files c.write_parts.new.store) = c.in-Ok.ensures.others.told ∙ told in
     let grew : (g.S.Store.files c.write.new.store) ≡ grown (g.S.Store.files c.write_parts.new.store) (full_name c.args.self.base Head) piece = subst (λ h. (g.S.Store.files c.write.new.store) ≡ grown (g.S.Store.files c.write_parts.new.store) (full_name c.args.self.base Head) (heads.head_bytes h)) head
-      (subst (λ b. (g.S.Store.files c.write.new.store) ≡ grown (g.S.Store.files c.write_parts.new.store) (full_name b Head) (heads.head_bytes (fields_of c.in-Ok.made.0))) (ap (λ (v : Putting). v.base) c.self.view_is) c.in-Ok-write.ensures.content) in
+    (subst (λ b. (g.S.Store.files c.write.new.store) ≡ grown (g.S.Store.files c.write_parts.new.store) (full_name b Head) (heads.head_bytes (fields_of c.in-Ok.made.0))) (ap (λ (v : Putting). v.base) c.self.view_is) c.in-Ok-write.ensures.content) in
     merge_b_here c.args.self.base fed cap c.args.self.plan.code (g.S.Store.files c.write_parts.new.store) (g.S.Store.files c.write.new.store) (length piece) still ready gone within.cap_low within.cap_high (grown_whole (g.S.Store.files c.write_parts.new.store) (g.S.Store.files c.write.new.store) (full_name c.args.self.base Head) piece grew)
 
 pub returns-in-Ok-write-clause-left : goal.returns-in-Ok-write-clause-left
@@ -70,7 +70,7 @@ returns-in-Ok-write-clause-left g c = λ fed told put plan_of.
     let gone = c.in-Ok.ensures.gone told in
     let still : IsSome (g.S.Store.files c.write_parts.new.store) = c.in-Ok.ensures.others.told ∙ told in
     let grew : (g.S.Store.files c.write.new.store) ≡ grown (g.S.Store.files c.write_parts.new.store) (full_name c.args.self.base Head) piece = subst (λ h. (g.S.Store.files c.write.new.store) ≡ grown (g.S.Store.files c.write_parts.new.store) (full_name c.args.self.base Head) (heads.head_bytes h)) head
-      (subst (λ b. (g.S.Store.files c.write.new.store) ≡ grown (g.S.Store.files c.write_parts.new.store) (full_name b Head) (heads.head_bytes (fields_of c.in-Ok.made.0))) (ap (λ (v : Putting). v.base) c.self.view_is) c.in-Ok-write.ensures.content) in
+    (subst (λ b. (g.S.Store.files c.write.new.store) ≡ grown (g.S.Store.files c.write_parts.new.store) (full_name b Head) (heads.head_bytes (fields_of c.in-Ok.made.0))) (ap (λ (v : Putting). v.base) c.self.view_is) c.in-Ok-write.ensures.content) in
     inr (stands_of cap (g.S.Store.files c.write.new.store) c.args.self.base fed (stands_here c.args.self.base fed cap c.args.self.plan.code (g.S.Store.files c.write_parts.new.store) (g.S.Store.files c.write.new.store) (length piece) still ready gone within.cap_low within.cap_high (grown_whole (g.S.Store.files c.write_parts.new.store) (g.S.Store.files c.write.new.store) (full_name c.args.self.base Head) piece grew) (omega arith)))
 
 pub returns-in-Ok-write-clause-summary : goal.returns-in-Ok-write-clause-summary
@@ -91,8 +91,8 @@ returns-in-Err-write-clause-left g c = λ fed told put plan_of.
     let gone = c.in-Ok.ensures.gone told in
     let still : IsSome (g.S.Store.files c.write_parts.new.store) = c.in-Ok.ensures.others.told ∙ told in
     left_here c.args.self.base fed cap c.args.self.plan.code (g.S.Store.files c.write_parts.new.store) (g.S.Store.files c.write.new.store) still ready gone within.cap_low within.cap_high
-      (subst (λ h. GrewInPart (g.S.Store.files c.write_parts.new.store) (g.S.Store.files c.write.new.store) (full_name c.args.self.base Head) (heads.head_bytes h)) head
-      (subst (λ b. GrewInPart (g.S.Store.files c.write_parts.new.store) (g.S.Store.files c.write.new.store) (full_name b Head) (heads.head_bytes (fields_of c.in-Ok.made.0))) (ap (λ (v : Putting). v.base) c.self.view_is) c.in-Err-write.ensures.content))
+    (subst (λ h. GrewInPart (g.S.Store.files c.write_parts.new.store) (g.S.Store.files c.write.new.store) (full_name c.args.self.base Head) (heads.head_bytes h)) head
+    (subst (λ b. GrewInPart (g.S.Store.files c.write_parts.new.store) (g.S.Store.files c.write.new.store) (full_name b Head) (heads.head_bytes (fields_of c.in-Ok.made.0))) (ap (λ (v : Putting). v.base) c.self.view_is) c.in-Err-write.ensures.content))
 
 pub returns-in-Err-write-clause-others : goal.returns-in-Err-write-clause-others
 returns-in-Err-write-clause-others g c = others_both c.args.self.base (g.S.Store.files c.args.store.now) (g.S.Store.files c.write_parts.new.store) (g.S.Store.files c.write.new.store) c.in-Ok.ensures.others (subst (λ b. OthersSame b (g.S.Store.files c.write_parts.new.store) (g.S.Store.files c.write.new.store)) (ap (λ (v : Putting). v.base) c.self.view_is) (append_others c.self.inside.base.now _ (g.S.Store.files c.write_parts.new.store) (g.S.Store.files c.write.new.store) c.write.result c.write.ensures.content))

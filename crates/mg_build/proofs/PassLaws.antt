@@ -1,0 +1,292 @@
+-- Bytes that are read one after the other, and why a pass over them stops.
+use Rattle.std.proofs.Common.{arith, ◌+◌, ◌^◌, ◌≡◌, ◌≢◌, ◌≤◌, ◌<◌, ℕ, List, [], ◌∷◌, ◌++◌, length, take, drop, Option, None, Some, slice_get, min, ◌-◌, refl, sym, ◌∙◌, ap, subst, inl, inr, Ok, Err}
+use Rattle.std.proofs.lemmas.List.{length_push, take-append-drop, take_more, append_assoc}
+use Rattle.std.proofs.lemmas.Option.{get_or_from_slice_get, slice_get_within}
+use Rattle.std.specs.Prelude.{IfErr, Result}
+use Rattle.std.specs.Option.{IsSome, is_some, unwrap_or}
+use Rattle.mg_dev.specs.Causes.{Rose}
+use Rattle.mg_dev.specs.Files.{Files, Reads, bytes_at, file_at}
+use Rattle.mg_dev.specs.declared.fault.Fault.{Fault}
+use Rattle.mg_dev.specs.declared.fault.Fault.TheVariants as cause
+use Rattle.mg_dev.specs.Names.{full_name}
+use Rattle.mg_dev.specs.declared.part.Part.{Part}
+use Rattle.mg_dev.specs.declared.part.Part.TheVariants.{Head}
+use Rattle.mg_defs.specs.Limits.{version_2}
+use Rattle.mg_defs.specs.Marks.{Mark, PassesFirst, piece, start}
+use Rattle.mg_bits.specs.Pages.{Looked, Paging, SameFile}
+use Rattle.mg_layout.specs.Stands.{StandsForNone}
+use Rattle.mg_make.specs.Counting.{CountStops, EndStops, PassWith}
+use Rattle.mg_make.specs.Listing.{ListStops}
+use Rattle.mg_make.specs.Putting.{IsUnbuilt, OthersSame}
+use Rattle.mg_make.specs.Written.{SecondStops}
+use Rattle.mg_make.specs.Plans.{IsPlanOf, Plan}
+use Rattle.mg_build.specs.Building.{IsPlanFor, Left, PassStops, WriteStops}
+use Rattle.mg_build.specs.Sources.{AreRead, ByteStops}
+
+-- ---- bytes
+
+pub read_none : (files : Option Files) (name : List ℕ) → AreRead files name 0 []
+read_none files name = record { size = refl; told = λ told. refl }
+
+pub read_more : (files : Option Files) (name : List ℕ) (n byte : ℕ) (fed : List ℕ) → (IsSome files → slice_get (bytes_at files name) n ≡ Some byte) → AreRead files name n fed → AreRead files name (n + 1) (fed ++ byte ∷ [])
+read_more files name n byte fed is before = record {
+  size = length_push fed byte ∙ ap (λ k. k + 1) before.size;
+  told = λ told. ap (λ front. front ++ byte ∷ []) (before.told told)
+      ∙ sym (take_more (bytes_at files name) n byte (slice_get_within _ n byte (is told)) ∙ ap (λ x. take n (bytes_at files name) ++ x ∷ []) (get_or_from_slice_get _ n byte byte (is told)));
+}
+
+-- all bytes were read
+pub read_all : (files : Option Files) (name : List ℕ) (size : ℕ) (fed : List ℕ) → AreRead files name size fed → IsSome files → length (bytes_at files name) ≡ size → fed ≡ bytes_at files name
+read_all files name size fed are told whole = are.told told ∙ sym (ap (λ k. take k (bytes_at files name)) whole) ∙ take_length (bytes_at files name)
+  where
+    take_length : (xs : List ℕ) → take (length xs) xs ≡ xs
+    take_length [] = refl
+    take_length (x ∷ xs) = ap (λ rest. x ∷ rest) (take_length xs)
+
+-- what was read, and what is not read yet, are all bytes
+pub read_front : (files : Option Files) (name : List ℕ) (n : ℕ) (fed : List ℕ) → AreRead files name n fed → IsSome files → fed ++ drop n (bytes_at files name) ≡ bytes_at files name
+read_front files name n fed are told = ap (λ front. front ++ drop n (bytes_at files name)) (are.told told) ∙ take-append-drop n (bytes_at files name)
+
+-- the same file's bytes
+pub read_later : (before now : Option Files) (name : List ℕ) (n byte : ℕ) → (IsSome before → IsSome now) → bytes_at now name ≡ bytes_at before name → (IsSome now → slice_get (bytes_at now name) n ≡ Some byte)
+    → IsSome before → slice_get (bytes_at before name) n ≡ Some byte
+read_later before now name n byte still same is told = sym (ap (λ bytes. slice_get bytes n) same) ∙ is (still told)
+
+-- ---- files
+
+-- a store that told its files still does
+pub still_told : (before now : Option Files) → is_some now ≡ is_some before → IsSome before → IsSome now
+still_told before now same told = same ∙ told
+
+pub others_more : (base : List ℕ) (f g h : Option Files) → OthersSame base f g → OthersSame base g h → OthersSame base f h
+others_more base f g h one two = record { told = two.told ∙ one.told; others = λ name apart. two.others name apart ∙ one.others name apart }
+
+pub others_none : (base : List ℕ) (f : Option Files) → OthersSame base f f
+others_none base f = record { told = refl; others = λ name apart. refl }
+
+-- the bytes of a file that is there as before
+pub same_bytes : (f g : Option Files) (one other : List ℕ) → one ≡ other → file_at g other ≡ file_at f other → bytes_at g one ≡ bytes_at f other
+same_bytes f g one other same is = ap (λ n. bytes_at g n) same ∙ ap (λ (file : Option (List ℕ)). unwrap_or file []) is
+
+-- a byte that is read of the file, as it was
+pub read_so_far : (before now : Option Files) (name same : List ℕ) (at byte : ℕ) → now ≡ before → same ≡ name → (IsSome now → slice_get (bytes_at now same) at ≡ Some byte) → IsSome before → slice_get (bytes_at before name) at ≡ Some byte
+read_so_far before now name same at byte f n is told = subst (λ x. slice_get (bytes_at before x) at ≡ Some byte) n (subst (λ files. IsSome files → slice_get (bytes_at files same) at ≡ Some byte) f is told)
+
+-- failures that rose later rose, and those that rose so far did
+pub rose_behind : (a b c : ℕ) → a ≤ b → Rose b c → Rose a c
+rose_behind a b c up rose = omega (arith, up, rose)
+
+pub same_file_none : (f : Paging) → SameFile f f
+same_file_none f = record { name = refl; part = refl }
+
+pub same_file_more : (f g h : Paging) → SameFile f g → SameFile g h → SameFile f h
+same_file_more f g h one two = record { name = two.name ∙ one.name; part = two.part ∙ one.part }
+
+pub looked_nowhere : (part : Part) (f : Option Files) (r : Reads) (n : ℕ) → Looked part f f r r n n
+looked_nowhere part f r n = record { files = refl; faults = omega arith; later = λ p. omega arith; others = λ p x. refl }
+
+-- ---- the first pass
+
+-- a byte that is not read
+pub pass_byte : (rose now : Type 0) (files later : Option Files) (name same : List ℕ) (size kept : ℕ) (fault : Fault) → (rose → now) → later ≡ files → same ≡ name → kept ≡ size → ByteStops rose later same kept fault → PassStops now files name size fault
+pass_byte rose now files later name same size kept fault more f n k stop = refused fault (subst (λ x. ByteStops rose x name size fault) f (subst (λ x. ByteStops rose later x size fault) n (subst (λ x. ByteStops rose later same x fault) k stop)))
+  where
+    refused : (fault : Fault) → ByteStops rose files name size fault → PassStops now files name size fault
+    refused cause.StoreFault stop = more stop
+    refused (cause.Changed what first second) stop = stop
+    refused cause.Usage stop = absurd stop
+    refused cause.ReadFault stop = absurd stop
+    refused cause.WriteFault stop = absurd stop
+    refused cause.NotBuilt stop = absurd stop
+    refused (cause.Damaged bad) stop = absurd stop
+    refused cause.NoCollection stop = absurd stop
+    refused (cause.TooLarge bytes most) stop = absurd stop
+    refused cause.TooManyDocuments stop = absurd stop
+    refused (cause.TooManyPieces stream) stop = absurd stop
+    refused cause.Memory stop = absurd stop
+    refused (cause.NameClash p) stop = absurd stop
+    refused cause.InputTooLong stop = absurd stop
+    refused cause.SameName stop = absurd stop
+    refused (cause.TooManyRotations count) stop = absurd stop
+
+passes : (files : Option Files) (name fed : List ℕ) (size n : ℕ) (mark : Mark) → size < 2 ^ 32 → AreRead files name n fed → IsSome files → length (bytes_at files name) ≡ size → PassWith fed mark → PassesFirst version_2 (bytes_at files name) mark
+passes files name fed size n mark few are told whole pass = subst (λ bytes. PassesFirst version_2 bytes mark) all (pass (drop n (bytes_at files name)))
+  where
+    all : fed ++ drop n (bytes_at files name) ≡ bytes_at files name
+    all = read_front files name n fed are told
+
+-- a byte that is not counted
+pub pass_count : (now : Type 0) (files : Option Files) (name fed : List ℕ) (size n : ℕ) (fault : Fault) → size < 2 ^ 32 → AreRead files name n fed → CountStops fed fault → PassStops now files name size fault
+pass_count now files name fed size n cause.TooManyDocuments few are stop = λ told whole. passes files name fed size n _ few are told whole stop
+pass_count now files name fed size n (cause.TooManyPieces stream) few are stop = λ told whole. (stop.0, passes files name fed size n _ few are told whole stop.1)
+pass_count now files name fed size n cause.Memory few are stop = tt
+pass_count now files name fed size n cause.Usage few are stop = absurd stop
+pass_count now files name fed size n cause.StoreFault few are stop = absurd stop
+pass_count now files name fed size n cause.ReadFault few are stop = absurd stop
+pass_count now files name fed size n cause.WriteFault few are stop = absurd stop
+pass_count now files name fed size n cause.NotBuilt few are stop = absurd stop
+pass_count now files name fed size n (cause.Damaged bad) few are stop = absurd stop
+pass_count now files name fed size n cause.NoCollection few are stop = absurd stop
+pass_count now files name fed size n (cause.TooLarge bytes most) few are stop = absurd stop
+pass_count now files name fed size n (cause.Changed what first second) few are stop = absurd stop
+pass_count now files name fed size n (cause.NameClash p) few are stop = absurd stop
+pass_count now files name fed size n cause.InputTooLong few are stop = absurd stop
+pass_count now files name fed size n cause.SameName few are stop = absurd stop
+pass_count now files name fed size n (cause.TooManyRotations count) few are stop = absurd stop
+
+-- the end
+pub pass_end : (now : Type 0) (files : Option Files) (name fed : List ℕ) (size : ℕ) (fault : Fault) → AreRead files name size fed → EndStops fed fault → PassStops now files name size fault
+pass_end now files name fed size cause.TooManyDocuments are stop = λ told whole. subst (λ bytes. PassesFirst version_2 bytes start) (read_all files name size fed are told whole) stop
+pass_end now files name fed size (cause.TooManyPieces stream) are stop = λ told whole. (stop.0, subst (λ bytes. PassesFirst version_2 bytes (piece stream stop.0)) (read_all files name size fed are told whole) stop.1)
+pass_end now files name fed size cause.Memory are stop = tt
+pass_end now files name fed size cause.Usage are stop = absurd stop
+pass_end now files name fed size cause.StoreFault are stop = absurd stop
+pass_end now files name fed size cause.ReadFault are stop = absurd stop
+pass_end now files name fed size cause.WriteFault are stop = absurd stop
+pass_end now files name fed size cause.NotBuilt are stop = absurd stop
+pass_end now files name fed size (cause.Damaged bad) are stop = absurd stop
+pass_end now files name fed size cause.NoCollection are stop = absurd stop
+pass_end now files name fed size (cause.TooLarge bytes most) are stop = absurd stop
+pass_end now files name fed size (cause.Changed what first second) are stop = absurd stop
+pass_end now files name fed size (cause.NameClash p) are stop = absurd stop
+pass_end now files name fed size cause.InputTooLong are stop = absurd stop
+pass_end now files name fed size cause.SameName are stop = absurd stop
+pass_end now files name fed size (cause.TooManyRotations count) are stop = absurd stop
+
+-- ---- the second pass
+
+-- a byte that is not read
+pub write_byte : (rose now : Type 0) (plan : Plan) (first later : Option Files) (name same : List ℕ) (size kept : ℕ) (fault : Fault) → (rose → now) → (IsSome first → IsSome later) → bytes_at later same ≡ bytes_at first name → kept ≡ size
+    → ByteStops rose later same kept fault → WriteStops now (IsPlanFor plan first name size) fault
+write_byte rose now plan first later name same size kept cause.StoreFault more still bytes k stop = more stop
+write_byte rose now plan first later name same size kept (cause.Changed what one two) more still bytes k stop = (stop.0, λ is. stop.1 (still is.told) (ap length bytes ∙ is.whole ∙ sym k))
+write_byte rose now plan first later name same size kept cause.Usage more still bytes k stop = absurd stop
+write_byte rose now plan first later name same size kept cause.ReadFault more still bytes k stop = absurd stop
+write_byte rose now plan first later name same size kept cause.WriteFault more still bytes k stop = absurd stop
+write_byte rose now plan first later name same size kept cause.NotBuilt more still bytes k stop = absurd stop
+write_byte rose now plan first later name same size kept (cause.Damaged bad) more still bytes k stop = absurd stop
+write_byte rose now plan first later name same size kept cause.NoCollection more still bytes k stop = absurd stop
+write_byte rose now plan first later name same size kept (cause.TooLarge most_size most) more still bytes k stop = absurd stop
+write_byte rose now plan first later name same size kept cause.TooManyDocuments more still bytes k stop = absurd stop
+write_byte rose now plan first later name same size kept (cause.TooManyPieces stream) more still bytes k stop = absurd stop
+write_byte rose now plan first later name same size kept cause.Memory more still bytes k stop = absurd stop
+write_byte rose now plan first later name same size kept (cause.NameClash p) more still bytes k stop = absurd stop
+write_byte rose now plan first later name same size kept cause.InputTooLong more still bytes k stop = absurd stop
+write_byte rose now plan first later name same size kept cause.SameName more still bytes k stop = absurd stop
+write_byte rose now plan first later name same size kept (cause.TooManyRotations count) more still bytes k stop = absurd stop
+
+-- a byte that is not written
+pub write_put : (rose now : Type 0) (plan : Plan) (files : Option Files) (name fed : List ℕ) (size n byte : ℕ) (fault : Fault) → (rose → now) → size < 2 ^ 32 → n < size → (IsSome files → slice_get (bytes_at files name) n ≡ Some byte) → AreRead files name n fed
+    → ((more : List ℕ) → length (fed ++ byte ∷ more) < 2 ^ 32 → SecondStops rose (IsPlanOf plan (fed ++ byte ∷ more)) fault) → WriteStops now (IsPlanFor plan files name size) fault
+write_put rose now plan files name fed size n byte fault grows few below is are stop = by fault stop
+  where
+    short : length (fed ++ byte ∷ []) < 2 ^ 32
+    short = subst (λ k. k < 2 ^ 32) (sym (length_push fed byte ∙ ap (λ k. k + 1) are.size)) (omega (arith, few, below))
+
+    all : IsSome files → fed ++ byte ∷ drop (n + 1) (bytes_at files name) ≡ bytes_at files name
+    all told = sym (append_assoc fed (byte ∷ []) (drop (n + 1) (bytes_at files name))) ∙ read_front files name (n + 1) (fed ++ byte ∷ []) (read_more files name n byte fed is are) told
+
+    by : (fault : Fault) → ((more : List ℕ) → length (fed ++ byte ∷ more) < 2 ^ 32 → SecondStops rose (IsPlanOf plan (fed ++ byte ∷ more)) fault) → WriteStops now (IsPlanFor plan files name size) fault
+    by cause.StoreFault stop = grows (stop [] short)
+    by cause.Memory stop = tt
+    by (cause.Changed what first second) stop = (
+      (stop [] short).0,
+      λ same.
+          (stop (drop (n + 1) (bytes_at files name)) (subst (λ k. k < 2 ^ 32) (sym (ap length (all same.told) ∙ same.whole)) few)).1 (subst (λ bytes. IsPlanOf plan bytes) (sym (all same.told)) same.counted),
+    )
+    by cause.Usage stop = stop [] short
+    by cause.ReadFault stop = stop [] short
+    by cause.WriteFault stop = stop [] short
+    by cause.NotBuilt stop = stop [] short
+    by (cause.Damaged bad) stop = absurd (stop [] short)
+    by cause.NoCollection stop = stop [] short
+    by (cause.TooLarge size most) stop = stop [] short
+    by cause.TooManyDocuments stop = stop [] short
+    by (cause.TooManyPieces stream) stop = stop [] short
+    by (cause.NameClash part) stop = stop [] short
+    by cause.InputTooLong stop = stop [] short
+    by cause.SameName stop = stop [] short
+    by (cause.TooManyRotations count) stop = stop [] short
+
+-- the end
+pub write_end : (rose now : Type 0) (plan : Plan) (first later : Option Files) (name fed : List ℕ) (size : ℕ) (fault : Fault) → (rose → now) → (IsSome first → IsSome later) → AreRead first name size fed
+    → ListStops rose (IsSome later × IsPlanOf plan fed) fault → WriteStops now (IsPlanFor plan first name size) fault
+write_end rose now plan first later name fed size fault grows still are stop = by fault stop
+  where
+    whole : IsPlanFor plan first name size → IsSome later × IsPlanOf plan fed
+    whole same = (still same.told, subst (λ bytes. IsPlanOf plan bytes) (sym (read_all first name size fed are same.told same.whole)) same.counted)
+
+    by : (fault : Fault) → ListStops rose (IsSome later × IsPlanOf plan fed) fault → WriteStops now (IsPlanFor plan first name size) fault
+    by cause.StoreFault stop = grows stop
+    by cause.Memory stop = tt
+    by (cause.Changed what one two) stop = (stop.0, λ same. stop.1 (whole same))
+    by (cause.Damaged bad) stop = λ same. stop (whole same)
+    by cause.Usage stop = absurd stop
+    by cause.ReadFault stop = absurd stop
+    by cause.WriteFault stop = absurd stop
+    by cause.NotBuilt stop = absurd stop
+    by cause.NoCollection stop = absurd stop
+    by (cause.TooLarge bytes most) stop = absurd stop
+    by cause.TooManyDocuments stop = absurd stop
+    by (cause.TooManyPieces stream) stop = absurd stop
+    by (cause.NameClash p) stop = absurd stop
+    by cause.InputTooLong stop = absurd stop
+    by cause.SameName stop = absurd stop
+    by (cause.TooManyRotations count) stop = absurd stop
+
+-- ---- from one moment to another
+
+-- a plan of the file's bytes is one as long as that file stays
+pub plan_later : (plan : Plan) (before now : Option Files) (name : List ℕ) (size : ℕ) → is_some now ≡ is_some before → file_at now name ≡ file_at before name → IsPlanFor plan before name size → IsPlanFor plan now name size
+plan_later plan before now name size told same is = record {
+  told = still_told before now told is.told;
+  whole = ap length bytes ∙ is.whole;
+  counted = subst (λ b. IsPlanOf plan b) (sym bytes) is.counted;
+}
+  where
+    bytes : bytes_at now name ≡ bytes_at before name
+    bytes = same_bytes before now name name refl same
+
+-- what was read of the file as it is now was read of it as it was
+pub read_of_before : (before now : Option Files) (name : List ℕ) (n : ℕ) (fed : List ℕ) → is_some now ≡ is_some before → file_at now name ≡ file_at before name → AreRead now name n fed → AreRead before name n fed
+read_of_before before now name n fed told same are = record {
+  size = are.size;
+  told = λ is. are.told (still_told before now told is) ∙ ap (λ bytes. take n bytes) (same_bytes before now name name refl same);
+}
+
+-- a plan of the file's bytes is one of the bytes that were read
+pub plan_of_read : (plan : Plan) (files : Option Files) (name : List ℕ) (size : ℕ) (fed : List ℕ) → AreRead files name size fed → IsPlanFor plan files name size → IsPlanOf plan fed
+plan_of_read plan files name size fed are is = subst (λ bytes. IsPlanOf plan bytes) (sym (read_all files name size fed are is.told is.whole)) is.counted
+
+-- a cause still is one where failures still rose and less is the same
+pub write_wider : (rose now same less : Type 0) (fault : Fault) → (rose → now) → (less → same) → WriteStops rose same fault → WriteStops now less fault
+write_wider rose now same less cause.StoreFault grows back stop = grows stop
+write_wider rose now same less cause.Memory grows back stop = tt
+write_wider rose now same less (cause.Changed what first second) grows back stop = (stop.0, λ is. stop.1 (back is))
+write_wider rose now same less (cause.Damaged bad) grows back stop = λ is. stop (back is)
+write_wider rose now same less cause.Usage grows back stop = absurd stop
+write_wider rose now same less cause.ReadFault grows back stop = absurd stop
+write_wider rose now same less cause.WriteFault grows back stop = absurd stop
+write_wider rose now same less cause.NotBuilt grows back stop = absurd stop
+write_wider rose now same less cause.NoCollection grows back stop = absurd stop
+write_wider rose now same less (cause.TooLarge bytes most) grows back stop = absurd stop
+write_wider rose now same less cause.TooManyDocuments grows back stop = absurd stop
+write_wider rose now same less (cause.TooManyPieces stream) grows back stop = absurd stop
+write_wider rose now same less (cause.NameClash p) grows back stop = absurd stop
+write_wider rose now same less cause.InputTooLong grows back stop = absurd stop
+write_wider rose now same less cause.SameName grows back stop = absurd stop
+write_wider rose now same less (cause.TooManyRotations count) grows back stop = absurd stop
+
+pub moved : (P : ℕ → List ℕ → List ℕ → Type 0) (k l : ℕ) (a b c d : List ℕ) → k ≡ l → a ≡ b → c ≡ d → P k a c → P l b d
+moved P k l a b c d one two three holds = subst (λ n. P n b d) one (subst (λ x. P k x d) two (subst (λ x. P k a x) three holds))
+
+-- what a start that was refused leaves
+pub left_by_start : (base collection : List ℕ) (before now : Option Files) → IsSome before → (file_at now (full_name base Head) ≡ Some [] → StandsForNone now base) → IsUnbuilt base before now → Left base before now collection
+left_by_start base collection before now told none (inl same) = inl same
+left_by_start base collection before now told none (inr gone) = inr (inl (none (gone told)))
+
+-- what a refusal at the end tells
+pub write_end_all : {T : Type 0} (r : Result T Fault) (P : List ℕ → Type 0) (rose now : Type 0) (plan : Plan) (first later : Option Files) (name fed : List ℕ) (size : ℕ) → (rose → now) → (IsSome first → IsSome later) → AreRead first name size fed → P fed
+    → IfErr r (λ fault. (x : List ℕ) → P x → ListStops rose (IsSome later × IsPlanOf plan x) fault) → IfErr r (WriteStops now (IsPlanFor plan first name size))
+write_end_all (Ok value) P rose now plan first later name fed size grows still are put stop = tt
+write_end_all (Err fault) P rose now plan first later name fed size grows still are put stop = write_end rose now plan first later name fed size fault grows still are (stop fed put)

@@ -1,0 +1,15 @@
+use Rattle.std.proofs.Common.{◌≡◌, ◌<◌, ◌^◌, ℕ, List}
+use Rattle.mg_dev.specs.declared.part.Part.TheVariants.{Plain}
+use Rattle.mg_bits.specs.Pages.{Fits, Looked, SameFile}
+use Rattle.mg_make.specs.Counting.{HasCounted}
+use Rattle.mg_build.specs.Sources.{AreRead}
+use Rattle.mg_build.proofs.passes.count_bytes.Given as goal
+
+abbrev pub invariant-loop-at : goal.invariant-loop-at
+invariant-loop-at g l = record {
+  fits : Fits l.source.feed (g.S.Store.files l.store);
+  file : SameFile l.fn.source.feed l.source.feed;
+  size : l.source.size ≡ l.fn.source.size;
+  looked : Looked Plain (g.S.Store.files l.fn.store) (g.S.Store.files l.store) (g.S.Store.reads l.fn.store) (g.S.Store.reads l.store) (g.S.Store.faults l.fn.store) (g.S.Store.faults l.store);
+  counted : (fed : List ℕ) × AreRead (g.S.Store.files l.fn.store) l.fn.source.feed.name l.at fed × HasCounted l.count fed;
+}

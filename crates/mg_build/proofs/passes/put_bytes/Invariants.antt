@@ -1,0 +1,23 @@
+use Rattle.std.proofs.Common.{◌≡◌, ◌≤◌, ◌<◌, ◌^◌, ℕ, List, [], Some, IsSome}
+use Rattle.mg_dev.specs.Files.{file_at}
+use Rattle.mg_dev.specs.Names.{full_name}
+use Rattle.mg_dev.specs.declared.part.Part.TheVariants.{Head}
+use Rattle.mg_bits.specs.Pages.{Fits, SameFile}
+use Rattle.mg_make.specs.Putting.{OthersSame}
+use Rattle.mg_make.specs.Putting.{HasPut}
+use Rattle.mg_build.specs.Sources.{AreRead}
+use Rattle.mg_build.proofs.passes.put_bytes.Given as goal
+
+abbrev pub invariant-loop-at : goal.invariant-loop-at
+invariant-loop-at g l = record {
+  fits : Fits l.source.feed (g.S.Store.files l.store);
+  file : SameFile l.fn.source.feed l.source.feed;
+  size : l.source.size ≡ l.fn.source.size;
+  base : l.writer.base ≡ l.fn.writer.base;
+  plan : l.writer.plan ≡ l.fn.writer.plan;
+  limit : l.writer.limit ≡ l.fn.writer.limit;
+  head : IsSome (g.S.Store.files l.fn.store) → file_at (g.S.Store.files l.store) (full_name l.fn.writer.base Head) ≡ Some [];
+  others : OthersSame l.fn.writer.base (g.S.Store.files l.fn.store) (g.S.Store.files l.store);
+  later : g.S.Store.faults l.fn.store ≤ g.S.Store.faults l.store;
+  put : (fed : List ℕ) × AreRead (g.S.Store.files l.fn.store) l.fn.source.feed.name l.at fed × HasPut l.writer (g.S.Store.files l.store) fed;
+}

@@ -1,0 +1,63 @@
+-- Why a build stops, and what it leaves.
+use Rattle.std.specs.Prelude.{◌≡◌, ◌≢◌, ◌⊎◌, ◌<◌, ℕ, List, length, None}
+use Rattle.std.specs.Option.{IsSome}
+use Rattle.std.specs.declared.option.Option.{Option}
+use Rattle.mg_dev.specs.declared.part.Part.TheVariants.{Plain}
+use Rattle.mg_dev.specs.Files.{Files, bytes_at, file_at}
+use Rattle.mg_dev.specs.Names.{full_name}
+use Rattle.mg_dev.specs.declared.fault.Fault.{Fault}
+use Rattle.mg_dev.specs.declared.fault.Fault.TheVariants.{Changed, Damaged, Memory, NameClash, NoCollection, StoreFault, TooLarge, TooManyDocuments, TooManyPieces}
+use Rattle.mg_defs.specs.Limits.{version_2}
+use Rattle.mg_defs.specs.Marks.{PassesFirst, piece, start}
+use Rattle.mg_layout.specs.Stands.{Stands, StandsForNone}
+use Rattle.mg_make.specs.Plans.{IsPlanOf, Plan}
+use Rattle.mg_build.specs.Sources.{most_bytes}
+
+-- the store tells its files, this one has so many bytes, and the plan is that of these
+pub record IsPlanFor (plan : Plan) (files : Option Files) (name : List ℕ) (size : ℕ) : Type 0 where
+  pub told : IsSome files
+  pub whole : length (bytes_at files name) ≡ size
+  pub counted : IsPlanOf plan (bytes_at files name)
+
+-- why the first pass stops, by the file of the collection and the size that it had
+abbrev pub PassStops : Type 0 → Option Files → List ℕ → ℕ → Fault → Type 0
+PassStops store_rose files name size StoreFault = store_rose
+PassStops store_rose files name size (Changed what first second) = (first ≢ second) × (IsSome files → length (bytes_at files name) ≢ size)
+PassStops store_rose files name size TooManyDocuments = IsSome files → length (bytes_at files name) ≡ size → PassesFirst version_2 (bytes_at files name) start
+PassStops store_rose files name size (TooManyPieces stream) = IsSome files → length (bytes_at files name) ≡ size → (bytes : List ℕ) × PassesFirst version_2 (bytes_at files name) (piece stream bytes)
+PassStops store_rose files name size Memory = Unit {0}
+PassStops store_rose files name size _ = ⊥
+
+-- why writing stops: what is read is not what was counted
+abbrev pub WriteStops : Type 0 → Type 0 → Fault → Type 0
+WriteStops store_rose same StoreFault = store_rose
+WriteStops store_rose same (Changed what first second) = (first ≢ second) × (same → ⊥)
+WriteStops store_rose same (Damaged bad) = same → ⊥
+WriteStops store_rose same Memory = Unit {0}
+WriteStops store_rose same _ = ⊥
+
+-- the cause of each refusal of a build, by the files as it began, the collection's name and the base
+abbrev pub BuildStops : Type 0 → Option Files → List ℕ → List ℕ → Fault → Type 0
+BuildStops store_rose files name base StoreFault = store_rose
+BuildStops store_rose files name base (Damaged bad) = IsSome files → ⊥
+BuildStops store_rose files name base NoCollection = IsSome files → file_at files name ≡ None
+BuildStops store_rose files name base (TooLarge size most) = (most ≡ most_bytes) × (most < size) × (IsSome files → length (bytes_at files name) ≡ size)
+BuildStops store_rose files name base TooManyDocuments = IsSome files → PassesFirst version_2 (bytes_at files name) start
+BuildStops store_rose files name base (TooManyPieces stream) = IsSome files → (bytes : List ℕ) × PassesFirst version_2 (bytes_at files name) (piece stream bytes)
+BuildStops store_rose files name base (Changed what first second) = (first ≢ second) × (IsSome files → ⊥)
+BuildStops store_rose files name base Memory = Unit {0}
+BuildStops store_rose files name base (NameClash part) = (part ≢ Plain) × (name ≡ full_name base part)
+BuildStops store_rose files name base _ = ⊥
+
+-- a refusal before the first write
+abbrev pub IsEarly : Fault → Type 0
+IsEarly NoCollection = Unit {0}
+IsEarly (TooLarge size most) = Unit {0}
+IsEarly TooManyDocuments = Unit {0}
+IsEarly (TooManyPieces stream) = Unit {0}
+IsEarly (NameClash part) = Unit {0}
+IsEarly _ = ⊥
+
+-- What a build leaves, whatever it answers: all files as before, or a set that stands for no collection, or one that stands for this one.
+abbrev pub Left : List ℕ → Option Files → Option Files → List ℕ → Type 0
+Left base before now collection = (now ≡ before) ⊎ (StandsForNone now base ⊎ Stands now base collection)

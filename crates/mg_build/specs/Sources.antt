@@ -1,0 +1,41 @@
+-- A collection's file: what contracts see of a reader of its bytes.
+use Rattle.std.specs.Prelude.{◌≡◌, ◌≢◌, ◌<◌, ℕ, List, length, take, None, Some}
+use Rattle.std.specs.Option.{IsSome, option_map}
+use Rattle.std.specs.declared.option.Option.{Option}
+use Rattle.mg_bits.specs.Pages.{Paging}
+use Rattle.mg_dev.specs.Files.{Files, bytes_at, file_at}
+use Rattle.mg_dev.specs.declared.fault.Fault.{Fault}
+use Rattle.mg_dev.specs.declared.fault.Fault.TheVariants.{Changed, Memory, NoCollection, StoreFault, TooLarge}
+use Rattle.mg_defs.specs.Limits.{version_2}
+
+-- a reader of pages, and the bytes that the file had when it was opened
+pub record Sourcing : Type 0 where
+  pub feed : Paging
+  pub size : ℕ
+
+-- the most bytes of a collection that is built
+abbrev pub most_bytes : ℕ
+most_bytes = version_2.collection
+
+-- where the file is told, it is there and has so many bytes
+abbrev pub HasSize : Option Files → List ℕ → ℕ → Type 0
+HasSize files name size = IsSome files → ◌≡◌ {A = Option ℕ} (Some size) (option_map length (file_at files name))
+
+-- why a collection is not opened
+abbrev pub OpenStops : Type 0 → Option Files → List ℕ → Fault → Type 0
+OpenStops store_rose files name NoCollection = IsSome files → file_at files name ≡ None
+OpenStops store_rose files name (TooLarge size most) = (most ≡ most_bytes) × (most < size) × (IsSome files → length (bytes_at files name) ≡ size)
+OpenStops store_rose files name StoreFault = store_rose
+OpenStops store_rose files name Memory = Unit {0}
+OpenStops store_rose files name _ = ⊥
+
+-- why a byte is not read: the file is no longer what it was, unless it is told
+abbrev pub ByteStops : Type 0 → Option Files → List ℕ → ℕ → Fault → Type 0
+ByteStops store_rose files name size StoreFault = store_rose
+ByteStops store_rose files name size (Changed what first second) = (first ≢ second) × (IsSome files → length (bytes_at files name) ≢ size)
+ByteStops store_rose files name size _ = ⊥
+
+-- so many bytes were read, where the file is told its first ones
+pub record AreRead (files : Option Files) (name : List ℕ) (count : ℕ) (fed : List ℕ) : Type 0 where
+  pub size : length fed ≡ count
+  pub told : IsSome files → fed ≡ take count (bytes_at files name)

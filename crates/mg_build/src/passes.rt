@@ -1,0 +1,151 @@
+//! The two passes over a collection.
+ghost use Rattle.std.specs.Prelude.{◌≡◌, ◌⊎◌, ◌<◌, ◌≤◌, ◌^◌, ℕ, List, [], length, IfErr, IfOk, OnOk, Some};
+ghost use Rattle.std.specs.Option.{IsSome};
+ghost use Rattle.mg_dev.specs.Causes.{Rose};
+ghost use Rattle.mg_dev.specs.Files.{bytes_at, file_at};
+ghost use Rattle.mg_dev.specs.Names.{full_name};
+ghost use Rattle.mg_dev.specs.declared.part.Part.TheVariants as part;
+ghost use Rattle.mg_bits.specs.Pages.{Fits, Looked, SameFile};
+ghost use Rattle.mg_defs.specs.Summaries.{run_cap};
+ghost use Rattle.mg_layout.specs.Stands.{StandsIn};
+ghost use Rattle.mg_make.specs.Putting.{IsApart, OthersSame};
+ghost use Rattle.mg_make.specs.Plans.{IsPlan, IsRoomFor};
+ghost use Rattle.mg_make.specs.Counting.{HasCounted};
+ghost use Rattle.mg_make.specs.Putting.{HasPut};
+ghost use Rattle.mg_make.specs.Summaries.{summary_of};
+ghost use Rattle.mg_build.specs.Building.{IsPlanFor, Left, PassStops, WriteStops};
+ghost use Rattle.mg_build.specs.Sources.{AreRead};
+
+use crate::source::Source;
+use mg_dev::{Fault, Store};
+use mg_make::{Count, Plan, Room, SetWriter, Summary, empty_heads_stand_for_none};
+use std::alloc::Global;
+
+// Counts each byte of a collection.
+fn count_bytes<S: Store>(
+    store: &mut S,
+    source: &mut Source<'_, S>,
+    count: &mut Count,
+) -> Result<(), Fault>
+    requires fits { Fits source.old.feed (S.files store.old) }
+    requires nothing { HasCounted count.old [] }
+    ensures counted { OnOk result ((fed : List ℕ) × AreRead (S.files store.old) source.old.feed.name source.old.size fed × HasCounted count.new fed) }
+    ensures fits { Fits source.new.feed (S.files store.new) }
+    ensures file { SameFile source.old.feed source.new.feed }
+    ensures size { source.new.size ≡ source.old.size }
+    ensures small { source.old.size < 2 ^ 32 }
+    ensures refused { IfErr result (PassStops (Rose (S.faults store.old) (S.faults store.new)) (S.files store.old) source.old.feed.name source.old.size) }
+    ensures looked { Looked part.Plain (S.files store.old) (S.files store.new) (S.reads store.old) (S.reads store.new) (S.faults store.old) (S.faults store.new) }
+{
+    for at in 0..source.size() {
+        let byte = match source.byte(store, at) {
+            Ok(byte) => byte,
+            Err(refusal) => return Err(refusal),
+        };
+        match count.take(byte) {
+            Ok(()) => {}
+            Err(refusal) => return Err(refusal),
+        }
+    }
+    Ok(())
+}
+
+/// Counts a collection, and makes all that the second pass takes of memory, with a pool of so many bytes.
+pub(crate) fn count_all<S: Store>(
+    alloc: Global,
+    store: &mut S,
+    source: &mut Source<'_, S>,
+    budget: u64,
+) -> Result<(Plan, Room), Fault>
+    requires least { 4096 ≤ budget }
+    requires most { budget ≤ 2 ^ 30 }
+    requires fits { Fits source.old.feed (S.files store.old) }
+    ensures plan { IfOk result (λ made. IsPlan made.0) }
+    ensures room { IfOk result (λ made. IsRoomFor made.1 made.0 budget) }
+    ensures of { IsSome (S.files store.old) → length (bytes_at (S.files store.old) source.old.feed.name) ≡ source.old.size →
+        IfOk result (λ made. IsPlanFor made.0 (S.files store.old) source.old.feed.name source.old.size) }
+    ensures fits { Fits source.new.feed (S.files store.new) }
+    ensures file { SameFile source.old.feed source.new.feed }
+    ensures size { source.new.size ≡ source.old.size }
+    ensures refused { IfErr result (PassStops (Rose (S.faults store.old) (S.faults store.new)) (S.files store.old) source.old.feed.name source.old.size) }
+    ensures looked { Looked part.Plain (S.files store.old) (S.files store.new) (S.reads store.old) (S.reads store.new) (S.faults store.old) (S.faults store.new) }
+{
+    let mut count = Count::new(alloc);
+    match count_bytes(store, source, &mut count) {
+        Ok(()) => {}
+        Err(refusal) => return Err(refusal),
+    }
+    count.finish(alloc, budget)
+}
+
+// Gives each byte of a collection to the writer of its set.
+fn put_bytes<S: Store>(
+    store: &mut S,
+    source: &mut Source<'_, S>,
+    writer: &mut SetWriter<'_>,
+) -> Result<(), Fault>
+    requires fits { Fits source.old.feed (S.files store.old) }
+    requires apart { IsApart writer.old.base source.old.feed.name }
+    requires nothing { HasPut writer.old (S.files store.old) [] }
+    requires head { IsSome (S.files store.old) → file_at (S.files store.old) (full_name writer.old.base part.Head) ≡ Some [] }
+    ensures put { OnOk result ((fed : List ℕ) × AreRead (S.files store.old) source.old.feed.name source.old.size fed × HasPut writer.new (S.files store.new) fed) }
+    ensures base { writer.new.base ≡ writer.old.base }
+    ensures plan { writer.new.plan ≡ writer.old.plan }
+    ensures limit { writer.new.limit ≡ writer.old.limit }
+    ensures small { source.old.size < 2 ^ 32 }
+    ensures head { IsSome (S.files store.old) → file_at (S.files store.new) (full_name writer.old.base part.Head) ≡ Some [] }
+    ensures others { OthersSame writer.old.base (S.files store.old) (S.files store.new) }
+    ensures refused { IfErr result (WriteStops (Rose (S.faults store.old) (S.faults store.new)) (IsPlanFor writer.old.plan (S.files store.old) source.old.feed.name source.old.size)) }
+    ensures later { S.faults store.old ≤ S.faults store.new }
+{
+    for at in 0..source.size() {
+        let byte = match source.byte(store, at) {
+            Ok(byte) => byte,
+            Err(refusal) => return Err(refusal),
+        };
+        match writer.take(store, byte) {
+            Ok(()) => {}
+            Err(refusal) => return Err(refusal),
+        }
+    }
+    Ok(())
+}
+
+/// Writes the set of a collection by a plan: the head is emptied first and appended last.
+pub(crate) fn write_set<'a, S: Store>(
+    alloc: Global,
+    store: &mut S,
+    source: &mut Source<'_, S>,
+    base: &'a str,
+    plan: &'a Plan,
+    room: Room,
+) -> Result<Summary, Fault>
+    requires plan { IsPlan plan.now }
+    requires room { IsRoomFor room plan.now room.pool.limit }
+    requires fits { Fits source.old.feed (S.files store.old) }
+    requires apart { IsApart base.now source.old.feed.name }
+    ensures stands { IsPlanFor plan.entry.now (S.files store.old) source.old.feed.name source.old.size →
+        OnOk result (StandsIn 2 (run_cap room.pool.limit) (S.files store.new) base.entry.now (bytes_at (S.files store.old) source.old.feed.name)) }
+    ensures summary { IsPlanFor plan.entry.now (S.files store.old) source.old.feed.name source.old.size →
+        IfOk result (λ summary. summary ≡ summary_of room.pool.limit (bytes_at (S.files store.old) source.old.feed.name)) }
+    ensures merge_a { IsPlanFor plan.entry.now (S.files store.old) source.old.feed.name source.old.size →
+        OnOk result (file_at (S.files store.new) (full_name base.entry.now part.MergeA) ≡ Some []) }
+    ensures merge_b { IsPlanFor plan.entry.now (S.files store.old) source.old.feed.name source.old.size →
+        OnOk result (file_at (S.files store.new) (full_name base.entry.now part.MergeB) ≡ Some []) }
+    ensures left { IsPlanFor plan.entry.now (S.files store.old) source.old.feed.name source.old.size →
+        Left base.entry.now (S.files store.old) (S.files store.new) (bytes_at (S.files store.old) source.old.feed.name) }
+    ensures others { OthersSame base.entry.now (S.files store.old) (S.files store.new) }
+    ensures refused { IfErr result (WriteStops (Rose (S.faults store.old) (S.faults store.new)) (IsPlanFor plan.entry.now (S.files store.old) source.old.feed.name source.old.size)) }
+    ensures later { S.faults store.old ≤ S.faults store.new }
+{
+    empty_heads_stand_for_none();
+    let mut writer = match SetWriter::start(alloc, store, base, plan, room) {
+        Ok(writer) => writer,
+        Err(refusal) => return Err(Fault::of_store(refusal)),
+    };
+    match put_bytes(store, source, &mut writer) {
+        Ok(()) => {}
+        Err(refusal) => return Err(refusal),
+    }
+    writer.finish(alloc, store)
+}

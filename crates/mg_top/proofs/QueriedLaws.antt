@@ -1,0 +1,94 @@
+-- What a session answered is what the run did.
+use Rattle.std.proofs.Common.{◌≡◌, ◌≢◌, ◌∙◌, ◌⊎◌, ℕ, true, false, List, [], None, Some, Ok, Err, IsSome, Option, refl, sym, ap, subst, inl, inr}
+use Rattle.std.specs.Prelude.{Result, OnOk, IfErr}
+use Rattle.std.specs.Option.{ForSome}
+use Rattle.mg_dev.specs.Files.{Files, bytes_at}
+use Rattle.mg_dev.specs.Names.{full_name}
+use Rattle.mg_dev.specs.Streams.{appended, GrewByPrefix}
+use Rattle.mg_dev.specs.declared.part.Part.{Part}
+use Rattle.mg_dev.specs.declared.part.Part.TheVariants as part
+use Rattle.mg_dev.specs.declared.fault.Fault.{Fault}
+use Rattle.mg_dev.specs.declared.fault.Fault.TheVariants.{Usage, StoreFault, ReadFault, WriteFault, NotBuilt, Damaged, NoCollection, TooLarge, TooManyDocuments, TooManyPieces, Changed, Memory, NameClash, InputTooLong, SameName, TooManyRotations}
+use Rattle.mg_dev.specs.declared.status.Status.{Status}
+use Rattle.mg_dev.specs.declared.status.Status.TheVariants.{Done, Stopped}
+use Rattle.mg_defs.specs.CodedText.{TextCode}
+use Rattle.mg_defs.specs.Heads.{first_damage}
+use Rattle.mg_defs.specs.Limit.{is_too_much, input_limit}
+use Rattle.mg_defs.specs.Replies.{session}
+use Rattle.mg_defs.proofs.HeadLaws.{no_damage}
+use Rattle.mg_defs.proofs.StandLaws.{stand-tells}
+use Rattle.mg_layout.specs.Stands.{Stands, StandsBy, parts_at}
+use Rattle.mg_layout.specs.declared.head.Head.{Head}
+use Rattle.mg_reply.specs.Served.{LeftEnough}
+use Rattle.mg_session.specs.Parts.{NeverRead}
+use Rattle.mg_session.specs.Serves.{ReadsWithin, RefusedFor, StopsFor}
+use Rattle.mg_top.specs.Ends.{IfStopped}
+use Rattle.mg_top.specs.Runs.{Run, StoreFailed, InputFailed, OutputFailed, Stops}
+use Rattle.mg_top.specs.Queried.{Queried}
+use Rattle.mg_top.proofs.Endings.{status_of, when_ok, err_by, stopped_by, unless_by}
+
+-- the head of files that stand is not empty
+head_there : (files : Option Files) (base collection : List ℕ) → Stands files base collection → bytes_at files (full_name base part.Head) ≢ []
+unfolding first_damage
+head_there files base collection stands empty =
+    let tells = stand-tells stands.stand.version stands.stand.cap stands.stand.code (parts_at files base) collection stands.stand.are in
+    let some : None ≡ first_damage 1 2 [] = sym (no_damage 1 2 (bytes_at files (full_name base part.Head)) _ tells.head) ∙ ap (first_damage 1 2) empty in
+    cc
+
+true_is_not_false : true ≡ false → ⊥
+true_is_not_false e = cc
+
+-- where nothing stands in a session's way and no device failed, want of memory is the only refusal
+only_memory : (store_rose input_rose output_rose : Type 0) (files : Option Files) (base collection given : List ℕ) (left : Option (List ℕ)) (fault : Fault) →
+    StopsFor store_rose input_rose output_rose files base left fault → Stands files base collection → left ≡ Some given → is_too_much input_limit given ≡ false →
+    ¬ store_rose → ¬ input_rose → ¬ output_rose → fault ≡ Memory
+only_memory s i o files base collection given left Usage cause stands is short no_store no_input no_output = absurd cause
+only_memory s i o files base collection given left StoreFault cause stands is short no_store no_input no_output = absurd (no_store cause)
+only_memory s i o files base collection given left ReadFault cause stands is short no_store no_input no_output = absurd (no_input cause)
+only_memory s i o files base collection given left WriteFault cause stands is short no_store no_input no_output = absurd (no_output cause)
+only_memory s i o files base collection given left NotBuilt cause stands is short no_store no_input no_output = absurd (head_there files base collection stands (cause stands.told))
+only_memory s i o files base collection given left (Damaged bad) cause stands is short no_store no_input no_output = absurd (cause collection stands)
+only_memory s i o files base collection given left NoCollection cause stands is short no_store no_input no_output = absurd cause
+only_memory s i o files base collection given left (TooLarge size most) cause stands is short no_store no_input no_output = absurd cause
+only_memory s i o files base collection given left TooManyDocuments cause stands is short no_store no_input no_output = absurd cause
+only_memory s i o files base collection given left (TooManyPieces stream) cause stands is short no_store no_input no_output = absurd cause
+only_memory s i o files base collection given left (Changed what first second) cause stands is short no_store no_input no_output = absurd cause
+only_memory s i o files base collection given left Memory cause stands is short no_store no_input no_output = refl
+only_memory s i o files base collection given left (NameClash p) cause stands is short no_store no_input no_output = absurd cause
+only_memory s i o files base collection given left InputTooLong cause stands is short no_store no_input no_output = absurd (true_is_not_false (sym (cause given is) ∙ short))
+only_memory s i o files base collection given left SameName cause stands is short no_store no_input no_output = absurd cause
+only_memory s i o files base collection given left (TooManyRotations count) cause stands is short no_store no_input no_output = absurd cause
+
+done_or : (base collection given : List ℕ) (run : Run) (r : Result (Unit {0}) Fault) → run.status ≡ status_of r
+    → IfErr r (StopsFor (StoreFailed run) (InputFailed run) (OutputFailed run) run.store.files base run.input.left)
+    → Stands run.store.files base collection → run.input.left ≡ Some given → is_too_much input_limit given ≡ false
+    → ¬ StoreFailed run → ¬ InputFailed run → ¬ OutputFailed run → (run.status ≡ Done) ⊎ Stops run Memory
+done_or base collection given run (Ok u) is cause stands told short no_store no_input no_output = inl is
+done_or base collection given run (Err f) is cause stands told short no_store no_input no_output =
+    inr (is ∙ ap Stopped (only_memory _ _ _ _ base collection given _ f cause stands told short no_store no_input no_output))
+
+module _ (base : List ℕ) (run : Run) (r : Result (Unit {0}) Fault) (is : run.status ≡ status_of r)
+    (all : (collection : List ℕ) → Stands run.store.files base collection → ForSome run.input.left (λ given. OnOk r (run.out_now.written ≡ appended run.out.written (session collection given))))
+    (prefix : (collection : List ℕ) → Stands run.store.files base collection → ForSome run.input.left (λ given. GrewByPrefix run.out.written run.out_now.written (session collection given)))
+    (left : ForSome run.input.left (λ given. OnOk r (LeftEnough given run.input_now.left)))
+    (within : ForSome run.input.left (λ given. OnOk r (is_too_much input_limit given ≡ false)))
+    (pages : (head : Head) (code : TextCode) (collection : List ℕ) → StandsBy head code run.store.files base collection → ForSome run.input.left (λ given. ReadsWithin code collection given run.store.reads run.store_now.reads))
+    (unread : (p : Part) → NeverRead p → run.store_now.reads p ≡ run.store.reads p)
+    (files : run.store_now.files ≡ run.store.files)
+    (cause : IfErr r (StopsFor (StoreFailed run) (InputFailed run) (OutputFailed run) run.store.files base run.input.left))
+    (silent : r ≡ Err NotBuilt → run.out_now.written ≡ run.out.written)
+    (not_built : IsSome run.store.files → bytes_at run.store.files (full_name base part.Head) ≡ [] → RefusedFor r NotBuilt) where
+  pub queried_by : Queried base run
+  queried_by = record {
+    done = λ collection given stands some end. when_ok _ r (sym is ∙ end) (all collection stands given some);
+    left = λ given some end. when_ok _ r (sym is ∙ end) (left given some);
+    within = λ given some end. when_ok _ r (sym is ∙ end) (within given some);
+    prefix = λ collection given stands some. prefix collection stands given some;
+    silent = λ end. silent (err_by r _ (sym is ∙ end));
+    cause = subst (λ (s : Status). IfStopped s (StopsFor (StoreFailed run) (InputFailed run) (OutputFailed run) run.store.files base run.input.left)) (sym is) (stopped_by _ r cause);
+    not_built = λ told none. unless_by run r _ is (not_built told none);
+    complete = λ collection given stands some short no_store no_input no_output. done_or base collection given run r is cause stands some short no_store no_input no_output;
+    files = files;
+    pages = λ head code collection given stands some. pages head code collection stands given some;
+    unread = unread;
+  }
