@@ -1,5 +1,5 @@
 # make          proves and builds the program, and leaves it as bin/mg
-# make try      asks the sample collection a few questions
+# make try      builds the sample collection, decodes it, and asks it a few questions
 # make check    the gate: every proof, edit, test and program, then the black-box suite
 # make install  copies the program to PREFIX/bin
 
@@ -14,7 +14,9 @@ bin/mg: $(SOURCES)
 .PHONY: try check install
 
 try: bin/mg
-	bin/mg scan examples/letters.mail < examples/questions.txt
+	bin/mg build examples/letters.mail bin/letters
+	bin/mg decode bin/letters | cmp - examples/letters.mail
+	bin/mg query bin/letters < examples/questions.txt
 
 check:
 	rt ci

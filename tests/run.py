@@ -13,6 +13,7 @@ import subprocess
 import sys
 import tempfile
 
+import builds
 import files
 from kinds import Draws, cases
 
@@ -187,7 +188,7 @@ def main():
     program = [word for word in sys.argv[1:] if word != "--slow"][0]
     with tempfile.TemporaryDirectory() as folder:
         suite = Suite(program, folder)
-        for part in [rows, stored, words, devices, large_collection, *files.PARTS] + [long_input] * slow:
+        for part in [rows, stored, words, devices, large_collection, *files.PARTS, *builds.PARTS] + [long_input, *builds.SLOW] * slow:
             part(suite)
     print(f"{suite.passed} passed, {suite.failed} failed")
     return 1 if suite.failed or not suite.passed else 0

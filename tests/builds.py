@@ -1,0 +1,158 @@
+"""Sets that the program builds: their parts, their summaries, what is refused, and what a build leaves that
+was stopped.
+
+The reference (`reference/`) decides of every part whether it is the collection's.
+"""
+
+import pathlib
+import resource
+import signal
+import subprocess
+import sys
+import time
+
+sys.path.insert(0, str(pathlib.Path(__file__).parent / "reference"))
+
+from files import BUDGET, K, put_set, remove
+from kinds import cases
+from parts import Damaged, build, summary
+from sessions import session
+from standing import check, read_parts
+from texts import Collection
+
+EXPECTED = pathlib.Path(__file__).parent / "expected"
+BUDGETS = [4096, 65_536, BUDGET]
+# The parts that no choice of codeword lengths and no budget changes.
+SETTLED = ["lex", "lexat", "post", "skip", "weights"]
+
+SMALL = [
+    ("nothing", b""), ("three documents", K), ("an open end", K[:-1]), ("one word four times", b"a a a a "),
+    ("two empty documents", b"\x02\x02"), ("an empty document", b"\x02"), ("256 letters", b"a" * 256),
+    ("300 blanks", b" " * 300), ("200 documents of one word", b"x\x02" * 200),
+]
+
+
+def built_by(suite, name, collection, budget):
+    """Builds a set, and compares all that it prints and leaves with the reference."""
+    suite.file("text", collection)
+    got = suite.run(["build", "text", "set", "--budget", str(budget)])
+    suite.check(f"{name}: summary at {budget}", got, (0, summary(Collection(collection), budget), b""))
+    parts = read_parts(suite.folder / "set")
+    try:
+        stands = check(parts).data == collection
+    except Damaged as damaged:
+        stands = str(damaged)
+    suite.check(f"{name}: the set stands at {budget}", stands, True)
+    merged = [(suite.folder / f"set.{ending}").read_bytes() for ending in ("mergea", "mergeb")]
+    suite.check(f"{name}: empty working parts at {budget}", merged, [b"", b""])
+    return parts
+
+
+def kinds(suite):
+    """Each kind of collection with three budgets, decoded; and asked what its scan was asked."""
+    asked = {name: (given, (EXPECTED / f"{name}.out").read_bytes()) for name, _, given in cases()}
+    for name, collection in SMALL + [(name, collection) for name, collection, _ in cases()]:
+        all_parts = [built_by(suite, name, collection, budget) for budget in BUDGETS]
+        settled = [[parts[ending] for ending in SETTLED] for parts in all_parts]
+        suite.check(f"{name}: lists whatever the budget", settled[1:], settled[:1] * (len(BUDGETS) - 1))
+        suite.check(f"{name}: decode of a build", suite.run(["decode", "set"]), (0, collection, b""))
+        given, wanted = asked.get(name, (b"!a\n", session(Collection(collection), b"!a\n")))
+        suite.check(f"{name}: query of a build", suite.run(["query", "set"], given), (0, wanted, b""))
+        put_set(suite, "set", collection, 1)
+        suite.check(f"{name}: query of version 1", suite.run(["query", "set"], given), (0, wanted, b""))
+        remove(suite, "set")
+
+
+def bytes_of_parts(suite):
+    """Sets whose every byte is settled."""
+    for name, collection in [("one word four times", b"a a a a "), ("200 documents of one word", b"x\x02" * 200), ("nothing", b"")]:
+        suite.file("text", collection)
+        suite.run(["build", "text", "set"])
+        wanted = build(Collection(collection), BUDGET, 2)
+        suite.check(f"{name}: all bytes", read_parts(suite.folder / "set"), wanted)
+        remove(suite, "set")
+    for count, budget, runs, peak in [(10_000, 4096, 30, 4092), (25_000, 4096, 74, 4096)]:
+        suite.file("text", b"ox " * count)
+        lines = f"documents 1\nwords 1\nothers 1\nterms 1\noccurrences {count}\nruns {runs}\npool {peak} of {budget}\n"
+        got = suite.run(["build", "text", "set", "--budget", str(budget)])
+        suite.check(f"{count} words in runs", got, (0, lines.encode(), b""))
+        remove(suite, "set")
+
+
+def refusals(suite):
+    """Names that clash, missing collections, folders, words."""
+    for ending in ["head", "words", "nonwords", "text", "places", "lex", "lexat", "post", "skip", "weights", "run", "mergea", "mergeb"]:
+        suite.file(f"N.{ending}", K)
+        clash = (13, b"", f"mg: the collection has the name of part {ending}\n".encode())
+        suite.check(f"a collection named as {ending}", suite.run(["build", f"N.{ending}", "N"]), clash)
+        suite.check(f"which stays ({ending})", (suite.folder / f"N.{ending}").read_bytes(), K)
+        (suite.folder / f"N.{ending}").unlink()
+    missing = (7, b"", b"mg: there is no such collection\n")
+    suite.check("no collection", suite.run(["build", "none", "set"]), missing)
+    failed = (2, b"", b"mg: the store failed\n")
+    (suite.folder / "folder").mkdir(exist_ok=True)
+    suite.check("a folder in place of a collection", suite.run(["build", "folder", "set"]), failed)
+    suite.file("text", K)
+    suite.check("a name in no folder", suite.run(["build", "text", "nowhere/set"]), failed)
+    unread = (1, b"", b"mg: the words are not understood\n")
+    for budget in ["4095", "04096", "+4096", "1073741825", "x", ""]:
+        suite.check(f"a budget of {budget!r}", suite.run(["build", "text", "set", "--budget", budget]), unread)
+    suite.check("nothing was built", (suite.folder / "set.head").exists(), False)
+    with open("/dev/full", "wb") as full:
+        unwritten = (4, None, b"mg: the output could not be written\n")
+        suite.check("a full output of build", suite.run(["build", "text", "set"], stdout=full), unwritten)
+    suite.check("and the set stands", suite.run(["decode", "set"]), (0, K, b""))
+    remove(suite, "set")
+
+
+def left(suite, name, new):
+    """A set that was K's and was to become another's: it is K's, none, or the other's."""
+    status, out, _ = suite.run(["decode", "set"])
+    fair = (status == 5 and out == b"") or status == 6 or (status == 0 and out in (K, new))
+    suite.check(f"{name}: the old set, none, or the new one", fair, True)
+
+
+def stopped(suite):
+    """A build that is killed, or whose disk is full, over an old set."""
+    new = b"".join(f"document {number} of a longer collection, with words {number * 7919 % 1000}\n\x02".encode() for number in range(40_000))
+    suite.file("new", new)
+    begun = time.monotonic()
+    suite.run(["build", "new", "set", "--budget", "65536"])
+    whole = time.monotonic() - begun
+    for moment in range(20):
+        put_set(suite, "set", K, 2)
+        run = subprocess.Popen([suite.program, "build", "new", "set", "--budget", "65536"], cwd=suite.folder, stdout=subprocess.DEVNULL)
+        time.sleep(whole * (moment + 0.5) / 20)
+        run.send_signal(signal.SIGKILL)
+        run.wait()
+        left(suite, f"killed at moment {moment}", new)
+    for most in [0, 1, 100, 4096, 20_000, 100_000, 400_000]:
+        put_set(suite, "set", K, 2)
+
+        def narrow(most=most):
+            signal.signal(signal.SIGXFSZ, signal.SIG_IGN)
+            resource.setrlimit(resource.RLIMIT_FSIZE, (most, most))
+
+        run = subprocess.run([suite.program, "build", "new", "set"], cwd=suite.folder, capture_output=True, preexec_fn=narrow, timeout=300)
+        suite.check(f"files of at most {most} bytes", (run.returncode, run.stderr), (2, b"mg: the store failed\n"))
+        left(suite, f"files of at most {most} bytes", new)
+    remove(suite, "set")
+
+
+def limits(suite):
+    """The greatest collections and the first ones beyond them; minutes, and gigabytes of files."""
+    for count, status, line in [(1 << 24, 0, b""), ((1 << 24) + 1, 9, b"mg: more than 16777216 documents\n")]:
+        suite.file("text", b"\x02" * count)
+        got = suite.run(["build", "text", "set"])
+        suite.check(f"{count} documents", (got[0], got[2]), (status, line))
+        remove(suite, "set")
+    words = b"".join(b"%06x " % number for number in range(1 << 22))
+    for data, status, line in [(words, 0, b""), (words + b"g", 10, b"mg: more than 4194304 distinct words\n")]:
+        suite.file("text", data)
+        got = suite.run(["build", "text", "set"])
+        suite.check("four million words", (got[0], got[2]), (status, line))
+        remove(suite, "set")
+
+
+PARTS = [kinds, bytes_of_parts, refusals, stopped]
+SLOW = [limits]
