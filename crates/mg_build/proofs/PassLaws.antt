@@ -290,3 +290,8 @@ pub write_end_all : {T : Type 0} (r : Result T Fault) (P : List ℕ → Type 0) 
     → IfErr r (λ fault. (x : List ℕ) → P x → ListStops rose (IsSome later × IsPlanOf plan x) fault) → IfErr r (WriteStops now (IsPlanFor plan first name size))
 write_end_all (Ok value) P rose now plan first later name fed size grows still are put stop = tt
 write_end_all (Err fault) P rose now plan first later name fed size grows still are put stop = write_end rose now plan first later name fed size fault grows still are (stop fed put)
+
+pub pass_end_all : {T : Type 0} (r : Result T Fault) (P : List ℕ → Type 0) (now : Type 0) (files : Option Files) (name fed : List ℕ) (size : ℕ) → AreRead files name size fed → P fed
+    → IfErr r (λ fault. (x : List ℕ) → P x → EndStops x fault) → IfErr r (PassStops now files name size)
+pass_end_all (Ok value) P now files name fed size are counted stop = tt
+pass_end_all (Err fault) P now files name fed size are counted stop = pass_end now files name fed size fault are (stop fed counted)

@@ -1,4 +1,7 @@
 //! The lines that a tool prints of its own.
+//!
+//! A line goes out piece by piece, so that none takes memory: what was made is told also where a
+//! budget left none.
 ghost use Rattle.std.specs.Prelude.{◌≡◌, ◌++◌, ◌∷◌, [], codes};
 ghost use Rattle.std.specs.List.{flat_map};
 ghost use Rattle.mg_dev.specs.Streams.{AfterPut};

@@ -56,3 +56,13 @@ loop-at-preserved g c =
         c.in-Ok-take.ensures.put so_far.put.0 (still_put c.loop-at.writer _ _ so_far.put.0 c.in-Ok.ensures.looked.files so_far.put.2),
       );
     }
+
+pub returns-in-Err-take-clause-others : goal.returns-in-Err-take-clause-others
+returns-in-Err-take-clause-others g c =
+    let before = g.S.Store.files c.args.store.now in
+    let so_far = c.loop-at.invariant in
+    let put_others : OthersSame c.args.writer.now.base (g.S.Store.files c.byte.new.store) (g.S.Store.files c.take.new.store)
+    = subst (λ base. OthersSame base (g.S.Store.files c.byte.new.store) (g.S.Store.files c.take.new.store)) so_far.base c.in-Err-take.ensures.others in
+    let read_others : OthersSame c.args.writer.now.base before (g.S.Store.files c.byte.new.store)
+    = subst (λ files. OthersSame c.args.writer.now.base before files) (sym c.in-Ok.ensures.looked.files) so_far.others in
+    others_more c.args.writer.now.base before (g.S.Store.files c.byte.new.store) (g.S.Store.files c.take.new.store) read_others put_others

@@ -12,6 +12,7 @@ use Rattle.mg_make.specs.Putting.{HasPut}
 use Rattle.mg_make.specs.Summaries.{summary_of}
 use Rattle.mg_build.specs.Building.{IsPlanFor, WriteStops}
 use Rattle.mg_build.specs.Sources.{AreRead}
+use Rattle.mg_bits.proofs.CallerLemmas.{held_page_stays}
 use Rattle.mg_build.proofs.PassLaws.{left_by_start, moved, others_more, plan_later, plan_of_read, read_all, read_of_before, rose_behind, still_told, write_end_all, write_wider}
 use Rattle.mg_build.proofs.passes.write_set.Goals as goal
 
@@ -114,3 +115,7 @@ returns-clause-refused g c =
     (λ rose. rose_behind _ _ _ (omega (arith, c.in-Ok.ensures.cause.later, c.in-Ok-put_bytes.ensures.later)) rose)
     (λ told. still_told (g.S.Store.files c.start.new.store) _ c.in-Ok-put_bytes.ensures.others.told (still_told (g.S.Store.files c.args.store.now) _ c.in-Ok.ensures.others.told told))
     are c.in-Ok-put_bytes.ensures.put.2 c.finish.ensures.refused)
+
+pub put_bytes-requires-clause-fits : goal.put_bytes-requires-clause-fits
+put_bytes-requires-clause-fits g c = held_page_stays c.args.source.now.feed (g.S.Store.files c.args.store.now) (g.S.Store.files c.start.new.store) c.in-Ok.ensures.others.told
+    (c.in-Ok.ensures.others.others c.args.source.now.feed.name c.requires.apart) c.requires.fits
