@@ -95,7 +95,7 @@ def refusals(suite):
     suite.file("text", K)
     suite.check("a name in no folder", suite.run(["build", "text", "nowhere/set"]), failed)
     unread = (1, b"", b"mg: the words are not understood\n")
-    for budget in ["4095", "04096", "+4096", "1073741825", "x", ""]:
+    for budget in ["4095", "1073741825", "-1", "x", ""]:
         suite.check(f"a budget of {budget!r}", suite.run(["build", "text", "set", "--budget", budget]), unread)
     suite.check("nothing was built", (suite.folder / "set.head").exists(), False)
     with open("/dev/full", "wb") as full:

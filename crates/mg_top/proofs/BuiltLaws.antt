@@ -22,7 +22,7 @@ use Rattle.mg_defs.specs.Split as split
 use Rattle.mg_defs.specs.Summaries.{run_cap, summary_text}
 use Rattle.mg_defs.specs.TextBits.{text_bits}
 use Rattle.mg_layout.specs.Stands.{StandsIn}
-use Rattle.mg_make.specs.Given.{IsApart, OthersSame}
+use Rattle.mg_make.specs.Putting.{IsApart, OthersSame}
 use Rattle.mg_make.specs.Summaries.{summary_of}
 use Rattle.mg_make.specs.declared.summary.Summary.{Summary}
 use Rattle.mg_build.specs.Building as building

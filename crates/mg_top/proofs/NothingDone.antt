@@ -12,7 +12,7 @@ use Rattle.mg_dev.specs.declared.status.Status.{Status}
 use Rattle.mg_dev.specs.declared.status.Status.TheVariants.{Done, Stopped}
 use Rattle.mg_defs.specs.Replies.{session}
 use Rattle.mg_defs.specs.Summaries.{summary_text}
-use Rattle.mg_make.specs.Given.{OthersSame}
+use Rattle.mg_make.specs.Putting.{OthersSame}
 use Rattle.mg_session.specs.Serves as serves
 use Rattle.mg_plain.specs.Scans.{StopsFor}
 use Rattle.mg_build.specs.Outcomes.{DecodeStops}

@@ -16,7 +16,7 @@ use Rattle.mg_defs.specs.Split as split
 use Rattle.mg_defs.specs.Summaries.{run_cap, summary_text}
 use Rattle.mg_defs.specs.TextBits.{text_bits}
 use Rattle.mg_layout.specs.Stands.{StandsIn}
-use Rattle.mg_make.specs.Given.{IsApart, OthersSame}
+use Rattle.mg_make.specs.Putting.{IsApart, OthersSame}
 use Rattle.mg_build.specs.Building as building
 use Rattle.mg_build.specs.Building.{IsEarly, Left}
 use Rattle.mg_build.specs.Sources.{most_bytes}
