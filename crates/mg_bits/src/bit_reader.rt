@@ -53,6 +53,13 @@ impl<F: Feed> BitReader<F> {
         self.place
     }
 
+    /// The feed that it reads from.
+    pub fn feed(&self) -> &F
+        ensures { result.now ≡ self.now.feed }
+    {
+        &self.feed
+    }
+
     pub fn seek(&mut self, place: u64)
         ensures feed { self.new.feed ≡ self.old.feed }
         ensures place { self.new.place ≡ place }

@@ -34,14 +34,18 @@ summary_text collection budget = concat (
     ∷ concat (codes "pool " ∷ decimal (pool_peak (length (occurrences collection)) budget) ∷ codes " of " ∷ decimal budget ∷ codes "\n" ∷ [])
     ∷ [])
 
--- the seven lines of a trial
-unfoldable pub trial_text : ℕ → ℕ → List ℕ
-trial_text seed docs = concat (
+-- the seven lines of a trial over a collection of so many documents and a session's input
+unfoldable pub trial_lines : ℕ → List ℕ → List ℕ → List ℕ
+trial_lines docs collection input = concat (
     number_line (codes "documents") docs
-    ∷ concat (codes "collection " ∷ decimal (length (made_collection seed docs)) ∷ codes " bytes\n" ∷ [])
-    ∷ number_line (codes "terms") (length (dictionary (made_collection seed docs)))
-    ∷ number_line (codes "occurrences") (length (occurrences (made_collection seed docs)))
-    ∷ concat (codes "replies " ∷ decimal (length (session (made_collection seed docs) (made_session seed))) ∷ codes " bytes\n" ∷ [])
+    ∷ concat (codes "collection " ∷ decimal (length collection) ∷ codes " bytes\n" ∷ [])
+    ∷ number_line (codes "terms") (length (dictionary collection))
+    ∷ number_line (codes "occurrences") (length (occurrences collection))
+    ∷ concat (codes "replies " ∷ decimal (length (session collection input)) ∷ codes " bytes\n" ∷ [])
     ∷ codes "decode same\n"
     ∷ codes "queries 40 same\n"
     ∷ [])
+
+-- those of a trial of a seed: the made collection is asked the made session
+abbrev pub trial_text : ℕ → ℕ → List ℕ
+trial_text seed docs = trial_lines docs (made_collection seed docs) (made_session seed)
