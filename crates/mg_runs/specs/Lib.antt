@@ -11,3 +11,4 @@ pub mod Merging
 pub mod Joins
 pub mod Rounds
 pub mod Left
+pub mod Damages

@@ -1,7 +1,8 @@
 // Runs of one file that are joined into runs of another.
-ghost use Rattle.std.specs.Prelude.{◌≡◌, ◌≢◌, ◌≤◌, ◌<◌, ◌+◌, ◌*◌, ◌↔◌, ◌^◌, ℕ, List, Err, IfOk, OnOk, OnSome, IsSome, IsTrue, [], length, max, sum_by, is_some, ◌%◌, ◌/◌};
+ghost use Rattle.std.specs.Prelude.{◌≡◌, ◌≢◌, ◌≤◌, ◌<◌, ◌+◌, ◌*◌, ◌↔◌, ◌^◌, ℕ, List, Err, IfErr, IfOk, OnOk, OnSome, IsSome, IsTrue, [], length, max, is_some, ◌%◌, ◌/◌};
 ghost use Rattle.mg_dev.specs.Files.{bytes_at, Files};
 ghost use Rattle.mg_dev.specs.Names.{full_name};
+ghost use Rattle.mg_dev.specs.declared.part.Part.{Part as AnyPart};
 ghost use Rattle.mg_dev.specs.Causes.{HasPutCause};
 ghost use Rattle.mg_dev.specs.PartCauses.{HasPartCause};
 ghost use Rattle.mg_bits.specs.Pages.{Looked};
@@ -13,7 +14,8 @@ ghost use Rattle.mg_defs.specs.declared.TermPosting.{TermPosting};
 ghost use Rattle.std.specs.declared.option.Option.{Option};
 ghost use Rattle.mg_runs.specs.Pooled.{SamePool};
 ghost use Rattle.mg_runs.specs.Cursors.{IsRun, NoDamage};
-ghost use Rattle.mg_runs.specs.Merging.{AreLeft, AreRuns, AreRunsAt, IsShaped};
+ghost use Rattle.mg_runs.specs.Damages.{NamesItsPart, NamesPart};
+ghost use Rattle.mg_runs.specs.Merging.{AreLeft, AreRuns, AreRunsAt, IsShaped, left_together};
 ghost use Rattle.mg_runs.specs.Joins.{IsPut, IsPutting, Passed};
 ghost use Rattle.mg_runs.specs.Rounds.{IsGroupAt};
 
@@ -34,6 +36,8 @@ const MOST_BITS: u64 = 1 << 61;
 pub fn refused(refusal: PutErr) -> PartErr
     ensures cause { (f g : ℕ) → HasPutCause {T = ℕ} f g (Err refusal) → HasPartCause {T = ℕ} f g (Err result) }
     ensures undamaged { NoDamage {T = ℕ} (Err result) }
+    ensures names { (part : AnyPart) → NamesPart part result }
+    ensures names_its { NamesItsPart result }
 {
     match refusal {
         PutErr::Failed => PartErr::Device,
@@ -51,6 +55,7 @@ fn count_postings<S: Store>(group: &mut Group<'_>, store: &mut S) -> Result<u64,
     ensures file { group.new.file ≡ group.old.file }
     ensures looked { Looked group.old.file.part (S.files store.old) (S.files store.new) (S.reads store.old) (S.reads store.new) (S.faults store.old) (S.faults store.new) }
     ensures cause { HasPartCause (S.faults store.old) (S.faults store.new) result }
+    ensures names { IfErr result (NamesPart group.old.file.part) }
 {
     let mut count = 0u64;
     loop {
@@ -89,7 +94,7 @@ fn put_next<S: Store>(
     ensures shape { OnOk result (IsShaped group.new.pool.slots group.new.cursors.items group.new.tournament) }
     ensures told { IsSome (S.files store.old) → (files : Option Files) (before : BitWriting) (bits : Bits) → is_some files ≡ is_some (S.files store.old) → IsPutting group.old.pool.slots group.old.cursors.items (bytes_at (S.files store.old) (full_name group.old.file.base.now group.old.file.part)) files (S.files store.old) before w.old last.now bits → IfOk result (λ put. IsPut group.new.pool.slots group.new.cursors.items (bytes_at (S.files store.old) (full_name group.old.file.base.now group.old.file.part)) files (S.files store.new) before w.new put bits) }
     ensures undamaged { IsSome (S.files store.old) → (files : Option Files) (before : BitWriting) (bits : Bits) → IsPutting group.old.pool.slots group.old.cursors.items (bytes_at (S.files store.old) (full_name group.old.file.base.now group.old.file.part)) files (S.files store.old) before w.old last.now bits → NoDamage result }
-    ensures total { IfOk result (λ put. OnSome put (sum_by (λ c. c.left) group.new.cursors.items < sum_by (λ c. c.left) group.old.cursors.items)) }
+    ensures total { IfOk result (λ put. OnSome put (left_together group.new.cursors.items < left_together group.old.cursors.items)) }
     ensures holds { OnOk result (Holds w.new (S.files store.new)) }
     ensures place { OnOk result (w.old.place ≤ 2 ^ 61 + 256 → w.new.place ≤ 2 ^ 61 + 256) }
     ensures pool { SamePool group.old.pool group.new.pool }
@@ -97,6 +102,7 @@ fn put_next<S: Store>(
     ensures name { w.new.name ≡ w.old.name }
     ensures passed { Passed group.old.file.part w.old.name (S.files store.old) (S.files store.new) (S.reads store.old) (S.reads store.new) (S.faults store.old) (S.faults store.new) }
     ensures cause { HasPartCause (S.faults store.old) (S.faults store.new) result }
+    ensures names { IfErr result (NamesPart group.old.file.part) }
 {
     match group.next(store) {
         Ok(Some(posting)) => {
@@ -132,6 +138,7 @@ fn put_postings<S: Store>(
     ensures name { w.new.name ≡ w.old.name }
     ensures passed { Passed group.old.file.part w.old.name (S.files store.old) (S.files store.new) (S.reads store.old) (S.reads store.new) (S.faults store.old) (S.faults store.new) }
     ensures cause { HasPartCause (S.faults store.old) (S.faults store.new) result }
+    ensures names { IfErr result (NamesPart group.old.file.part) }
 {
     let mut last = TermPosting {
         term: 0,
@@ -174,6 +181,7 @@ fn count_runs<S: Store>(
     ensures peak { IfOk result (λ made. made.pool.peak ≡ max pool.peak (64 * length places.now)) }
     ensures looked { Looked file.entry.part (S.files store.old) (S.files store.new) (S.reads store.old) (S.reads store.new) (S.faults store.old) (S.faults store.new) }
     ensures cause { HasPartCause (S.faults store.old) (S.faults store.new) result }
+    ensures names { IfErr result (NamesPart file.entry.part) }
 {
     let mut group = match Group::load(alloc, store, pool, file, places) {
         Ok(group) => group,
@@ -219,6 +227,7 @@ fn put_run<S: Store>(
     ensures name { w.new.name ≡ w.old.name }
     ensures passed { Passed file.entry.part w.old.name (S.files store.old) (S.files store.new) (S.reads store.old) (S.reads store.new) (S.faults store.old) (S.faults store.new) }
     ensures cause { HasPartCause (S.faults store.old) (S.faults store.new) result }
+    ensures names { IfErr result (NamesPart file.entry.part) }
 {
     let Counted { pool, count } = counted;
     let mut group = match Group::load(alloc, store, pool, file, places) {
@@ -267,6 +276,7 @@ pub fn join<S: Store>(
     ensures name { w.new.name ≡ w.old.name }
     ensures passed { Passed file.entry.part w.old.name (S.files store.old) (S.files store.new) (S.reads store.old) (S.reads store.new) (S.faults store.old) (S.faults store.new) }
     ensures cause { HasPartCause (S.faults store.old) (S.faults store.new) result }
+    ensures names { IfErr result (NamesPart file.entry.part) }
 {
     let counted = match count_runs(alloc, store, pool, file, places) {
         Ok(counted) => counted,

@@ -1,11 +1,12 @@
 // Rounds: the runs of one part, joined into fewer runs of another.
-ghost use Rattle.std.specs.Prelude.{◌≡◌, ◌≢◌, ◌≤◌, ◌<◌, ◌+◌, ◌-◌, ◌*◌, ◌/◌, ◌%◌, ◌^◌, List, [], IfOk, OnOk, IsSome, length, max, min};
+ghost use Rattle.std.specs.Prelude.{◌≡◌, ◌≢◌, ◌≤◌, ◌<◌, ◌+◌, ◌-◌, ◌*◌, ◌/◌, ◌%◌, ◌^◌, List, [], IfErr, IfOk, OnOk, IsSome, length, max, min};
 ghost use Rattle.mg_dev.specs.Files.{bytes_at, file_at};
 ghost use Rattle.mg_dev.specs.Names.{full_name};
 ghost use Rattle.mg_dev.specs.PartCauses.{HasPartCause};
 ghost use Rattle.mg_bits.specs.BitWriting.{Holds};
 ghost use Rattle.mg_defs.specs.declared.TermPosting.{TermPosting};
 ghost use Rattle.mg_runs.specs.Cursors.{NoDamage};
+ghost use Rattle.mg_runs.specs.Damages.{NamesItsPart, NamesPart};
 ghost use Rattle.mg_runs.specs.Joins.{IsJoined, IsRunPart, Passed, Worked, other};
 ghost use Rattle.mg_runs.specs.Rounds.{AreStored};
 
@@ -71,6 +72,7 @@ fn join_groups<S: Store>(
     ensures name { w.new.name ≡ w.old.name }
     ensures passed { Passed file.entry.part w.old.name (S.files store.old) (S.files store.new) (S.reads store.old) (S.reads store.new) (S.faults store.old) (S.faults store.new) }
     ensures cause { HasPartCause (S.faults store.old) (S.faults store.new) result }
+    ensures names { IfErr result (NamesPart file.entry.part) }
 {
     let mut made = match Vec::with_capacity(alloc, places.len() / width + 1) {
         Ok(made) => made,
@@ -117,6 +119,7 @@ impl<'a> Round<'a> {
         ensures part { IfOk result (λ next. next.file.part ≡ other self.entry.file.part) }
         ensures passed { Passed self.entry.file.part (full_name self.entry.file.base.now (other self.entry.file.part)) (S.files store.old) (S.files store.new) (S.reads store.old) (S.reads store.new) (S.faults store.old) (S.faults store.new) }
         ensures cause { HasPartCause (S.faults store.old) (S.faults store.new) result }
+        ensures names { IfErr result (NamesPart self.entry.file.part) }
     {
         let Round { pool, places, file } = self;
         let to = FileRef {
@@ -164,6 +167,7 @@ impl<'a> Round<'a> {
         ensures run { file_at (S.files store.new) (full_name self.entry.file.base.now Part.Run) ≡ file_at (S.files store.old) (full_name self.entry.file.base.now Part.Run) }
         ensures worked { Worked self.entry.file.base.now (S.files store.old) (S.files store.new) (S.reads store.old) (S.reads store.new) (S.faults store.old) (S.faults store.new) }
         ensures cause { HasPartCause (S.faults store.old) (S.faults store.new) result }
+        ensures names { IfErr result NamesItsPart }
     {
         let mut round = self;
         while round.places.len() > width {

@@ -42,7 +42,8 @@ loop-run-preserved g c =
             taking = subst (λ n. IsTaking c.args.first.now base (set has.lefts c.in-Some.run' s.0) n) sum more;
             more = omega arith;
           };
-      total = omega (arith, c.in-Ok.ensures.total, inv.total);
+      rest = omega (arith, c.step.ensures.rest, inv.rest);
+      count = let n = inv.count in omega (arith, n, c.in-Some-checked_add.ensures.1);
       looked = looked_more _ _ _ _ _ _ _ _ _ _ inv.looked (rw inv.file at c.step.ensures.looked);
     }
 
