@@ -2,6 +2,7 @@ use Rattle.std.proofs.Common.{◌≡◌, ◌+◌, ℕ, ap, sym, ◌∙◌, arith
 use Rattle.mg_defs.specs.declared.TermPosting.{TermPosting}
 use Rattle.mg_runs.specs.Merging.{IsTaking}
 use Rattle.mg_runs.proofs.Merges.{taking_more, taking_end, count_fits}
+use Rattle.mg_runs.proofs.Naming.{bit_of_none}
 use Rattle.mg_runs.proofs.Steps.{looked_more, pool_more, caused_as, undamaged_as, split_first}
 use Rattle.mg_runs.proofs.group.Group.gathered.Goals as goal
 
@@ -64,3 +65,6 @@ returns-clause-told g c = λ told base lefts stand taking are some.
     let all = c.in_default.ensures.some _ has.lefts has.stand has.taking.from in
     let end = taking_end c.args.first.now base has.lefts c.loop-run.count has.taking are (omega arith) all in
     record { lefts = has.lefts; stand = has.stand; are = end.1; same = end.0 }
+
+pub returns-in-None-clause-bit : goal.returns-in-None-clause-bit
+returns-in-None-clause-bit g c = bit_of_none c.loop-run.self.cursors.items c.damage.result c.damage.ensures.bit
