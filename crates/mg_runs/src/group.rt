@@ -8,8 +8,8 @@ ghost use Rattle.mg_runs.specs.Pooled.{SamePool};
 ghost use Rattle.mg_runs.specs.Cursors.{HasPosting, IsAt, NoDamage, NoMemory};
 ghost use Rattle.mg_runs.specs.Damages.{NamesPart, TellsBitOf};
 ghost use Rattle.mg_runs.specs.Decoding.{IsInDocument};
-ghost use Rattle.mg_runs.specs.Merging.{AllFrom, AreRuns, IsAlike, IsHead, IsMerged, IsShaped, AreOpen, AreRunsAt, IsTaking, key_of as key, left_together, no_cursor, first as first_of};
-ghost use Rattle.mg_runs.specs.Reading.{file_bytes, GroupHas, GroupStands};
+ghost use Rattle.mg_runs.specs.Merging.{AllFrom, AreRuns, IsAlike, IsHead, IsShaped, AreOpen, AreRunsAt, IsTaking, key_of as key, left_together, no_cursor, first as first_of};
+ghost use Rattle.mg_runs.specs.Reading.{GroupHas, GroupMerged, GroupStands, file_bytes};
 
 use crate::Pool;
 use crate::cursor::Cursor;
@@ -220,7 +220,7 @@ impl<'a> Group<'a> {
         ensures shape { OnOk result (IsShaped self.new.pool.slots self.new.cursors.items self.new.tournament) }
         ensures told { IsSome (S.files store.old) → (base lefts : List (List TermPosting)) →
             GroupStands self.old (file_bytes self.old.file (S.files store.old)) lefts → IsTaking first.now base lefts first.now.count → AreRuns base →
-            1 ≤ first.now.count → IfOk result (λ p. IsMerged self.new.pool.slots self.new.cursors.items (file_bytes self.old.file (S.files store.old)) base p) }
+            1 ≤ first.now.count → IfOk result (λ p. GroupMerged self.new (file_bytes self.old.file (S.files store.old)) base p) }
         ensures undamaged { IsSome (S.files store.old) → (base lefts : List (List TermPosting)) →
             GroupStands self.old (file_bytes self.old.file (S.files store.old)) lefts → IsTaking first.now base lefts first.now.count → AreRuns base →
             NoDamage result }

@@ -16,9 +16,9 @@ ghost use Rattle.mg_runs.specs.Pooled.{SamePool};
 ghost use Rattle.mg_runs.specs.Cursors.{IsRun, NoDamage};
 ghost use Rattle.mg_runs.specs.Damages.{NamesItsPart, NamesPart};
 ghost use Rattle.mg_runs.specs.Merging.{AreRuns, AreRunsAt, IsShaped, left_together};
-ghost use Rattle.mg_runs.specs.Joins.{IsPut, IsPutting, Passed};
+ghost use Rattle.mg_runs.specs.Joins.{Passed};
 ghost use Rattle.mg_runs.specs.Rounds.{IsGroupAt};
-ghost use Rattle.mg_runs.specs.Reading.{file_bytes, GroupHas};
+ghost use Rattle.mg_runs.specs.Reading.{GroupHas, GroupPut, GroupPutting, file_bytes};
 
 use crate::Pool;
 use crate::decode::MOST_LEFT;
@@ -97,12 +97,10 @@ fn put_next<S: Store>(
     requires apart { full_name group.old.file.base.now group.old.file.part ≢ w.old.name }
     ensures shape { OnOk result (IsShaped group.new.pool.slots group.new.cursors.items group.new.tournament) }
     ensures told { IsSome (S.files store.old) → (files : Option Files) (before : BitWriting) (bits : Bits) → is_some files ≡ is_some (S.files store.old) →
-        IsPutting group.old.pool.slots group.old.cursors.items (file_bytes group.old.file (S.files store.old)) files (S.files store.old) before w.old last.now
-        bits → IfOk result (λ put. IsPut group.new.pool.slots group.new.cursors.items (file_bytes group.old.file (S.files store.old)) files (S.files store.new)
-        before w.new put bits) }
+        GroupPutting group.old (file_bytes group.old.file (S.files store.old)) files (S.files store.old) before w.old last.now bits →
+        IfOk result (λ put. GroupPut group.new (file_bytes group.old.file (S.files store.old)) files (S.files store.new) before w.new put bits) }
     ensures undamaged { IsSome (S.files store.old) → (files : Option Files) (before : BitWriting) (bits : Bits) →
-        IsPutting group.old.pool.slots group.old.cursors.items (file_bytes group.old.file (S.files store.old)) files (S.files store.old) before w.old last.now
-        bits → NoDamage result }
+        GroupPutting group.old (file_bytes group.old.file (S.files store.old)) files (S.files store.old) before w.old last.now bits → NoDamage result }
     ensures total { IfOk result (λ put. OnSome put (left_together group.new.cursors.items < left_together group.old.cursors.items)) }
     ensures holds { OnOk result (Holds w.new (S.files store.new)) }
     ensures place { OnOk result (w.old.place ≤ 2 ^ 61 + 256 → w.new.place ≤ 2 ^ 61 + 256) }
