@@ -318,6 +318,33 @@ impl Store for Spoiled {
     }
 }
 
+/// How many occurrences the postings have that a merge has left.
+fn drained<S: Store>(merge: &mut Merge<'_>, store: &mut S) -> Result<u64, PartErr>
+    requires left { (left : List TermPosting) × IsMerging merge.old (S.files store.old) left }
+{
+    let mut count = 0u64;
+    loop {
+        match merge.next(store) {
+            Ok(Some(posting)) => count = count.wrapping_add(u64::from(posting.count)),
+            Ok(None) => return Ok(count),
+            Err(refusal) => return Err(refusal),
+        }
+    }
+}
+
+#[test]
+fn counts_are_those_of_all_occurrences(rt: HostRuntime) -> Result<(), Fail> {
+    let alloc = rt.alloc();
+    let sample = scattered(alloc, 1400, 2)?;
+    let mut store = Spoiled {
+        sound: u64::MAX,
+        held: SureStore::new(alloc),
+    };
+    let mut merge = take(alloc, &mut store, 4096, &sample)?.merge(&mut store)?;
+    assert_eq!(rt; drained(&mut merge, &mut store), Ok(1400));
+    Ok(())
+}
+
 #[test]
 fn the_first_damage_is_told_of_its_part(rt: HostRuntime) -> Result<(), Fail> {
     let alloc = rt.alloc();
