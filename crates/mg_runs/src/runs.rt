@@ -253,15 +253,10 @@ impl<'a> Runs<'a> {
             OnOk result (bits_of (bytes_at (S.files store.new) (full_name self.entry.base Part.Run)) ≡ run_part_bits (cap_of self.entry.pool) fed) }
         ensures run_bytes { IsSome (S.files store.old) → (fed : List (ℕ × ℕ)) → IsFed self.entry (S.files store.old) fed →
             OnOk result (bytes_at (S.files store.new) (full_name self.entry.base Part.Run) ≡ as_bytes (run_part_bits (cap_of self.entry.pool) fed)) }
-        ensures counted { (fed : List (ℕ × ℕ)) → IsFed self.entry (S.files store.old) fed →
-            IfOk result (λ merge. merge.runs ≡ run_count (length fed) (cap_of self.entry.pool)) }
         ensures runs { (fed : List (ℕ × ℕ)) → IsFed self.entry (S.files store.old) fed →
-            IfOk result (λ merge. merge.runs ≡ (length fed + cap_of self.entry.pool - 1) / cap_of self.entry.pool) }
-        ensures used { (fed : List (ℕ × ℕ)) → IsFed self.entry (S.files store.old) fed →
-            IfOk result (λ merge. merge.peak ≡ pool_peak (length fed) self.entry.pool.limit) }
+            IfOk result (λ merge. merge.runs ≡ run_count (length fed) (cap_of self.entry.pool)) }
         ensures peak { (fed : List (ℕ × ℕ)) → IsFed self.entry (S.files store.old) fed →
-            IfOk result (λ merge. merge.peak ≡ max (12 * min (length fed) (cap_of self.entry.pool))
-            (64 * min ((length fed + cap_of self.entry.pool - 1) / cap_of self.entry.pool) (self.entry.pool.limit / 64))) }
+            IfOk result (λ merge. merge.peak ≡ pool_peak (length fed) self.entry.pool.limit) }
         ensures few { IfOk result (λ merge. postings_left merge ≤ 2 ^ 56) }
         ensures base { IfOk result (λ merge. merge.base ≡ self.entry.base) }
         ensures undamaged { IsSome (S.files store.old) → NoDamage result }
