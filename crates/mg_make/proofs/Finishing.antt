@@ -1,17 +1,18 @@
 -- What the second pass ends with, and why it does not.
-use Rattle.std.proofs.Common.{◌≡◌, ◌≤◌, ◌<◌, ◌+◌, ◌*◌, ◌-◌, ◌/◌, ℕ, false, min, max, List, [], refl, sym, ap, ◌∙◌, subst, length, arith, IsSome, is_some, unwrap_or}
+use Rattle.std.proofs.Common.{◌≡◌, ◌≤◌, ◌<◌, ℕ, false, List, [], refl, sym, ap, ◌∙◌, subst, length, arith, IsSome, is_some, unwrap_or}
 use Rattle.std.specs.declared.option.Option.{Option}
 use Rattle.mg_dev.specs.Files.{Files, bytes_at}
 use Rattle.mg_dev.specs.Names.{full_name}
 use Rattle.mg_dev.specs.declared.part.Part.TheVariants.{Places, Run, Text}
 use Rattle.mg_defs.specs.Bits.{Bits, bits_of}
 use Rattle.mg_defs.specs.CodedText.{as_bytes}
+use Rattle.mg_defs.specs.Heads.{run_count}
 use Rattle.mg_defs.specs.Marks.{Mark, coded_from, marks, terms_from}
 use Rattle.mg_defs.specs.Occurrences.{occurrences}
 use Rattle.mg_defs.specs.Postings.{postings}
 use Rattle.mg_defs.specs.RunBits.{run_part_bits}
+use Rattle.mg_defs.specs.Summaries.{pool_peak}
 use Rattle.mg_laws.proofs.MarkLaws.{marks_are_closed, marks_have_occurrences, marks_have_text}
-use Rattle.mg_laws.proofs.SizeLaws.{runs_in_one_form}
 use Rattle.mg_runs.specs.Fed.{Inverting, IsFed, cap_of}
 use Rattle.mg_runs.specs.Left.{IsMerging, Merging}
 use Rattle.mg_text.specs.Documents.{coded_docs}
@@ -41,8 +42,8 @@ documents_kept base own g h docs same wrote stand =
 pub record IsMergeOf (runs_in : Inverting) (g h : Option Files) (merge : Merging) (fed : List (ℕ × ℕ)) : Type 0 where
   pub left : IsMerging merge h (postings fed)
   pub run : IsSome g → bytes_at h (full_name runs_in.base Run) ≡ as_bytes (run_part_bits (cap_of runs_in.pool) fed)
-  pub runs : merge.runs ≡ (length fed + cap_of runs_in.pool - 1) / cap_of runs_in.pool
-  pub peak : merge.peak ≡ max (12 * min (length fed) (cap_of runs_in.pool)) (64 * min ((length fed + cap_of runs_in.pool - 1) / cap_of runs_in.pool) (runs_in.pool.limit / 64))
+  pub runs : merge.runs ≡ run_count (length fed) (cap_of runs_in.pool)
+  pub peak : merge.peak ≡ pool_peak (length fed) runs_in.pool.limit
   pub base : merge.base ≡ runs_in.base
 
 -- what both writers did
@@ -60,9 +61,6 @@ ends_by s met f g h size merge closed all stay done is =
     let fed : List (ℕ × ℕ) = occurring_by s.plan met in
     let taken = index_kept stay s.index s.text.base f g (length s.plan.terms.terms) fed (is.text_base ∙ sym is.runs_base) done.told done.others is.index in
     let it = done.merged fed taken.runs in
-    let least = taken.runs.least in
-    let some : 1 ≤ cap_of s.index.runs.pool = omega arith in
-    let count = runs_in_one_form (length fed) (cap_of s.index.runs.pool) some in
     record {
       documents = omega (arith, is.doc, is.within);
       text = λ t. documents_kept s.base s.index.runs.base g h (coded_by s.plan met) is.runs_base done.wrote (subst (λ (b : List ℕ). DocumentsStand b g (coded_by s.plan met)) is.text_base (done.stands (coded_by s.plan met) on t));
@@ -70,8 +68,8 @@ ends_by s met f g h size merge closed all stay done is =
       run = λ t. ap (λ b. bytes_at h (full_name b Run)) (sym is.runs_base) ∙ it.run (done.told ∙ t);
       merge = it.left;
       base = it.base ∙ is.runs_base;
-      runs = it.runs ∙ count;
-      peak = it.peak ∙ ap (λ n. max (12 * min (length fed) (cap_of s.index.runs.pool)) (64 * min n (s.index.runs.pool.limit / 64))) count;
+      runs = it.runs;
+      peak = it.peak;
       counts = is.index.counts;
       occurrences = is.index.occurrences;
     }

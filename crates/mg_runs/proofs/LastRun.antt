@@ -7,6 +7,7 @@ use Rattle.std.proofs.lemmas.Nat.{div_below}
 use Rattle.mg_dev.specs.Files.{Files, bytes_at}
 use Rattle.mg_defs.specs.Bits.{Bits, bits_of, digits, filled, to_byte}
 use Rattle.mg_defs.specs.CodedText.{as_bytes}
+use Rattle.mg_defs.specs.Heads.{run_count}
 use Rattle.mg_defs.specs.Postings.{gathered}
 use Rattle.mg_defs.specs.RunBits.{run_bits, run_part_bits}
 use Rattle.mg_bits.specs.Writer.{AreBytes}
@@ -14,6 +15,7 @@ use Rattle.mg_bits.proofs.CallerLemmas.{bytes_again}
 use Rattle.mg_bits.specs.BitWriting.{BitWriting, Holds, WroteBits, bits_put}
 use Rattle.mg_runs.specs.Pooled.{Pooled, used}
 use Rattle.mg_runs.specs.Fed.{Inverting, IsFed, cap_of}
+use Rattle.mg_runs.proofs.RoundsLoop.{groups_are_runs}
 use Rattle.mg_runs.proofs.RoundsFirst.{fed_bits, fed_bits_none, finished_bits}
 
 pub some_entries : (pool : Pooled) (u : ℕ) → u ≡ used pool → pool.slots ≡ [] → 0 < u → 1 ≤ length pool.entries
@@ -42,11 +44,13 @@ pub run_made : {T E : Type 0} (r : Result T E) (bytes : List ℕ) (bits : Bits) 
 run_made r bytes bits small is = on_ok (bytes ≡ as_bytes bits) r (sym (bytes_again bytes small) ∙ ap as_bytes is)
 
 -- how many runs there are fits in 32 bits
-pub runs_fit : (n cap : ℕ) → 1 ≤ cap → n < 2 ^ 32 → (n + cap - 1) / cap < 2 ^ 32
-runs_fit n cap some few = div_below (n + cap - 1) cap (2 ^ 32) some (omega arith)
+pub runs_fit : (n cap : ℕ) → 1 ≤ cap → n < 2 ^ 32 → run_count n cap < 2 ^ 32
+runs_fit n cap some few =
+    let below : (n + cap - 1) / cap < 2 ^ 32 = div_below (n + cap - 1) cap (2 ^ 32) some (omega arith) in
+    omega (arith, below, groups_are_runs n cap some)
 
 -- the greatest use of the pool over all rounds
-pub peak_all : (n cap width first last p0 p1 : ℕ) → p0 ≡ 12 * min n cap → first ≡ (n + cap - 1) / cap → max p1 (64 * min last width) ≡ max p0 (64 * min first width) → last ≤ width → max p1 (64 * last) ≡ max (12 * min n cap) (64 * min ((n + cap - 1) / cap) width)
+pub peak_all : (n cap width first last p0 p1 : ℕ) → p0 ≡ 12 * min n cap → first ≡ run_count n cap → max p1 (64 * min last width) ≡ max p0 (64 * min first width) → last ≤ width → max p1 (64 * last) ≡ max (12 * min n cap) (64 * min (run_count n cap) width)
 peak_all n cap width first last p0 p1 start count rounds few =
     let one : min last width ≡ last = omega arith in
     ap (λ k. max p1 (64 * k)) (sym one) ∙ rounds ∙ ap (λ k. max k (64 * min first width)) start ∙ ap (λ k. max (12 * min n cap) (64 * min k width)) count

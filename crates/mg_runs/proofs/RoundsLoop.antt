@@ -2,6 +2,7 @@
 use Rattle.std.proofs.Common.{◌≡◌, ℕ, zero, suc, ◌+◌, ◌-◌, ◌*◌, ◌/◌, ◌%◌, ◌<◌, ◌≤◌, ◌^◌, min, max, List, [], ◌∷◌, ◌++◌, length, refl, sym, ap, ◌∙◌, subst, arith, take, drop, length-drop, length-take}
 use Rattle.std.proofs.lemmas.List.{take_min}
 use Rattle.std.proofs.lemmas.Nat.{le-div}
+use Rattle.mg_defs.specs.Heads.{run_count}
 use Rattle.mg_defs.specs.declared.TermPosting.{TermPosting}
 use Rattle.mg_defs.specs.Bits.{Bits, bits_of, filled}
 use Rattle.mg_defs.specs.Postings.{postings, merged}
@@ -159,8 +160,12 @@ stored_fed file places cap fed bits at some small all few = record {
   same = merged-all cap fed some;
 }
 
-pub fed_count : (places : List ℕ) (cap : ℕ) (fed : List (ℕ × ℕ)) → places ≡ starts 0 (runs_of cap fed) → length places ≡ (length fed + cap - 1) / cap
-fed_count places cap fed at = ap (λ p. length p) at ∙ length_starts 0 (runs_of cap fed) ∙ length_runs_of cap fed
+-- as many groups of occurrences as runs
+pub groups_are_runs : (n cap : ℕ) → 1 ≤ cap → (n + cap - 1) / cap ≡ run_count n cap
+groups_are_runs n cap some = grind arith
+
+pub fed_count : (places : List ℕ) (cap : ℕ) (fed : List (ℕ × ℕ)) → 1 ≤ cap → places ≡ starts 0 (runs_of cap fed) → length places ≡ run_count (length fed) cap
+fed_count places cap fed some at = ap (λ p. length p) at ∙ length_starts 0 (runs_of cap fed) ∙ length_runs_of cap fed ∙ groups_are_runs (length fed) cap some
 
 -- ---- the peak: 64 bytes a run in use
 

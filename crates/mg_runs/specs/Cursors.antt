@@ -9,7 +9,7 @@ use Rattle.mg_defs.specs.Bits.{Bits, bits_of}
 use Rattle.mg_defs.specs.Postings.{AllAfter, Rising}
 use Rattle.mg_defs.specs.RunBits.{postings_bits, run_bits}
 use Rattle.mg_defs.specs.declared.TermPosting.{TermPosting}
-use Rattle.mg_runs.specs.Decoding.{IsSmall}
+use Rattle.mg_runs.specs.Decoding.{IsInDocument, IsSmall}
 use Rattle.mg_runs.specs.declared.cursor.Cursor.{Cursor}
 
 -- postings as a run has them
@@ -40,6 +40,10 @@ pub record IsNear (cursor : Cursor) : Type 0 where
 abbrev pub IsAt : Cursor → List ℕ → List ℕ → List TermPosting → Type 0
 IsAt cursor slot file [] = cursor.left ≡ 0
 IsAt cursor slot file (x ∷ xs) = IsAtPosting cursor slot file x xs
+
+-- where postings are left, the cursor is at one with a document and a count
+abbrev pub HasPosting : Cursor → Type 0
+HasPosting cursor = 1 ≤ cursor.left → IsInDocument cursor.posting
 
 -- a run's bits stand at a place
 pub record IsRunAt (file : List ℕ) (place : ℕ) (xs : List TermPosting) : Type 0 where

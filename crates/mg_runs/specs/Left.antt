@@ -5,7 +5,7 @@ use Rattle.std.specs.declared.option.Option.{Option}
 use Rattle.mg_dev.specs.Files.{Files, bytes_at}
 use Rattle.mg_dev.specs.Names.{full_name}
 use Rattle.mg_defs.specs.declared.TermPosting.{TermPosting}
-use Rattle.mg_runs.specs.Merging.{AreLeft, IsShaped}
+use Rattle.mg_runs.specs.Merging.{AreLeft, IsShaped, left_together}
 use Rattle.mg_runs.specs.Joins.{IsRunPart}
 use Rattle.mg_runs.specs.declared.group.Group.{Group}
 
@@ -15,6 +15,14 @@ pub record Merging : Type 0 where
   pub base : List ℕ
   pub runs : ℕ
   pub peak : ℕ
+
+abbrev pub left_in : Option Group → ℕ
+left_in None = 0
+left_in (Some group) = left_together group.cursors.items
+
+-- how many postings the runs in use have left together; a term and a document that several runs have count in each of them
+abbrev pub postings_left : Merging → ℕ
+postings_left merge = left_in merge.group
 
 -- the runs in use agree with their file, and these postings are left of them
 pub record IsOpen (group : Group) (files : Option Files) (base : List ℕ) (left : List TermPosting) : Type 0 where

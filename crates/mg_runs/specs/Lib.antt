@@ -11,3 +11,5 @@ pub mod Merging
 pub mod Joins
 pub mod Rounds
 pub mod Left
+pub mod Reading
+pub mod Damages

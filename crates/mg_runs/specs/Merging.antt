@@ -6,7 +6,7 @@ use Rattle.mg_defs.specs.declared.TermPosting.{TermPosting}
 use Rattle.mg_defs.specs.Postings.{AllAfter, part_at, times, with_count, merged}
 use Rattle.mg_defs.specs.PostingOrder.{NoLater}
 use Rattle.mg_defs.specs.RunBits.{before_first}
-use Rattle.mg_runs.specs.Cursors.{IsAt, IsRun, IsRunAt}
+use Rattle.mg_runs.specs.Cursors.{HasPosting, IsAt, IsRun, IsRunAt}
 use Rattle.mg_runs.specs.declared.cursor.Cursor.{Cursor}
 
 abbrev pub first : List TermPosting → Option TermPosting
@@ -33,11 +33,12 @@ no_cursor = record { posting = before_first; left = 0; place = 0; start = 0; cou
 abbrev pub key_of : Cursor → ℕ
 key_of cursor = if cursor.left == 0 then 2 ^ 64 - 1 else cursor.posting.term * 2 ^ 32 + (cursor.posting.doc - 1)
 
--- there is a slot and a key of each cursor
+-- there is a slot and a key of each cursor, and each that has postings left is at one
 pub record IsShaped (slots : List (List ℕ)) (cursors : List Cursor) (keys : List ℕ) : Type 0 where
   pub slot_count : length slots ≡ length cursors
   pub key_count : length keys ≡ length cursors
   pub by_key : (k : ℕ) → k < length cursors → slice_index keys k ≡ key_of (slice_index_or cursors k no_cursor)
+  pub postings : All (λ c. HasPosting c) cursors
 
 -- each cursor stands for what is left of its run
 pub record StandFor (slots : List (List ℕ)) (cursors : List Cursor) (file : List ℕ) (lefts : List (List TermPosting)) : Type 0 where
@@ -55,6 +56,10 @@ pub record IsTaking (p : TermPosting) (old new : List (List TermPosting)) (count
   pub runs : All (λ left. IsRun left) new
   pub from : (k : ℕ) → AllFrom p (slice_index_or new k [])
   pub counted : (term doc : ℕ) → times_all term doc new + part_at term doc (with_count p count) ≡ times_all term doc old
+
+-- how many postings cursors have left together
+abbrev pub left_together : List Cursor → ℕ
+left_together cursors = sum_by (λ c. c.left) cursors
 
 -- the postings that are left of all runs, merged
 pub record AreLeft (slots : List (List ℕ)) (cursors : List Cursor) (file : List ℕ) (left : List TermPosting) : Type 0 where

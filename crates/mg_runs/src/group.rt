@@ -1,13 +1,15 @@
 // Runs that are merged.
-ghost use Rattle.std.specs.Prelude.{◌≡◌, ◌≤◌, ◌<◌, ◌+◌, ◌-◌, ◌*◌, ◌/◌, ◌^◌, ℕ, List, [], ◌∷◌, Some, IfOk, IfSome, OnOk, OnSome, IsSome, length, max, slice_index, slice_index_or, slice_set, sum_by, drop};
-ghost use Rattle.mg_dev.specs.Files.{bytes_at};
-ghost use Rattle.mg_dev.specs.Names.{full_name};
+ghost use Rattle.std.specs.Prelude.{◌≡◌, ◌≤◌, ◌<◌, ◌+◌, ◌-◌, ◌*◌, ◌/◌, ◌^◌, ℕ, List, [], ◌∷◌, Some, IfErr, IfOk, IfSome, OnOk, OnSome, IsSome, length, max, slice_index, slice_index_or, slice_set, drop};
+ghost use Rattle.std.specs.List.{All};
 ghost use Rattle.mg_dev.specs.PartCauses.{HasPartCause};
 ghost use Rattle.mg_bits.specs.Pages.{Looked};
 ghost use Rattle.mg_defs.specs.declared.TermPosting.{TermPosting};
 ghost use Rattle.mg_runs.specs.Pooled.{SamePool};
-ghost use Rattle.mg_runs.specs.Cursors.{IsAt, NoDamage, NoMemory};
-ghost use Rattle.mg_runs.specs.Merging.{AllFrom, AreLeft, AreRuns, IsAlike, IsHead, IsMerged, IsShaped, AreOpen, AreRunsAt, IsTaking, StandFor, key_of as key, no_cursor, first as first_of};
+ghost use Rattle.mg_runs.specs.Cursors.{HasPosting, IsAt, NoDamage, NoMemory};
+ghost use Rattle.mg_runs.specs.Damages.{NamesPart, TellsBitOf};
+ghost use Rattle.mg_runs.specs.Decoding.{IsInDocument};
+ghost use Rattle.mg_runs.specs.Merging.{AllFrom, AreRuns, IsAlike, IsHead, IsShaped, AreOpen, AreRunsAt, IsTaking, key_of as key, left_together, no_cursor, first as first_of};
+ghost use Rattle.mg_runs.specs.Reading.{GroupHas, GroupMerged, GroupStands, file_bytes};
 
 use crate::Pool;
 use crate::cursor::Cursor;
@@ -48,11 +50,17 @@ fn open_all<S: Store>(
     requires slots { length pool.old.slots ≡ length places.now }
     ensures len { IfOk result (λ cursors. length cursors.items ≡ length places.now) }
     ensures slots { length pool.new.slots ≡ length places.now }
-    ensures told { IsSome (S.files store.old) → (runs : List (List TermPosting)) → AreRunsAt (bytes_at (S.files store.old) (full_name file.now.base.now file.now.part)) places.now runs → IfOk result (λ cursors. AreOpen pool.new.slots cursors.items (bytes_at (S.files store.old) (full_name file.now.base.now file.now.part)) runs (length places.now)) }
-    ensures undamaged { IsSome (S.files store.old) → (runs : List (List TermPosting)) → AreRunsAt (bytes_at (S.files store.old) (full_name file.now.base.now file.now.part)) places.now runs → NoDamage result }
+    ensures postings { IfOk result (λ cursors. All (λ c. HasPosting c) cursors.items) }
+    ensures total { IfOk result (λ cursors. left_together cursors.items ≤ 2 ^ 32 * length places.now) }
+    ensures told { IsSome (S.files store.old) → (runs : List (List TermPosting)) → AreRunsAt (file_bytes file.now (S.files store.old)) places.now runs →
+        IfOk result (λ cursors. AreOpen pool.new.slots cursors.items (file_bytes file.now (S.files store.old)) runs (length places.now)) }
+    ensures undamaged { IsSome (S.files store.old) → (runs : List (List TermPosting)) → AreRunsAt (file_bytes file.now (S.files store.old)) places.now runs →
+        NoDamage result }
     ensures pool { SamePool pool.old pool.new }
-    ensures looked { Looked file.now.part (S.files store.old) (S.files store.new) (S.reads store.old) (S.reads store.new) (S.faults store.old) (S.faults store.new) }
+    ensures looked { Looked file.now.part (S.files store.old) (S.files store.new)
+        (S.reads store.old) (S.reads store.new) (S.faults store.old) (S.faults store.new) }
     ensures cause { HasPartCause (S.faults store.old) (S.faults store.new) result }
+    ensures names { IfErr result (NamesPart file.now.part) }
 {
     let mut cursors = match Vec::with_capacity(alloc, places.len()) {
         Ok(made) => made,
@@ -100,14 +108,19 @@ impl<'a> Group<'a> {
         requires limit { pool.limit ≤ 2 ^ 30 }
         requires entries { pool.entries ≡ [] }
         ensures shape { IfOk result (λ g. IsShaped g.pool.slots g.cursors.items g.tournament) }
-        ensures told { IsSome (S.files store.old) → (runs : List (List TermPosting)) → AreRunsAt (bytes_at (S.files store.old) (full_name file.entry.base.now file.entry.part)) places.now runs → IfOk result (λ g. StandFor g.pool.slots g.cursors.items (bytes_at (S.files store.old) (full_name file.entry.base.now file.entry.part)) runs) }
-        ensures undamaged { IsSome (S.files store.old) → (runs : List (List TermPosting)) → AreRunsAt (bytes_at (S.files store.old) (full_name file.entry.base.now file.entry.part)) places.now runs → NoDamage result }
+        ensures total { IfOk result (λ g. left_together g.cursors.items ≤ 2 ^ 32 * length places.now) }
+        ensures told { IsSome (S.files store.old) → (runs : List (List TermPosting)) → AreRunsAt (file_bytes file.entry (S.files store.old)) places.now runs →
+            IfOk result (λ g. GroupStands g (file_bytes file.entry (S.files store.old)) runs) }
+        ensures undamaged { IsSome (S.files store.old) → (runs : List (List TermPosting)) →
+            AreRunsAt (file_bytes file.entry (S.files store.old)) places.now runs → NoDamage result }
         ensures entries { IfOk result (λ g. g.pool.entries ≡ []) }
         ensures limit { IfOk result (λ g. g.pool.limit ≡ pool.limit) }
         ensures peak { IfOk result (λ g. g.pool.peak ≡ max pool.peak (64 * length places.now)) }
         ensures file { IfOk result (λ g. g.file ≡ file.entry) }
-        ensures looked { Looked file.entry.part (S.files store.old) (S.files store.new) (S.reads store.old) (S.reads store.new) (S.faults store.old) (S.faults store.new) }
+        ensures looked { Looked file.entry.part (S.files store.old) (S.files store.new)
+            (S.reads store.old) (S.reads store.new) (S.faults store.old) (S.faults store.new) }
         ensures cause { HasPartCause (S.faults store.old) (S.faults store.new) result }
+        ensures names { IfErr result (NamesPart file.entry.part) }
     {
         pool.use_slots(places.len());
         match open_all(alloc, store, &mut pool, &file, places) {
@@ -134,9 +147,10 @@ impl<'a> Group<'a> {
     /// The least of the postings at which cursors are, and whose it is.
     fn head(&self) -> Option<(u32, TermPosting)>
         requires shape { IsShaped self.now.pool.slots self.now.cursors.items self.now.tournament }
-        ensures told { (file : List ℕ) (lefts : List (List TermPosting)) → StandFor self.now.pool.slots self.now.cursors.items file lefts → IsHead result lefts }
+        ensures told { (file : List ℕ) (lefts : List (List TermPosting)) → GroupStands self.now file lefts → IsHead result lefts }
         ensures within { IfSome result (λ head. head.0 < length self.now.cursors.items) }
         ensures left { IfSome result (λ head. 1 ≤ (slice_index_or self.now.cursors.items head.0 no_cursor).left) }
+        ensures in_document { IfSome result (λ head. IsInDocument head.1) }
     {
         let run = self.tournament.least();
         let cursor = self.cursors[run as usize];
@@ -152,14 +166,21 @@ impl<'a> Group<'a> {
         requires within { run < length self.old.cursors.items }
         requires left { 1 ≤ (slice_index_or self.old.cursors.items run no_cursor).left }
         ensures shape { OnOk result (IsShaped self.new.pool.slots self.new.cursors.items self.new.tournament) }
-        ensures told { IsSome (S.files store.old) → (lefts : List (List TermPosting)) (x : TermPosting) (xs : List TermPosting) → StandFor self.old.pool.slots self.old.cursors.items (bytes_at (S.files store.old) (full_name self.old.file.base.now self.old.file.part)) lefts → slice_index_or lefts run [] ≡ x ∷ xs → OnOk result (StandFor self.new.pool.slots self.new.cursors.items (bytes_at (S.files store.old) (full_name self.old.file.base.now self.old.file.part)) (slice_set lefts run xs)) }
-        ensures undamaged { IsSome (S.files store.old) → (lefts : List (List TermPosting)) (x : TermPosting) (xs : List TermPosting) → StandFor self.old.pool.slots self.old.cursors.items (bytes_at (S.files store.old) (full_name self.old.file.base.now self.old.file.part)) lefts → slice_index_or lefts run [] ≡ x ∷ xs → NoDamage result }
-        ensures total { OnOk result (sum_by (λ c. c.left) self.new.cursors.items + 1 ≡ sum_by (λ c. c.left) self.old.cursors.items) }
+        ensures told { IsSome (S.files store.old) → (lefts : List (List TermPosting)) (x : TermPosting) (xs : List TermPosting) →
+            GroupStands self.old (file_bytes self.old.file (S.files store.old)) lefts → slice_index_or lefts run [] ≡ x ∷ xs →
+            OnOk result (GroupStands self.new (file_bytes self.old.file (S.files store.old)) (slice_set lefts run xs)) }
+        ensures undamaged { IsSome (S.files store.old) → (lefts : List (List TermPosting)) (x : TermPosting) (xs : List TermPosting) →
+            GroupStands self.old (file_bytes self.old.file (S.files store.old)) lefts → slice_index_or lefts run [] ≡ x ∷ xs → NoDamage result }
+        ensures total { OnOk result (left_together self.new.cursors.items + 1 ≡ left_together self.old.cursors.items) }
+        ensures rest { left_together self.new.cursors.items ≤ left_together self.old.cursors.items }
         ensures pool { SamePool self.old.pool self.new.pool }
         ensures file { self.new.file ≡ self.old.file }
-        ensures looked { Looked self.old.file.part (S.files store.old) (S.files store.new) (S.reads store.old) (S.reads store.new) (S.faults store.old) (S.faults store.new) }
+        ensures looked { Looked self.old.file.part (S.files store.old) (S.files store.new)
+            (S.reads store.old) (S.reads store.new) (S.faults store.old) (S.faults store.new) }
         ensures cause { HasPartCause (S.faults store.old) (S.faults store.new) result }
         ensures memory { NoMemory result }
+        ensures names { IfErr result (NamesPart self.old.file.part) }
+        ensures bit { IfErr result (TellsBitOf self.new.cursors.items) }
     {
         let k = run as usize;
         let cursor = self.cursors[k];
@@ -176,7 +197,8 @@ impl<'a> Group<'a> {
     /// The run whose posting has this term and document, and how much it counts there.
     fn alike(&self, posting: &TermPosting) -> Option<(u32, u32)>
         requires shape { IsShaped self.now.pool.slots self.now.cursors.items self.now.tournament }
-        ensures some { (file : List ℕ) (lefts : List (List TermPosting)) → StandFor self.now.pool.slots self.now.cursors.items file lefts → ((k : ℕ) → AllFrom posting.now (slice_index_or lefts k [])) → IsAlike posting.now lefts result }
+        ensures some { (file : List ℕ) (lefts : List (List TermPosting)) → GroupStands self.now file lefts →
+            ((k : ℕ) → AllFrom posting.now (slice_index_or lefts k [])) → IsAlike posting.now lefts result }
         ensures within { IfSome result (λ found. found.0 < length self.now.cursors.items) }
         ensures left { IfSome result (λ found. 1 ≤ (slice_index_or self.now.cursors.items found.0 no_cursor).left) }
     {
@@ -196,14 +218,23 @@ impl<'a> Group<'a> {
     ) -> Result<TermPosting, PartErr>
         requires shape { IsShaped self.old.pool.slots self.old.cursors.items self.old.tournament }
         ensures shape { OnOk result (IsShaped self.new.pool.slots self.new.cursors.items self.new.tournament) }
-        ensures told { IsSome (S.files store.old) → (base lefts : List (List TermPosting)) → StandFor self.old.pool.slots self.old.cursors.items (bytes_at (S.files store.old) (full_name self.old.file.base.now self.old.file.part)) lefts → IsTaking first.now base lefts first.now.count → AreRuns base → 1 ≤ first.now.count → IfOk result (λ p. IsMerged self.new.pool.slots self.new.cursors.items (bytes_at (S.files store.old) (full_name self.old.file.base.now self.old.file.part)) base p) }
-        ensures undamaged { IsSome (S.files store.old) → (base lefts : List (List TermPosting)) → StandFor self.old.pool.slots self.old.cursors.items (bytes_at (S.files store.old) (full_name self.old.file.base.now self.old.file.part)) lefts → IsTaking first.now base lefts first.now.count → AreRuns base → NoDamage result }
-        ensures total { OnOk result (sum_by (λ c. c.left) self.new.cursors.items ≤ sum_by (λ c. c.left) self.old.cursors.items) }
+        ensures told { IsSome (S.files store.old) → (base lefts : List (List TermPosting)) →
+            GroupStands self.old (file_bytes self.old.file (S.files store.old)) lefts → IsTaking first.now base lefts first.now.count → AreRuns base →
+            1 ≤ first.now.count → IfOk result (λ p. GroupMerged self.new (file_bytes self.old.file (S.files store.old)) base p) }
+        ensures undamaged { IsSome (S.files store.old) → (base lefts : List (List TermPosting)) →
+            GroupStands self.old (file_bytes self.old.file (S.files store.old)) lefts → IsTaking first.now base lefts first.now.count → AreRuns base →
+            NoDamage result }
+        ensures rest { left_together self.new.cursors.items ≤ left_together self.old.cursors.items }
+        ensures doc { IfOk result (λ p. p.doc ≡ first.now.doc) }
+        ensures count { IfOk result (λ p. first.now.count ≤ p.count) }
         ensures pool { SamePool self.old.pool self.new.pool }
         ensures file { self.new.file ≡ self.old.file }
-        ensures looked { Looked self.old.file.part (S.files store.old) (S.files store.new) (S.reads store.old) (S.reads store.new) (S.faults store.old) (S.faults store.new) }
+        ensures looked { Looked self.old.file.part (S.files store.old) (S.files store.new)
+            (S.reads store.old) (S.reads store.new) (S.faults store.old) (S.faults store.new) }
         ensures cause { HasPartCause (S.faults store.old) (S.faults store.new) result }
         ensures memory { NoMemory result }
+        ensures names { IfErr result (NamesPart self.old.file.part) }
+        ensures bit { IfErr result (TellsBitOf self.new.cursors.items) }
     {
         let mut count = first.count;
         while let Some((run, more)) = self.alike(first) {
@@ -227,14 +258,22 @@ impl<'a> Group<'a> {
     pub fn next<S: Store>(&mut self, store: &mut S) -> Result<Option<TermPosting>, PartErr>
         requires shape { IsShaped self.old.pool.slots self.old.cursors.items self.old.tournament }
         ensures shape { OnOk result (IsShaped self.new.pool.slots self.new.cursors.items self.new.tournament) }
-        ensures told { IsSome (S.files store.old) → (left : List TermPosting) → AreLeft self.old.pool.slots self.old.cursors.items (bytes_at (S.files store.old) (full_name self.old.file.base.now self.old.file.part)) left → IfOk result (λ p. (p ≡ first_of left) × AreLeft self.new.pool.slots self.new.cursors.items (bytes_at (S.files store.old) (full_name self.old.file.base.now self.old.file.part)) (drop 1 left)) }
-        ensures undamaged { IsSome (S.files store.old) → (left : List TermPosting) → AreLeft self.old.pool.slots self.old.cursors.items (bytes_at (S.files store.old) (full_name self.old.file.base.now self.old.file.part)) left → NoDamage result }
-        ensures total { IfOk result (λ p. OnSome p (sum_by (λ c. c.left) self.new.cursors.items < sum_by (λ c. c.left) self.old.cursors.items)) }
+        ensures told { IsSome (S.files store.old) → (left : List TermPosting) → GroupHas self.old (file_bytes self.old.file (S.files store.old)) left →
+            IfOk result (λ p. (p ≡ first_of left) × GroupHas self.new (file_bytes self.old.file (S.files store.old)) (drop 1 left)) }
+        ensures undamaged { IsSome (S.files store.old) → (left : List TermPosting) → GroupHas self.old (file_bytes self.old.file (S.files store.old)) left →
+            NoDamage result }
+        ensures doc { IfOk result (λ p. IfSome p (λ x. 1 ≤ x.doc)) }
+        ensures count { IfOk result (λ p. IfSome p (λ x. 1 ≤ x.count)) }
+        ensures fall { IfOk result (λ p. OnSome p (left_together self.new.cursors.items < left_together self.old.cursors.items)) }
+        ensures rest { left_together self.new.cursors.items ≤ left_together self.old.cursors.items }
         ensures pool { SamePool self.old.pool self.new.pool }
         ensures file { self.new.file ≡ self.old.file }
-        ensures looked { Looked self.old.file.part (S.files store.old) (S.files store.new) (S.reads store.old) (S.reads store.new) (S.faults store.old) (S.faults store.new) }
+        ensures looked { Looked self.old.file.part (S.files store.old) (S.files store.new)
+            (S.reads store.old) (S.reads store.new) (S.faults store.old) (S.faults store.new) }
         ensures cause { HasPartCause (S.faults store.old) (S.faults store.new) result }
         ensures memory { NoMemory result }
+        ensures names { IfErr result (NamesPart self.old.file.part) }
+        ensures bit { IfErr result (TellsBitOf self.new.cursors.items) }
     {
         let (run, first) = match self.head() {
             Some(head) => head,

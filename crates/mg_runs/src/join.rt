@@ -1,7 +1,8 @@
 // Runs of one file that are joined into runs of another.
-ghost use Rattle.std.specs.Prelude.{◌≡◌, ◌≢◌, ◌≤◌, ◌<◌, ◌+◌, ◌*◌, ◌↔◌, ◌^◌, ℕ, List, Err, IfOk, OnOk, OnSome, IsSome, IsTrue, [], length, max, sum_by, is_some, ◌%◌, ◌/◌};
-ghost use Rattle.mg_dev.specs.Files.{bytes_at, Files};
+ghost use Rattle.std.specs.Prelude.{◌≡◌, ◌≢◌, ◌≤◌, ◌<◌, ◌+◌, ◌*◌, ◌↔◌, ◌^◌, ℕ, List, Err, IfErr, IfOk, OnOk, OnSome, IsSome, IsTrue, [], length, max, is_some, ◌%◌, ◌/◌};
+ghost use Rattle.mg_dev.specs.Files.{Files};
 ghost use Rattle.mg_dev.specs.Names.{full_name};
+ghost use Rattle.mg_dev.specs.declared.part.Part.{Part as AnyPart};
 ghost use Rattle.mg_dev.specs.Causes.{HasPutCause};
 ghost use Rattle.mg_dev.specs.PartCauses.{HasPartCause};
 ghost use Rattle.mg_bits.specs.Pages.{Looked};
@@ -13,9 +14,11 @@ ghost use Rattle.mg_defs.specs.declared.TermPosting.{TermPosting};
 ghost use Rattle.std.specs.declared.option.Option.{Option};
 ghost use Rattle.mg_runs.specs.Pooled.{SamePool};
 ghost use Rattle.mg_runs.specs.Cursors.{IsRun, NoDamage};
-ghost use Rattle.mg_runs.specs.Merging.{AreLeft, AreRuns, AreRunsAt, IsShaped};
-ghost use Rattle.mg_runs.specs.Joins.{IsPut, IsPutting, Passed};
+ghost use Rattle.mg_runs.specs.Damages.{NamesItsPart, NamesPart};
+ghost use Rattle.mg_runs.specs.Merging.{AreRuns, AreRunsAt, IsShaped, left_together};
+ghost use Rattle.mg_runs.specs.Joins.{Passed};
 ghost use Rattle.mg_runs.specs.Rounds.{IsGroupAt};
+ghost use Rattle.mg_runs.specs.Reading.{GroupHas, GroupPut, GroupPutting, file_bytes};
 
 use crate::Pool;
 use crate::decode::MOST_LEFT;
@@ -34,6 +37,8 @@ const MOST_BITS: u64 = 1 << 61;
 pub fn refused(refusal: PutErr) -> PartErr
     ensures cause { (f g : ℕ) → HasPutCause {T = ℕ} f g (Err refusal) → HasPartCause {T = ℕ} f g (Err result) }
     ensures undamaged { NoDamage {T = ℕ} (Err result) }
+    ensures names { (part : AnyPart) → NamesPart part result }
+    ensures names_its { NamesItsPart result }
 {
     match refusal {
         PutErr::Failed => PartErr::Device,
@@ -44,13 +49,17 @@ pub fn refused(refusal: PutErr) -> PartErr
 /// How many postings the runs have.
 fn count_postings<S: Store>(group: &mut Group<'_>, store: &mut S) -> Result<u64, PartErr>
     requires shape { IsShaped group.old.pool.slots group.old.cursors.items group.old.tournament }
-    ensures told { IsSome (S.files store.old) → (left : List TermPosting) → AreLeft group.old.pool.slots group.old.cursors.items (bytes_at (S.files store.old) (full_name group.old.file.base.now group.old.file.part)) left → IfOk result (λ count. count ≡ length left) }
-    ensures undamaged { IsSome (S.files store.old) → (left : List TermPosting) → length left < 2 ^ 32 → AreLeft group.old.pool.slots group.old.cursors.items (bytes_at (S.files store.old) (full_name group.old.file.base.now group.old.file.part)) left → NoDamage result }
+    ensures told { IsSome (S.files store.old) → (left : List TermPosting) → GroupHas group.old (file_bytes group.old.file (S.files store.old)) left →
+        IfOk result (λ count. count ≡ length left) }
+    ensures undamaged { IsSome (S.files store.old) → (left : List TermPosting) → length left < 2 ^ 32 →
+        GroupHas group.old (file_bytes group.old.file (S.files store.old)) left → NoDamage result }
     ensures few { IfOk result (λ count. count < 2 ^ 32) }
     ensures pool { SamePool group.old.pool group.new.pool }
     ensures file { group.new.file ≡ group.old.file }
-    ensures looked { Looked group.old.file.part (S.files store.old) (S.files store.new) (S.reads store.old) (S.reads store.new) (S.faults store.old) (S.faults store.new) }
+    ensures looked { Looked group.old.file.part (S.files store.old) (S.files store.new)
+        (S.reads store.old) (S.reads store.new) (S.faults store.old) (S.faults store.new) }
     ensures cause { HasPartCause (S.faults store.old) (S.faults store.new) result }
+    ensures names { IfErr result (NamesPart group.old.file.part) }
 {
     let mut count = 0u64;
     loop {
@@ -87,16 +96,21 @@ fn put_next<S: Store>(
     requires holds { Holds w.old (S.files store.old) }
     requires apart { full_name group.old.file.base.now group.old.file.part ≢ w.old.name }
     ensures shape { OnOk result (IsShaped group.new.pool.slots group.new.cursors.items group.new.tournament) }
-    ensures told { IsSome (S.files store.old) → (files : Option Files) (before : BitWriting) (bits : Bits) → is_some files ≡ is_some (S.files store.old) → IsPutting group.old.pool.slots group.old.cursors.items (bytes_at (S.files store.old) (full_name group.old.file.base.now group.old.file.part)) files (S.files store.old) before w.old last.now bits → IfOk result (λ put. IsPut group.new.pool.slots group.new.cursors.items (bytes_at (S.files store.old) (full_name group.old.file.base.now group.old.file.part)) files (S.files store.new) before w.new put bits) }
-    ensures undamaged { IsSome (S.files store.old) → (files : Option Files) (before : BitWriting) (bits : Bits) → IsPutting group.old.pool.slots group.old.cursors.items (bytes_at (S.files store.old) (full_name group.old.file.base.now group.old.file.part)) files (S.files store.old) before w.old last.now bits → NoDamage result }
-    ensures total { IfOk result (λ put. OnSome put (sum_by (λ c. c.left) group.new.cursors.items < sum_by (λ c. c.left) group.old.cursors.items)) }
+    ensures told { IsSome (S.files store.old) → (files : Option Files) (before : BitWriting) (bits : Bits) → is_some files ≡ is_some (S.files store.old) →
+        GroupPutting group.old (file_bytes group.old.file (S.files store.old)) files (S.files store.old) before w.old last.now bits →
+        IfOk result (λ put. GroupPut group.new (file_bytes group.old.file (S.files store.old)) files (S.files store.new) before w.new put bits) }
+    ensures undamaged { IsSome (S.files store.old) → (files : Option Files) (before : BitWriting) (bits : Bits) →
+        GroupPutting group.old (file_bytes group.old.file (S.files store.old)) files (S.files store.old) before w.old last.now bits → NoDamage result }
+    ensures total { IfOk result (λ put. OnSome put (left_together group.new.cursors.items < left_together group.old.cursors.items)) }
     ensures holds { OnOk result (Holds w.new (S.files store.new)) }
     ensures place { OnOk result (w.old.place ≤ 2 ^ 61 + 256 → w.new.place ≤ 2 ^ 61 + 256) }
     ensures pool { SamePool group.old.pool group.new.pool }
     ensures file { group.new.file ≡ group.old.file }
     ensures name { w.new.name ≡ w.old.name }
-    ensures passed { Passed group.old.file.part w.old.name (S.files store.old) (S.files store.new) (S.reads store.old) (S.reads store.new) (S.faults store.old) (S.faults store.new) }
+    ensures passed { Passed group.old.file.part w.old.name (S.files store.old) (S.files store.new)
+        (S.reads store.old) (S.reads store.new) (S.faults store.old) (S.faults store.new) }
     ensures cause { HasPartCause (S.faults store.old) (S.faults store.new) result }
+    ensures names { IfErr result (NamesPart group.old.file.part) }
 {
     match group.next(store) {
         Ok(Some(posting)) => {
@@ -123,15 +137,20 @@ fn put_postings<S: Store>(
     requires holds { Holds w.old (S.files store.old) }
     requires apart { full_name group.old.file.base.now group.old.file.part ≢ w.old.name }
     requires place { w.old.place ≤ 2 ^ 61 + 256 }
-    ensures told { IsSome (S.files store.old) → (left : List TermPosting) → AreLeft group.old.pool.slots group.old.cursors.items (bytes_at (S.files store.old) (full_name group.old.file.base.now group.old.file.part)) left → IsRun left → w.old.place + 256 * length left ≤ 2 ^ 61 → OnOk result (WroteBits w.old w.new (S.files store.old) (S.files store.new) (postings_bits before_first left)) }
-    ensures undamaged { IsSome (S.files store.old) → (left : List TermPosting) → AreLeft group.old.pool.slots group.old.cursors.items (bytes_at (S.files store.old) (full_name group.old.file.base.now group.old.file.part)) left → IsRun left → w.old.place + 256 * length left ≤ 2 ^ 61 → NoDamage result }
+    ensures told { IsSome (S.files store.old) → (left : List TermPosting) → GroupHas group.old (file_bytes group.old.file (S.files store.old)) left →
+        IsRun left → w.old.place + 256 * length left ≤ 2 ^ 61 →
+        OnOk result (WroteBits w.old w.new (S.files store.old) (S.files store.new) (postings_bits before_first left)) }
+    ensures undamaged { IsSome (S.files store.old) → (left : List TermPosting) → GroupHas group.old (file_bytes group.old.file (S.files store.old)) left →
+        IsRun left → w.old.place + 256 * length left ≤ 2 ^ 61 → NoDamage result }
     ensures holds { OnOk result (Holds w.new (S.files store.new)) }
     ensures place { OnOk result (w.new.place ≤ 2 ^ 61 + 256) }
     ensures pool { SamePool group.old.pool group.new.pool }
     ensures file { group.new.file ≡ group.old.file }
     ensures name { w.new.name ≡ w.old.name }
-    ensures passed { Passed group.old.file.part w.old.name (S.files store.old) (S.files store.new) (S.reads store.old) (S.reads store.new) (S.faults store.old) (S.faults store.new) }
+    ensures passed { Passed group.old.file.part w.old.name (S.files store.old) (S.files store.new)
+        (S.reads store.old) (S.reads store.new) (S.faults store.old) (S.faults store.new) }
     ensures cause { HasPartCause (S.faults store.old) (S.faults store.new) result }
+    ensures names { IfErr result (NamesPart group.old.file.part) }
 {
     let mut last = TermPosting {
         term: 0,
@@ -166,14 +185,18 @@ fn count_runs<S: Store>(
     requires room { length places.now ≤ pool.limit / 64 }
     requires limit { pool.limit ≤ 2 ^ 30 }
     requires entries { pool.entries ≡ [] }
-    ensures told { IsSome (S.files store.old) → (runs : List (List TermPosting)) → AreRunsAt (bytes_at (S.files store.old) (full_name file.entry.base.now file.entry.part)) places.now runs → AreRuns runs → IfOk result (λ made. made.count ≡ length (merged runs)) }
-    ensures undamaged { IsSome (S.files store.old) → (runs : List (List TermPosting)) → AreRunsAt (bytes_at (S.files store.old) (full_name file.entry.base.now file.entry.part)) places.now runs → AreRuns runs → length (merged runs) < 2 ^ 32 → NoDamage result }
+    ensures told { IsSome (S.files store.old) → (runs : List (List TermPosting)) → AreRunsAt (file_bytes file.entry (S.files store.old)) places.now runs →
+        AreRuns runs → IfOk result (λ made. made.count ≡ length (merged runs)) }
+    ensures undamaged { IsSome (S.files store.old) → (runs : List (List TermPosting)) → AreRunsAt (file_bytes file.entry (S.files store.old)) places.now runs →
+        AreRuns runs → length (merged runs) < 2 ^ 32 → NoDamage result }
     ensures few { IfOk result (λ made. made.count < 2 ^ 32) }
     ensures entries { IfOk result (λ made. made.pool.entries ≡ []) }
     ensures limit { IfOk result (λ made. made.pool.limit ≡ pool.limit) }
     ensures peak { IfOk result (λ made. made.pool.peak ≡ max pool.peak (64 * length places.now)) }
-    ensures looked { Looked file.entry.part (S.files store.old) (S.files store.new) (S.reads store.old) (S.reads store.new) (S.faults store.old) (S.faults store.new) }
+    ensures looked { Looked file.entry.part (S.files store.old) (S.files store.new)
+        (S.reads store.old) (S.reads store.new) (S.faults store.old) (S.faults store.new) }
     ensures cause { HasPartCause (S.faults store.old) (S.faults store.new) result }
+    ensures names { IfErr result (NamesPart file.entry.part) }
 {
     let mut group = match Group::load(alloc, store, pool, file, places) {
         Ok(group) => group,
@@ -208,8 +231,11 @@ fn put_run<S: Store>(
     requires apart { full_name file.base.now file.part ≢ w.old.name }
     requires whole { w.old.place % 8 ≡ 0 }
     requires place { w.old.place ≤ 2 ^ 61 }
-    ensures told { IsSome (S.files store.old) → (runs : List (List TermPosting)) → AreRunsAt (bytes_at (S.files store.old) (full_name file.entry.base.now file.entry.part)) places.now runs → IsGroupAt runs w.old.place → counted.count ≡ length (merged runs) → OnOk result (WroteBits w.old w.new (S.files store.old) (S.files store.new) (filled (run_bits (merged runs)))) }
-    ensures undamaged { IsSome (S.files store.old) → (runs : List (List TermPosting)) → AreRunsAt (bytes_at (S.files store.old) (full_name file.entry.base.now file.entry.part)) places.now runs → IsGroupAt runs w.old.place → NoDamage result }
+    ensures told { IsSome (S.files store.old) → (runs : List (List TermPosting)) → AreRunsAt (file_bytes file.entry (S.files store.old)) places.now runs →
+        IsGroupAt runs w.old.place → counted.count ≡ length (merged runs) →
+        OnOk result (WroteBits w.old w.new (S.files store.old) (S.files store.new) (filled (run_bits (merged runs)))) }
+    ensures undamaged { IsSome (S.files store.old) → (runs : List (List TermPosting)) → AreRunsAt (file_bytes file.entry (S.files store.old)) places.now runs →
+        IsGroupAt runs w.old.place → NoDamage result }
     ensures entries { IfOk result (λ made. made.entries ≡ []) }
     ensures limit { IfOk result (λ made. made.limit ≡ counted.pool.limit) }
     ensures peak { IfOk result (λ made. made.peak ≡ max counted.pool.peak (64 * length places.now)) }
@@ -217,8 +243,10 @@ fn put_run<S: Store>(
     ensures place { OnOk result (w.new.place ≤ 2 ^ 61 + 264) }
     ensures whole { OnOk result (w.new.place % 8 ≡ 0) }
     ensures name { w.new.name ≡ w.old.name }
-    ensures passed { Passed file.entry.part w.old.name (S.files store.old) (S.files store.new) (S.reads store.old) (S.reads store.new) (S.faults store.old) (S.faults store.new) }
+    ensures passed { Passed file.entry.part w.old.name (S.files store.old) (S.files store.new)
+        (S.reads store.old) (S.reads store.new) (S.faults store.old) (S.faults store.new) }
     ensures cause { HasPartCause (S.faults store.old) (S.faults store.new) result }
+    ensures names { IfErr result (NamesPart file.entry.part) }
 {
     let Counted { pool, count } = counted;
     let mut group = match Group::load(alloc, store, pool, file, places) {
@@ -256,8 +284,10 @@ pub fn join<S: Store>(
     requires holds { Holds w.old (S.files store.old) }
     requires apart { full_name file.base.now file.part ≢ w.old.name }
     requires whole { w.old.place % 8 ≡ 0 }
-    ensures told { IsSome (S.files store.old) → (runs : List (List TermPosting)) → AreRunsAt (bytes_at (S.files store.old) (full_name file.entry.base.now file.entry.part)) places.now runs → IsGroupAt runs w.old.place → OnOk result (WroteBits w.old w.new (S.files store.old) (S.files store.new) (filled (run_bits (merged runs)))) }
-    ensures undamaged { IsSome (S.files store.old) → (runs : List (List TermPosting)) → AreRunsAt (bytes_at (S.files store.old) (full_name file.entry.base.now file.entry.part)) places.now runs → IsGroupAt runs w.old.place → NoDamage result }
+    ensures told { IsSome (S.files store.old) → (runs : List (List TermPosting)) → AreRunsAt (file_bytes file.entry (S.files store.old)) places.now runs →
+        IsGroupAt runs w.old.place → OnOk result (WroteBits w.old w.new (S.files store.old) (S.files store.new) (filled (run_bits (merged runs)))) }
+    ensures undamaged { IsSome (S.files store.old) → (runs : List (List TermPosting)) → AreRunsAt (file_bytes file.entry (S.files store.old)) places.now runs →
+        IsGroupAt runs w.old.place → NoDamage result }
     ensures entries { IfOk result (λ made. made.entries ≡ []) }
     ensures limit { IfOk result (λ made. made.limit ≡ pool.limit) }
     ensures peak { IfOk result (λ made. made.peak ≡ max pool.peak (64 * length places.now)) }
@@ -265,8 +295,10 @@ pub fn join<S: Store>(
     ensures place { OnOk result (w.new.place ≤ 2 ^ 61 + 264) }
     ensures whole { OnOk result (w.new.place % 8 ≡ 0) }
     ensures name { w.new.name ≡ w.old.name }
-    ensures passed { Passed file.entry.part w.old.name (S.files store.old) (S.files store.new) (S.reads store.old) (S.reads store.new) (S.faults store.old) (S.faults store.new) }
+    ensures passed { Passed file.entry.part w.old.name (S.files store.old) (S.files store.new)
+        (S.reads store.old) (S.reads store.new) (S.faults store.old) (S.faults store.new) }
     ensures cause { HasPartCause (S.faults store.old) (S.faults store.new) result }
+    ensures names { IfErr result (NamesPart file.entry.part) }
 {
     let counted = match count_runs(alloc, store, pool, file, places) {
         Ok(counted) => counted,

@@ -17,5 +17,6 @@ pub fn runs_stay()
     ensures fed { (runs : Inverting) (f g : Option Files) (fed : List (ℕ × ℕ)) → is_some g ≡ is_some f →
         file_at g (full_name runs.base Run) ≡ file_at f (full_name runs.base Run) → IsFed runs f fed → IsFed runs g fed }
     ensures left { (merge : Merging) (f g : Option Files) (left : List TermPosting) → is_some g ≡ is_some f →
-        ((part : AnyPart) → IsRunPart part → file_at g (full_name merge.base part) ≡ file_at f (full_name merge.base part)) → IsMerging merge f left → IsMerging merge g left }
+        ((part : AnyPart) → IsRunPart part → file_at g (full_name merge.base part) ≡ file_at f (full_name merge.base part)) →
+        IsMerging merge f left → IsMerging merge g left }
 {}

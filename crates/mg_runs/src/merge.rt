@@ -1,15 +1,15 @@
 // The postings of all runs.
-ghost use Rattle.std.specs.Prelude.{◌≡◌, ◌≤◌, ◌+◌, ◌*◌, ◌/◌, ◌^◌, List, [], IfOk, OnOk, IsSome, length, drop, max};
-ghost use Rattle.mg_dev.specs.Files.{bytes_at};
-ghost use Rattle.mg_dev.specs.Names.{full_name};
+ghost use Rattle.std.specs.Prelude.{◌≡◌, ◌≤◌, ◌<◌, ◌+◌, ◌*◌, ◌/◌, ◌^◌, List, [], IfErr, IfOk, IfSome, OnOk, OnSome, IsSome, length, drop, max};
 ghost use Rattle.mg_dev.specs.PartCauses.{HasPartCause};
 ghost use Rattle.mg_bits.specs.Pages.{Looked};
 ghost use Rattle.mg_defs.specs.declared.TermPosting.{TermPosting};
 ghost use Rattle.mg_runs.specs.Cursors.{NoDamage, NoMemory};
+ghost use Rattle.mg_runs.specs.Damages.{NamesItsPart, NamesPart, NamesPartOf, TellsBitIn};
 ghost use Rattle.mg_runs.specs.Joins.{IsRunPart, Worked};
-ghost use Rattle.mg_runs.specs.Left.{IsMerging};
+ghost use Rattle.mg_runs.specs.Left.{IsMerging, postings_left};
 ghost use Rattle.mg_runs.specs.Merging.{first as first_of};
 ghost use Rattle.mg_runs.specs.Rounds.{AreStored};
+ghost use Rattle.mg_runs.specs.Reading.{file_bytes};
 
 use crate::group::Group;
 use crate::round::Round;
@@ -51,13 +51,19 @@ impl<'a> Merge<'a> {
         requires limit { round.pool.limit ≤ 2 ^ 30 }
         requires entries { round.pool.entries ≡ [] }
         requires part { IsRunPart round.file.part }
-        ensures left { (whole : List TermPosting) → (IsSome (S.files store.old) → AreStored (bytes_at (S.files store.old) (full_name round.entry.file.base.now round.entry.file.part)) round.entry.places.items whole) → IfOk result (λ merge. IsMerging merge (S.files store.new) whole) }
-        ensures undamaged { IsSome (S.files store.old) → (whole : List TermPosting) → AreStored (bytes_at (S.files store.old) (full_name round.entry.file.base.now round.entry.file.part)) round.entry.places.items whole → NoDamage result }
+        ensures left { (whole : List TermPosting) →
+            (IsSome (S.files store.old) → AreStored (file_bytes round.entry.file (S.files store.old)) round.entry.places.items whole) →
+            IfOk result (λ merge. IsMerging merge (S.files store.new) whole) }
+        ensures undamaged { IsSome (S.files store.old) → (whole : List TermPosting) →
+            AreStored (file_bytes round.entry.file (S.files store.old)) round.entry.places.items whole → NoDamage result }
+        ensures few { IfOk result (λ merge. postings_left merge ≤ 2 ^ 56) }
         ensures base { IfOk result (λ merge. merge.base ≡ round.entry.file.base.now) }
         ensures runs { IfOk result (λ merge. merge.runs ≡ runs) }
         ensures peak { IfOk result (λ merge. merge.peak ≡ max round.entry.pool.peak (64 * length round.entry.places.items)) }
-        ensures looked { Looked round.entry.file.part (S.files store.old) (S.files store.new) (S.reads store.old) (S.reads store.new) (S.faults store.old) (S.faults store.new) }
+        ensures looked { Looked round.entry.file.part (S.files store.old) (S.files store.new)
+            (S.reads store.old) (S.reads store.new) (S.faults store.old) (S.faults store.new) }
         ensures cause { HasPartCause (S.faults store.old) (S.faults store.new) result }
+        ensures names { IfErr result (NamesPart round.entry.file.part) }
     {
         let Round { pool, places, file } = round;
         let base = file.base;
@@ -87,15 +93,25 @@ impl<'a> Merge<'a> {
     /// left.
     pub fn next<S: Store>(&mut self, store: &mut S) -> Result<Option<TermPosting>, PartErr>
         requires left { (left : List TermPosting) × IsMerging self.old (S.files store.old) left }
-        ensures told { IsSome (S.files store.old) → (left : List TermPosting) → IsMerging self.old (S.files store.old) left → IfOk result (λ posting. posting ≡ first_of left) }
-        ensures left { (left : List TermPosting) → IsMerging self.old (S.files store.old) left → OnOk result (IsMerging self.new (S.files store.new) (drop 1 left)) }
+        ensures told { IsSome (S.files store.old) → (left : List TermPosting) → IsMerging self.old (S.files store.old) left →
+            IfOk result (λ posting. posting ≡ first_of left) }
+        ensures left { (left : List TermPosting) → IsMerging self.old (S.files store.old) left →
+            OnOk result (IsMerging self.new (S.files store.new) (drop 1 left)) }
+        ensures doc { IfOk result (λ posting. IfSome posting (λ p. 1 ≤ p.doc)) }
+        ensures count { IfOk result (λ posting. IfSome posting (λ p. 1 ≤ p.count)) }
+        ensures fall { IfOk result (λ posting. OnSome posting (postings_left self.new < postings_left self.old)) }
+        ensures rest { postings_left self.new ≤ postings_left self.old }
         ensures undamaged { IsSome (S.files store.old) → NoDamage result }
         ensures memory { NoMemory result }
+        ensures names { IfErr result NamesItsPart }
+        ensures part { IfErr result (NamesPartOf self.old.group) }
+        ensures bit { IfErr result (TellsBitIn self.new.group) }
         ensures base { self.new.base ≡ self.old.base }
         ensures runs { self.new.runs ≡ self.old.runs }
         ensures peak { self.new.peak ≡ self.old.peak }
         ensures files { S.files store.new ≡ S.files store.old }
-        ensures worked { Worked self.old.base (S.files store.old) (S.files store.new) (S.reads store.old) (S.reads store.new) (S.faults store.old) (S.faults store.new) }
+        ensures worked { Worked self.old.base (S.files store.old) (S.files store.new)
+            (S.reads store.old) (S.reads store.new) (S.faults store.old) (S.faults store.new) }
         ensures cause { HasPartCause (S.faults store.old) (S.faults store.new) result }
     {
         match &mut self.group {

@@ -143,8 +143,10 @@ impl Pool {
         ensures entries { self.old.entries ≡ [] → self.new.entries ≡ [] }
         ensures peak { self.new.peak ≡ self.old.peak }
         ensures limit { self.new.limit ≡ self.old.limit }
-        ensures filled { IfOk result (λ count. IsFilled (S.files store.old) (full_name file.now.base.now file.now.part) at count (slice_index_or self.new.slots slot [])) }
-        ensures looked { Looked file.now.part (S.files store.old) (S.files store.new) (S.reads store.old) (S.reads store.new) (S.faults store.old) (S.faults store.new) }
+        ensures filled { IfOk result (λ count. IsFilled (S.files store.old) (full_name file.now.base.now file.now.part) at count
+            (slice_index_or self.new.slots slot [])) }
+        ensures looked { Looked file.now.part (S.files store.old) (S.files store.new)
+            (S.reads store.old) (S.reads store.new) (S.faults store.old) (S.faults store.new) }
         ensures cause { HasCause (S.faults store.old) (S.faults store.new) result }
     {
         fill_slot(store, file, at, &mut self.bytes, slot)

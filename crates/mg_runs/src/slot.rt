@@ -18,7 +18,8 @@ fn read_slot<S: Store>(
 ) -> Result<usize, Failed>
     requires { length slot.old ≡ 64 }
     ensures filled { IfOk result (λ count. IsFilled (S.files store.old) (full_name file.now.base.now file.now.part) at count slot.new) }
-    ensures looked { Looked file.now.part (S.files store.old) (S.files store.new) (S.reads store.old) (S.reads store.new) (S.faults store.old) (S.faults store.new) }
+    ensures looked { Looked file.now.part (S.files store.old) (S.files store.new)
+        (S.reads store.old) (S.reads store.new) (S.faults store.old) (S.faults store.new) }
     ensures cause { HasCause (S.faults store.old) (S.faults store.new) result }
 {
     store.read_at(file, at, slot)
@@ -33,9 +34,13 @@ fn fill_in<S: Store>(
     slot: usize,
 ) -> Result<usize, Failed>
     requires room { 64 * slot + 64 ≤ length bytes.old }
-    ensures slots { (count : ℕ) → slot < count → 64 * count ≤ length bytes.old → first_chunks 64 count bytes.new ≡ slice_set (first_chunks 64 count bytes.old) slot (slice_index_or (first_chunks 64 count bytes.new) slot []) }
-    ensures filled { (count : ℕ) → slot < count → 64 * count ≤ length bytes.old → IfOk result (λ n. IsFilled (S.files store.old) (full_name file.now.base.now file.now.part) at n (slice_index_or (first_chunks 64 count bytes.new) slot [])) }
-    ensures looked { Looked file.now.part (S.files store.old) (S.files store.new) (S.reads store.old) (S.reads store.new) (S.faults store.old) (S.faults store.new) }
+    ensures slots { (count : ℕ) → slot < count → 64 * count ≤ length bytes.old →
+        first_chunks 64 count bytes.new ≡ slice_set (first_chunks 64 count bytes.old) slot (slice_index_or (first_chunks 64 count bytes.new) slot []) }
+    ensures filled { (count : ℕ) → slot < count → 64 * count ≤ length bytes.old →
+        IfOk result (λ n. IsFilled (S.files store.old) (full_name file.now.base.now file.now.part) at n
+        (slice_index_or (first_chunks 64 count bytes.new) slot [])) }
+    ensures looked { Looked file.now.part (S.files store.old) (S.files store.new)
+        (S.reads store.old) (S.reads store.new) (S.faults store.old) (S.faults store.new) }
     ensures cause { HasCause (S.faults store.old) (S.faults store.new) result }
 {
     let from = 64 * slot;
@@ -53,9 +58,14 @@ pub fn fill_slot<S: Store>(
 ) -> Result<usize, Failed>
     requires room { 64 * slot + 64 ≤ length bytes.old.items }
     ensures len { length bytes.new.items ≡ length bytes.old.items }
-    ensures slots { (count : ℕ) → slot < count → 64 * count ≤ length bytes.old.items → first_chunks 64 count bytes.new.items ≡ slice_set (first_chunks 64 count bytes.old.items) slot (slice_index_or (first_chunks 64 count bytes.new.items) slot []) }
-    ensures filled { (count : ℕ) → slot < count → 64 * count ≤ length bytes.old.items → IfOk result (λ n. IsFilled (S.files store.old) (full_name file.now.base.now file.now.part) at n (slice_index_or (first_chunks 64 count bytes.new.items) slot [])) }
-    ensures looked { Looked file.now.part (S.files store.old) (S.files store.new) (S.reads store.old) (S.reads store.new) (S.faults store.old) (S.faults store.new) }
+    ensures slots { (count : ℕ) → slot < count → 64 * count ≤ length bytes.old.items →
+        first_chunks 64 count bytes.new.items ≡ slice_set (first_chunks 64 count bytes.old.items) slot
+        (slice_index_or (first_chunks 64 count bytes.new.items) slot []) }
+    ensures filled { (count : ℕ) → slot < count → 64 * count ≤ length bytes.old.items →
+        IfOk result (λ n. IsFilled (S.files store.old) (full_name file.now.base.now file.now.part) at n
+        (slice_index_or (first_chunks 64 count bytes.new.items) slot [])) }
+    ensures looked { Looked file.now.part (S.files store.old) (S.files store.new)
+        (S.reads store.old) (S.reads store.new) (S.faults store.old) (S.faults store.new) }
     ensures cause { HasCause (S.faults store.old) (S.faults store.new) result }
 {
     fill_in(store, file, at, bytes, slot)

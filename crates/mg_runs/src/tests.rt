@@ -1,6 +1,6 @@
 // What no clause says: bytes of runs as they stand in a file, postings beside those of a plain
-// sort, and refusals of a store.
-ghost use Rattle.std.specs.Prelude.{◌≡◌, ◌≤◌, ◌/◌, ◌^◌, ℕ, List, IfOk, OnOk, codes, length};
+// sort, refusals of a store, and which damage is met first.
+ghost use Rattle.std.specs.Prelude.{◌≡◌, ◌≤◌, ◌/◌, ◌^◌, ℕ, List, IfOk, None, OnOk, codes, length};
 ghost use Rattle.mg_runs.specs.Fed.{IsFed};
 ghost use Rattle.mg_runs.specs.Left.{IsMerging};
 ghost use Rattle.mg_defs.specs.declared.TermPosting.{TermPosting};
@@ -8,7 +8,7 @@ ghost use Rattle.mg_defs.specs.declared.TermPosting.{TermPosting};
 use crate::join::refused;
 use crate::{Merge, Pool, Runs, runs_stay};
 use mg_defs::TermPosting;
-use mg_dev::{FileRef, MemStore, Part, PartErr, PutErr, Store};
+use mg_dev::{Bad, Failed, FileRef, MemStore, Part, PartErr, PutErr, Store, SureStore};
 use std::alloc::{AllocError, Global};
 use std::test::Fail;
 
@@ -270,6 +270,110 @@ fn each_failing_call_is_told(rt: HostRuntime) -> Result<(), Fail> {
         failing.fail_at(call, 3)?;
         let outcome = merges_as_sorted(alloc, &mut failing, 4096, 2, &sample);
         assert_eq!(rt; outcome, Err(PartErr::Device), "a failure at call {call}");
+    }
+    Ok(())
+}
+
+/// A store that tells none of its files. So many reads are sound; those after it give one-bits alone.
+#[derive(Drop)]
+struct Spoiled {
+    sound: u64,
+    held: SureStore,
+}
+
+#[tactic(auto, unfolding(mg_dev::specs::Files::written))]
+impl Store for Spoiled {
+    ghost files = { λ _. None };
+
+    ghost faults = { λ _. 0 };
+
+    ghost reads = { λ s. ⟦<SureStore as Store>⟧.reads s.held };
+
+    fn size(&mut self, file: &FileRef<'_>) -> Result<Option<u64>, Failed> {
+        self.held.size(file)
+    }
+
+    fn read_at(&mut self, file: &FileRef<'_>, at: u64, buf: &mut [u8]) -> Result<usize, Failed> {
+        let read = self.held.read_at(file, at, buf);
+        if self.sound == 0 {
+            buf.fill(255);
+        } else {
+            self.sound -= 1;
+        }
+        read
+    }
+
+    fn reset(&mut self, file: &FileRef<'_>) -> Result<(), PutErr> {
+        match self.held.reset(file) {
+            Ok(()) => Ok(()),
+            Err(refusal) => Err(refusal),
+        }
+    }
+
+    fn append(&mut self, file: &FileRef<'_>, piece: &[u8]) -> Result<(), PutErr> {
+        match self.held.append(file, piece) {
+            Ok(()) => Ok(()),
+            Err(refusal) => Err(refusal),
+        }
+    }
+}
+
+/// How many occurrences the postings have that a merge has left.
+fn drained<S: Store>(merge: &mut Merge<'_>, store: &mut S) -> Result<u64, PartErr>
+    requires left { (left : List TermPosting) × IsMerging merge.old (S.files store.old) left }
+{
+    let mut count = 0u64;
+    loop {
+        match merge.next(store) {
+            Ok(Some(posting)) => count = count.wrapping_add(u64::from(posting.count)),
+            Ok(None) => return Ok(count),
+            Err(refusal) => return Err(refusal),
+        }
+    }
+}
+
+#[test]
+fn counts_are_those_of_all_occurrences(rt: HostRuntime) -> Result<(), Fail> {
+    let alloc = rt.alloc();
+    let sample = scattered(alloc, 1400, 2)?;
+    let mut store = Spoiled {
+        sound: u64::MAX,
+        held: SureStore::new(alloc),
+    };
+    let mut merge = take(alloc, &mut store, 4096, &sample)?.merge(&mut store)?;
+    assert_eq!(rt; drained(&mut merge, &mut store), Ok(1400));
+    Ok(())
+}
+
+#[test]
+fn the_first_damage_is_told_of_its_part(rt: HostRuntime) -> Result<(), Fail> {
+    let alloc = rt.alloc();
+    let sample = scattered(alloc, 1400, 2)?;
+    let mut store = Spoiled {
+        sound: u64::MAX,
+        held: SureStore::new(alloc),
+    };
+    assert!(rt; merges_as_sorted(alloc, &mut store, 4096, 2, &sample)?);
+    let Spoiled { held, .. } = store;
+    let of_run = held.reads_of(Part::Run);
+    let of_both = of_run.saturating_add(held.reads_of(Part::MergeA));
+    let cases = [
+        (0, Part::Run),
+        (of_run, Part::MergeA),
+        (of_both, Part::MergeB),
+    ];
+    for (sound, part) in cases {
+        let held = SureStore::new(alloc);
+        let mut spoiled = Spoiled { sound, held };
+        let bad = Bad {
+            part,
+            at: 0,
+            low: 1,
+            high: 1 << 32,
+            found: 0,
+        };
+        let outcome = merges_as_sorted(alloc, &mut spoiled, 4096, 2, &sample);
+        assert_eq!(rt; outcome, Err(PartErr::Bad(bad)));
     }
     Ok(())
 }

@@ -1,13 +1,13 @@
 // The postings of a run, one after the other.
-ghost use Rattle.std.specs.Prelude.{◌≡◌, ◌≤◌, ◌<◌, ◌+◌, ◌-◌, ◌*◌, ◌/◌, ◌^◌, ℕ, List, [], ◌∷◌, Err, IfOk, IsOkAnd, IsSome, length, slice_index_or, slice_set, take, drop};
-ghost use Rattle.mg_dev.specs.Files.{bytes_at};
-ghost use Rattle.mg_dev.specs.Names.{full_name};
+ghost use Rattle.std.specs.Prelude.{◌≡◌, ◌≤◌, ◌<◌, ◌+◌, ◌-◌, ◌*◌, ◌/◌, ◌^◌, ℕ, List, [], ◌∷◌, Err, IfErr, IfOk, IsOkAnd, IsSome, length, slice_index_or, slice_set, take, drop};
 ghost use Rattle.mg_dev.specs.PartCauses.{HasPartCause, IsCaused};
 ghost use Rattle.mg_bits.specs.Pages.{Looked};
 ghost use Rattle.mg_defs.specs.RunBits.{before_first};
 ghost use Rattle.mg_defs.specs.declared.TermPosting.{TermPosting};
 ghost use Rattle.mg_runs.specs.Pooled.{SamePool};
-ghost use Rattle.mg_runs.specs.Cursors.{IsAt, IsAtPosting, IsNear, IsRunAt, NoDamage, NoMemory};
+ghost use Rattle.mg_runs.specs.Damages.{NamesPart, TellsBit};
+ghost use Rattle.mg_runs.specs.Cursors.{HasPosting, IsAt, IsAtPosting, IsNear, IsRunAt, NoDamage, NoMemory};
+ghost use Rattle.mg_runs.specs.Reading.{file_bytes};
 
 use crate::Pool;
 use crate::cursor::Cursor;
@@ -19,6 +19,8 @@ use mg_dev::{Bad, FileRef, Part, PartErr, Store};
 pub fn damage(part: Part, at: u64) -> PartErr
     ensures caused { (f g : ℕ) → IsCaused {T = ℕ} f g (Err result) }
     ensures memory { NoMemory {T = ℕ} (Err result) }
+    ensures names { NamesPart part result }
+    ensures bit { TellsBit at result }
 {
     PartErr::Bad(Bad {
         part,
@@ -38,15 +40,21 @@ fn refreshed<S: Store>(
     cursor: &Cursor,
 ) -> Result<Cursor, PartErr>
     requires { slot < length pool.old.slots }
-    ensures at { IsSome (S.files store.old) → (x : TermPosting) (xs : List TermPosting) → IsAtPosting cursor.now (slice_index_or pool.old.slots slot []) (bytes_at (S.files store.old) (full_name file.now.base.now file.now.part)) x xs → IfOk result (λ c. IsAtPosting c (slice_index_or pool.new.slots slot []) (bytes_at (S.files store.old) (full_name file.now.base.now file.now.part)) x xs) }
+    ensures at { IsSome (S.files store.old) → (x : TermPosting) (xs : List TermPosting) →
+        IsAtPosting cursor.now (slice_index_or pool.old.slots slot []) (file_bytes file.now (S.files store.old)) x xs →
+        IfOk result (λ c. IsAtPosting c (slice_index_or pool.new.slots slot []) (file_bytes file.now (S.files store.old)) x xs) }
     ensures undamaged { NoDamage result }
     ensures near { IfOk result (λ c. IsNear c) }
     ensures left { IfOk result (λ c. c.left ≡ cursor.now.left) }
+    ensures place { IfOk result (λ c. c.place ≡ cursor.now.place) }
     ensures slots { pool.new.slots ≡ slice_set pool.old.slots slot (slice_index_or pool.new.slots slot []) }
     ensures pool { SamePool pool.old pool.new }
-    ensures looked { Looked file.now.part (S.files store.old) (S.files store.new) (S.reads store.old) (S.reads store.new) (S.faults store.old) (S.faults store.new) }
+    ensures looked { Looked file.now.part (S.files store.old) (S.files store.new)
+        (S.reads store.old) (S.reads store.new) (S.faults store.old) (S.faults store.new) }
     ensures cause { HasPartCause (S.faults store.old) (S.faults store.new) result }
     ensures memory { NoMemory result }
+    ensures names { IfErr result (NamesPart file.now.part) }
+    ensures bit { IfErr result (TellsBit cursor.now.place) }
 {
     let byte = cursor.place / 8;
     if byte >= cursor.start && byte - cursor.start <= 32 {
@@ -69,10 +77,15 @@ fn read_behind(pool: &Pool, part: Part, slot: usize, cursor: &Cursor) -> Result<
     requires slot { slot < length pool.now.slots }
     requires near { IsNear cursor.now }
     requires left { 1 ≤ cursor.now.left }
-    ensures told { (file : List ℕ) (x y : TermPosting) (ys : List TermPosting) → IsAtPosting cursor.now (slice_index_or pool.now.slots slot []) file x (y ∷ ys) → IsOkAnd result (λ c. IsAtPosting c (slice_index_or pool.now.slots slot []) file y ys) }
+    ensures told { (file : List ℕ) (x y : TermPosting) (ys : List TermPosting) →
+        IsAtPosting cursor.now (slice_index_or pool.now.slots slot []) file x (y ∷ ys) →
+        IsOkAnd result (λ c. IsAtPosting c (slice_index_or pool.now.slots slot []) file y ys) }
     ensures left { IfOk result (λ c. c.left + 1 ≡ cursor.now.left) }
+    ensures posting { IfOk result (λ c. HasPosting c) }
     ensures caused { (f g : ℕ) → IsCaused f g result }
     ensures memory { NoMemory result }
+    ensures names { IfErr result (NamesPart part) }
+    ensures bit { IfErr result (TellsBit cursor.now.place) }
 {
     let all = pool.slot(slot);
     let bytes = &all[..cursor.count.min(all.len())];
@@ -102,14 +115,21 @@ pub fn advanced<S: Store>(
 ) -> Result<Cursor, PartErr>
     requires slot { slot < length pool.old.slots }
     requires left { 1 ≤ cursor.now.left }
-    ensures told { IsSome (S.files store.old) → (x : TermPosting) (xs : List TermPosting) → IsAt cursor.now (slice_index_or pool.old.slots slot []) (bytes_at (S.files store.old) (full_name file.now.base.now file.now.part)) (x ∷ xs) → IfOk result (λ c. IsAt c (slice_index_or pool.new.slots slot []) (bytes_at (S.files store.old) (full_name file.now.base.now file.now.part)) xs) }
-    ensures undamaged { IsSome (S.files store.old) → (x : TermPosting) (xs : List TermPosting) → IsAt cursor.now (slice_index_or pool.old.slots slot []) (bytes_at (S.files store.old) (full_name file.now.base.now file.now.part)) (x ∷ xs) → NoDamage result }
+    ensures told { IsSome (S.files store.old) → (x : TermPosting) (xs : List TermPosting) →
+        IsAt cursor.now (slice_index_or pool.old.slots slot []) (file_bytes file.now (S.files store.old)) (x ∷ xs) →
+        IfOk result (λ c. IsAt c (slice_index_or pool.new.slots slot []) (file_bytes file.now (S.files store.old)) xs) }
+    ensures undamaged { IsSome (S.files store.old) → (x : TermPosting) (xs : List TermPosting) →
+        IsAt cursor.now (slice_index_or pool.old.slots slot []) (file_bytes file.now (S.files store.old)) (x ∷ xs) → NoDamage result }
     ensures left { IfOk result (λ c. c.left + 1 ≡ cursor.now.left) }
+    ensures posting { IfOk result (λ c. HasPosting c) }
     ensures slots { pool.new.slots ≡ slice_set pool.old.slots slot (slice_index_or pool.new.slots slot []) }
     ensures pool { SamePool pool.old pool.new }
-    ensures looked { Looked file.now.part (S.files store.old) (S.files store.new) (S.reads store.old) (S.reads store.new) (S.faults store.old) (S.faults store.new) }
+    ensures looked { Looked file.now.part (S.files store.old) (S.files store.new)
+        (S.reads store.old) (S.reads store.new) (S.faults store.old) (S.faults store.new) }
     ensures cause { HasPartCause (S.faults store.old) (S.faults store.new) result }
     ensures memory { NoMemory result }
+    ensures names { IfErr result (NamesPart file.now.part) }
+    ensures bit { IfErr result (TellsBit cursor.now.place) }
 {
     if cursor.left == 1 {
         return Ok(Cursor {
@@ -135,10 +155,15 @@ fn read_header(
     count: usize,
 ) -> Result<Cursor, PartErr>
     requires slot { slot < length pool.now.slots }
-    ensures told { (file : List ℕ) (xs : List TermPosting) → IsRunAt file place xs → count ≤ 64 → take count (slice_index_or pool.now.slots slot []) ≡ take 64 (drop (place / 8) file) → IsOkAnd result (λ c. IsAtPosting c (slice_index_or pool.now.slots slot []) file before_first xs) }
+    ensures told { (file : List ℕ) (xs : List TermPosting) → IsRunAt file place xs → count ≤ 64 →
+        take count (slice_index_or pool.now.slots slot []) ≡ take 64 (drop (place / 8) file) →
+        IsOkAnd result (λ c. IsAtPosting c (slice_index_or pool.now.slots slot []) file before_first xs) }
     ensures left { IfOk result (λ c. 1 ≤ c.left) }
+    ensures left_below { IfOk result (λ c. c.left < 2 ^ 32) }
     ensures caused { (f g : ℕ) → IsCaused f g result }
     ensures memory { NoMemory result }
+    ensures names { IfErr result (NamesPart part) }
+    ensures bit { IfErr result (TellsBit place) }
 {
     let all = pool.slot(slot);
     let bytes = &all[..count.min(all.len())];
@@ -171,13 +196,18 @@ pub fn opened<S: Store>(
     place: u64,
 ) -> Result<Cursor, PartErr>
     requires slot { slot < length pool.old.slots }
-    ensures told { IsSome (S.files store.old) → (xs : List TermPosting) → IsRunAt (bytes_at (S.files store.old) (full_name file.now.base.now file.now.part)) place xs → IfOk result (λ c. IsAt c (slice_index_or pool.new.slots slot []) (bytes_at (S.files store.old) (full_name file.now.base.now file.now.part)) xs) }
-    ensures undamaged { IsSome (S.files store.old) → (xs : List TermPosting) → IsRunAt (bytes_at (S.files store.old) (full_name file.now.base.now file.now.part)) place xs → NoDamage result }
+    ensures told { IsSome (S.files store.old) → (xs : List TermPosting) → IsRunAt (file_bytes file.now (S.files store.old)) place xs →
+        IfOk result (λ c. IsAt c (slice_index_or pool.new.slots slot []) (file_bytes file.now (S.files store.old)) xs) }
+    ensures undamaged { IsSome (S.files store.old) → (xs : List TermPosting) → IsRunAt (file_bytes file.now (S.files store.old)) place xs → NoDamage result }
+    ensures left { IfOk result (λ c. c.left < 2 ^ 32) }
+    ensures posting { IfOk result (λ c. HasPosting c) }
     ensures slots { pool.new.slots ≡ slice_set pool.old.slots slot (slice_index_or pool.new.slots slot []) }
     ensures pool { SamePool pool.old pool.new }
-    ensures looked { Looked file.now.part (S.files store.old) (S.files store.new) (S.reads store.old) (S.reads store.new) (S.faults store.old) (S.faults store.new) }
+    ensures looked { Looked file.now.part (S.files store.old) (S.files store.new)
+        (S.reads store.old) (S.reads store.new) (S.faults store.old) (S.faults store.new) }
     ensures cause { HasPartCause (S.faults store.old) (S.faults store.new) result }
     ensures memory { NoMemory result }
+    ensures names { IfErr result (NamesPart file.now.part) }
 {
     match pool.fill(store, file, place / 8, slot) {
         Ok(count) => match read_header(pool, file.part, slot, place, count) {

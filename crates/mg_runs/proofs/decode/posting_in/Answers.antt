@@ -32,7 +32,7 @@ returns-in_err-term-clause-told c = λ x more before small e.
     let a = one_some _ _ _ c.in_ok-term_gap.was (c.number_in.ensures.told (x.term - c.args.last.now.term + 1) p.behind_gap p.gap p.first) in
     let b = rw a at c.number_in-2.ensures.told (doc_gap c.args.last.now x) p.behind_doc p.doc in
     let d = one_some _ _ _ c.in_ok-doc_gap.was (b p.second) in
-    absurd (none_or_some _ _ c.in_err-term.was (c.behind.ensures x before small (ap (λ n. n.value) a) (ap (λ n. n.value) d)))
+    absurd (none_or_some _ _ c.in_err-term.was (c.behind.ensures.told x before small (ap (λ n. n.value) a) (ap (λ n. n.value) d)))
 
 pub returns-clause-told : goal.returns-clause-told
 returns-clause-told c = λ x more before small e.
@@ -42,7 +42,7 @@ returns-clause-told c = λ x more before small e.
     let d = one_some _ _ _ c.in_ok-doc_gap.was (b p.second) in
     let f = rw d at c.number_in-3.ensures.told x.count more p.count in
     let n = one_some _ _ _ c.in_ok-count.was (f p.third) in
-    let h = one_some _ _ _ c.in_ok-term.was (c.behind.ensures x before small (ap (λ k. k.value) a) (ap (λ k. k.value) d)) in
+    let h = one_some _ _ _ c.in_ok-term.was (c.behind.ensures.told x before small (ap (λ k. k.value) a) (ap (λ k. k.value) d)) in
     let mk : ℕ → ℕ → ℕ → ℕ → Decoded = λ t u v w. record { posting = record { term = t; doc = u; count = v }; next = w } in
     let next = ap (λ k. k.next) n ∙ p.total in
     ap (λ k. Some (mk k c.in_ok-term.doc c.in_ok-count.count.value c.in_ok-count.count.next)) (ap (λ k. k.0) h)

@@ -1,13 +1,11 @@
 use Rattle.std.proofs.Common.{◌≡◌, ◌<◌, ◌^◌, List, IsSome}
-use Rattle.std.specs.Prelude.{sum_by}
 use Rattle.mg_dev.specs.Files.{bytes_at}
 use Rattle.mg_dev.specs.Names.{full_name}
 use Rattle.mg_bits.specs.Pages.{Looked}
 use Rattle.mg_defs.specs.declared.TermPosting.{TermPosting}
 use Rattle.mg_runs.specs.Pooled.{SamePool}
-use Rattle.mg_runs.specs.Merging.{AreLeft, IsShaped}
+use Rattle.mg_runs.specs.Merging.{AreLeft, IsShaped, left_together}
 use Rattle.mg_runs.specs.Joins.{IsCounting}
-use Rattle.mg_runs.specs.declared.cursor.Cursor.{Cursor}
 use Rattle.mg_runs.proofs.join.count_postings.Given as goal
 
 abbrev pub invariant-loop-count : goal.invariant-loop-count
@@ -21,4 +19,4 @@ invariant-loop-count g l = record {
 }
 
 abbrev pub decreases-loop-count : goal.decreases-loop-count
-decreases-loop-count g l = sum_by (λ (c : Cursor). c.left) l.group.cursors.items
+decreases-loop-count g l = left_together l.group.cursors.items

@@ -1,5 +1,4 @@
 use Rattle.std.proofs.Common.{◌≡◌, ◌≤◌, ◌+◌, ◌*◌, ◌^◌, List, IsSome, length}
-use Rattle.std.specs.Prelude.{sum_by}
 use Rattle.mg_dev.specs.Files.{bytes_at}
 use Rattle.mg_dev.specs.Names.{full_name}
 use Rattle.mg_defs.specs.RunBits.{before_first, postings_bits}
@@ -7,9 +6,8 @@ use Rattle.mg_defs.specs.declared.TermPosting.{TermPosting}
 use Rattle.mg_bits.specs.BitWriting.{Holds}
 use Rattle.mg_runs.specs.Pooled.{SamePool}
 use Rattle.mg_runs.specs.Cursors.{IsRun}
-use Rattle.mg_runs.specs.Merging.{AreLeft, IsShaped}
+use Rattle.mg_runs.specs.Merging.{AreLeft, IsShaped, left_together}
 use Rattle.mg_runs.specs.Joins.{IsPutting, Passed}
-use Rattle.mg_runs.specs.declared.cursor.Cursor.{Cursor}
 use Rattle.mg_runs.proofs.join.put_postings.Given as goal
 
 abbrev pub invariant-loop-posting : goal.invariant-loop-posting
@@ -25,4 +23,4 @@ invariant-loop-posting g l = record {
 }
 
 abbrev pub decreases-loop-posting : goal.decreases-loop-posting
-decreases-loop-posting g l = sum_by (λ (c : Cursor). c.left) l.group.cursors.items
+decreases-loop-posting g l = left_together l.group.cursors.items

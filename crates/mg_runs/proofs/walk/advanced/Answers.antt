@@ -7,3 +7,6 @@ returns-in-Ok-clause-undamaged g c = λ told x xs at.
 
 pub returns-in-Ok-clause-cause : goal.returns-in-Ok-clause-cause
 returns-in-Ok-clause-cause g c = record { later = c.in-Ok.ensures.cause.later; device = c.read_behind.ensures.caused _ _ }
+
+pub returns-in-Ok-clause-bit : goal.returns-in-Ok-clause-bit
+returns-in-Ok-clause-bit g c = rw c.in-Ok.ensures.place at c.read_behind.ensures.bit

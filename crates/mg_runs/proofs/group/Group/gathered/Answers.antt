@@ -2,6 +2,7 @@ use Rattle.std.proofs.Common.{◌≡◌, ◌+◌, ℕ, ap, sym, ◌∙◌, arith
 use Rattle.mg_defs.specs.declared.TermPosting.{TermPosting}
 use Rattle.mg_runs.specs.Merging.{IsTaking}
 use Rattle.mg_runs.proofs.Merges.{taking_more, taking_end, count_fits}
+use Rattle.mg_runs.proofs.Naming.{bit_of_none}
 use Rattle.mg_runs.proofs.Steps.{looked_more, pool_more, caused_as, undamaged_as, split_first}
 use Rattle.mg_runs.proofs.group.Group.gathered.Goals as goal
 
@@ -42,7 +43,8 @@ loop-run-preserved g c =
             taking = subst (λ n. IsTaking c.args.first.now base (set has.lefts c.in-Some.run' s.0) n) sum more;
             more = omega arith;
           };
-      total = omega (arith, c.in-Ok.ensures.total, inv.total);
+      rest = omega (arith, c.step.ensures.rest, inv.rest);
+      count = let n = inv.count in omega (arith, n, c.in-Some-checked_add.ensures.1);
       looked = looked_more _ _ _ _ _ _ _ _ _ _ inv.looked (rw inv.file at c.step.ensures.looked);
     }
 
@@ -63,3 +65,6 @@ returns-clause-told g c = λ told base lefts stand taking are some.
     let all = c.in_default.ensures.some _ has.lefts has.stand has.taking.from in
     let end = taking_end c.args.first.now base has.lefts c.loop-run.count has.taking are (omega arith) all in
     record { lefts = has.lefts; stand = has.stand; are = end.1; same = end.0 }
+
+pub returns-in-None-clause-bit : goal.returns-in-None-clause-bit
+returns-in-None-clause-bit g c = bit_of_none c.loop-run.self.cursors.items c.damage.result c.damage.ensures.bit

@@ -1,12 +1,10 @@
 use Rattle.std.proofs.Common.{◌≡◌, ◌≤◌, List, IsSome}
-use Rattle.std.specs.Prelude.{sum_by}
 use Rattle.mg_dev.specs.Files.{bytes_at}
 use Rattle.mg_dev.specs.Names.{full_name}
 use Rattle.mg_bits.specs.Pages.{Looked}
 use Rattle.mg_defs.specs.declared.TermPosting.{TermPosting}
 use Rattle.mg_runs.specs.Pooled.{SamePool}
-use Rattle.mg_runs.specs.Merging.{AreRuns, IsShaped, IsTaking, StandFor, IsGathering}
-use Rattle.mg_runs.specs.declared.cursor.Cursor.{Cursor}
+use Rattle.mg_runs.specs.Merging.{AreRuns, IsShaped, IsTaking, StandFor, IsGathering, left_together}
 use Rattle.mg_runs.proofs.group.Group.gathered.Given as goal
 
 abbrev pub invariant-loop-run : goal.invariant-loop-run
@@ -15,9 +13,10 @@ invariant-loop-run g l = record {
   file : l.self.file ≡ l.initial.self.file;
   pool : SamePool l.initial.self.pool l.self.pool;
   told : IsSome (g.S.Store.files l.initial.store) → (base lefts : List (List TermPosting)) → StandFor l.initial.self.pool.slots l.initial.self.cursors.items (bytes_at (g.S.Store.files l.initial.store) (full_name l.initial.self.file.base.now l.initial.self.file.part)) lefts → IsTaking l.first base lefts l.first.count → AreRuns base → IsGathering l.self.pool.slots l.self.cursors.items (bytes_at (g.S.Store.files l.initial.store) (full_name l.initial.self.file.base.now l.initial.self.file.part)) l.first base l.count;
-  total : sum_by (λ (c : Cursor). c.left) l.self.cursors.items ≤ sum_by (λ (c : Cursor). c.left) l.initial.self.cursors.items;
+  rest : left_together l.self.cursors.items ≤ left_together l.initial.self.cursors.items;
+  count : l.first.count ≤ l.count;
   looked : Looked l.initial.self.file.part (g.S.Store.files l.initial.store) (g.S.Store.files l.store) (g.S.Store.reads l.initial.store) (g.S.Store.reads l.store) (g.S.Store.faults l.initial.store) (g.S.Store.faults l.store);
 }
 
 abbrev pub decreases-loop-run : goal.decreases-loop-run
-decreases-loop-run g l = sum_by (λ (c : Cursor). c.left) l.self.cursors.items
+decreases-loop-run g l = left_together l.self.cursors.items

@@ -1,5 +1,6 @@
 use Rattle.std.proofs.Common.{◌∙◌, subst, sym, length, arith}
 use Rattle.mg_runs.specs.Joins.{IsRunPart}
+use Rattle.mg_runs.proofs.Naming.{names_its}
 use Rattle.mg_runs.proofs.RoundsLoop.{peak_round}
 use Rattle.mg_runs.proofs.Working.{other_is, passed_run, worked_passed, worked_more, some_next}
 use Rattle.mg_runs.proofs.round.Round.rounds.Goals as goal
@@ -37,3 +38,6 @@ returns-in-Err-clause-worked g c =
     let inv = c.loop-alloc.invariant in
     let passed = rw inv.base at c.joined.ensures.passed in
     worked_more _ _ _ _ _ _ _ _ _ _ inv.worked (worked_passed _ c.loop-alloc.round.file.part _ _ _ _ _ _ inv.part passed)
+
+pub returns-in-Err-clause-names : goal.returns-in-Err-clause-names
+returns-in-Err-clause-names g c = names_its c.loop-alloc.round.file.part c.in-Err.refusal c.loop-alloc.invariant.part c.in-Err.ensures.names

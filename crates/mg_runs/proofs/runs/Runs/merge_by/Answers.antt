@@ -12,6 +12,7 @@ use Rattle.mg_runs.specs.Left.{Merging}
 use Rattle.mg_runs.proofs.LastRun.{on_ok, run_made, runs_fit, peak_all}
 use Rattle.mg_runs.proofs.RoundsLoop.{fed_count}
 use Rattle.mg_runs.proofs.RoundsFirst.{fed_cap, fed_stored}
+use Rattle.mg_runs.proofs.Naming.{refusal_names_its}
 use Rattle.mg_runs.proofs.Steps.{undamaged_as}
 use Rattle.mg_runs.proofs.Working.{worked_wrote, worked_more, worked_looked}
 use Rattle.mg_runs.proofs.runs.Runs.merge_by.Goals as goal
@@ -20,7 +21,7 @@ pub overflow_cast-runs : goal.overflow_cast-runs
 overflow_cast-runs g c =
     let fed = c.requires.fed.0 in
     let is = c.requires.fed.1 in
-    let count = fed_count _ _ fed (c.in-Ok.ensures.places fed is) in
+    let count = fed_count _ _ fed (fed_cap _ _ fed is).0 (c.in-Ok.ensures.places fed is) in
     let few = runs_fit _ _ (fed_cap _ _ fed is).0 is.few in
     omega (arith, c.len-runs.ensures, count, few)
 
@@ -48,11 +49,11 @@ returns-in-Ok-rounds-clause-run_bytes g c = λ told fed is.
 pub returns-in-Ok-rounds-clause-runs : goal.returns-in-Ok-rounds-clause-runs
 returns-in-Ok-rounds-clause-runs g c = λ fed is.
     let size : c.len-runs.result ≡ length c.in-Ok.first.places.items = omega (arith, c.len-runs.ensures) in
-    subst (λ k. IfOk c.open.result (λ (m : Merging). m.runs ≡ k)) (size ∙ fed_count _ _ fed (c.in-Ok.ensures.places fed is)) c.open.ensures.runs
+    subst (λ k. IfOk c.open.result (λ (m : Merging). m.runs ≡ k)) (size ∙ fed_count _ _ fed (fed_cap _ _ fed is).0 (c.in-Ok.ensures.places fed is)) c.open.ensures.runs
 
 pub returns-in-Ok-rounds-clause-peak : goal.returns-in-Ok-rounds-clause-peak
 returns-in-Ok-rounds-clause-peak g c = λ fed is.
-    let count = fed_count _ _ fed (c.in-Ok.ensures.places fed is) in
+    let count = fed_count _ _ fed (fed_cap _ _ fed is).0 (c.in-Ok.ensures.places fed is) in
     subst (λ k. IfOk c.open.result (λ (m : Merging). m.peak ≡ k)) (peak_all (length fed) _ c.args.width _ _ c.in-Ok.first.pool.peak _ (c.in-Ok.ensures.peak ∙ is.peak) count c.in-Ok-rounds.ensures.peak c.in-Ok-rounds.ensures.few) c.open.ensures.peak
 
 pub returns-in-Ok-rounds-clause-undamaged : goal.returns-in-Ok-rounds-clause-undamaged
@@ -82,3 +83,6 @@ returns-in-Err-rounds-clause-undamaged g c = λ told.
     let stored = fed_stored _ _ fed _ _ is (c.in-Ok.ensures.run told fed is) (c.in-Ok.ensures.places fed is) in
     let next = rw (c.in-Ok.ensures.base, c.in-Ok.ensures.part) at c.in-Err-rounds.ensures.undamaged in
     undamaged_as Round Merge c.in-Err-rounds.refusal (next now (postings fed) stored)
+
+pub returns-in-Ok-rounds-clause-names : goal.returns-in-Ok-rounds-clause-names
+returns-in-Ok-rounds-clause-names g c = refusal_names_its c.in-Ok-rounds.last.file.part c.open.result c.in-Ok-rounds.ensures.part c.open.ensures.names

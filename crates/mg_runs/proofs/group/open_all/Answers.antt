@@ -1,0 +1,24 @@
+use Rattle.std.proofs.Common.{rules, ◌≡◌, ◌+◌, ◌∙◌, List, ap, sym, subst, arith}
+use Rattle.std.specs.List.{All}
+use Rattle.std.proofs.lemmas.List.Elements.{All-push}
+use Rattle.std.proofs.lemmas.List.Sums.{sum_by_push}
+use Rattle.mg_runs.specs.Cursors.{HasPosting}
+use Rattle.mg_runs.specs.Merging.{left_together}
+use Rattle.mg_runs.specs.declared.cursor.Cursor.{Cursor}
+use Rattle.mg_runs.proofs.group.open_all.Goals as goal
+
+pub loop-k-preserved : goal.loop-k-preserved
+loop-k-preserved g c =
+    let inv = c.loop-k.invariant in
+    let cursor : Cursor = c.in-Ok-opened.cursor in
+    let push : left_together c.push.new.self.items ≡ left_together c.loop-k.cursors.items + cursor.left
+    = ap left_together c.in-Ok-push.ensures.items ∙ sum_by_push (λ (x : Cursor). x.left) c.loop-k.cursors.items cursor in
+    record {
+      made = search rules;
+      slots = search rules;
+      told = search rules;
+      postings = subst (λ (l : List Cursor). All (λ (x : Cursor). HasPosting x) l) (sym c.in-Ok-push.ensures.items) (All-push (λ (x : Cursor). HasPosting x) c.loop-k.cursors.items cursor inv.postings c.in-Ok-opened.ensures.posting);
+      total = omega (arith, push, inv.total, c.in-Ok-opened.ensures.left);
+      pool = search rules;
+      looked = search rules;
+    }
