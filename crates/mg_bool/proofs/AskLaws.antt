@@ -131,6 +131,7 @@ place_later base collection asked t m n (Some c) le f = record {
   reached_doc = f.reached_doc;
   early = omega (arith, f.early, le);
   at = f.at;
+  first = f.first;
   within = f.within;
 }
 

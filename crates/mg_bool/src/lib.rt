@@ -19,4 +19,6 @@ pub use laws::{all_are_to_come, matches_still_fit};
 pub use matches::Matches;
 
 #[cfg(test)]
+mod random_tests;
+#[cfg(test)]
 mod tests;

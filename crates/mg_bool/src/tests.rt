@@ -100,7 +100,7 @@ fn infos_of(
 }
 
 // The documents that satisfy a line; None where it is no query.
-fn answers<S: Store>(
+pub fn answers<S: Store>(
     alloc: Global,
     store: &mut S,
     line: &[u8],
@@ -151,6 +151,7 @@ fn lines_are_answered(rt: HostRuntime) -> Result<(), Fail> {
     assert!(rt; gives(alloc, &mut store, b"cat & !the", terms, 3, &[3])?);
     assert!(rt; gives(alloc, &mut store, b"cat dog | sat", terms, 3, &[1, 3])?);
     assert!(rt; gives(alloc, &mut store, b"cat", terms, 3, &[1, 3])?);
+    assert!(rt; gives(alloc, &mut store, b"cat\r", terms, 3, &[1, 3])?);
     assert!(rt; gives(alloc, &mut store, b"zebra", terms, 3, &[])?);
     assert!(rt; gives(alloc, &mut store, b"!zebra", terms, 3, &[1, 2, 3])?);
     // Two empty documents, and none.
@@ -227,6 +228,8 @@ fn a_failing_store_is_told_at_each_call(rt: HostRuntime) -> Result<(), Fail> {
         let found = answers(alloc, &mut store, b"(a | b) & !e | c", &TERMS, 300);
         if call < 8 {
             assert_eq!(rt; found.err(), Some(PartErr::Device));
+            // It is the last call: nothing more is read after a refusal.
+            assert_eq!(rt; store.calls(), call + 1);
         } else {
             assert_eq!(rt; found?.map(|docs| docs.len()), Some(145));
         }

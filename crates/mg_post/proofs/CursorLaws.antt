@@ -1,5 +1,5 @@
 -- Where a cursor stands after it was asked for a document.
-use Rattle.std.proofs.Common.{arith, ◌≡◌, ◌≢◌, ◌+◌, ◌*◌, ◌^◌, ◌≤◌, ◌<◌, ◌-◌, ℕ, Bool, true, false, List, [], ◌∷◌, ◌++◌, length, take, drop, min, max, Option, Some, None, Err, IsSome, refl, sym, ◌∙◌, ap, subst, ◌⊎◌, inl, inr, append_assoc, append-nil, unwrap_or, get_or}
+use Rattle.std.proofs.Common.{arith, ◌≡◌, ◌≢◌, ◌+◌, ◌*◌, ◌^◌, ◌≤◌, ◌<◌, ◌-◌, ℕ, Bool, true, false, List, [], ◌∷◌, ◌++◌, length, take, drop, min, Option, Some, None, Err, IsSome, refl, sym, ◌∙◌, ap, subst, ◌⊎◌, inl, inr, append_assoc, append-nil, unwrap_or, get_or}
 use Rattle.std.proofs.lemmas.List.{take-append-drop, take_all}
 use Rattle.std.specs.Str.{bytes_eq}
 use Rattle.std.proofs.lemmas.Slice.Eq.{bytes_eq-Decides}
@@ -17,7 +17,7 @@ use Rattle.mg_post.specs.declared.refusal.Refusal.{Refusal}
 use Rattle.mg_post.specs.declared.refusal.Refusal.TheVariants.{Device, Damaged}
 use Rattle.mg_post.specs.Answers.{IsRefused, OrDevice, AnswersList}
 use Rattle.mg_post.specs.Finding.{IsFoundAt}
-use Rattle.mg_post.specs.Cursor.{Cursoring, Walks, Entered, StandsOn, after, next_doc, head_of, ReadsTwo, post_pages, skip_pages}
+use Rattle.mg_post.specs.Cursor.{Cursoring, Walks, Entered, StandsOn, after, next_doc, head_of, ReadsTwo, entered_pages, post_pages, skip_pages}
 use Rattle.mg_post.proofs.FindLaws.{rises_front}
 use Rattle.mg_post.proofs.EnterLaws.{blocks_next, doc_next, block_rises}
 
@@ -310,14 +310,15 @@ two_parts e = cc
 part_is : (p q : Part) → Some p ≡ Some q → p ≡ q
 part_is p q e = cc
 
-pub reads_two : (c v : Cursoring) (d0 d1 d2 : Seen) → c.post.part ≡ Post → c.skip.part ≡ Skip → Calm (feeding_of 4096 c.skip) (feeding_of 4096 v.skip) d0 d1 → Calm (feeding_of 4096 c.post) (feeding_of 4096 v.post) d1 d2 →
+pub reads_two : (c v : Cursoring) (d0 d1 d2 : Seen) → c.post.part ≡ Post → c.skip.part ≡ Skip → Calm (feeding_of 4096 c.skip) (feeding_of 4096 v.skip) d0 d1 → Calm (feeding_of 4096 c.post) (feeding_of 4096 v.post) d1 d2 → post_pages v ≤ entered_pages v →
     ReadsTwo c v d0.reads d2.reads
-reads_two c v d0 d1 d2 post skip skipped posted =
+reads_two c v d0 d1 d2 post skip skipped posted first =
     let post_stays : d1.reads Post ≡ d0.reads Post = skipped.reads.others Post (λ e. two_parts (sym (part_is c.skip.part Post e) ∙ skip)) in
     let skip_stays : d2.reads Skip ≡ d1.reads Skip = posted.reads.others Skip (λ e. two_parts (sym post ∙ part_is c.post.part Skip e)) in
     record {
       later = λ p. omega (arith, skipped.reads.later p, posted.reads.later p);
       others = λ p not_post not_skip. posted.reads.others p (λ e. not_post (sym (part_is c.post.part p e) ∙ post)) ∙ skipped.reads.others p (λ e. not_skip (sym (part_is c.skip.part p e) ∙ skip));
+      first = first;
       post_later = omega (arith, posted.counted.later);
       skip_later = omega (arith, skipped.counted.later);
       post = λ small.
@@ -332,17 +333,13 @@ reads_two c v d0 d1 d2 post skip skipped posted =
           skip_stays ∙ exact ∙ ap (raised (d0.reads Skip)) by;
     }
 
--- a block was entered
-pub raised_by : (count now passed pages : ℕ) → min count (2 ^ 64 - 1) ≤ passed → now ≤ count + pages →
-    (max (min (passed + pages) (2 ^ 64 - 1)) (min now (2 ^ 64 - 1)) ≡ min (max passed (min count (2 ^ 64 - 1)) + pages) (2 ^ 64 - 1)) × (min now (2 ^ 64 - 1) ≤ min (passed + pages) (2 ^ 64 - 1))
-raised_by count now passed pages first step = (omega (arith, first, step), omega (arith, first, step))
+-- a block was entered, or reading it was refused
+pub raised_by : (count now entered more : ℕ) → entered < 2 ^ 64 → min count (2 ^ 64 - 1) ≤ entered → now ≤ count + more →
+    (entered ≤ min (entered + more) (2 ^ 64 - 1)) × (min now (2 ^ 64 - 1) ≤ min (entered + more) (2 ^ 64 - 1))
+raised_by count now entered more small first step = (omega (arith, small), omega (arith, first, step))
 
--- or reading it was refused
-pub raised_most : (count now passed pages : ℕ) → passed < 2 ^ 64 → min count (2 ^ 64 - 1) ≤ passed → now ≤ count + pages → max passed (min now (2 ^ 64 - 1)) ≤ min (max passed (min count (2 ^ 64 - 1)) + pages) (2 ^ 64 - 1)
-raised_most count now passed pages small first step = omega (arith, small, first, step)
-
-pub raised_least : (count now passed : ℕ) → count ≤ now → max passed (min count (2 ^ 64 - 1)) ≤ max passed (min now (2 ^ 64 - 1))
-raised_least count now passed le = omega (arith, le)
+pub raised_most : (entered read pages : ℕ) → read ≤ pages → min (entered + read) (2 ^ 64 - 1) ≤ min (entered + pages) (2 ^ 64 - 1)
+raised_most entered read pages le = omega (arith, le)
 
 -- ---- refusals
 

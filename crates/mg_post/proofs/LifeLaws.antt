@@ -1,5 +1,5 @@
 -- The pages that a cursor enters over its life.
-use Rattle.std.proofs.Common.{arith, ◌≡◌, ◌+◌, ◌*◌, ◌/◌, ◌-◌, ◌≤◌, ◌<◌, ◌^◌, ℕ, zero, suc, true, List, [], ◌∷◌, length, min, max, ap, ◌∙◌, ◌⊎◌, inl, inr, Option, Some, None, Ok, Err}
+use Rattle.std.proofs.Common.{arith, ◌≡◌, ◌+◌, ◌*◌, ◌-◌, ◌≤◌, ◌<◌, ◌^◌, ℕ, zero, suc, true, List, [], ◌∷◌, length, ap, ◌∙◌, inl, inr, Option, Some, None, Ok, Err}
 use Rattle.std.specs.Prelude.{Result, Contains, slice_index_or}
 use Rattle.std.specs.List.{list_any}
 use Rattle.std.proofs.lemmas.Bool.{cases_lt, or_left, or_right}
@@ -11,7 +11,6 @@ use Rattle.mg_defs.specs.Lists.{InRange, block_count}
 use Rattle.mg_defs.specs.PageBounds.{in_range, met_pages}
 use Rattle.mg_laws.proofs.BoundLaws.{range_true, met_rises, met_enters, met_whole, list_few}
 use Rattle.mg_laws.proofs.MetBlocks.{few_postings, met_all}
-use Rattle.mg_bits.specs.Feed.{raised}
 use Rattle.mg_post.specs.Finding.{entries_pages}
 use Rattle.mg_post.specs.Cursor.{Cursoring, CursorStands, SameList, blocks_of, entered_pages, post_pages, Enters, EntersFor, ReadsBlock, ReadsTwo}
 use Rattle.mg_post.specs.TermLists.{IsAmong, EnteredFor}
@@ -73,7 +72,7 @@ entries_few skip_at docs few = grind (arith)
 -- the count of Post rises by no more than the cursor's own
 pub reads_after : (c v : Cursoring) (before now : Reads) → ReadsTwo c v before now → entered_pages v < 2 ^ 64 - 1 → now Post + post_pages c ≤ before Post + post_pages v
 reads_after c v before now two small =
-    let few : post_pages v < 2 ^ 64 - 1 = omega (arith, small) in
+    let few : post_pages v < 2 ^ 64 - 1 = omega (arith, two.first, small) in
     omega (arith, two.post few, two.post_later)
 
 -- a document that is one of those asked

@@ -6,10 +6,10 @@ use Rattle.mg_dev.specs.declared.part_err.PartErr.{PartErr}
 use Rattle.mg_dev.specs.declared.part_err.PartErr.TheVariants as err
 use Rattle.mg_defs.specs.declared.Posting.{Posting}
 use Rattle.mg_defs.specs.Lists.{last_doc, Rises, Follows, from_doc}
-use Rattle.mg_defs.proofs.ListLaws.{from_here, from_next, last_above, last_within}
+use Rattle.mg_defs.proofs.ListLaws.{from_here, from_next, last_above}
 use Rattle.mg_post.specs.declared.refusal.Refusal.{Refusal}
 use Rattle.mg_post.specs.declared.refusal.Refusal.TheVariants.{Device, Damaged}
-use Rattle.mg_post.specs.Answers.{IsBad, IsRefused}
+use Rattle.mg_post.specs.Answers.{IsRefused}
 use Rattle.mg_post.specs.Cursor.{GoesOn, HeldRises, IsFrom, NamesItsPart, head_of, next_doc}
 
 order : (a b : ℕ) → (a < b) ⊎ (b ≤ a)

@@ -141,7 +141,6 @@ fits_same c f g told post skip fits = record {
   post = held_page_stays c.post f g told post fits.post;
   skip = held_page_stays c.skip f g told skip fits.skip;
   entries = fits.entries;
-  first = fits.first;
 }
 
 pub took_stays : (w : Listing) (f g : Option Files) (lists : List (List Posting)) (ps : List Posting) → is_some g ≡ is_some f → file_at g w.post.name ≡ file_at f w.post.name → file_at g w.skip.name ≡ file_at f w.skip.name → Took w f lists ps → Took w g lists ps

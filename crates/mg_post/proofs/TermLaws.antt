@@ -1,5 +1,5 @@
 -- A cursor over the list of a term of a collection.
-use Rattle.std.proofs.Common.{arith, ◌≡◌, ◌+◌, ◌*◌, ◌≤◌, ◌<◌, ◌^◌, ℕ, List, length, sym, ap, subst, ◌∙◌, Option, Some, None, Ok, Err}
+use Rattle.std.proofs.Common.{arith, ◌≡◌, ◌*◌, ◌≤◌, ℕ, List, length, sym, ap, subst, ◌∙◌, Option, Some, Ok, Err}
 use Rattle.std.specs.Prelude.{Result}
 use Rattle.mg_dev.specs.Files.{Files, Reads, bytes_at}
 use Rattle.mg_dev.specs.Names.{full_name}
@@ -24,8 +24,8 @@ use Rattle.mg_post.proofs.StandLaws.{term_stands}
 use Rattle.mg_post.proofs.LifeLaws.{entered_more, entered_most, pages_few, reads_after}
 
 pub term_starts : (base collection asked t : List ℕ) (n all : ℕ) (info : TermInfo) (c : Cursoring) → IsInfoOf collection t info → all ≡ length (documents collection) → IsOver c (full_name base Post) (full_name base Skip) info.post_at info.skip_at info.docs all →
-    (1 ≤ info.docs → c.parameter ≡ golomb_parameter all info.docs) → ((ps : List Posting) → StandsAt c ps ps) → entered_pages c ≡ 0 → CursorFor base collection asked t n c
-term_starts base collection asked t n all info c told all_is over parameter at none =
+    (1 ≤ info.docs → c.parameter ≡ golomb_parameter all info.docs) → ((ps : List Posting) → StandsAt c ps ps) → entered_pages c ≡ 0 → post_pages c ≤ entered_pages c → CursorFor base collection asked t n c
+term_starts base collection asked t n all info c told all_is over parameter at none first =
     let docs_is : info.docs ≡ length (postings collection t) = ap (λ (i : defs.TermInfo). i.docs) told.is ∙ sym (length_postings collection t) in
     let some : 1 ≤ info.docs = omega (arith, ap (λ (i : defs.TermInfo). i.docs) told.is, term_some collection info.number t told.number) in
     record {
@@ -43,6 +43,7 @@ term_starts base collection asked t n all info c told all_is over parameter at n
       reached_doc = 0;
       early = omega arith;
       at = subst (StandsAt c (postings collection t)) (sym (from_zero (postings collection t))) (at (postings collection t));
+      first = first;
       within = omega (arith, none);
     }
 
@@ -54,10 +55,10 @@ cursor_stands base collection asked t n files c stand f =
     record { list = rw (post_is, skip_is, f.over.post_at_is, f.over.skip_at_is, f.over.docs_is, f.over.all_is, f.parameter) list }
 
 -- after a call that was answered
-after_posting : (base collection asked t : List ℕ) (doc : ℕ) (c v : Cursoring) (found : Option Posting) (f : CursorFor base collection asked t doc c) → IsAmong asked (postings collection t) doc → SameList c v → c.reached ≤ v.reached →
+after_posting : (base collection asked t : List ℕ) (doc : ℕ) (c v : Cursoring) (found : Option Posting) (f : CursorFor base collection asked t doc c) → IsAmong asked (postings collection t) doc → SameList c v → c.reached ≤ v.reached → post_pages v ≤ entered_pages v →
     (found ≡ head_of (from_doc doc (from_doc f.reached_doc (postings collection t)))) × StandsAt v (postings collection t) (from_doc doc (from_doc f.reached_doc (postings collection t))) → Enters (Ok found) (postings collection t) c doc v →
     AnswersAsk base collection asked t doc found v
-after_posting base collection asked t doc c v found f may same forward answer enters =
+after_posting base collection asked t doc c v found f may same forward first answer enters =
     let ps = postings collection t in
     let left_is : from_doc doc (from_doc f.reached_doc ps) ≡ from_doc doc ps = from_from f.reached_doc doc ps f.early in
     record {
@@ -77,6 +78,7 @@ after_posting base collection asked t doc c v found f may same forward answer en
         reached_doc = doc;
         early = omega arith;
         at = subst (StandsAt v ps) left_is answer.1;
+        first = first;
         within = entered_more asked ps c v doc found may same forward enters f.within;
       };
     }
@@ -88,17 +90,17 @@ Answered files c doc r v = (ps left : List Posting) → CursorStands c files ps 
 abbrev Entered : Option Files → Cursoring → ℕ → Result (Option Posting) PartErr → Cursoring → Type 0
 Entered files c doc r v = (ps left : List Posting) → CursorStands c files ps → StandsAt c ps left → Enters r ps c doc v
 
-pub asked_answer : (base collection asked t : List ℕ) (doc : ℕ) (files : Option Files) (c v : Cursoring) (r : Result (Option Posting) PartErr) → MayAsk base collection asked t doc files c → SameList c v → c.reached ≤ v.reached → Answered files c doc r v → Entered files c doc r v →
+pub asked_answer : (base collection asked t : List ℕ) (doc : ℕ) (files : Option Files) (c v : Cursoring) (r : Result (Option Posting) PartErr) → MayAsk base collection asked t doc files c → SameList c v → c.reached ≤ v.reached → post_pages v ≤ entered_pages v → Answered files c doc r v → Entered files c doc r v →
     AnswersList r (λ found. AnswersAsk base collection asked t doc found v)
-asked_answer base collection asked t doc files c v (Ok found) m same forward answer enters =
+asked_answer base collection asked t doc files c v (Ok found) m same forward first answer enters =
     let ps = postings collection t in
     let left = from_doc m.cursor.reached_doc ps in
     let stands = cursor_stands base collection asked t doc files c m.stand m.cursor in
-    after_posting base collection asked t doc c v found m.cursor m.among same forward (answer (postings collection t) (from_doc m.cursor.reached_doc (postings collection t)) stands m.cursor.at) (enters (postings collection t) (from_doc m.cursor.reached_doc (postings collection t)) stands m.cursor.at)
-asked_answer base collection asked t doc files c v (Err err.Device) m same forward answer enters = tt
-asked_answer base collection asked t doc files c v (Err err.Memory) m same forward answer enters =
+    after_posting base collection asked t doc c v found m.cursor m.among same forward first (answer (postings collection t) (from_doc m.cursor.reached_doc (postings collection t)) stands m.cursor.at) (enters (postings collection t) (from_doc m.cursor.reached_doc (postings collection t)) stands m.cursor.at)
+asked_answer base collection asked t doc files c v (Err err.Device) m same forward first answer enters = tt
+asked_answer base collection asked t doc files c v (Err err.Memory) m same forward first answer enters =
     absurd (answer (postings collection t) (from_doc m.cursor.reached_doc (postings collection t)) (cursor_stands base collection asked t doc files c m.stand m.cursor) m.cursor.at)
-asked_answer base collection asked t doc files c v (Err (err.Bad bad)) m same forward answer enters =
+asked_answer base collection asked t doc files c v (Err (err.Bad bad)) m same forward first answer enters =
     absurd (answer (postings collection t) (from_doc m.cursor.reached_doc (postings collection t)) (cursor_stands base collection asked t doc files c m.stand m.cursor) m.cursor.at)
 
 -- ---- how many pages
@@ -118,10 +120,10 @@ asked_pages base collection asked t doc files c v r before now m two enters =
     let most = entered_most asked (postings collection t) c v doc r m.among (enters (postings collection t) (from_doc m.cursor.reached_doc (postings collection t)) stands m.cursor.at) m.cursor.within in
     let few = pages_few asked (postings collection t) files c stands in
     let same = pages_are base collection asked t doc c m.cursor in
-    record { within = omega (arith, most, same); post = reads_after c v before now two (omega (arith, most, few)) }
+    record { within = omega (arith, two.first, most, same); post = reads_after c v before now two (omega (arith, most, few)) }
 
 pub pages_within : (base collection asked t : List ℕ) (n : ℕ) (c : Cursoring) → CursorFor base collection asked t n c → post_pages c ≤ pages_for collection asked t
-pages_within base collection asked t n c f = omega (arith, f.within, met_all asked c.parameter (8 * c.post_at) c.reached (postings collection t), pages_are base collection asked t n c f)
+pages_within base collection asked t n c f = omega (arith, f.first, f.within, met_all asked c.parameter (8 * c.post_at) c.reached (postings collection t), pages_are base collection asked t n c f)
 
 pub cursor_later : (base collection asked t : List ℕ) (m n : ℕ) (c : Cursoring) → m ≤ n → CursorFor base collection asked t m c → CursorFor base collection asked t n c
 cursor_later base collection asked t m n c le f = record {
@@ -132,5 +134,6 @@ cursor_later base collection asked t m n c le f = record {
   reached_doc = f.reached_doc;
   early = omega (arith, f.early, le);
   at = f.at;
+  first = f.first;
   within = f.within;
 }

@@ -1,6 +1,6 @@
 -- What the lexicon tells of a list of a collection fits in its field.
-use Rattle.std.proofs.Common.{arith, ◌≡◌, ◌^◌, ◌≤◌, ◌<◌, ℕ, List, length, take}
-use Rattle.std.specs.List.{list_any, flat_map}
+use Rattle.std.proofs.Common.{arith, ◌^◌, ◌≤◌, ◌<◌, ℕ, List, length, take}
+use Rattle.std.specs.List.{list_any}
 use Rattle.std.proofs.lemmas.List.Concat.{length-flat_map}
 use Rattle.std.proofs.lemmas.List.Sums.{count_by-le-length, sum_by-take-le}
 use Rattle.mg_defs.specs.declared.Posting.{Posting}

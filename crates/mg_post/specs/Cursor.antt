@@ -1,5 +1,5 @@
 -- A cursor over a list: what contracts see of it, and where it stands in its list.
-use Rattle.std.specs.Prelude.{◌≡◌, ◌≢◌, ℕ, ◌+◌, ◌-◌, ◌*◌, ◌/◌, ◌^◌, ◌<◌, ◌≤◌, ◌⊎◌, Bool, true, false, List, [], ◌∷◌, ◌++◌, length, take, drop, min, max, Option, Some, None, Result, Ok, Err}
+use Rattle.std.specs.Prelude.{◌≡◌, ◌≢◌, ℕ, ◌+◌, ◌-◌, ◌*◌, ◌/◌, ◌^◌, ◌<◌, ◌≤◌, ◌⊎◌, Bool, true, false, List, [], ◌∷◌, ◌++◌, length, take, drop, min, Option, Some, None, Result, Ok, Err}
 use Rattle.mg_dev.specs.Files.{Files, Reads}
 use Rattle.mg_dev.specs.declared.part.Part.{Part}
 use Rattle.mg_dev.specs.declared.part.Part.TheVariants as part
@@ -60,8 +60,8 @@ pub record Cursoring : Type 0 where
   pub held : List Posting
   -- whether it went past the last posting
   pub ended : Bool
-  -- the pages of the blocks that were entered
-  pub passed : ℕ
+  -- the pages of the blocks that were entered; of one whose reading was refused, those that were read
+  pub entered : ℕ
 
 -- how many blocks so many postings have
 abbrev pub blocks_of : ℕ → ℕ
@@ -75,7 +75,7 @@ post_pages c = min c.post.count (2 ^ 64 - 1)
 
 -- the pages of the blocks that were entered; of one whose reading was refused, those that were read
 abbrev pub entered_pages : Cursoring → ℕ
-entered_pages c = max c.passed (post_pages c)
+entered_pages c = c.entered
 
 -- the pages of Skip that were read
 abbrev pub skip_pages : Cursoring → ℕ
@@ -88,7 +88,6 @@ pub record CursorFits (c : Cursoring) (files : Option Files) : Type 0 where
   pub post : Fits c.post files
   pub skip : Fits c.skip files
   pub entries : SkipReads c.skip_at c.reached c.skip.held c.skip.count
-  pub first : post_pages c ≤ c.passed
 
 -- its parts hold this list and its skip entries
 pub record CursorStands (c : Cursoring) (files : Option Files) (ps : List Posting) : Type 0 where
@@ -159,10 +158,11 @@ NamesItsPart (err.Bad bad) = (bad.part ≡ part.Post) ⊎ (bad.part ≡ part.Ski
 
 -- ---- what a call reads
 
--- the counts of Post and Skip rise by as much as the first and the third number, unless these stand at their end; no other count rises
+-- the counts of Post and Skip rise by as much as the first and the third number, unless these stand at their end; no other count rises, and the first number does not pass the second
 pub record ReadsTwo (old new : Cursoring) (before now : Reads) : Type 0 where
   pub later : (p : Part) → before p ≤ now p
   pub others : (p : Part) → p ≢ part.Post → p ≢ part.Skip → now p ≡ before p
+  pub first : post_pages new ≤ entered_pages new
   pub post_later : post_pages old ≤ post_pages new
   pub skip_later : skip_pages old ≤ skip_pages new
   pub post : post_pages new < 2 ^ 64 - 1 → now part.Post ≡ raised (before part.Post) (post_pages new - post_pages old)

@@ -15,7 +15,7 @@ use Rattle.mg_defs.specs.Lexicon as defs
 use Rattle.mg_defs.specs.PageBounds.{is_met, met_pages}
 use Rattle.mg_layout.specs.Infos.{info_of}
 use Rattle.mg_layout.specs.declared.term_info.TermInfo.{TermInfo}
-use Rattle.mg_post.specs.Cursor.{Cursoring, IsOver, StandsAt, entered_pages, head_of}
+use Rattle.mg_post.specs.Cursor.{Cursoring, IsOver, StandsAt, entered_pages, head_of, post_pages}
 
 -- ---- the pages that are entered over a cursor's life
 
@@ -52,6 +52,7 @@ pub record CursorFor (base collection asked t : List ℕ) (n : ℕ) (c : Cursori
   pub reached_doc : ℕ
   pub early : reached_doc ≤ n
   pub at : StandsAt c (postings collection t) (from_doc reached_doc (postings collection t))
+  pub first : post_pages c ≤ entered_pages c
   pub within : EnteredFor asked (postings collection t) c
 
 -- it may be asked for the document: the lists stand, and each block of its list whose range holds the document is one that may be read

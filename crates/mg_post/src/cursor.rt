@@ -34,7 +34,8 @@ use std::mem::swap;
 /// in the skip entries to the block whose range holds the document, and decodes that block alone.
 ///
 /// Contracts see three numbers: the pages of Post that were read, the pages of the blocks that were
-/// entered, and the pages of Skip that were read. After a refusal the cursor stands where it stood.
+/// entered, and the pages of Skip that were read. Of a block whose reading was refused, the second
+/// number has the pages that were read. After a refusal the cursor stands where it stood.
 #[derive(Drop)]
 pub struct Cursor<'a, S: Store> {
     post: BitReader<PageFeed<'a, S>>,
@@ -49,19 +50,19 @@ pub struct Cursor<'a, S: Store> {
     block: Block,
     spare: Block,
     ended: bool,
-    passed: u64,
+    entered: u64,
 }
 
 impl<'a, S: Store> Model for Cursor<'a, S> {
-    ghost use Rattle.std.specs.Prelude.{◌≡◌, ◌≤◌, ◌<◌, ◌^◌, true, []};
+    ghost use Rattle.std.specs.Prelude.{◌≡◌, ◌≤◌, ◌<◌, ◌-◌, ◌^◌, min, true, []};
     ghost use Rattle.mg_dev.specs.declared.part.Part.TheVariants as part;
     ghost use Rattle.mg_post.specs.Cursor.{Cursoring, HeldRises, blocks_of};
 
     ghost Value = { Cursoring };
 
-    ghost view = { λ c. record { post = c.post.feed; skip = c.skip.feed; post_at = c.post_at; skip_at = c.skip_at; docs = c.docs; all = c.all; parameter = c.parameter; reached = c.reached; last = c.last; held = c.block; ended = c.ended; passed = c.passed } };
+    ghost view = { λ c. record { post = c.post.feed; skip = c.skip.feed; post_at = c.post_at; skip_at = c.skip_at; docs = c.docs; all = c.all; parameter = c.parameter; reached = c.reached; last = c.last; held = c.block; ended = c.ended; entered = c.entered } };
 
-    ghost invariant = { λ c. (1 ≤ c.parameter) × (c.parameter < 2 ^ 48) × (c.last ≤ c.all) × (c.reached ≤ blocks_of c.docs) × (c.post.feed.part ≡ part.Post) × (c.skip.feed.part ≡ part.Skip) × (c.passed < 2 ^ 64) × (c.ended ≡ true → c.block ≡ []) × HeldRises c.all c.last c.block };
+    ghost invariant = { λ c. (1 ≤ c.parameter) × (c.parameter < 2 ^ 48) × (c.last ≤ c.all) × (c.reached ≤ blocks_of c.docs) × (c.post.feed.part ≡ part.Post) × (c.skip.feed.part ≡ part.Skip) × (c.entered < 2 ^ 64) × (c.ended ≡ true → c.block ≡ []) × HeldRises c.all c.last c.block × (min c.post.feed.count (2 ^ 64 - 1) ≤ c.entered) };
 }
 
 /// How many blocks so many postings have.
@@ -126,7 +127,7 @@ impl<'a, S: Store> Cursor<'a, S> {
             block,
             spare,
             ended: false,
-            passed: 0,
+            entered: 0,
         })
     }
 
@@ -187,6 +188,7 @@ impl<'a, S: Store> Cursor<'a, S> {
                 Ok(None)
             }
             Ok(Some(found)) => {
+                let before = self.post.feed().reads();
                 match enter(
                     &mut self.post,
                     store,
@@ -198,12 +200,16 @@ impl<'a, S: Store> Cursor<'a, S> {
                     found,
                     doc,
                 ) {
-                    Err(refusal) => Err(refused_part(refusal, Part::Post)),
+                    Err(refusal) => {
+                        let read = self.post.feed().reads() - before;
+                        self.entered = self.entered.saturating_add(read);
+                        Err(refused_part(refusal, Part::Post))
+                    }
                     Ok(inside) => {
                         swap(&mut self.block, &mut self.spare);
                         self.reached = found.block + 1;
                         self.last = found.last;
-                        self.passed = self.passed.saturating_add(inside.pages);
+                        self.entered = self.entered.saturating_add(inside.pages);
                         Ok(Some(inside.posting))
                     }
                 }

@@ -1,7 +1,7 @@
 // Lists and their skip entries into two parts.
 ghost use Rattle.std.specs.Prelude.{◌≡◌, ◌≢◌, ◌+◌, ◌*◌, ◌/◌, ◌<◌, ◌≤◌, ◌^◌, ◌++◌, ◌∷◌, [], ℕ, List, Ok, length, OnOk, IfOk, IsSome};
 ghost use Rattle.std.specs.Option.{is_some};
-ghost use Rattle.mg_dev.specs.Files.{file_at, bytes_at, SameReads};
+ghost use Rattle.mg_dev.specs.Files.{file_at, bytes_at, written, SameReads};
 ghost use Rattle.mg_dev.specs.Names.{full_name};
 ghost use Rattle.mg_dev.specs.Causes.{HasPutCause};
 ghost use Rattle.mg_dev.specs.declared.part.Part.TheVariants as part;
@@ -100,6 +100,7 @@ impl<'a> ListWriter<'a> {
         ensures skip { IfOk result (λ w. w.skip.name ≡ full_name base.entry.now part.Skip) }
         ensures all { IfOk result (λ w. w.all ≡ all) }
         ensures nothing { IfOk result (λ w. w.total ≡ 0) }
+        ensures empty { OnOk result (S.files store.new ≡ written (written (S.files store.old) (full_name base.entry.now part.Post) []) (full_name base.entry.now part.Skip) []) }
         ensures others { (n : List ℕ) → n ≢ full_name base.entry.now part.Post → n ≢ full_name base.entry.now part.Skip → file_at (S.files store.new) n ≡ file_at (S.files store.old) n }
         ensures told { is_some (S.files store.new) ≡ is_some (S.files store.old) }
         ensures reads { SameReads (S.reads store.old) (S.reads store.new) }

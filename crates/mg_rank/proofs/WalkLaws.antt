@@ -33,7 +33,7 @@ unfolding pages_for list_pages
 for_within collection asked t = met_whole asked (parameter_of collection t) (list_bit collection t) (block_count (postings collection t)) (postings collection t)
 
 pub list_later : (base collection t : List ℕ) (m n : ℕ) (c : Cursoring) → ListFor base collection t m c → m ≤ n → ListFor base collection t n c
-list_later base collection t m n c f le = record { number = f.number; term = f.term; over = f.over; parameter = f.parameter; reached_doc = f.reached_doc; early = omega (arith, f.early, le); at = f.at; within = f.within }
+list_later base collection t m n c f le = record { number = f.number; term = f.term; over = f.over; parameter = f.parameter; reached_doc = f.reached_doc; early = omega (arith, f.early, le); at = f.at; first = f.first; within = f.within }
 
 -- a list may be asked for the document after its last one
 pub may_ask : (base collection t : List ℕ) (last : ℕ) (files : Option Files) (c : Cursoring) → ListsStand base files collection → ListFor base collection t last c → MayAsk base collection (numbers_in (postings collection t)) t (last + 1) files c

@@ -1,9 +1,10 @@
-use Rattle.std.proofs.Common.{arith, ◌+◌, ◌-◌, ◌*◌, ◌^◌, min, max, refl, sym, ◌∙◌, ap, subst, Some, None, Ok}
+use Rattle.std.proofs.Common.{arith, ◌≡◌, ◌+◌, ◌-◌, ◌*◌, ◌^◌, ◌≤◌, min, refl, sym, ◌∙◌, ap, subst, Some, None, Ok}
 use Rattle.mg_bits.specs.Feed.{told_at}
+use Rattle.mg_bits.specs.Pages.{Paging}
 use Rattle.mg_defs.specs.Lists.{bits_after, block_pages}
 use Rattle.mg_post.specs.Stands.{Shows, SkipStands}
 use Rattle.mg_post.specs.Finding.{IsFound}
-use Rattle.mg_post.proofs.CursorLaws.{ended_stays, walks_of, in_block, at_end, on_block, same_file, refused_answer, raised_by, raised_most, raised_least}
+use Rattle.mg_post.proofs.CursorLaws.{ended_stays, walks_of, in_block, at_end, on_block, same_file, refused_answer, raised_by, raised_most}
 use Rattle.std.proofs.lemmas.Bool.{false≢true}
 use Rattle.mg_post.proofs.SoundLaws.{current_low, forward_held, in_held, nothing_held, stays_here}
 use Rattle.mg_post.proofs.cursor.Cursor.advance_to.Goals as goal
@@ -81,7 +82,6 @@ returns-in-Ok-clause-answer g c =
 
 pub returns-in-Ok-clause-entered : goal.returns-in-Ok-clause-entered
 returns-in-Ok-clause-entered g c =
-    let fits = rw (← c.self.view_is) at c.requires.fits in
     rw (← c.self.view_is)
     (λ ps left stands at.
     let entries : SkipStands c.self.inside.all c.self.inside.parameter (told_at (g.S.Store.files c.args.store.now) c.self.inside.skip.feed.name) c.self.inside.skip_at c.count_blocks-blocks.result ps = rw c.count_blocks-blocks.ensures stands.list.entries in
@@ -97,16 +97,12 @@ returns-in-Ok-clause-entered g c =
         range = found.range;
         before = sound.from;
         reached = refl;
-        pages =
-            ap (λ n. max n (min c.enter.new.r.feed.count (2 ^ 64 - 1))) c.saturating_add-self-inside.ensures
-            ∙ (raised_by c.self.inside.post.feed.count c.enter.new.r.feed.count c.self.inside.passed c.in-Ok.inside.pages fits.first c.in-Ok.ensures.count).0
-            ∙ ap (λ n. min (max c.self.inside.passed (min c.self.inside.post.feed.count (2 ^ 64 - 1)) + n) (2 ^ 64 - 1)) inside.pages;
+        pages = c.saturating_add-self-inside-in-Ok.ensures ∙ ap (λ n. min (c.self.inside.entered + n) (2 ^ 64 - 1)) inside.pages;
       },
     ))
 
 pub returns-in-Err-enter-clause-entered : goal.returns-in-Err-enter-clause-entered
 returns-in-Err-enter-clause-entered g c =
-    let fits = rw (← c.self.view_is) at c.requires.fits in
     rw (← c.self.view_is)
     (λ ps left stands at.
     let entries : SkipStands c.self.inside.all c.self.inside.parameter (told_at (g.S.Store.files c.args.store.now) c.self.inside.skip.feed.name) c.self.inside.skip_at c.count_blocks-blocks.result ps = rw c.count_blocks-blocks.ensures stands.list.entries in
@@ -115,16 +111,18 @@ returns-in-Err-enter-clause-entered g c =
     let shows : Shows (told_at (g.S.Store.files c.find_block.new.dev) c.self.inside.post.feed.name) (8 * c.self.inside.post_at) (bits_after c.self.inside.parameter 0 ps) =
     subst (λ f. Shows (told_at f c.self.inside.post.feed.name) (8 * c.self.inside.post_at) (bits_after c.self.inside.parameter 0 ps)) (sym c.in-Ok-Some.ensures.calm.files) stands.list.bits in
     let sound = rw c.in-Ok-Some.field-0-is at c.in-Ok-Some.ensures.found in
-    let least = raised_least c.self.inside.post.feed.count c.enter.new.r.feed.count c.self.inside.passed c.in-Err-enter.ensures.calm.counted.later in (
+    let was : c.reads-before.result ≡ c.self.inside.post.feed.count = c.reads-before.ensures ∙ ap (λ (p : Paging). p.count) c.feed.ensures in
+    let is : c.reads.result ≡ c.enter.new.r.feed.count = c.reads.ensures ∙ ap (λ (p : Paging). p.count) c.feed-in-Err-enter.ensures in
+    let raised = raised_by c.self.inside.post.feed.count c.enter.new.r.feed.count c.self.inside.entered (c.reads.result - c.reads-before.result) c.self.invariant.6 c.self.invariant.9 (omega (arith, was, is)) in
+    let most = c.in-Err-enter.ensures.most ps c.count_blocks-blocks.result entries.rises stands.list.whole shows stands.list.small found in
+    let least : c.self.inside.entered ≤ c.saturating_add-self-inside.result = omega (arith, c.saturating_add-self-inside.ensures, raised.0) in (
       least,
       λ lt. record {
         block = c.in-Ok-Some.found.block;
         range = found.range;
         before = sound.from;
         least = least;
-        most =
-            raised_most c.self.inside.post.feed.count c.enter.new.r.feed.count c.self.inside.passed (block_pages c.self.inside.parameter (8 * c.self.inside.post_at) c.in-Ok-Some.found.block ps) (omega (arith, c.self.invariant)) fits.first
-            (c.in-Err-enter.ensures.most ps c.count_blocks-blocks.result entries.rises stands.list.whole shows stands.list.small found);
+        most = rw c.saturating_add-self-inside.ensures (raised_most c.self.inside.entered (c.reads.result - c.reads-before.result) (block_pages c.self.inside.parameter (8 * c.self.inside.post_at) c.in-Ok-Some.found.block ps) (omega (arith, was, is, most)));
       },
     ))
 
@@ -142,6 +140,7 @@ invariant_of-self g c =
       i.6,
       λ e. absurd (false≢true (sym c.if-self.false ∙ e)),
       forward_held c.self.inside.all c.self.inside.last c.args.doc c.self.inside.block c.forward.new.self i.8 c.forward.ensures,
+      i.9,
     )
 
 pub invariant_of-self-in-Ok-None : goal.invariant_of-self-in-Ok-None
@@ -157,6 +156,7 @@ invariant_of-self-in-Ok-None g c =
       i.6,
       λ e. c.clear.ensures,
       nothing_held c.self.inside.all c.self.inside.last c.clear.new.self c.clear.ensures,
+      i.9,
     )
 
 pub returns-then-doc-self-clause-sound : goal.returns-then-doc-self-clause-sound

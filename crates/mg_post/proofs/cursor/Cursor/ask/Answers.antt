@@ -4,7 +4,7 @@ use Rattle.mg_post.proofs.cursor.Cursor.ask.Goals as goal
 pub returns-clause-answer : goal.returns-clause-answer
 returns-clause-answer g c = λ base collection asked t may.
     let e = c.advance_to.ensures in
-    asked_answer base collection asked t c.args.doc _ _ _ _ may e.same e.forward e.answer e.entered
+    asked_answer base collection asked t c.args.doc _ _ _ _ may e.same e.forward e.first e.answer e.entered
 
 pub returns-clause-pages : goal.returns-clause-pages
 returns-clause-pages g c = λ base collection asked t may.

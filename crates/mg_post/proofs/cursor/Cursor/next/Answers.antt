@@ -50,6 +50,7 @@ invariant_of-self g c =
       i.6,
       λ e. absurd (false≢true (sym c.if-self.false ∙ e)),
       step_rises c.self.inside.all c.self.inside.last c.step.result c.self.inside.block c.step.new.self c.step.ensures i.8,
+      i.9,
     )
 
 pub returns-in-Some-clause-sound : goal.returns-in-Some-clause-sound

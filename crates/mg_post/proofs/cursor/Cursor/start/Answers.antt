@@ -1,4 +1,4 @@
-use Rattle.std.proofs.Common.{arith, false, refl, sym, ap, ◌∙◌}
+use Rattle.std.proofs.Common.{arith, false, refl, ap, ◌∙◌}
 use Rattle.std.proofs.lemmas.Bool.{false≢true}
 use Rattle.mg_bits.specs.Pages.{Paging}
 use Rattle.mg_post.specs.Cursor.{Cursoring}
@@ -24,7 +24,7 @@ returns-clause-term g c = λ collection asked t n told all.
       last = 0;
       held = c.in_ok-block.block;
       ended = false;
-      passed = 0;
+      entered = 0;
     } in
     term_starts c.args.base.now collection asked t n c.args.all c.args.info.now made told all
     (record {
@@ -37,6 +37,7 @@ returns-clause-term g c = λ collection asked t n told all.
     })
     c.parameter_for.ensures.value
     (λ ps. record { on = rw c.in_ok-block.ensures (starts ps) })
+    refl
     (omega (arith, ap (λ (p : Paging). p.count) c.new-5.ensures.feed, c.in_ok-post.ensures.count))
 
 pub invariant_of-result : goal.invariant_of-result
@@ -50,4 +51,5 @@ invariant_of-result g c = (
   omega arith,
   λ e. absurd (false≢true e),
   nothing_held c.args.all 0 c.in_ok-block.block c.in_ok-block.ensures,
+  omega (arith, ap (λ (p : Paging). p.count) c.new-5.ensures.feed, c.in_ok-post.ensures.count),
 )
