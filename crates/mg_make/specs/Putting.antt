@@ -1,5 +1,5 @@
 -- A set that is being written.
-use Rattle.std.specs.Prelude.{◌≡◌, ◌≢◌, ◌⊎◌, ◌<◌, ◌^◌, ℕ, List, [], length, replicate, Some}
+use Rattle.std.specs.Prelude.{◌≡◌, ◌≢◌, ◌⊎◌, ◌<◌, ◌≤◌, ◌^◌, ℕ, List, [], length, replicate, Some}
 use Rattle.std.specs.Option.{IsSome, is_some}
 use Rattle.std.specs.declared.option.Option.{Option}
 use Rattle.mg_dev.specs.declared.part.Part.{Part as AnyPart}
@@ -79,6 +79,14 @@ pub record IsReady (cap : ℕ) (files : Option Files) (base : List ℕ) (code : 
   pub places : bytes_at files (full_name base part.Places) ≡ places_of 2 code collection
   pub run : bytes_at files (full_name base Run) ≡ as_bytes (run_part_bits cap (occurrences collection))
   pub index : IndexStands files base collection
+
+-- the store tells its files, all parts but the head are ready, and the head is there and empty
+pub record LacksOnlyHead (base collection : List ℕ) (cap : ℕ) (code : TextCode) (files : Option Files) : Type 0 where
+  pub told : IsSome files
+  pub ready : IsReady cap files base code collection
+  pub gone : file_at files (full_name base Head) ≡ Some []
+  pub low : 341 ≤ cap
+  pub high : cap ≤ 89478485
 
 -- ---- what the second pass hands on
 

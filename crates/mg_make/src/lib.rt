@@ -25,7 +25,7 @@ mod writer;
 pub use count::Count;
 pub use plan::{Plan, Room};
 pub use summary::Summary;
-pub use writer::{SetWriter, empty_heads_stand_for_none};
+pub use writer::{SetWriter, empty_heads_stand_for_none, heads_make_sets};
 
 #[cfg(test)]
 mod index_tests;

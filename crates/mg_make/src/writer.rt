@@ -6,10 +6,11 @@
 ghost use Rattle.std.specs.Prelude.{◌≡◌, ◌⊎◌, ◌<◌, ◌≤◌, ◌-◌, ◌^◌, ◌++◌, ◌∷◌, ℕ, List, [], length, IfOk, IfErr, OnOk, Option, Some};
 ghost use Rattle.std.specs.Option.{IsSome};
 ghost use Rattle.mg_dev.specs.Causes.{HasPutCause, Rose};
-ghost use Rattle.mg_dev.specs.Files.{Files, file_at};
+ghost use Rattle.mg_dev.specs.Files.{Files, GrewInPart, file_at, grown};
 ghost use Rattle.mg_dev.specs.Names.{full_name};
 ghost use Rattle.mg_dev.specs.declared.part.Part.TheVariants as part;
-ghost use Rattle.mg_defs.specs.Heads.{IsWithin};
+ghost use Rattle.mg_defs.specs.CodedText.{TextCode};
+ghost use Rattle.mg_defs.specs.Heads.{IsWithin, head_bytes};
 ghost use Rattle.mg_defs.specs.Occurrences.{occurrences};
 ghost use Rattle.mg_defs.specs.Stands.{head_of};
 ghost use Rattle.mg_defs.specs.Summaries.{pool_peak, run_cap};
@@ -17,7 +18,7 @@ ghost use Rattle.mg_layout.specs.HeadAnswers.{fields_of};
 ghost use Rattle.mg_layout.specs.Stands.{Stands, StandsForNone, StandsIn};
 ghost use Rattle.mg_make.specs.Listing.{ListStops};
 ghost use Rattle.mg_make.specs.Plans.{IsPlan, IsPlanOf, IsRoomFor};
-ghost use Rattle.mg_make.specs.Putting.{HasPut, IsReady, IsUnbuilt, OthersSame};
+ghost use Rattle.mg_make.specs.Putting.{HasPut, LacksOnlyHead, IsReady, IsUnbuilt, OthersSame};
 ghost use Rattle.mg_make.specs.Summaries.{summary_of};
 ghost use Rattle.mg_make.specs.Written.{SecondStops};
 
@@ -184,4 +185,13 @@ impl<'a> SetWriter<'a> {
 /// A set whose head is empty stands for no collection.
 pub fn empty_heads_stand_for_none()
     ensures { (base : List ℕ) (now : Option Files) → file_at now (full_name base part.Head) ≡ Some [] → StandsForNone now base }
+{}
+
+/// Parts that are ready stand for their collection once their head is appended; with no more than a part of it
+/// they stand for none, or for this one.
+pub fn heads_make_sets()
+    ensures whole { (base collection : List ℕ) (cap : ℕ) (code : TextCode) (before now : Option Files) → LacksOnlyHead base collection cap code before →
+        now ≡ grown before (full_name base part.Head) (head_bytes (head_of 2 cap code collection)) → StandsIn 2 cap now base collection }
+    ensures left { (base collection : List ℕ) (cap : ℕ) (code : TextCode) (before now : Option Files) → LacksOnlyHead base collection cap code before →
+        GrewInPart before now (full_name base part.Head) (head_bytes (head_of 2 cap code collection)) → StandsForNone now base ⊎ Stands now base collection }
 {}
