@@ -7,7 +7,7 @@ use mg_layout::TermInfo;
 use std::alloc::Global;
 use std::test::Fail;
 
-fn info(number: u32, docs: u32, post_at: u64, skip_at: u32) -> TermInfo {
+pub fn info(number: u32, docs: u32, post_at: u64, skip_at: u32) -> TermInfo {
     TermInfo {
         number,
         docs,
@@ -51,7 +51,7 @@ const TREES_SKIP: [u64; 12] = [12, 0, 5, 0, 12, 0, 10, 0, 9, 0, 5, 0];
 
 const TREES_WEIGHTS: [u32; 12] = [362, 753, 256, 572, 874, 952, 980, 849, 256, 362, 661, 836];
 
-fn put_parts(
+pub fn put_parts(
     alloc: Global,
     store: &mut MemStore,
     post: &[u8],
@@ -86,7 +86,7 @@ fn rows_are(ranked: &Ranked, wanted: &[(u32, u64)], total: u32) -> bool {
     true
 }
 
-fn ranks(
+pub fn ranks(
     alloc: Global,
     store: &mut MemStore,
     terms: &[TermInfo],
