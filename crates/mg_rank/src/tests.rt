@@ -233,6 +233,9 @@ fn damage_and_failing_calls_are_told(rt: HostRuntime) -> Result<(), Fail> {
     assert!(rt; told, "weights that are cut");
     let put = put_parts(alloc, &mut store, &THREE_POST, &THREE_SKIP, &THREE_WEIGHTS);
     assert_eq!(rt; put, Ok(()));
+    let none = rank(alloc, &mut store, "set", &[info(0, 0, 0, 0)], 3, 3);
+    let told = matches!(&none, Err(PartErr::Bad(bad)) if bad.part == Part::Lex && bad.found == 0);
+    assert!(rt; told, "a term that no document has");
     let begin = store.calls();
     let whole = rank(alloc, &mut store, "set", &[cat()], 3, 3);
     assert!(rt; whole.is_ok(), "no call fails");
@@ -242,6 +245,7 @@ fn damage_and_failing_calls_are_told(rt: HostRuntime) -> Result<(), Fail> {
         assert_eq!(rt; store.fail_at(at, 0), Ok(()));
         let failed = rank(alloc, &mut store, "set", &[cat()], 3, 3);
         assert!(rt; matches!(&failed, Err(PartErr::Device)), "a failing call");
+        assert_eq!(rt; store.calls(), at.saturating_add(1));
     }
     Ok(())
 }
