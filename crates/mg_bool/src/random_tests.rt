@@ -1,10 +1,9 @@
 // Drawn queries over drawn lists, against an evaluation of whole sets of documents.
-ghost use Rattle.std.specs.Prelude.{◌≡◌, ◌+◌, ◌*◌, ◌<◌, ◌≤◌, ◌^◌, ℕ, List, [], ◌∷◌, length, IfOk, IfSome, OnOk};
+ghost use Rattle.std.specs.Prelude.{◌≡◌, ◌+◌, ◌<◌, ◌^◌, List, [], length, IfOk, IfSome};
 ghost use Rattle.mg_defs.specs.declared.Posting.{Posting};
 ghost use Rattle.mg_post.specs.Writing.{Took};
 
 use crate::tests::answers;
-use mg_defs::Posting;
 use mg_dev::{MemStore, PutErr, Store};
 use mg_post::ListWriter;
 use std::alloc::{AllocError, Global};

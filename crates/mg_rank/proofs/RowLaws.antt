@@ -1,7 +1,7 @@
 -- The row of a document whose sum is known.
-use Rattle.std.proofs.Common.{arith, ◌≡◌, ◌+◌, ◌-◌, ◌*◌, ◌^◌, ◌≤◌, ◌<◌, ◌⊎◌, inl, inr, ℕ, zero, suc, Bool, true, false, cond, List, [], ◌∷◌, ◌++◌, length, map, take, drop, get_or, min, refl, sym, ap, subst, ◌∙◌, nat_eq, slice_index_or, Option, Some, None, if◌then◌else◌, unwrap_or, append-nil, sum_by}
-use Rattle.std.specs.Prelude.{flat_map, nat_le, ◌||◌}
-use Rattle.std.specs.List.{All, AllByRecursion, list_any}
+use Rattle.std.proofs.Common.{arith, ◌≡◌, ◌+◌, ◌-◌, ◌*◌, ◌^◌, ◌≤◌, ◌<◌, inl, inr, ℕ, zero, suc, true, List, [], ◌∷◌, ◌++◌, length, map, take, drop, get_or, refl, sym, ap, subst, ◌∙◌, nat_eq, slice_index_or, Some, None, if◌then◌else◌, unwrap_or, sum_by}
+use Rattle.std.specs.Prelude.{flat_map, nat_le}
+use Rattle.std.specs.List.{AllByRecursion, list_any}
 use Rattle.std.specs.List.Sorted.{IsPermutation}
 use Rattle.std.specs.Map.{lookup}
 use Rattle.std.specs.Str.{bytes_eq}
@@ -14,18 +14,18 @@ use Rattle.std.proofs.lemmas.List.Sums.{sum_by-cons}
 use Rattle.std.proofs.Math.Nat.{two-pow-succ}
 use Rattle.std.proofs.Math.Seq.{drop-append-add}
 use Rattle.mg_defs.specs.Numbers.{four}
-use Rattle.mg_defs.specs.Fixed.{isqrt, root_from, IsRoot}
+use Rattle.mg_defs.specs.Fixed.{isqrt, root_from}
 use Rattle.mg_defs.specs.Split.{documents}
 use Rattle.mg_defs.specs.Terms.{document, terms, same_term, sorted_distinct}
-use Rattle.mg_defs.specs.Weights.{Hit, has_term, score_of, weight, wd, weight_in_doc}
+use Rattle.mg_defs.specs.Weights.{has_term, score_of, weight, wd, weight_in_doc}
 use Rattle.mg_defs.proofs.ListLaws.{documents_short}
 use Rattle.mg_defs.proofs.SortedLaws.{has-sorted}
 use Rattle.mg_defs.proofs.WeightLaws.{weight_root}
 use Rattle.mg_defs.specs.Stands.{weights_part}
 use Rattle.mg_rank.specs.declared.best.Kept.{Kept}
-use Rattle.mg_rank.specs.Best.{Offered, Gone}
-use Rattle.mg_rank.specs.Ranked.{SumsFor, so_far, part_sum}
-use Rattle.mg_rank.specs.Rows.{AreNumbered, hit_in}
+use Rattle.mg_rank.specs.Best.{Offered}
+use Rattle.mg_rank.specs.Ranked.{so_far, part_sum}
+use Rattle.mg_rank.specs.Rows.{AreNumbered}
 use Rattle.mg_rank.specs.Sums.{AreApart, AreWithin, sum_of}
 use Rattle.mg_rank.proofs.Adding.{look_here, look_past}
 use Rattle.mg_rank.proofs.HitLaws.{row_of}

@@ -1,6 +1,6 @@
 -- The size of the weights.
-use Rattle.std.proofs.Common.{arith, ◌≡◌, ◌*◌, ◌+◌, ◌<◌, ℕ, List, [], ◌∷◌, length, map, ap, ◌∙◌, length-append}
-use Rattle.std.specs.Prelude.{Err, ◌++◌}
+use Rattle.std.proofs.Common.{arith, ◌≡◌, ◌*◌, ℕ, List, [], ◌∷◌, length, map, length-append}
+use Rattle.std.specs.Prelude.{Err}
 use Rattle.std.specs.List.{flat_map}
 use Rattle.mg_dev.specs.declared.part.Part.TheVariants.{Weights}
 use Rattle.mg_dev.specs.declared.part_err.PartErr.{PartErr}
@@ -11,7 +11,7 @@ use Rattle.mg_defs.specs.Stands.{weights_part}
 use Rattle.mg_defs.specs.Weights.{weight}
 use Rattle.mg_defs.proofs.FrontParts.{four_long}
 use Rattle.mg_layout.specs.Sizes.{AnswersSize}
-use Rattle.mg_rank.specs.Ranked.{AnswersTop, Ranking}
+use Rattle.mg_rank.specs.Ranked.{AnswersTop}
 
 fours_long : (ns : List ℕ) → length (flat_map four ns) ≡ 4 * length ns
 fours_long [] = omega arith

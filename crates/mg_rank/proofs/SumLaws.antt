@@ -1,9 +1,9 @@
 -- The sums of documents, as the lists of terms are gone through.
-use Rattle.std.proofs.Common.{arith, ◌≡◌, ◌≢◌, ◌+◌, ◌-◌, ◌*◌, ◌^◌, ◌≤◌, ◌<◌, ℕ, zero, suc, Bool, true, false, cond, List, [], ◌∷◌, ◌++◌, length, get_or, take, drop, refl, sym, ap, subst, ◌∙◌, ◌⊎◌, inl, inr, Option, Some, None, nat_eq, unwrap_or, sum_by, filter, if◌then◌else◌}
+use Rattle.std.proofs.Common.{arith, ◌≡◌, ◌+◌, ◌-◌, ◌*◌, ◌^◌, ◌≤◌, ◌<◌, ℕ, zero, suc, Bool, true, false, List, [], ◌∷◌, ◌++◌, length, get_or, take, drop, refl, sym, ap, subst, ◌∙◌, inl, inr, Some, None, nat_eq, unwrap_or, sum_by, filter, if◌then◌else◌}
 use Rattle.std.specs.Prelude.{◌||◌, nat_lt}
 use Rattle.std.specs.List.{list_any}
 use Rattle.std.specs.Map.{lookup}
-use Rattle.std.proofs.lemmas.Bool.{cases_Bool, cases_lt, cases_eq, eqb-true, eq-eqb, ne_eqb, false≢true, or_cases, or_left, or_right}
+use Rattle.std.proofs.lemmas.Bool.{cases_Bool, cases_lt, cases_eq, eq-eqb, ne_eqb, false≢true, or_left, or_right}
 use Rattle.std.proofs.lemmas.List.Folds.{list_any-append}
 use Rattle.std.proofs.lemmas.List.Elements.{filter-append}
 use Rattle.std.proofs.lemmas.List.Sums.{sum_by-append, sum_by-cons}
@@ -11,7 +11,7 @@ use Rattle.mg_defs.specs.declared.Posting.{Posting}
 use Rattle.mg_defs.specs.Split.{documents}
 use Rattle.mg_defs.specs.Parse.{parse}
 use Rattle.mg_defs.specs.Terms.{document, freq_in}
-use Rattle.mg_defs.specs.Weights.{has_term, wd, wt, weight_in_doc, weight_of_term}
+use Rattle.mg_defs.specs.Weights.{has_term, wd, wt, weight_in_doc}
 use Rattle.mg_defs.specs.Lists.{postings, from_doc, Rises, Follows}
 use Rattle.mg_defs.proofs.ListLaws.{from_here, from_next}
 use Rattle.mg_post.specs.Cursor.{head_of}

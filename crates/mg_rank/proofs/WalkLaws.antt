@@ -1,7 +1,7 @@
 -- A cursor that goes over the whole list of a term.
-use Rattle.std.proofs.Common.{arith, ◌≡◌, ◌+◌, ◌*◌, ◌≤◌, ◌<◌, ℕ, List, length, refl, sym, ap, ◌∙◌, Bool, false, cond, [], ◌∷◌, subst, ◌≢◌}
+use Rattle.std.proofs.Common.{arith, ◌≡◌, ◌+◌, ◌≤◌, ℕ, List, length, refl, sym, ap, ◌∙◌, Bool, false, cond, [], ◌∷◌, subst, ◌≢◌}
 use Rattle.mg_defs.specs.Split.{documents}
-use Rattle.mg_defs.specs.Lists.{postings, from_doc, InRange, block_count}
+use Rattle.mg_defs.specs.Lists.{postings, block_count}
 use Rattle.mg_defs.proofs.ListLaws.{list_rises}
 use Rattle.mg_dev.specs.Files.{Files, Reads}
 use Rattle.mg_dev.specs.Names.{same_part}
@@ -9,7 +9,7 @@ use Rattle.mg_dev.specs.declared.part.Part.{Part}
 use Rattle.mg_dev.specs.declared.part.Part.TheVariants as dev
 use Rattle.mg_bits.specs.Pages.{Looked}
 use Rattle.std.specs.declared.option.Option.{Option}
-use Rattle.std.specs.Prelude.{Result, Ok, Err, IfOk, count_by}
+use Rattle.std.specs.Prelude.{Result, Ok, Err, count_by}
 use Rattle.std.specs.List.{list_any}
 use Rattle.std.proofs.lemmas.Bool.{cond_both}
 use Rattle.std.proofs.lemmas.List.Sums.{sum_by-cons}
@@ -19,10 +19,9 @@ use Rattle.mg_defs.specs.Lexicon as defs
 use Rattle.mg_layout.specs.declared.term_info.TermInfo.{TermInfo}
 use Rattle.mg_dev.specs.declared.part_err.PartErr.{PartErr}
 use Rattle.mg_dev.specs.declared.part_err.PartErr.TheVariants as part
-use Rattle.mg_defs.specs.declared.Posting.{Posting}
 use Rattle.mg_post.specs.Answers.{AnswersList}
 use Rattle.mg_post.specs.Cursor.{Cursoring}
-use Rattle.mg_defs.specs.PageBounds.{numbers_in, pages_for, list_pages, met_pages, whole_pages, parameter_of, list_bit}
+use Rattle.mg_defs.specs.PageBounds.{numbers_in, pages_for, list_pages, parameter_of, list_bit}
 use Rattle.mg_laws.proofs.BoundLaws.{met_whole}
 use Rattle.mg_laws.proofs.MetBlocks.{own_met, term_some}
 use Rattle.mg_post.specs.TermLists.{IsInfoOf, ListsStand, MayAsk}

@@ -8,6 +8,10 @@
 
 mod best;
 mod list;
+#[cfg(test)]
+mod many_tests;
+#[cfg(test)]
+mod random_tests;
 mod ranking;
 mod rows;
 mod sums;

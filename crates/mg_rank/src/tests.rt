@@ -7,7 +7,7 @@ use mg_layout::TermInfo;
 use std::alloc::Global;
 use std::test::Fail;
 
-fn info(number: u32, docs: u32, post_at: u64, skip_at: u32) -> TermInfo {
+pub fn info(number: u32, docs: u32, post_at: u64, skip_at: u32) -> TermInfo {
     TermInfo {
         number,
         docs,
@@ -51,7 +51,7 @@ const TREES_SKIP: [u64; 12] = [12, 0, 5, 0, 12, 0, 10, 0, 9, 0, 5, 0];
 
 const TREES_WEIGHTS: [u32; 12] = [362, 753, 256, 572, 874, 952, 980, 849, 256, 362, 661, 836];
 
-fn put_parts(
+pub fn put_parts(
     alloc: Global,
     store: &mut MemStore,
     post: &[u8],
@@ -86,7 +86,7 @@ fn rows_are(ranked: &Ranked, wanted: &[(u32, u64)], total: u32) -> bool {
     true
 }
 
-fn ranks(
+pub fn ranks(
     alloc: Global,
     store: &mut MemStore,
     terms: &[TermInfo],
@@ -233,6 +233,9 @@ fn damage_and_failing_calls_are_told(rt: HostRuntime) -> Result<(), Fail> {
     assert!(rt; told, "weights that are cut");
     let put = put_parts(alloc, &mut store, &THREE_POST, &THREE_SKIP, &THREE_WEIGHTS);
     assert_eq!(rt; put, Ok(()));
+    let none = rank(alloc, &mut store, "set", &[info(0, 0, 0, 0)], 3, 3);
+    let told = matches!(&none, Err(PartErr::Bad(bad)) if bad.part == Part::Lex && bad.found == 0);
+    assert!(rt; told, "a term that no document has");
     let begin = store.calls();
     let whole = rank(alloc, &mut store, "set", &[cat()], 3, 3);
     assert!(rt; whole.is_ok(), "no call fails");
@@ -242,6 +245,7 @@ fn damage_and_failing_calls_are_told(rt: HostRuntime) -> Result<(), Fail> {
         assert_eq!(rt; store.fail_at(at, 0), Ok(()));
         let failed = rank(alloc, &mut store, "set", &[cat()], 3, 3);
         assert!(rt; matches!(&failed, Err(PartErr::Device)), "a failing call");
+        assert_eq!(rt; store.calls(), at.saturating_add(1));
     }
     Ok(())
 }

@@ -1,11 +1,9 @@
-use Rattle.std.proofs.Common.{rules, arith, ◌≡◌, ◌≤◌, ◌<◌, ◌+◌, ◌^◌, ◌∷◌, ◌++◌, ℕ, List, [], length, sym, ap, ◌∙◌, subst, refl, Some, None, Ok, Err}
-use Rattle.mg_dev.specs.declared.part.Part.TheVariants as part
+use Rattle.std.proofs.Common.{arith, ◌≡◌, ◌≤◌, ◌<◌, ◌+◌, ◌^◌, length, sym, ◌∙◌, subst, refl}
 use Rattle.mg_defs.specs.Split.{documents}
 use Rattle.mg_defs.specs.Lists.{postings}
 use Rattle.mg_defs.proofs.ListLaws.{list_rises}
 use Rattle.mg_defs.specs.PageBounds.{numbers_in}
 use Rattle.mg_post.specs.TermLists.{ListsStand}
-use Rattle.mg_rank.specs.Ranked.{SumsFor}
 use Rattle.mg_rank.specs.Sums.{AreApart, AreWithin, sum_of}
 use Rattle.mg_rank.proofs.Adding.{apart_more, within_more}
 use Rattle.mg_rank.proofs.SumLaws.{bounded_start, bounded_next, head_sound, none_at, walk_start, walk_next, walk_end}

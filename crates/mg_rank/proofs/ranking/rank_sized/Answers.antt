@@ -1,5 +1,4 @@
-use Rattle.std.proofs.Common.{rules, arith, ◌≡◌, ◌+◌, ◌*◌, ◌^◌, ◌≤◌, ◌<◌, ℕ, List, [], length, sym, ap, ◌∙◌, subst, refl}
-use Rattle.mg_post.specs.TermLists.{ListsStand}
+use Rattle.std.proofs.Common.{arith, ◌^◌, ◌<◌, length, sym, ◌∙◌, subst}
 use Rattle.mg_rank.specs.Ranked.{WeightsStand}
 use Rattle.mg_rank.proofs.EndLaws.{counted, hits_few, numbered_hits, top_err}
 use Rattle.mg_rank.proofs.WalkLaws.{weight_of}

@@ -1,7 +1,6 @@
-use Rattle.std.proofs.Common.{rules, arith, ◌≡◌, ◌+◌, ◌*◌, ◌^◌, ◌≤◌, ◌<◌, ℕ, List, [], ◌∷◌, ◌++◌, length, take, get_or, sym, ap, ◌∙◌, subst, refl}
-use Rattle.mg_dev.specs.declared.part.Part.TheVariants as part
+use Rattle.std.proofs.Common.{arith, ◌+◌, ◌*◌, ◌^◌, [], take, get_or, sym, ◌∙◌, subst}
 use Rattle.mg_post.specs.TermLists.{ListsStand}
-use Rattle.mg_rank.proofs.EndLaws.{info_at, lists_on, post_end, post_next, sums_end, sums_next}
+use Rattle.mg_rank.proofs.EndLaws.{info_at, lists_on, post_end, post_next, sums_next}
 use Rattle.mg_rank.proofs.WalkLaws.{or_or}
 use Rattle.mg_rank.proofs.ranking.sum_lists.Goals as goal
 
