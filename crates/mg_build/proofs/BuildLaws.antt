@@ -1,9 +1,9 @@
 -- What a build answers, by what the calls that it makes answer.
-use Rattle.std.proofs.Common.{arith, min, ◌+◌, ◌-◌, ◌/◌, ◌^◌, ◌≡◌, ◌≢◌, ◌≤◌, ◌<◌, ◌∙◌, ◌⊎◌, ℕ, List, [], length, Option, None, Some, Ok, Err, IsSome, refl, sym, ap, subst, inl, inr}
-use Rattle.std.specs.Prelude.{IfErr, IfOk, OnOk, Result}
-use Rattle.std.specs.Option.{option_map, unwrap_or}
-use Rattle.mg_dev.specs.Causes.{Rose}
+use Rattle.std.proofs.Common.{arith, ◌+◌, ◌/◌, ◌≡◌, ◌≤◌, ◌∙◌, ◌⊎◌, ℕ, List, [], length, Option, None, Some, Ok, Err, IsSome, refl, sym, ap, subst, inl, inr}
+use Rattle.std.specs.Prelude.{IfErr, OnOk, Result}
+use Rattle.std.specs.Option.{unwrap_or}
 use Rattle.mg_dev.specs.Files.{Files, bytes_at, file_at}
+use Rattle.mg_dev.specs.Laws.{size_is}
 use Rattle.mg_dev.specs.Names.{full_name}
 use Rattle.mg_dev.specs.declared.fault.Fault.{Fault}
 use Rattle.mg_dev.specs.declared.fault.Fault.TheVariants as cause
@@ -31,14 +31,6 @@ is_told (Some f) name bytes is = refl
 
 pub its_bytes : (files : Option Files) (name bytes : List ℕ) → file_at files name ≡ Some bytes → bytes_at files name ≡ bytes
 its_bytes files name bytes is = ap (λ (file : Option (List ℕ)). unwrap_or file []) is
-
--- its size is the number of its bytes
-pub its_size : (files : Option Files) (name : List ℕ) (size : ℕ) → HasSize files name size → IsSome files → length (bytes_at files name) ≡ size
-its_size files name size has told = sized (file_at files name) (has told)
-  where
-    sized : (file : Option (List ℕ)) → ◌≡◌ {A = Option ℕ} (Some size) (option_map length file) → length (unwrap_or file []) ≡ size
-    sized (Some bytes) is = cc
-    sized None is = cc
 
 -- ---- limits
 
@@ -101,9 +93,9 @@ pass_documents rose files name bytes size cause.Memory is has first stop = inr (
 pass_documents rose files name bytes size cause.TooManyDocuments is has first stop = inl refl
 pass_documents rose files name bytes size (cause.TooManyPieces stream) is has first stop =
     let told : IsSome files = is_told files name bytes is in
-    let other = stop told (its_size files name size has told) in
+    let other = stop told (size_is files name size (has told)) in
     absurd (not_both bytes stream other.0 first (subst (λ b. PassesFirst version_2 b (piece stream other.0)) (its_bytes files name bytes is) other.1))
-pass_documents rose files name bytes size (cause.Changed what one two) is has first stop = absurd (stop.1 (is_told files name bytes is) (its_size files name size has (is_told files name bytes is)))
+pass_documents rose files name bytes size (cause.Changed what one two) is has first stop = absurd (stop.1 (is_told files name bytes is) (size_is files name size (has (is_told files name bytes is))))
 pass_documents rose files name bytes size cause.Usage is has first stop = absurd stop
 pass_documents rose files name bytes size cause.ReadFault is has first stop = absurd stop
 pass_documents rose files name bytes size cause.WriteFault is has first stop = absurd stop
@@ -123,12 +115,12 @@ pass_pieces rose files name bytes size stream x cause.StoreFault is has first st
 pass_pieces rose files name bytes size stream x cause.Memory is has first stop = inr (inr refl)
 pass_pieces rose files name bytes size stream x cause.TooManyDocuments is has first stop =
     let told : IsSome files = is_told files name bytes is in
-    absurd (not_both bytes stream x (subst (λ b. PassesFirst version_2 b start) (its_bytes files name bytes is) (stop told (its_size files name size has told))) first)
+    absurd (not_both bytes stream x (subst (λ b. PassesFirst version_2 b start) (its_bytes files name bytes is) (stop told (size_is files name size (has told)))) first)
 pass_pieces rose files name bytes size stream x (cause.TooManyPieces other) is has first stop =
     let told : IsSome files = is_told files name bytes is in
-    let found = stop told (its_size files name size has told) in
+    let found = stop told (size_is files name size (has told)) in
     inl (ap (λ s. Err (cause.TooManyPieces s)) (same_kind bytes other stream found.0 x (subst (λ b. PassesFirst version_2 b (piece other found.0)) (its_bytes files name bytes is) found.1) first))
-pass_pieces rose files name bytes size stream x (cause.Changed what one two) is has first stop = absurd (stop.1 (is_told files name bytes is) (its_size files name size has (is_told files name bytes is)))
+pass_pieces rose files name bytes size stream x (cause.Changed what one two) is has first stop = absurd (stop.1 (is_told files name bytes is) (size_is files name size (has (is_told files name bytes is))))
 pass_pieces rose files name bytes size stream x cause.Usage is has first stop = absurd stop
 pass_pieces rose files name bytes size stream x cause.ReadFault is has first stop = absurd stop
 pass_pieces rose files name bytes size stream x cause.WriteFault is has first stop = absurd stop
@@ -147,12 +139,12 @@ pass_only rose files name bytes size cause.StoreFault is has limits stop = inl (
 pass_only rose files name bytes size cause.Memory is has limits stop = inr refl
 pass_only rose files name bytes size cause.TooManyDocuments is has limits stop =
     let told : IsSome files = is_told files name bytes is in
-    absurd (within_passes bytes start limits (subst (λ b. PassesFirst version_2 b start) (its_bytes files name bytes is) (stop told (its_size files name size has told))))
+    absurd (within_passes bytes start limits (subst (λ b. PassesFirst version_2 b start) (its_bytes files name bytes is) (stop told (size_is files name size (has told)))))
 pass_only rose files name bytes size (cause.TooManyPieces stream) is has limits stop =
     let told : IsSome files = is_told files name bytes is in
-    let found = stop told (its_size files name size has told) in
+    let found = stop told (size_is files name size (has told)) in
     absurd (within_passes bytes (piece stream found.0) limits (subst (λ b. PassesFirst version_2 b (piece stream found.0)) (its_bytes files name bytes is) found.1))
-pass_only rose files name bytes size (cause.Changed what one two) is has limits stop = absurd (stop.1 (is_told files name bytes is) (its_size files name size has (is_told files name bytes is)))
+pass_only rose files name bytes size (cause.Changed what one two) is has limits stop = absurd (stop.1 (is_told files name bytes is) (size_is files name size (has (is_told files name bytes is))))
 pass_only rose files name bytes size cause.Usage is has limits stop = absurd stop
 pass_only rose files name bytes size cause.ReadFault is has limits stop = absurd stop
 pass_only rose files name bytes size cause.WriteFault is has limits stop = absurd stop

@@ -1,9 +1,8 @@
 -- Documents one after the other, on their way to a sink.
-use Rattle.std.proofs.Common.{arith, ◌≡◌, ◌≢◌, ◌+◌, ◌-◌, ◌≤◌, ◌<◌, ◌==◌, ℕ, zero, suc, Bool, true, false, not, cond, if◌then◌else◌, List, [], ◌∷◌, ◌++◌, length, drop, get_or, Option, refl, sym, ◌∙◌, ap, subst, append-nil, append_assoc, add-one, is_some}
+use Rattle.std.proofs.Common.{arith, ◌≡◌, ◌≢◌, ◌+◌, ◌-◌, ◌≤◌, ◌<◌, ◌==◌, ℕ, zero, suc, Bool, true, false, not, if◌then◌else◌, List, [], ◌∷◌, ◌++◌, length, drop, get_or, Option, refl, sym, ◌∙◌, ap, subst, append-nil, append_assoc, add-one, is_some}
 use Rattle.std.proofs.Common.{drop-cons}
 use Rattle.std.proofs.lemmas.Bool.Decides.{nat_tests}
 use Rattle.mg_dev.specs.Files.{Files, Reads, file_at}
-use Rattle.mg_dev.specs.Names.{same_part}
 use Rattle.mg_dev.specs.Streams.{GrewByPrefix}
 use Rattle.mg_dev.specs.StreamLaws.{grew_first}
 use Rattle.mg_dev.specs.declared.part.Part.{Part}

@@ -1,5 +1,5 @@
 -- A name that begins with a base, and one that does not.
-use Rattle.std.proofs.Common.{Bor, MatchOption, ◌≡◌, ◌≢◌, ◌∙◌, ◌++◌, ℕ, List, Option, None, Some, refl, sym, ap, subst}
+use Rattle.std.proofs.Common.{Bor, MatchOption, ◌≡◌, ◌≢◌, ◌∙◌, ◌++◌, ℕ, List, Option, None, Some, sym}
 use Rattle.std.proofs.lemmas.List.{append_cancel_left}
 use Rattle.std.specs.Prelude.{IfSome}
 use Rattle.mg_dev.specs.Names.{ending, full_name}

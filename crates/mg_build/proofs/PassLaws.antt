@@ -1,5 +1,5 @@
 -- Bytes that are read one after the other, and why a pass over them stops.
-use Rattle.std.proofs.Common.{arith, ◌+◌, ◌^◌, ◌≡◌, ◌≢◌, ◌≤◌, ◌<◌, ℕ, List, [], ◌∷◌, ◌++◌, length, take, drop, Option, None, Some, slice_get, min, ◌-◌, refl, sym, ◌∙◌, ap, subst, inl, inr, Ok, Err}
+use Rattle.std.proofs.Common.{arith, ◌+◌, ◌^◌, ◌≡◌, ◌≤◌, ◌<◌, ℕ, List, [], ◌∷◌, ◌++◌, length, take, drop, Option, Some, slice_get, refl, sym, ◌∙◌, ap, subst, inl, inr, Ok, Err}
 use Rattle.std.proofs.lemmas.List.{length_push, take-append-drop, take_more, append_assoc}
 use Rattle.std.proofs.lemmas.Option.{get_or_from_slice_get, slice_get_within}
 use Rattle.std.specs.Prelude.{IfErr, Result}

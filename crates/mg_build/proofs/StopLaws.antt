@@ -1,11 +1,11 @@
 -- What a decoding answers, by what the calls that it makes answer.
-use Rattle.std.proofs.Common.{arith, ◌+◌, ◌-◌, ◌^◌, min, max, ◌≡◌, ◌≢◌, ◌≤◌, ◌==◌, ◌⊎◌, inl, inr, ℕ, Bool, true, false, cond, List, [], Option, Some, None, Ok, Err, IsSome, refl, sym, ◌∙◌, ap, subst}
+use Rattle.std.proofs.Common.{arith, ◌+◌, ◌-◌, ◌^◌, min, max, ◌≡◌, ◌≢◌, ◌≤◌, ◌==◌, ◌⊎◌, inl, inr, ℕ, false, cond, List, [], Option, Some, None, Ok, Err, IsSome, sym, ◌∙◌, ap, subst}
 use Rattle.std.proofs.lemmas.Bool.Decides.{nat_tests}
 use Rattle.std.specs.declared.result.Result.{Result}
 use Rattle.mg_dev.specs.Causes.{Rose}
 use Rattle.mg_dev.specs.Faults.{fault_of_part, fault_of_show}
 use Rattle.mg_dev.specs.Files.{Files, OneRead, Reads, SameReads, bytes_at, with_read}
-use Rattle.mg_dev.specs.Names.{full_name, number, same_part}
+use Rattle.mg_dev.specs.Names.{full_name, number}
 use Rattle.mg_dev.specs.PartCauses.{HasPartCause}
 use Rattle.mg_dev.specs.declared.fault.Fault.{Fault}
 use Rattle.mg_dev.specs.declared.fault.Fault.TheVariants as fault
@@ -21,9 +21,9 @@ use Rattle.mg_defs.specs.Heads.{IsHead, first_damage}
 use Rattle.mg_defs.specs.Stands.{head_of}
 use Rattle.mg_defs.proofs.HeadLaws.{no_damage}
 use Rattle.mg_defs.proofs.StandLaws.{stand-tells}
-use Rattle.mg_front.specs.Reading.{IsNotBad, LookedAt}
+use Rattle.mg_front.specs.Reading.{IsNotBad}
 use Rattle.mg_layout.specs.HeadAnswers.{AnswersBack, AnswersHead, AnswersWithin, fields_of}
-use Rattle.mg_layout.specs.Stands.{Stands, StandsBy, StandsForNone, parts_at}
+use Rattle.mg_layout.specs.Stands.{Stands, StandsBy, parts_at}
 use Rattle.mg_layout.specs.declared.head.Head.{Head}
 use Rattle.mg_layout.proofs.CallerLemmas.{loaded_set}
 use Rattle.mg_text.specs.Decoding.{IsShowCaused}

@@ -16,4 +16,10 @@ pub use building::build;
 pub use decoding::decode;
 
 #[cfg(test)]
+mod building_rows;
+#[cfg(test)]
+mod building_tests;
+#[cfg(test)]
 mod decoding_tests;
+#[cfg(test)]
+mod other_store;

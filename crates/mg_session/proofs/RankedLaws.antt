@@ -26,7 +26,7 @@ use Rattle.mg_defs.proofs.TopLaws.{by_score_permutes}
 use Rattle.mg_reply.specs.Pending.{Passed}
 use Rattle.mg_reply.proofs.CallerLemmas.{pass_both, pass_cut, pass_nothing, pass_part, pass_put, pass_refused}
 use Rattle.mg_text.specs.Reading.{ShowIsNotBad}
-use Rattle.mg_session.specs.Answering.{Answered, RowsShown, answer_pages, at_score, mode_pages, rows_pages, rows_text, shown_hit, shown_hits}
+use Rattle.mg_session.specs.Answering.{Answered, RowsShown, answer_pages, at_score, mode_pages, rows_asked, rows_in, rows_pages, rows_text, shown_hit, shown_hits}
 
 -- ---- row by row
 
@@ -138,18 +138,39 @@ mode_sum code collection Docnums most answer = no_mode_pages (first most answer)
 mode_sum code collection Text most answer = refl
 mode_sum code collection Count most answer = no_mode_pages (first most answer)
 
-rows_pages_are : (code : TextCode) (collection : List ℕ) (query : List (List ℕ)) (now : Settings) (all : ℕ) (rows : List Hit) → all ≡ length (documents collection) → rows ≡ top collection query (Some (unwrap_or now.most all)) → rows_pages code collection now.mode rows ≡ answer_pages code collection now (ranking collection query)
+-- ---- where only the count is shown, no row is
+
+nothing_shown : (collection : List ℕ) (rows : List Shown) → flat_map (shown collection Count) rows ≡ []
+nothing_shown collection [] = refl
+nothing_shown collection (r ∷ rows) = nothing_shown collection rows
+
+shown_first : (collection : List ℕ) (query : List (List ℕ)) (mode : Mode) (most : Option ℕ) (all : ℕ) → all ≡ length (documents collection) →
+    flat_map (shown collection mode) (shown_hits (top collection query (Some (rows_in mode (unwrap_or most all))))) ≡ flat_map (shown collection mode) (first most (ranking collection query))
+shown_first collection query Docnums most all is = ap (flat_map (shown collection Docnums)) (first_rows collection query most all is)
+shown_first collection query Text most all is = ap (flat_map (shown collection Text)) (first_rows collection query most all is)
+shown_first collection query Count most all is =
+    nothing_shown collection (shown_hits (top collection query (Some 0))) ∙ sym (nothing_shown collection (first most (ranking collection query)))
+
+pages_first : (code : TextCode) (collection : List ℕ) (query : List (List ℕ)) (mode : Mode) (most : Option ℕ) (all : ℕ) → all ≡ length (documents collection) →
+    sum_by (mode_pages code collection mode) (shown_hits (top collection query (Some (rows_in mode (unwrap_or most all))))) ≡ sum_by (mode_pages code collection mode) (first most (ranking collection query))
+pages_first code collection query Docnums most all is = ap (sum_by (mode_pages code collection Docnums)) (first_rows collection query most all is)
+pages_first code collection query Text most all is = ap (sum_by (mode_pages code collection Text)) (first_rows collection query most all is)
+pages_first code collection query Count most all is =
+    no_mode_pages (shown_hits (top collection query (Some 0))) ∙ sym (no_mode_pages (first most (ranking collection query)))
+
+rows_pages_are : (code : TextCode) (collection : List ℕ) (query : List (List ℕ)) (now : Settings) (all : ℕ) (rows : List Hit) → all ≡ length (documents collection) → rows ≡ top collection query (Some (rows_asked now all)) → rows_pages code collection now.mode rows ≡ answer_pages code collection now (ranking collection query)
 unfolding rows_pages
 rows_pages_are code collection query now all rows is e =
-    ap (sum_by (mode_pages code collection now.mode)) (ap shown_hits e ∙ first_rows collection query now.most all is) ∙ mode_sum code collection now.mode now.most (ranking collection query)
+    ap (λ hits. sum_by (mode_pages code collection now.mode) (shown_hits hits)) e ∙ pages_first code collection query now.mode now.most all is ∙ mode_sum code collection now.mode now.most (ranking collection query)
 
-rows_text_is : (collection : List ℕ) (query : List (List ℕ)) (now : Settings) (all total : ℕ) (rows : List Hit) → all ≡ length (documents collection) → rows ≡ top collection query (Some (unwrap_or now.most all)) → total ≡ hit_count collection query → answer_text collection now (ranking collection query) ≡ rows_text collection now.mode rows ++ count total
+rows_text_is : (collection : List ℕ) (query : List (List ℕ)) (now : Settings) (all total : ℕ) (rows : List Hit) → all ≡ length (documents collection) → rows ≡ top collection query (Some (rows_asked now all)) → total ≡ hit_count collection query → answer_text collection now (ranking collection query) ≡ rows_text collection now.mode rows ++ count total
 unfolding answer_text rows_text
 rows_text_is collection query now all total rows is e n =
-    let same : shown_hits rows ≡ first now.most (ranking collection query) = ap shown_hits e ∙ first_rows collection query now.most all is in
+    let same : flat_map (shown collection now.mode) (shown_hits rows) ≡ flat_map (shown collection now.mode) (first now.most (ranking collection query)) =
+    ap (λ hits. flat_map (shown collection now.mode) (shown_hits hits)) e ∙ shown_first collection query now.mode now.most all is in
     let size : length (ranking collection query) ≡ total = length-map (by_score (hits collection query)) shown_hit ∙ ranked_count collection query ∙ sym n in
     ap (λ k. flat_map (shown collection now.mode) (first now.most (ranking collection query)) ++ count k) size
-    ∙ ap (λ xs. flat_map (shown collection now.mode) xs ++ count total) (sym same)
+    ∙ ap (λ t. t ++ count total) (sym same)
 
 -- ---- numbers that are shown
 
@@ -171,11 +192,11 @@ terms_stop code collection now query bound kept w r0 r1 error less post text sou
 -- the rows are the first of the answer, and so many documents are counted
 pub record AreRows (collection : List ℕ) (query : List (List ℕ)) (now : Settings) (all total : ℕ) (rows : List Hit) : Type 0 where
   pub all_is : all ≡ length (documents collection)
-  pub rows_are : rows ≡ top collection query (Some (unwrap_or now.most all))
+  pub rows_are : rows ≡ top collection query (Some (rows_asked now all))
   pub total_is : total ≡ hit_count collection query
 
 -- the rows of an answer to the terms that are known
-pub are_rows : (collection : List ℕ) (kept query : List (List ℕ)) (now : Settings) (all most total : ℕ) (rows : List Hit) → hits collection kept ≡ hits collection query → all ≡ length (documents collection) → most ≡ unwrap_or now.most all → rows ≡ top collection kept (Some most) → total ≡ hit_count collection kept → AreRows collection query now all total rows
+pub are_rows : (collection : List ℕ) (kept query : List (List ℕ)) (now : Settings) (all most total : ℕ) (rows : List Hit) → hits collection kept ≡ hits collection query → all ≡ length (documents collection) → most ≡ rows_asked now all → rows ≡ top collection kept (Some most) → total ≡ hit_count collection kept → AreRows collection query now all total rows
 are_rows collection kept query now all most total rows same is m rows_are total_is = record {
   all_is = is;
   rows_are = rows_are ∙ ap (λ hs. take most (by_score hs)) same ∙ ap (λ k. take k (by_score (hits collection query))) m;

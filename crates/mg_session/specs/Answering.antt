@@ -1,5 +1,5 @@
 -- An answer to a query line, as it is shown: what is printed, what is read, and why it stops.
-use Rattle.std.specs.Prelude.{◌≡◌, ℕ, ◌+◌, ◌<◌, ◌≤◌, Bool, if◌then◌else◌, List, [], ◌∷◌, ◌++◌, length, get_or, take, slice_index_or, flat_map, map, sum_by, Option, Some, None, Ok, Err}
+use Rattle.std.specs.Prelude.{◌≡◌, ℕ, ◌+◌, ◌<◌, ◌≤◌, Bool, if◌then◌else◌, List, [], ◌∷◌, ◌++◌, length, get_or, take, slice_index_or, flat_map, map, sum_by, unwrap_or, Option, Some, None, Ok, Err}
 use Rattle.std.specs.declared.result.Result.{Result}
 use Rattle.mg_dev.specs.Causes.{Rose}
 use Rattle.mg_dev.specs.Files.{Files, Reads}
@@ -96,6 +96,16 @@ pub record Walked (base : List ℕ) (code : TextCode) (collection : List ℕ) (q
   pub text : reads_now part.Text ≤ reads_before part.Text + answer_pages code collection now so_far
 
 -- ---- a ranked answer
+
+-- how many of so many rows a mode shows
+abbrev pub rows_in : Mode → ℕ → ℕ
+rows_in Docnums count = count
+rows_in Text count = count
+rows_in Count count = 0
+
+-- how many rows of a ranked answer are asked for
+abbrev pub rows_asked : Settings → ℕ → ℕ
+rows_asked now all = rows_in now.mode (unwrap_or now.most all)
 
 abbrev pub shown_hit : Hit → Shown
 shown_hit h = record { number = h.number; score = Some h.score }

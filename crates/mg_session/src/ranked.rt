@@ -10,7 +10,7 @@ ghost use Rattle.mg_front.specs.Reading.{LookedAt};
 ghost use Rattle.mg_rank.specs.Ranked.{IsNumbered};
 ghost use Rattle.mg_reply.specs.Pending.{AfterPass};
 ghost use Rattle.mg_text.specs.Reading.{SameText, ShowIsNotBad, TextFits, TextStands};
-ghost use Rattle.mg_session.specs.Answering.{Answered, AnswersFor, HasShowCause, rows_pages, rows_text};
+ghost use Rattle.mg_session.specs.Answering.{Answered, AnswersFor, HasShowCause, rows_asked, rows_pages, rows_text};
 ghost use Rattle.mg_session.specs.Parts.{Stepped};
 
 use crate::find::known_of;
@@ -55,6 +55,16 @@ fn show_rows<S: Store, O: Sink>(
     Ok(())
 }
 
+/// How many rows are asked for among so many documents: none where only their count is shown.
+fn rows_asked(now: &Settings, all: u32) -> u32
+    ensures { result ≡ rows_asked now.now all }
+{
+    match now.mode {
+        Mode::Docnums | Mode::Text => now.most.unwrap_or(all),
+        Mode::Count => 0,
+    }
+}
+
 /// Shows the documents with any of these terms, the highest score first: the first of them, and how
 /// many there are. `infos` is what the lexicon tells of the terms; `all` is the number of documents.
 pub(crate) fn answer_terms<S: Store, O: Sink>(
@@ -83,7 +93,7 @@ pub(crate) fn answer_terms<S: Store, O: Sink>(
         Ok(known) => known,
         Err(_) => return Err(ShowErr::Part(PartErr::Memory)),
     };
-    let most = now.most.unwrap_or(all);
+    let most = rows_asked(now, all);
     let ranked = match rank(alloc, store, base, &known, all, most) {
         Ok(ranked) => ranked,
         Err(refusal) => return Err(ShowErr::from(refusal)),

@@ -1,7 +1,8 @@
-use Rattle.std.proofs.Common.{arith, ◌≡◌, ◌≤◌, ◌∙◌, ◌⊎◌, ◌+◌, ◌<◌, ◌^◌, ℕ, List, length, sym, ap, subst, Some, Err, IsSome, refl}
-use Rattle.std.specs.Prelude.{IfErr, IfOk, OnOk}
+use Rattle.std.proofs.Common.{arith, ◌≡◌, ◌∙◌, length, sym, ap, subst, Err, IsSome, refl}
+use Rattle.std.specs.Prelude.{IfOk, OnOk}
 use Rattle.mg_dev.specs.Causes.{Rose}
-use Rattle.mg_dev.specs.Files.{bytes_at, file_at}
+use Rattle.mg_dev.specs.Files.{bytes_at}
+use Rattle.mg_dev.specs.Laws.{size_is}
 use Rattle.mg_dev.specs.declared.fault.Fault.TheVariants as fault
 use Rattle.mg_defs.specs.Limits.{IsWithinLimits}
 use Rattle.mg_defs.specs.Marks.{piece, start}
@@ -11,7 +12,7 @@ use Rattle.mg_make.specs.Plans.{Plan}
 use Rattle.mg_make.specs.Summaries.{summary_of}
 use Rattle.mg_make.specs.declared.summary.Summary.{Summary}
 use Rattle.mg_build.specs.Building.{IsPlanFor, Left}
-use Rattle.mg_build.proofs.BuildLaws.{cause_all, done_all, done_or_lacks, early_all, is_told, its_bytes, its_size, open_only, opened_or, pass_at, pass_documents, pass_only, pass_pieces, plan_at, size_at, text_all, within_passes}
+use Rattle.mg_build.proofs.BuildLaws.{cause_all, done_all, done_or_lacks, early_all, is_told, its_bytes, open_only, opened_or, pass_at, pass_documents, pass_only, pass_pieces, plan_at, size_at, text_all, within_passes}
 use Rattle.mg_build.proofs.PassLaws.{moved, rose_behind}
 use Rattle.mg_build.proofs.building.build.Goals as goal
 
@@ -46,7 +47,7 @@ returns-clause-stands g c = λ told.
     let opened = g.S.Store.files c.open.new.store in
     let counted = g.S.Store.files c.count_all.new.store in
     let plan : Plan = c.in-Ok-count_all.made.0 in
-    let whole : length (bytes_at before c.args.collection.now) ≡ c.in-Ok.source.size = its_size before c.args.collection.now c.in-Ok.source.size c.in-Ok.ensures.size told in
+    let whole : length (bytes_at before c.args.collection.now) ≡ c.in-Ok.source.size = size_is before c.args.collection.now c.in-Ok.source.size (c.in-Ok.ensures.size told) in
     let planned : IsPlanFor plan counted c.count_all.new.source.feed.name c.count_all.new.source.size
     = plan_at plan opened counted c.in-Ok.source.feed.name c.count_all.new.source.feed.name c.in-Ok.source.size c.count_all.new.source.size (sym c.in-Ok-count_all.ensures.looked.files) (sym c.in-Ok-count_all.ensures.file.name) (sym c.in-Ok-count_all.ensures.size)
     (c.in-Ok-count_all.ensures.of (subst (λ f. IsSome f) (sym c.in-Ok.ensures.files) told) (size_at before opened c.args.collection.now c.in-Ok.source.feed.name c.in-Ok.source.size (sym c.in-Ok.ensures.files) (sym c.in-Ok.ensures.name) whole)) in
@@ -60,7 +61,7 @@ returns-clause-summary g c = λ told.
     let opened = g.S.Store.files c.open.new.store in
     let counted = g.S.Store.files c.count_all.new.store in
     let plan : Plan = c.in-Ok-count_all.made.0 in
-    let whole : length (bytes_at before c.args.collection.now) ≡ c.in-Ok.source.size = its_size before c.args.collection.now c.in-Ok.source.size c.in-Ok.ensures.size told in
+    let whole : length (bytes_at before c.args.collection.now) ≡ c.in-Ok.source.size = size_is before c.args.collection.now c.in-Ok.source.size (c.in-Ok.ensures.size told) in
     let planned : IsPlanFor plan counted c.count_all.new.source.feed.name c.count_all.new.source.size
     = plan_at plan opened counted c.in-Ok.source.feed.name c.count_all.new.source.feed.name c.in-Ok.source.size c.count_all.new.source.size (sym c.in-Ok-count_all.ensures.looked.files) (sym c.in-Ok-count_all.ensures.file.name) (sym c.in-Ok-count_all.ensures.size)
     (c.in-Ok-count_all.ensures.of (subst (λ f. IsSome f) (sym c.in-Ok.ensures.files) told) (size_at before opened c.args.collection.now c.in-Ok.source.feed.name c.in-Ok.source.size (sym c.in-Ok.ensures.files) (sym c.in-Ok.ensures.name) whole)) in
@@ -74,7 +75,7 @@ returns-clause-text g c = λ told.
     let opened = g.S.Store.files c.open.new.store in
     let counted = g.S.Store.files c.count_all.new.store in
     let plan : Plan = c.in-Ok-count_all.made.0 in
-    let whole : length (bytes_at before c.args.collection.now) ≡ c.in-Ok.source.size = its_size before c.args.collection.now c.in-Ok.source.size c.in-Ok.ensures.size told in
+    let whole : length (bytes_at before c.args.collection.now) ≡ c.in-Ok.source.size = size_is before c.args.collection.now c.in-Ok.source.size (c.in-Ok.ensures.size told) in
     let planned : IsPlanFor plan counted c.count_all.new.source.feed.name c.count_all.new.source.size
     = plan_at plan opened counted c.in-Ok.source.feed.name c.count_all.new.source.feed.name c.in-Ok.source.size c.count_all.new.source.size (sym c.in-Ok-count_all.ensures.looked.files) (sym c.in-Ok-count_all.ensures.file.name) (sym c.in-Ok-count_all.ensures.size)
     (c.in-Ok-count_all.ensures.of (subst (λ f. IsSome f) (sym c.in-Ok.ensures.files) told) (size_at before opened c.args.collection.now c.in-Ok.source.feed.name c.in-Ok.source.size (sym c.in-Ok.ensures.files) (sym c.in-Ok.ensures.name) whole)) in
@@ -88,7 +89,7 @@ returns-clause-merge_a g c = λ told.
     let opened = g.S.Store.files c.open.new.store in
     let counted = g.S.Store.files c.count_all.new.store in
     let plan : Plan = c.in-Ok-count_all.made.0 in
-    let whole : length (bytes_at before c.args.collection.now) ≡ c.in-Ok.source.size = its_size before c.args.collection.now c.in-Ok.source.size c.in-Ok.ensures.size told in
+    let whole : length (bytes_at before c.args.collection.now) ≡ c.in-Ok.source.size = size_is before c.args.collection.now c.in-Ok.source.size (c.in-Ok.ensures.size told) in
     let planned : IsPlanFor plan counted c.count_all.new.source.feed.name c.count_all.new.source.size
     = plan_at plan opened counted c.in-Ok.source.feed.name c.count_all.new.source.feed.name c.in-Ok.source.size c.count_all.new.source.size (sym c.in-Ok-count_all.ensures.looked.files) (sym c.in-Ok-count_all.ensures.file.name) (sym c.in-Ok-count_all.ensures.size)
     (c.in-Ok-count_all.ensures.of (subst (λ f. IsSome f) (sym c.in-Ok.ensures.files) told) (size_at before opened c.args.collection.now c.in-Ok.source.feed.name c.in-Ok.source.size (sym c.in-Ok.ensures.files) (sym c.in-Ok.ensures.name) whole)) in
@@ -102,7 +103,7 @@ returns-clause-merge_b g c = λ told.
     let opened = g.S.Store.files c.open.new.store in
     let counted = g.S.Store.files c.count_all.new.store in
     let plan : Plan = c.in-Ok-count_all.made.0 in
-    let whole : length (bytes_at before c.args.collection.now) ≡ c.in-Ok.source.size = its_size before c.args.collection.now c.in-Ok.source.size c.in-Ok.ensures.size told in
+    let whole : length (bytes_at before c.args.collection.now) ≡ c.in-Ok.source.size = size_is before c.args.collection.now c.in-Ok.source.size (c.in-Ok.ensures.size told) in
     let planned : IsPlanFor plan counted c.count_all.new.source.feed.name c.count_all.new.source.size
     = plan_at plan opened counted c.in-Ok.source.feed.name c.count_all.new.source.feed.name c.in-Ok.source.size c.count_all.new.source.size (sym c.in-Ok-count_all.ensures.looked.files) (sym c.in-Ok-count_all.ensures.file.name) (sym c.in-Ok-count_all.ensures.size)
     (c.in-Ok-count_all.ensures.of (subst (λ f. IsSome f) (sym c.in-Ok.ensures.files) told) (size_at before opened c.args.collection.now c.in-Ok.source.feed.name c.in-Ok.source.size (sym c.in-Ok.ensures.files) (sym c.in-Ok.ensures.name) whole)) in
@@ -116,7 +117,7 @@ returns-clause-left g c = λ told.
     let opened = g.S.Store.files c.open.new.store in
     let counted = g.S.Store.files c.count_all.new.store in
     let plan : Plan = c.in-Ok-count_all.made.0 in
-    let whole : length (bytes_at before c.args.collection.now) ≡ c.in-Ok.source.size = its_size before c.args.collection.now c.in-Ok.source.size c.in-Ok.ensures.size told in
+    let whole : length (bytes_at before c.args.collection.now) ≡ c.in-Ok.source.size = size_is before c.args.collection.now c.in-Ok.source.size (c.in-Ok.ensures.size told) in
     let planned : IsPlanFor plan counted c.count_all.new.source.feed.name c.count_all.new.source.size
     = plan_at plan opened counted c.in-Ok.source.feed.name c.count_all.new.source.feed.name c.in-Ok.source.size c.count_all.new.source.size (sym c.in-Ok-count_all.ensures.looked.files) (sym c.in-Ok-count_all.ensures.file.name) (sym c.in-Ok-count_all.ensures.size)
     (c.in-Ok-count_all.ensures.of (subst (λ f. IsSome f) (sym c.in-Ok.ensures.files) told) (size_at before opened c.args.collection.now c.in-Ok.source.feed.name c.in-Ok.source.size (sym c.in-Ok.ensures.files) (sym c.in-Ok.ensures.name) whole)) in
@@ -134,7 +135,7 @@ returns-clause-cause g c = cause_all c.write_set.result _ _ _ _ _ _ (λ rose. ro
     let opened = g.S.Store.files c.open.new.store in
     let counted = g.S.Store.files c.count_all.new.store in
     let plan : Plan = c.in-Ok-count_all.made.0 in
-    let whole : length (bytes_at before c.args.collection.now) ≡ c.in-Ok.source.size = its_size before c.args.collection.now c.in-Ok.source.size c.in-Ok.ensures.size told in
+    let whole : length (bytes_at before c.args.collection.now) ≡ c.in-Ok.source.size = size_is before c.args.collection.now c.in-Ok.source.size (c.in-Ok.ensures.size told) in
     let planned : IsPlanFor plan counted c.count_all.new.source.feed.name c.count_all.new.source.size
     = plan_at plan opened counted c.in-Ok.source.feed.name c.count_all.new.source.feed.name c.in-Ok.source.size c.count_all.new.source.size (sym c.in-Ok-count_all.ensures.looked.files) (sym c.in-Ok-count_all.ensures.file.name) (sym c.in-Ok-count_all.ensures.size)
     (c.in-Ok-count_all.ensures.of (subst (λ f. IsSome f) (sym c.in-Ok.ensures.files) told) (size_at before opened c.args.collection.now c.in-Ok.source.feed.name c.in-Ok.source.size (sym c.in-Ok.ensures.files) (sym c.in-Ok.ensures.name) whole)) in
@@ -149,7 +150,7 @@ returns-clause-documents g c = λ bytes is apart few first.
     let opened = g.S.Store.files c.open.new.store in
     let counted = g.S.Store.files c.count_all.new.store in
     let plan : Plan = c.in-Ok-count_all.made.0 in
-    let whole : length (bytes_at before c.args.collection.now) ≡ c.in-Ok.source.size = its_size before c.args.collection.now c.in-Ok.source.size c.in-Ok.ensures.size told in
+    let whole : length (bytes_at before c.args.collection.now) ≡ c.in-Ok.source.size = size_is before c.args.collection.now c.in-Ok.source.size (c.in-Ok.ensures.size told) in
     let planned : IsPlanFor plan counted c.count_all.new.source.feed.name c.count_all.new.source.size
     = plan_at plan opened counted c.in-Ok.source.feed.name c.count_all.new.source.feed.name c.in-Ok.source.size c.count_all.new.source.size (sym c.in-Ok-count_all.ensures.looked.files) (sym c.in-Ok-count_all.ensures.file.name) (sym c.in-Ok-count_all.ensures.size)
     (c.in-Ok-count_all.ensures.of (subst (λ f. IsSome f) (sym c.in-Ok.ensures.files) told) (size_at before opened c.args.collection.now c.in-Ok.source.feed.name c.in-Ok.source.size (sym c.in-Ok.ensures.files) (sym c.in-Ok.ensures.name) whole)) in
@@ -164,7 +165,7 @@ returns-clause-pieces g c = λ bytes stream x is apart few first.
     let opened = g.S.Store.files c.open.new.store in
     let counted = g.S.Store.files c.count_all.new.store in
     let plan : Plan = c.in-Ok-count_all.made.0 in
-    let whole : length (bytes_at before c.args.collection.now) ≡ c.in-Ok.source.size = its_size before c.args.collection.now c.in-Ok.source.size c.in-Ok.ensures.size told in
+    let whole : length (bytes_at before c.args.collection.now) ≡ c.in-Ok.source.size = size_is before c.args.collection.now c.in-Ok.source.size (c.in-Ok.ensures.size told) in
     let planned : IsPlanFor plan counted c.count_all.new.source.feed.name c.count_all.new.source.size
     = plan_at plan opened counted c.in-Ok.source.feed.name c.count_all.new.source.feed.name c.in-Ok.source.size c.count_all.new.source.size (sym c.in-Ok-count_all.ensures.looked.files) (sym c.in-Ok-count_all.ensures.file.name) (sym c.in-Ok-count_all.ensures.size)
     (c.in-Ok-count_all.ensures.of (subst (λ f. IsSome f) (sym c.in-Ok.ensures.files) told) (size_at before opened c.args.collection.now c.in-Ok.source.feed.name c.in-Ok.source.size (sym c.in-Ok.ensures.files) (sym c.in-Ok.ensures.name) whole)) in
@@ -179,7 +180,7 @@ returns-clause-complete g c = λ bytes is apart limits never.
     let opened = g.S.Store.files c.open.new.store in
     let counted = g.S.Store.files c.count_all.new.store in
     let plan : Plan = c.in-Ok-count_all.made.0 in
-    let whole : length (bytes_at before c.args.collection.now) ≡ c.in-Ok.source.size = its_size before c.args.collection.now c.in-Ok.source.size c.in-Ok.ensures.size told in
+    let whole : length (bytes_at before c.args.collection.now) ≡ c.in-Ok.source.size = size_is before c.args.collection.now c.in-Ok.source.size (c.in-Ok.ensures.size told) in
     let planned : IsPlanFor plan counted c.count_all.new.source.feed.name c.count_all.new.source.size
     = plan_at plan opened counted c.in-Ok.source.feed.name c.count_all.new.source.feed.name c.in-Ok.source.size c.count_all.new.source.size (sym c.in-Ok-count_all.ensures.looked.files) (sym c.in-Ok-count_all.ensures.file.name) (sym c.in-Ok-count_all.ensures.size)
     (c.in-Ok-count_all.ensures.of (subst (λ f. IsSome f) (sym c.in-Ok.ensures.files) told) (size_at before opened c.args.collection.now c.in-Ok.source.feed.name c.in-Ok.source.size (sym c.in-Ok.ensures.files) (sym c.in-Ok.ensures.name) whole)) in

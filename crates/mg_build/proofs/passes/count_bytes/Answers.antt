@@ -1,5 +1,4 @@
-use Rattle.std.proofs.Common.{arith, ◌≡◌, ◌≤◌, ◌<◌, ◌^◌, ◌∙◌, ◌+◌, ◌++◌, ◌∷◌, [], ℕ, List, sym, ap, slice_get, Some, IsSome}
-use Rattle.mg_dev.specs.Files.{bytes_at, file_at}
+use Rattle.std.proofs.Common.{arith, ◌<◌, ◌^◌, ◌∙◌, ◌+◌, ◌++◌, ◌∷◌, []}
 use Rattle.mg_bits.proofs.CallerLemmas.{looked_twice}
 use Rattle.mg_build.proofs.PassLaws.{pass_count, read_more, read_so_far, same_file_more}
 use Rattle.mg_build.proofs.passes.count_bytes.Goals as goal

@@ -1,7 +1,7 @@
-use Rattle.std.proofs.Common.{arith, ◌≡◌, ◌≤◌, ◌∙◌, ◌⊎◌, inl, inr, ◌+◌, [], ℕ, List, sym, ap, subst, Some, IsSome, refl}
+use Rattle.std.proofs.Common.{arith, ◌≡◌, ◌∙◌, ◌⊎◌, inl, inr, [], sym, subst, Some, IsSome, refl}
 use Rattle.std.specs.Prelude.{IfErr, IfOk, OnOk}
 use Rattle.mg_dev.specs.Causes.{Rose}
-use Rattle.mg_dev.specs.Files.{bytes_at, file_at}
+use Rattle.mg_dev.specs.Files.{file_at}
 use Rattle.mg_dev.specs.Names.{full_name}
 use Rattle.mg_dev.specs.declared.part.Part.TheVariants.{Head, MergeA, MergeB}
 use Rattle.mg_defs.specs.Summaries.{run_cap}

@@ -24,7 +24,7 @@ returns-in-Err-show_rows-clause-answer g c = λ collection terms stands told apa
     let kept = known_terms terms c.args.infos.now in
     let is_told : AreTold collection kept c.deref.result.now = subst (λ (xs : List TermInfo). AreTold collection kept xs) (sym (c.deref.ensures.value ∙ c.in-Ok.ensures.known)) (known_told collection terms c.args.infos.now told apart) in
     let top = c.in-Ok-rank.ensures.answer collection kept stands.weights is_told stands.all_is in
-    let are = are_rows collection kept terms c.args.now.now c.args.all c.unwrap_or-most.result c.in-Ok-rank.ranked.total c.rows.result.now (known_hits collection terms c.args.infos.now told) stands.all_is c.unwrap_or-most.ensures (c.rows.ensures ∙ top.0) top.1 in
+    let are = are_rows collection kept terms c.args.now.now c.args.all c.rows_asked-most.result c.in-Ok-rank.ranked.total c.rows.result.now (known_hits collection terms c.args.infos.now told) stands.all_is c.rows_asked-most.ensures (c.rows.ensures ∙ top.0) top.1 in
     let text = text_later _ _ _ _ collection (same_text _) c.in-Ok-rank.ensures.files stands.text_is in
     rows_stop _ _ _ terms _ _ _ _ _ _ _ _ _ (g.S.Store.reads c.rank.new.store) _ _ are (known_bound collection terms c.args.infos.now told.size) (c.in-Ok-rank.ensures.pages collection kept stands.weights.lists is_told stands.all_is) (ranked_text _ _ c.in-Ok-rank.ensures.reads)
     c.new-pending.ensures (c.in-Err-show_rows.ensures.content collection text) (text_post _ _ _ _ _ _ c.in-Err-show_rows.ensures.looked) (c.in-Err-show_rows.ensures.pages collection text) (c.in-Err-show_rows.ensures.sound collection text)
@@ -34,7 +34,7 @@ returns-in-Err-count-clause-answer g c = λ collection terms stands told apart.
     let kept = known_terms terms c.args.infos.now in
     let is_told : AreTold collection kept c.deref.result.now = subst (λ (xs : List TermInfo). AreTold collection kept xs) (sym (c.deref.ensures.value ∙ c.in-Ok.ensures.known)) (known_told collection terms c.args.infos.now told apart) in
     let top = c.in-Ok-rank.ensures.answer collection kept stands.weights is_told stands.all_is in
-    let are = are_rows collection kept terms c.args.now.now c.args.all c.unwrap_or-most.result c.total.result c.rows.result.now (known_hits collection terms c.args.infos.now told) stands.all_is c.unwrap_or-most.ensures (c.rows.ensures ∙ top.0) (c.total.ensures ∙ top.1) in
+    let are = are_rows collection kept terms c.args.now.now c.args.all c.rows_asked-most.result c.total.result c.rows.result.now (known_hits collection terms c.args.infos.now told) stands.all_is c.rows_asked-most.ensures (c.rows.ensures ∙ top.0) (c.total.ensures ∙ top.1) in
     let text = text_later _ _ _ _ collection (same_text _) c.in-Ok-rank.ensures.files stands.text_is in
     rows_uncounted _ _ _ terms _ _ _ _ _ _ _ _ _ _ _ (g.S.Store.reads c.rank.new.store) _ _ are (known_bound collection terms c.args.infos.now told.size) (c.in-Ok-rank.ensures.pages collection kept stands.weights.lists is_told stands.all_is) (ranked_text _ _ c.in-Ok-rank.ensures.reads)
     c.new-pending.ensures (c.in-Ok-show_rows.ensures.content collection text) (text_post _ _ _ _ _ _ c.in-Ok-show_rows.ensures.looked) (c.in-Ok-show_rows.ensures.pages collection text)
@@ -45,7 +45,7 @@ returns-in-Ok-flush-clause-answer g c = λ collection terms stands told apart.
     let kept = known_terms terms c.args.infos.now in
     let is_told : AreTold collection kept c.deref.result.now = subst (λ (xs : List TermInfo). AreTold collection kept xs) (sym (c.deref.ensures.value ∙ c.in-Ok.ensures.known)) (known_told collection terms c.args.infos.now told apart) in
     let top = c.in-Ok-rank.ensures.answer collection kept stands.weights is_told stands.all_is in
-    let are = are_rows collection kept terms c.args.now.now c.args.all c.unwrap_or-most.result c.total.result c.rows.result.now (known_hits collection terms c.args.infos.now told) stands.all_is c.unwrap_or-most.ensures (c.rows.ensures ∙ top.0) (c.total.ensures ∙ top.1) in
+    let are = are_rows collection kept terms c.args.now.now c.args.all c.rows_asked-most.result c.total.result c.rows.result.now (known_hits collection terms c.args.infos.now told) stands.all_is c.rows_asked-most.ensures (c.rows.ensures ∙ top.0) (c.total.ensures ∙ top.1) in
     let text = text_later _ _ _ _ collection (same_text _) c.in-Ok-rank.ensures.files stands.text_is in
     rows_end _ _ _ terms _ _ _ _ _ _ _ _ _ _ _ _ _ (g.S.Store.reads c.rank.new.store) _ _ are (known_bound collection terms c.args.infos.now told.size) (c.in-Ok-rank.ensures.pages collection kept stands.weights.lists is_told stands.all_is) (ranked_text _ _ c.in-Ok-rank.ensures.reads)
     c.new-pending.ensures (c.in-Ok-show_rows.ensures.content collection text) (text_post _ _ _ _ _ _ c.in-Ok-show_rows.ensures.looked) (c.in-Ok-show_rows.ensures.pages collection text)
@@ -56,7 +56,7 @@ returns-clause-answer g c = λ collection terms stands told apart.
     let kept = known_terms terms c.args.infos.now in
     let is_told : AreTold collection kept c.deref.result.now = subst (λ (xs : List TermInfo). AreTold collection kept xs) (sym (c.deref.ensures.value ∙ c.in-Ok.ensures.known)) (known_told collection terms c.args.infos.now told apart) in
     let top = c.in-Ok-rank.ensures.answer collection kept stands.weights is_told stands.all_is in
-    let are = are_rows collection kept terms c.args.now.now c.args.all c.unwrap_or-most.result c.total.result c.rows.result.now (known_hits collection terms c.args.infos.now told) stands.all_is c.unwrap_or-most.ensures (c.rows.ensures ∙ top.0) (c.total.ensures ∙ top.1) in
+    let are = are_rows collection kept terms c.args.now.now c.args.all c.rows_asked-most.result c.total.result c.rows.result.now (known_hits collection terms c.args.infos.now told) stands.all_is c.rows_asked-most.ensures (c.rows.ensures ∙ top.0) (c.total.ensures ∙ top.1) in
     let text = text_later _ _ _ _ collection (same_text _) c.in-Ok-rank.ensures.files stands.text_is in
     rows_end _ _ _ terms _ _ _ _ _ _ _ _ _ _ _ _ _ (g.S.Store.reads c.rank.new.store) _ _ are (known_bound collection terms c.args.infos.now told.size) (c.in-Ok-rank.ensures.pages collection kept stands.weights.lists is_told stands.all_is) (ranked_text _ _ c.in-Ok-rank.ensures.reads)
     c.new-pending.ensures (c.in-Ok-show_rows.ensures.content collection text) (text_post _ _ _ _ _ _ c.in-Ok-show_rows.ensures.looked) (c.in-Ok-show_rows.ensures.pages collection text)
