@@ -4,3 +4,9 @@ mod PassLaws
 mod PutLaws
 mod NameLaws
 mod BuildLaws
+mod CopyLaws
+mod WidenLaws
+mod MigrateLaws
+mod PlaceLaws
+mod WideLaws
+mod MigrateStopLaws

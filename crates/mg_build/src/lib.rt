@@ -6,14 +6,18 @@
 #![tactic(auto)]
 
 mod building;
+mod copying;
 mod decoding;
 mod documents;
+mod migrating;
 mod names;
 mod passes;
 mod source;
+mod widening;
 
 pub use building::build;
 pub use decoding::decode;
+pub use migrating::migrate;
 
 #[cfg(test)]
 mod building_rows;

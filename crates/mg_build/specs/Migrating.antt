@@ -1,0 +1,66 @@
+-- Sets that are made anew in version 2.
+use Rattle.std.specs.Prelude.{◌≡◌, ℕ, List, [], ◌∷◌, slice_index_or, Some}
+use Rattle.std.specs.Option.{IsSome}
+use Rattle.std.specs.declared.option.Option.{Option}
+use Rattle.mg_dev.specs.Files.{Files, bytes_at, file_at}
+use Rattle.mg_dev.specs.Names.{full_name}
+use Rattle.mg_dev.specs.declared.fault.Fault.{Fault}
+use Rattle.mg_dev.specs.declared.fault.Fault.TheVariants.{Damaged, Memory, NotBuilt, SameName, StoreFault}
+use Rattle.mg_dev.specs.declared.part.Part.{Part}
+use Rattle.mg_dev.specs.declared.part.Part.TheVariants.{Head, Lex, LexAt, MergeA, MergeB, Nonwords, Places, Post, Run, Skip, Text, Weights, Words}
+use Rattle.mg_defs.specs.CodedText.{TextCode}
+use Rattle.mg_layout.specs.Stands.{StandsBy, StandsForNone}
+use Rattle.mg_layout.specs.declared.head.Head as layout
+
+-- the parts that are the same in both versions, by an index
+abbrev pub copied_part : ℕ → Part
+copied_part index = slice_index_or (Words ∷ Nonwords ∷ Text ∷ Lex ∷ LexAt ∷ Post ∷ Skip ∷ Weights ∷ Run ∷ []) index Head
+
+-- the other parts of a set: the head, the places, and the working parts
+abbrev pub IsMadeAnew : Part → Type 0
+IsMadeAnew Head = Unit {0}
+IsMadeAnew Places = Unit {0}
+IsMadeAnew MergeA = Unit {0}
+IsMadeAnew MergeB = Unit {0}
+IsMadeAnew p = ⊥
+
+-- a part of one base is as that of another was
+abbrev pub IsCopied : List ℕ → List ℕ → Option Files → Option Files → Part → Type 0
+IsCopied name new before now p = bytes_at now (full_name new p) ≡ bytes_at before (full_name name p)
+
+-- the parts that are the same in both versions
+pub record AreCopied (name new : List ℕ) (before now : Option Files) : Type 0 where
+  pub words : IsCopied name new before now Words
+  pub nonwords : IsCopied name new before now Nonwords
+  pub text : IsCopied name new before now Text
+  pub lex : IsCopied name new before now Lex
+  pub lex_at : IsCopied name new before now LexAt
+  pub post : IsCopied name new before now Post
+  pub skip : IsCopied name new before now Skip
+  pub weights : IsCopied name new before now Weights
+  pub run : IsCopied name new before now Run
+
+-- head and working parts of a base are there and empty
+pub record AreEmptied (files : Option Files) (base : List ℕ) : Type 0 where
+  pub head : file_at files (full_name base Head) ≡ Some []
+  pub merge_a : file_at files (full_name base MergeA) ≡ Some []
+  pub merge_b : file_at files (full_name base MergeB) ≡ Some []
+
+-- the files of a base stand for some collection, by this head
+abbrev pub IsSetOf : layout.Head → Option Files → List ℕ → Type 0
+IsSetOf head files base = (code : TextCode) × (collection : List ℕ) × StandsBy head code files base collection
+
+-- the cause of each refusal, by the files as the call began
+abbrev pub MigrateStops : Type 0 → Option Files → List ℕ → List ℕ → Fault → Type 0
+MigrateStops store_rose files name new StoreFault = store_rose
+MigrateStops store_rose files name new NotBuilt = IsSome files → bytes_at files (full_name name Head) ≡ []
+MigrateStops store_rose files name new (Damaged bad) = StandsForNone files name
+MigrateStops store_rose files name new Memory = Unit {0}
+MigrateStops store_rose files name new SameName = new ≡ name
+MigrateStops store_rose files name new _ = ⊥
+
+-- a refusal before the first write
+abbrev pub ComesFirst : Fault → Type 0
+ComesFirst SameName = Unit {0}
+ComesFirst NotBuilt = Unit {0}
+ComesFirst _ = ⊥
