@@ -14,6 +14,7 @@ import time
 sys.path.insert(0, str(pathlib.Path(__file__).parent / "reference"))
 
 from files import BUDGET, K, put_set, remove
+from generator import trial
 from kinds import cases
 from parts import Damaged, build, summary
 from sessions import session
@@ -139,6 +140,19 @@ def stopped(suite):
     remove(suite, "set")
 
 
+def trials(suite):
+    """Made collections, tried: the reference makes the same texts and counts for itself."""
+    suite.file("text", K)
+    for seed, docs in [(7, 2000), (0, 1), (2**64 - 1, 20)]:
+        got = suite.run(["trial", str(seed), str(docs)])
+        suite.check(f"a trial of {seed} and {docs}", got, (0, trial(seed, docs), b""))
+    usage = (1, b"", b"mg: the words are not understood\n")
+    for words in [["7", "0"], ["7", "20001"], [str(2**64), "1"], ["7"]]:
+        suite.check(f"a trial of {words}", suite.run(["trial", *words]), usage)
+    suite.check("a trial changes no file", (suite.folder / "text").read_bytes(), K)
+    suite.check("a trial leaves no file", (suite.folder / "set.head").exists(), False)
+
+
 def limits(suite):
     """The greatest collections and the first ones beyond them; minutes, and gigabytes of files."""
     for count, status, line in [(1 << 24, 0, b""), ((1 << 24) + 1, 9, b"mg: more than 16777216 documents\n")]:
@@ -154,5 +168,5 @@ def limits(suite):
         remove(suite, "set")
 
 
-PARTS = [kinds, bytes_of_parts, refusals, stopped]
+PARTS = [kinds, bytes_of_parts, refusals, stopped, trials]
 SLOW = [limits]

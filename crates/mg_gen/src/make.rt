@@ -49,6 +49,7 @@ pub fn make_collection<O: Sink>(seed: u64, docs: u32, out: &mut O) -> Result<(),
 /// from the sink alone.
 pub fn make_session<O: Sink>(seed: u64, out: &mut O) -> Result<(), PutErr>
     ensures text { AfterPut (O.written out.old) (O.written out.new) (made_session seed) result }
+    ensures short { length (made_session seed) ≤ 1670 }
     ensures cause { HasPutCause (O.faults out.old) (O.faults out.new) result }
     ensures lack { HasLack (O.lacks out.old) (O.lacks out.new) result }
 {

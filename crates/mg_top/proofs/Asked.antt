@@ -3,11 +3,12 @@ use Rattle.std.proofs.Common.{◌≡◌, ℕ, List, Option, Some, sym, subst}
 use Rattle.mg_dev.specs.declared.fault.Fault.{Fault}
 use Rattle.mg_dev.specs.declared.fault.Fault.TheVariants.{Usage}
 use Rattle.mg_dev.specs.declared.status.Status.{Status}
-use Rattle.mg_words.specs.Tasks.{Task, build, decode}
+use Rattle.mg_words.specs.Tasks.{Task, build, decode, trial}
 use Rattle.mg_top.specs.Ends.{IfStopped, ToldWhy}
 use Rattle.mg_top.specs.Runs.{Run, Stops}
 use Rattle.mg_top.specs.Built.{Built}
 use Rattle.mg_top.specs.Decoded.{Decoded}
+use Rattle.mg_top.specs.Tried.{Tried}
 use Rattle.mg_top.specs.Does.{Does, Ran}
 
 no_usage : (run : Run) (P : Fault → Type 0) → IfStopped run.status P → (P Usage → ⊥) → Stops run Usage → ⊥
@@ -26,5 +27,13 @@ pub ran_build : (task : Option Task) (name base : List ℕ) (budget : ℕ) (run 
 ran_build task name base budget run is built told = record {
   usage = λ stops. absurd (no_usage run _ built.cause (λ bad. bad) stops);
   does = subst (λ (t : Option Task). Does t run) (sym is) built;
+  told = told;
+}
+
+pub ran_trial : (task : Option Task) (seed docs : ℕ) (run : Run) → task ≡ Some (trial seed docs) → Tried seed docs run
+    → ToldWhy run.status run.err.written run.err_now.written run.err.faults run.err_now.faults run.err.lacks run.err_now.lacks → Ran task run
+ran_trial task seed docs run is tried told = record {
+  usage = λ stops. absurd (no_usage run _ tried.cause (λ bad. bad) stops);
+  does = subst (λ (t : Option Task). Does t run) (sym is) tried;
   told = told;
 }

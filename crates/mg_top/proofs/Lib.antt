@@ -6,5 +6,8 @@ mod BuiltLaws
 mod QueriedLaws
 mod ScannedLaws
 mod DecodedLaws
+mod TrialSteps
+mod TrialLaws
+mod TriedLaws
 mod NothingDone
 mod Asked

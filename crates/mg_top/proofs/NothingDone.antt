@@ -10,8 +10,9 @@ use Rattle.mg_dev.specs.declared.fault.Fault.{Fault}
 use Rattle.mg_dev.specs.declared.fault.Fault.TheVariants.{Usage, WriteFault, Memory}
 use Rattle.mg_dev.specs.declared.status.Status.{Status}
 use Rattle.mg_dev.specs.declared.status.Status.TheVariants.{Done, Stopped}
+use Rattle.mg_defs.specs.Generator.{made_collection}
 use Rattle.mg_defs.specs.Replies.{session}
-use Rattle.mg_defs.specs.Summaries.{summary_text}
+use Rattle.mg_defs.specs.Summaries.{summary_text, trial_text}
 use Rattle.mg_make.specs.Putting.{OthersSame}
 use Rattle.mg_session.specs.Serves as serves
 use Rattle.mg_plain.specs.Scans.{StopsFor}
@@ -23,6 +24,8 @@ use Rattle.mg_top.specs.Built.{Built, BuildStops, collection_of}
 use Rattle.mg_top.specs.Decoded.{Decoded}
 use Rattle.mg_top.specs.Queried.{Queried}
 use Rattle.mg_top.specs.Scanned.{Scanned}
+use Rattle.mg_top.specs.Trials.{SilentAfter, TrialStops}
+use Rattle.mg_top.specs.Tried.{Tried}
 use Rattle.mg_top.specs.Does.{Does, NotUnderstood, Ran}
 
 module _ (run : Run) (stops : Stops run Memory) (store : run.store_now ≡ run.store) (input : run.input_now ≡ run.input) (out : run.out_now ≡ run.out) where
@@ -120,13 +123,27 @@ module _ (run : Run) (stops : Stops run Memory) (store : run.store_now ≡ run.s
     input = input;
   }
 
+  tried : (seed docs : ℕ) → Tried seed docs run
+  tried seed docs = record {
+    done = λ is. absurd (not_done is);
+    prefix = prefix (trial_text seed docs);
+    silent = caused (SilentAfter run.out.written run.out_now.written run.out.lacks run.out_now.lacks) (inl silent);
+    cause = caused (TrialStops ⊥ (OutputFailed run) (made_collection seed docs)) tt;
+    large = λ more. inr stops;
+    documents = λ few passes. inr stops;
+    pieces = λ stream word few passes. inr stops;
+    complete = λ few within no_output. inr stops;
+    store = store;
+    input = input;
+  }
+
   nothing_done : (task : Option Task) → Does task run
   nothing_done None = not_understood
   nothing_done (Some (build c n b)) = made c n b
   nothing_done (Some (query n)) = queried n
   nothing_done (Some (decode n)) = decoded n
   nothing_done (Some (scan n)) = scanned n
-  nothing_done (Some (trial s d)) = not_understood
+  nothing_done (Some (trial s d)) = tried s d
   nothing_done (Some (migrate n m)) = not_understood
   nothing_done (Some (check n)) = not_understood
   nothing_done (Some (wild n)) = not_understood

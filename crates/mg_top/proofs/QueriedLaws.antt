@@ -28,7 +28,7 @@ use Rattle.mg_top.specs.Queried.{Queried}
 use Rattle.mg_top.proofs.Endings.{status_of, when_ok, err_by, stopped_by, unless_by}
 
 -- the head of files that stand is not empty
-head_there : (files : Option Files) (base collection : List ℕ) → Stands files base collection → bytes_at files (full_name base part.Head) ≢ []
+pub head_there : (files : Option Files) (base collection : List ℕ) → Stands files base collection → bytes_at files (full_name base part.Head) ≢ []
 unfolding first_damage
 head_there files base collection stands empty =
     let tells = stand-tells stands.stand.version stands.stand.cap stands.stand.code (parts_at files base) collection stands.stand.are in

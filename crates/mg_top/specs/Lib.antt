@@ -5,4 +5,6 @@ pub mod Built
 pub mod Queried
 pub mod Scanned
 pub mod Decoded
+pub mod Trials
+pub mod Tried
 pub mod Does

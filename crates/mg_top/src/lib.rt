@@ -4,10 +4,12 @@
 //! what its one clause says. That clause is a table: for what the words ask, a record a tool, over what
 //! the devices told and counted before the run and after it, and the status. It is generic over the
 //! store, the input and the outputs; tests run it over devices in memory, the program over files and
-//! standard streams. Built so far: `build`, `query`, `decode` and `scan`.
+//! standard streams. Built so far: `build`, `query`, `decode`, `scan` and
+//! `trial`, of which [`trial`] is the work over any store.
 #![tactic(auto)]
 
 mod building;
+mod comparing;
 mod decoding;
 mod lines;
 mod querying;
@@ -16,5 +18,11 @@ mod stopping;
 #[cfg(test)]
 mod tests;
 mod top;
+mod trial_summary;
+#[cfg(test)]
+mod trial_tests;
+mod trials;
+mod trying;
 
 pub use top::run;
+pub use trials::trial;

@@ -7,8 +7,9 @@ ghost use Rattle.std.specs.List.{flat_map};
 ghost use Rattle.mg_dev.specs.Streams.{AfterPut};
 ghost use Rattle.mg_dev.specs.Causes.{HasPutCause, HasLack};
 ghost use Rattle.mg_defs.specs.Summaries.{number_line};
-ghost use Rattle.mg_top.specs.Lines.{piece_text, line_text, summary_lines, pool_line};
+ghost use Rattle.mg_top.specs.Lines.{piece_text, line_text, bytes_line, compared_line, summary_lines, pool_line, trial_summary_lines};
 
+use crate::trial_summary::TrialSummary;
 use itoa::Buffer;
 use mg_dev::{PutErr, Sink};
 use mg_make::Summary;
@@ -25,6 +26,10 @@ pub(crate) enum Piece<'a> {
 pub(crate) enum Line<'a> {
     /// A name and a number.
     Number { name: &'a str, number: u64 },
+    /// A name and a number of bytes.
+    Bytes { name: &'a str, number: u64 },
+    /// What was compared, and whether it was the same.
+    Compared { name: &'a str, same: bool },
     /// The most bytes of a pool at one time, and its size.
     Pool { peak: u64, budget: u64 },
 }
@@ -88,6 +93,37 @@ fn put_number<O: Sink>(out: &mut O, name: &str, number: u64) -> Result<(), PutEr
     put_pieces(out, &pieces)
 }
 
+#[tactic(auto, unfolding(crate::specs::Lines::bytes_line))]
+fn put_bytes<O: Sink>(out: &mut O, name: &str, number: u64) -> Result<(), PutErr>
+    ensures content { AfterPut (O.written out.old) (O.written out.new) (bytes_line name.now number) result }
+    ensures cause { HasPutCause (O.faults out.old) (O.faults out.new) result }
+    ensures lack { HasLack (O.lacks out.old) (O.lacks out.new) result }
+{
+    let pieces = [
+        Piece::Text(name),
+        Piece::Text(" "),
+        Piece::Number(number),
+        Piece::Text(" bytes\n"),
+    ];
+    put_pieces(out, &pieces)
+}
+
+#[tactic(auto, unfolding(crate::specs::Lines::compared_line))]
+fn put_compared<O: Sink>(out: &mut O, name: &str, same: bool) -> Result<(), PutErr>
+    ensures content { AfterPut (O.written out.old) (O.written out.new) (compared_line name.now same) result }
+    ensures cause { HasPutCause (O.faults out.old) (O.faults out.new) result }
+    ensures lack { HasLack (O.lacks out.old) (O.lacks out.new) result }
+{
+    let how = if same { "same" } else { "different" };
+    let pieces = [
+        Piece::Text(name),
+        Piece::Text(" "),
+        Piece::Text(how),
+        Piece::Text("\n"),
+    ];
+    put_pieces(out, &pieces)
+}
+
 fn put_line<O: Sink>(out: &mut O, line: Line<'_>) -> Result<(), PutErr>
     ensures content { AfterPut (O.written out.old) (O.written out.new) (line_text line.entry) result }
     ensures cause { HasPutCause (O.faults out.old) (O.faults out.new) result }
@@ -95,6 +131,8 @@ fn put_line<O: Sink>(out: &mut O, line: Line<'_>) -> Result<(), PutErr>
 {
     match line {
         Line::Number { name, number } => put_number(out, name, number),
+        Line::Bytes { name, number } => put_bytes(out, name, number),
+        Line::Compared { name, same } => put_compared(out, name, same),
         Line::Pool { peak, budget } => put_pool(out, peak, budget),
     }
 }
@@ -149,6 +187,46 @@ pub(crate) fn put_summary<O: Sink>(out: &mut O, summary: &Summary) -> Result<(),
         Line::Pool {
             peak: summary.peak,
             budget: summary.budget,
+        },
+    ];
+    put_lines(out, &lines)
+}
+
+/// Writes the seven lines of a trial's summary.
+#[tactic(auto, unfolding(crate::specs::Lines::trial_summary_lines))]
+pub(crate) fn put_trial_summary<O: Sink>(out: &mut O, summary: &TrialSummary) -> Result<(), PutErr>
+    ensures content { AfterPut (O.written out.old) (O.written out.new) (trial_summary_lines summary.now) result }
+    ensures cause { HasPutCause (O.faults out.old) (O.faults out.new) result }
+    ensures lack { HasLack (O.lacks out.old) (O.lacks out.new) result }
+{
+    let lines = [
+        Line::Number {
+            name: "documents",
+            number: u64::from(summary.documents),
+        },
+        Line::Bytes {
+            name: "collection",
+            number: summary.bytes,
+        },
+        Line::Number {
+            name: "terms",
+            number: u64::from(summary.terms),
+        },
+        Line::Number {
+            name: "occurrences",
+            number: summary.occurrences,
+        },
+        Line::Bytes {
+            name: "replies",
+            number: summary.replies,
+        },
+        Line::Compared {
+            name: "decode",
+            same: summary.is_decoded,
+        },
+        Line::Compared {
+            name: "queries 40",
+            same: summary.is_answered,
         },
     ];
     put_lines(out, &lines)

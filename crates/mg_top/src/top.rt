@@ -9,6 +9,7 @@ use crate::decoding::run_decode;
 use crate::querying::run_query;
 use crate::scanning::run_scan;
 use crate::stopping::stopped;
+use crate::trying::run_trial;
 use mg_dev::{Fault, Sink, Source, Status, Store};
 use mg_words::{Task, read_words};
 use std::alloc::{AllocError, Global};
@@ -23,6 +24,7 @@ use std::alloc::{AllocError, Global};
 /// | `query NAME` | `Queried` | the session that the input asks of the set |
 /// | `decode NAME` | `Decoded` | the collection of the set |
 /// | `scan COLLECTION` | `Scanned` | the session that the input asks of the collection's documents |
+/// | `trial SEED DOCS` | `Tried` | what a trial found of a collection that it makes, in a store of its own |
 ///
 /// The words of a tool that is not built yet are not understood. At every status but 0 the fault's line
 /// goes to `err`; a failed write there changes nothing.
@@ -61,6 +63,7 @@ pub fn run<S: Store, I: Source, O: Sink, E: Sink>(
         Ok(Some(Task::Scan { collection })) => {
             run_scan(alloc, collection, store, input, out, err)
         }
+        Ok(Some(Task::Trial { seed, docs })) => run_trial(alloc, seed, docs, out, err),
         Ok(_) => stopped(Fault::Usage, err),
         Err(AllocError) => stopped(Fault::Memory, err),
     }

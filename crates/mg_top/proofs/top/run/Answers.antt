@@ -1,6 +1,6 @@
 use Rattle.std.proofs.Common.{rules, refl}
 use Rattle.mg_top.proofs.NothingDone.{ran_nothing}
-use Rattle.mg_top.proofs.Asked.{ran_build, ran_decode}
+use Rattle.mg_top.proofs.Asked.{ran_build, ran_decode, ran_trial}
 use Rattle.mg_top.proofs.top.run.Goals as goal
 
 pub returns-in-Err : goal.returns-in-Err
@@ -11,3 +11,6 @@ returns-in-Ok-Some-Decode g c = ran_decode _ c.in-Ok-Some-Decode.name.now _ (sea
 
 pub returns-in-Ok-Some-Build : goal.returns-in-Ok-Some-Build
 returns-in-Ok-Some-Build g c = ran_build _ c.in-Ok-Some-Build.collection.now c.in-Ok-Some-Build.name.now c.in-Ok-Some-Build.budget _ (search rules) (c.run_build.ensures.does _) c.run_build.ensures.told
+
+pub returns-in-Ok-Some-Trial : goal.returns-in-Ok-Some-Trial
+returns-in-Ok-Some-Trial g c = ran_trial _ c.in-Ok-Some-Trial.seed c.in-Ok-Some-Trial.docs _ (search rules) (c.run_trial.ensures.does _ _) c.run_trial.ensures.told

@@ -1,0 +1,12 @@
+use Rattle.std.proofs.Common.{◌≡◌, ◌∙◌}
+use Rattle.mg_top.proofs.TrialSteps.{decode_lacks, never_rose, put_first, same_bytes, told_same}
+use Rattle.mg_top.proofs.comparing.is_decoded.Goals as goal
+
+pub returns-in-Ok-clause-same : goal.returns-in-Ok-clause-same
+returns-in-Ok-clause-same g c =
+    let same : c.bytes.result.now ≡ c.args.text.now =
+    told_same _ _ _ c.bytes.ensures (put_first _ _ _ c.new-out.ensures.written (c.in-Ok.ensures.content c.args.text.now c.requires.stands)) in
+    c.eq.ensures ∙ same_bytes _ _ same
+
+pub returns-clause-cause : goal.returns-clause-cause
+returns-clause-cause g c = decode_lacks _ _ _ _ c.args.text.now c.in-Err.fault never_rose c.requires.stands c.in-Err.ensures.cause

@@ -1,0 +1,78 @@
+-- What a trial prints, and why it stops.
+use Rattle.std.specs.Prelude.{◌≡◌, ◌⊎◌, ◌<◌, ◌≤◌, ℕ, true, List, length, codes, Some, IfErr, IfOk}
+use Rattle.std.specs.declared.option.Option.{Option}
+use Rattle.std.specs.declared.result.Result.{Result}
+use Rattle.mg_dev.specs.Causes.{Rose}
+use Rattle.mg_dev.specs.Files.{Files, file_at}
+use Rattle.mg_dev.specs.declared.fault.Fault.{Fault}
+use Rattle.mg_dev.specs.declared.fault.Fault.TheVariants.{StoreFault, WriteFault, TooLarge, TooManyDocuments, TooManyPieces, Memory}
+use Rattle.mg_defs.specs.declared.Stream.{Stream}
+use Rattle.mg_defs.specs.Limits.{IsWithinLimits, held_bytes, version_2}
+use Rattle.mg_defs.specs.Marks.{PassesFirst, start, piece}
+use Rattle.mg_defs.specs.Occurrences.{occurrences}
+use Rattle.mg_defs.specs.Replies.{session}
+use Rattle.mg_defs.specs.Terms.{dictionary}
+use Rattle.mg_layout.specs.Stands.{Stands}
+use Rattle.mg_build.specs.Outcomes.{IsDone, RefusedFor}
+use Rattle.mg_top.specs.declared.comparing.Replies.{Replies}
+use Rattle.mg_top.specs.declared.trial_summary.TrialSummary.{TrialSummary}
+
+-- the file of the collection, and the base of its set
+abbrev pub text_name : List ℕ
+text_name = codes "text"
+
+abbrev pub set_name : List ℕ
+set_name = codes "set"
+
+-- The collection is in its file, and the set stands for it.
+pub record IsBuilt (files : Option Files) (collection : List ℕ) : Type 0 where
+  pub stands : Stands files set_name collection
+  pub text : file_at files text_name ≡ Some collection
+  pub few : length collection ≤ held_bytes
+
+-- what the replies to a session's input are: from the set and from the text the same
+abbrev pub replies_of : List ℕ → List ℕ → Replies
+replies_of collection input = record { bytes = length (session collection input); are_same = true }
+
+-- what a trial finds of a collection of so many documents and a session's input: what is compared is the same
+abbrev pub trial_summary : ℕ → List ℕ → List ℕ → TrialSummary
+trial_summary docs collection input = record {
+  documents = docs;
+  bytes = length collection;
+  terms = length (dictionary collection);
+  occurrences = length (occurrences collection);
+  replies = length (session collection input);
+  is_decoded = true;
+  is_answered = true;
+}
+
+-- the cause of each refusal where nothing stands in the way: the store failed, or memory was wanting
+abbrev pub Lacks : Type 0 → Fault → Type 0
+Lacks store_rose StoreFault = store_rose
+Lacks store_rose Memory = Unit {0}
+Lacks store_rose _ = ⊥
+
+-- the cause of each refusal of a trial, by the collection that it makes
+abbrev pub TrialStops : Type 0 → Type 0 → List ℕ → Fault → Type 0
+TrialStops store_rose output_rose collection StoreFault = store_rose
+TrialStops store_rose output_rose collection WriteFault = output_rose
+TrialStops store_rose output_rose collection (TooLarge size most) = (most ≡ held_bytes) × (most < size) × (length collection ≡ size)
+TrialStops store_rose output_rose collection TooManyDocuments = PassesFirst version_2 collection start
+TrialStops store_rose output_rose collection (TooManyPieces stream) = (bytes : List ℕ) × PassesFirst version_2 collection (piece stream bytes)
+TrialStops store_rose output_rose collection Memory = Unit {0}
+TrialStops store_rose output_rose collection _ = ⊥
+
+-- after a refusal nothing was written, unless a write was refused
+abbrev pub SilentAfter : Option (List ℕ) → Option (List ℕ) → ℕ → ℕ → Fault → Type 0
+SilentAfter before now lacks lacks_now WriteFault = Unit {0}
+SilentAfter before now lacks lacks_now Memory = (now ≡ before) ⊎ Rose lacks lacks_now
+SilentAfter before now lacks lacks_now _ = now ≡ before
+
+-- How the work before the first line ends, by whether the store failed, and by what was made.
+pub record WorkEnds (store_rose : Type 0) (docs : ℕ) (collection input : List ℕ) (result : Result TrialSummary Fault) : Type 0 where
+  pub done : IfOk result (λ summary. summary ≡ trial_summary docs collection input)
+  pub cause : IfErr result (TrialStops store_rose ⊥ collection)
+  pub large : held_bytes < length collection → RefusedFor result (TooLarge (length collection) held_bytes)
+  pub documents : length collection ≤ held_bytes → PassesFirst version_2 collection start → RefusedFor result TooManyDocuments
+  pub pieces : (stream : Stream) (bytes : List ℕ) → length collection ≤ held_bytes → PassesFirst version_2 collection (piece stream bytes) → RefusedFor result (TooManyPieces stream)
+  pub complete : length collection ≤ held_bytes → IsWithinLimits 2 collection → (store_rose → ⊥) → IsDone result

@@ -1,0 +1,119 @@
+// What a set and the collection's text tell, compared.
+ghost use Rattle.std.specs.Prelude.{◌≡◌, ◌≤◌, ℕ, List, true, length, IfErr, IfOk, OnOk, Ok, Some};
+ghost use Rattle.mg_dev.specs.Causes.{Rose};
+ghost use Rattle.mg_layout.specs.Stands.{Stands};
+ghost use Rattle.mg_defs.specs.Generator.{made_session};
+ghost use Rattle.mg_defs.specs.Replies.{session};
+ghost use Rattle.mg_top.specs.Trials.{IsBuilt, Lacks, replies_of, set_name};
+
+use crate::trials::{SET, TEXT};
+use mg_build::decode;
+use mg_dev::{Fault, Sink, Store, SureSink, SureSource};
+use mg_gen::make_session;
+use mg_plain::scan;
+use mg_session::serve;
+use std::alloc::{AllocError, Global};
+
+/// The most bytes that the questions are given at a time.
+const STEP: usize = 4096;
+
+/// Whether the set is decoded to these bytes.
+pub(crate) fn is_decoded<S: Store>(alloc: Global, store: &mut S, text: &[u8]) -> Result<bool, Fault>
+    requires stands { Stands (S.files store.old) set_name text.now }
+    ensures same { IfOk result (λ same. same ≡ true) }
+    ensures cause { IfErr result (Lacks (Rose (S.faults store.old) (S.faults store.new))) }
+    ensures files { S.files store.new ≡ S.files store.old }
+    ensures later { S.faults store.old ≤ S.faults store.new }
+{
+    let mut out = SureSink::new(alloc);
+    match decode(alloc, store, SET, &mut out) {
+        Ok(()) => Ok(out.bytes() == text),
+        Err(fault) => Err(fault),
+    }
+}
+
+/// The replies of the set.
+fn served<S: Store>(alloc: Global, store: &mut S, questions: &[u8]) -> Result<SureSink, Fault>
+    requires short { length questions.now ≤ 1670 }
+    ensures replies { (collection : List ℕ) → IsBuilt (S.files store.old) collection →
+        IfOk result (λ out. ⟦<SureSink as Sink>⟧.written out ≡ Some (session collection questions.now)) }
+    ensures cause { (collection : List ℕ) → IsBuilt (S.files store.old) collection → IfErr result (Lacks (Rose (S.faults store.old) (S.faults store.new))) }
+    ensures files { S.files store.new ≡ S.files store.old }
+    ensures later { S.faults store.old ≤ S.faults store.new }
+{
+    let mut input = match SureSource::new(alloc, questions, STEP) {
+        Ok(input) => input,
+        Err(AllocError) => return Err(Fault::Memory),
+    };
+    let mut out = SureSink::new(alloc);
+    match serve(alloc, store, SET, &mut input, &mut out) {
+        Ok(()) => Ok(out),
+        Err(fault) => Err(fault),
+    }
+}
+
+/// The replies of the collection's text.
+fn scanned<S: Store>(alloc: Global, store: &mut S, questions: &[u8]) -> Result<SureSink, Fault>
+    requires short { length questions.now ≤ 1670 }
+    ensures replies { (collection : List ℕ) → IsBuilt (S.files store.old) collection →
+        IfOk result (λ out. ⟦<SureSink as Sink>⟧.written out ≡ Some (session collection questions.now)) }
+    ensures cause { (collection : List ℕ) → IsBuilt (S.files store.old) collection → IfErr result (Lacks (Rose (S.faults store.old) (S.faults store.new))) }
+    ensures files { S.files store.new ≡ S.files store.old }
+    ensures later { S.faults store.old ≤ S.faults store.new }
+{
+    let mut input = match SureSource::new(alloc, questions, STEP) {
+        Ok(input) => input,
+        Err(AllocError) => return Err(Fault::Memory),
+    };
+    let mut out = SureSink::new(alloc);
+    match scan(alloc, store, TEXT, &mut input, &mut out) {
+        Ok(()) => Ok(out),
+        Err(fault) => Err(fault),
+    }
+}
+
+/// The questions of a trial.
+fn made_questions(alloc: Global, seed: u64) -> Result<SureSink, Fault>
+    ensures text { IfOk result (λ out. ⟦<SureSink as Sink>⟧.written out ≡ Some (made_session seed)) }
+    ensures short { length (made_session seed) ≤ 1670 }
+    ensures cause { IfErr result (Lacks ⊥) }
+{
+    let mut out = SureSink::new(alloc);
+    match make_session(seed, &mut out) {
+        Ok(()) => Ok(out),
+        Err(_) => Err(Fault::Memory),
+    }
+}
+
+/// The replies to the questions of a trial.
+#[derive(Clone, Copy, Debug, PartialEq, Eq)]
+pub(crate) struct Replies {
+    /// The size of the set's replies.
+    pub bytes: u64,
+    /// Whether the text's replies are the same.
+    pub are_same: bool,
+}
+
+/// Asks the questions of a trial of the set and of the collection's text.
+pub(crate) fn ask_both<S: Store>(alloc: Global, store: &mut S, seed: u64) -> Result<Replies, Fault>
+    ensures replies { (collection : List ℕ) → IsBuilt (S.files store.old) collection → IfOk result (λ replies. replies ≡ replies_of collection (made_session seed)) }
+    ensures cause { (collection : List ℕ) → IsBuilt (S.files store.old) collection → IfErr result (Lacks (Rose (S.faults store.old) (S.faults store.new))) }
+    ensures later { S.faults store.old ≤ S.faults store.new }
+{
+    let questions = match made_questions(alloc, seed) {
+        Ok(questions) => questions,
+        Err(fault) => return Err(fault),
+    };
+    let from_set = match served(alloc, store, questions.bytes()) {
+        Ok(replies) => replies,
+        Err(fault) => return Err(fault),
+    };
+    let from_text = match scanned(alloc, store, questions.bytes()) {
+        Ok(replies) => replies,
+        Err(fault) => return Err(fault),
+    };
+    Ok(Replies {
+        bytes: from_set.bytes().len() as u64,
+        are_same: from_set.bytes() == from_text.bytes(),
+    })
+}

@@ -1,0 +1,153 @@
+//! A trial of the whole work on a collection that is made from a number.
+ghost use Rattle.std.specs.Prelude.{◌≡◌, ◌≤◌, ◌<◌, ◌⊎◌, ℕ, List, length, IfErr, IfOk, OnOk, Some};
+ghost use Rattle.mg_dev.specs.Causes.{Rose};
+ghost use Rattle.mg_dev.specs.Files.{file_at, no_files};
+ghost use Rattle.mg_dev.specs.Streams.{AfterPut};
+ghost use Rattle.mg_dev.specs.declared.fault.Fault.TheVariants as fault;
+ghost use Rattle.mg_defs.specs.declared.Stream.{Stream as Kind};
+ghost use Rattle.mg_defs.specs.Generator.{made_collection, made_session};
+ghost use Rattle.mg_defs.specs.Limits.{IsWithinLimits, held_bytes, version_2};
+ghost use Rattle.mg_defs.specs.Marks.{PassesFirst, start as start_mark, piece as piece_mark};
+ghost use Rattle.mg_defs.specs.Summaries.{trial_text};
+ghost use Rattle.mg_build.specs.Outcomes.{IsDone, RefusedFor};
+ghost use Rattle.mg_top.specs.Trials.{Lacks, SilentAfter, TrialStops, WorkEnds, text_name};
+
+use crate::comparing::{ask_both, is_decoded};
+use crate::lines::put_trial_summary;
+use crate::trial_summary::TrialSummary;
+use mg_build::build;
+use mg_dev::{Fault, FileRef, Part, Sink, Store, SureSink};
+use mg_gen::make_collection;
+use std::alloc::Global;
+
+/// The file of the collection.
+pub(crate) const TEXT: &str = "text";
+
+/// The base of the set.
+pub(crate) const SET: &str = "set";
+
+/// The bytes of the pool that the set is built in.
+const BUDGET: u64 = 16_777_216;
+
+/// The most bytes of a collection: its text is held in memory.
+const MOST_BYTES: u64 = 268_435_456;
+
+/// The collection of a trial.
+fn made_text(alloc: Global, seed: u64, docs: u32) -> Result<SureSink, Fault>
+    ensures text { IfOk result (λ out. ⟦<SureSink as Sink>⟧.written out ≡ Some (made_collection seed docs)) }
+    ensures cause { IfErr result (Lacks ⊥) }
+{
+    let mut out = SureSink::new(alloc);
+    match make_collection(seed, docs, &mut out) {
+        Ok(()) => Ok(out),
+        Err(_) => Err(Fault::Memory),
+    }
+}
+
+/// Puts a collection into its file.
+fn put_text<S: Store>(store: &mut S, text: &[u8]) -> Result<(), Fault>
+    requires none { S.files store.old ≡ Some no_files }
+    ensures there { OnOk result (file_at (S.files store.new) text_name ≡ Some text.now) }
+    ensures cause { IfErr result (Lacks (Rose (S.faults store.old) (S.faults store.new))) }
+    ensures later { S.faults store.old ≤ S.faults store.new }
+{
+    let file = FileRef {
+        base: TEXT,
+        part: Part::Plain,
+    };
+    match store.append(&file, text) {
+        Ok(()) => Ok(()),
+        Err(refusal) => Err(Fault::of_store(refusal)),
+    }
+}
+
+/// Does the work of a trial, and tells what it found; nothing is printed.
+fn try_all<S: Store>(
+    alloc: Global,
+    store: &mut S,
+    seed: u64,
+    docs: u32,
+) -> Result<TrialSummary, Fault>
+    requires none { S.files store.old ≡ Some no_files }
+    ensures ends { WorkEnds (Rose (S.faults store.old) (S.faults store.new)) docs (made_collection seed docs) (made_session seed) result }
+    ensures later { S.faults store.old ≤ S.faults store.new }
+{
+    let made = match made_text(alloc, seed, docs) {
+        Ok(made) => made,
+        Err(fault) => return Err(fault),
+    };
+    let text = made.bytes();
+    let bytes = text.len() as u64;
+    if bytes > MOST_BYTES {
+        return Err(Fault::TooLarge {
+            size: bytes,
+            most: MOST_BYTES,
+        });
+    }
+    match put_text(store, text) {
+        Ok(()) => {}
+        Err(fault) => return Err(fault),
+    }
+    let summary = match build(alloc, store, TEXT, SET, BUDGET) {
+        Ok(summary) => summary,
+        Err(fault) => return Err(fault),
+    };
+    let decoded = match is_decoded(alloc, store, text) {
+        Ok(same) => same,
+        Err(fault) => return Err(fault),
+    };
+    let replies = match ask_both(alloc, store, seed) {
+        Ok(replies) => replies,
+        Err(fault) => return Err(fault),
+    };
+    Ok(TrialSummary {
+        documents: docs,
+        bytes,
+        terms: summary.terms,
+        occurrences: summary.occurrences,
+        replies: replies.bytes,
+        is_decoded: decoded,
+        is_answered: replies.are_same,
+    })
+}
+
+/// Tries the whole work on a collection of so many documents, from 1 to 20,000, that is made from
+/// the seed, and prints seven lines.
+///
+/// The collection goes into the file `text`, and the set of the base `set` is built of it. The set
+/// is decoded and compared with the collection; forty questions are asked of the set and of the
+/// text, and the replies are compared. The lines come after both comparisons, and tell how they
+/// came out: the same, as the clause `text` says.
+pub fn trial<S: Store, O: Sink>(
+    alloc: Global,
+    store: &mut S,
+    seed: u64,
+    docs: u32,
+    out: &mut O,
+) -> Result<(), Fault>
+    requires some { 1 ≤ docs }
+    requires most { docs ≤ 20000 }
+    requires none { S.files store.old ≡ Some no_files }
+    // The seven lines are printed, or after a refusal a prefix; after most refusals nothing.
+    ensures text { AfterPut (O.written out.old) (O.written out.new) (trial_text seed docs) result }
+    ensures silent { IfErr result (SilentAfter (O.written out.old) (O.written out.new) (O.lacks out.old) (O.lacks out.new)) }
+    // The cause of each refusal.
+    ensures cause { IfErr result (TrialStops (Rose (S.faults store.old) (S.faults store.new)) (Rose (O.faults out.old) (O.faults out.new)) (made_collection seed docs)) }
+    ensures later { S.faults store.old ≤ S.faults store.new }
+    // What the collection has too much of is told, in this order.
+    ensures large { held_bytes < length (made_collection seed docs) → RefusedFor result (fault.TooLarge (length (made_collection seed docs)) held_bytes) }
+    ensures documents { length (made_collection seed docs) ≤ held_bytes → PassesFirst version_2 (made_collection seed docs) start_mark → RefusedFor result fault.TooManyDocuments }
+    ensures pieces { (stream : Kind) (piece : List ℕ) → length (made_collection seed docs) ≤ held_bytes →
+        PassesFirst version_2 (made_collection seed docs) (piece_mark stream piece) → RefusedFor result (fault.TooManyPieces stream) }
+    // Within the limits it is done, or memory lacks.
+    ensures complete { length (made_collection seed docs) ≤ held_bytes → IsWithinLimits 2 (made_collection seed docs) →
+        ¬ Rose (S.faults store.old) (S.faults store.new) → ¬ Rose (O.faults out.old) (O.faults out.new) → IsDone result }
+{
+    match try_all(alloc, store, seed, docs) {
+        Ok(summary) => match put_trial_summary(out, &summary) {
+            Ok(()) => Ok(()),
+            Err(refusal) => Err(Fault::of_output(refusal)),
+        },
+        Err(fault) => Err(fault),
+    }
+}

@@ -1,0 +1,41 @@
+// The tool `trial`.
+ghost use Rattle.std.specs.Prelude.{◌≡◌, ◌≤◌, ◌⊎◌};
+ghost use Rattle.mg_top.specs.Runs.{Run, SourceAt, StoreAt};
+ghost use Rattle.mg_top.specs.Tried.{Tried};
+ghost use Rattle.mg_top.specs.Ends.{ToldWhy};
+
+use crate::stopping::stopped;
+use crate::trials::trial;
+use mg_dev::{Sink, Status, SureStore};
+use std::alloc::Global;
+
+/// `trial SEED DOCS`: tries the whole work in a store of its own, and prints what it found.
+pub fn run_trial<O: Sink, E: Sink>(
+    alloc: Global,
+    seed: u64,
+    docs: u32,
+    out: &mut O,
+    err: &mut E,
+) -> Status
+    requires some { 1 ≤ docs }
+    requires most { docs ≤ 20000 }
+    // Whatever the store and the input are, which are not touched.
+    ensures does { (store : StoreAt) (input : SourceAt) → Tried seed docs (record {
+      store = store;
+      store_now = store;
+      input = input;
+      input_now = input;
+      out = record { written = O.written out.old; faults = O.faults out.old; lacks = O.lacks out.old };
+      out_now = record { written = O.written out.new; faults = O.faults out.new; lacks = O.lacks out.new };
+      err = record { written = E.written err.old; faults = E.faults err.old; lacks = E.lacks err.old };
+      err_now = record { written = E.written err.new; faults = E.faults err.new; lacks = E.lacks err.new };
+      status = result;
+    }) }
+    ensures told { ToldWhy result (E.written err.old) (E.written err.new) (E.faults err.old) (E.faults err.new) (E.lacks err.old) (E.lacks err.new) }
+{
+    let mut store = SureStore::new(alloc);
+    match trial(alloc, &mut store, seed, docs, out) {
+        Ok(()) => Status::Done,
+        Err(fault) => stopped(fault, err),
+    }
+}
