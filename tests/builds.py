@@ -1,5 +1,5 @@
-"""Sets that the program builds: their parts, their summaries, what is refused, and what a build leaves that
-was stopped.
+"""Sets that the program builds and makes anew: their parts, their summaries, what is refused, and what a build
+leaves that was stopped.
 
 The reference (`reference/`) decides of every part whether it is the collection's.
 """
@@ -153,6 +153,38 @@ def trials(suite):
     suite.check("a trial leaves no file", (suite.folder / "set.head").exists(), False)
 
 
+def migrations(suite):
+    """Sets of both versions, made anew in version 2: each part is the collection's, and the old set stays."""
+    for name, collection in SMALL + [(name, collection) for name, collection, _ in cases()]:
+        for version in (1, 2):
+            put_set(suite, "old", collection, version)
+            before = read_parts(suite.folder / "old")
+            documents = len(Collection(collection).documents)
+            got = suite.run(["migrate", "old", "new"])
+            suite.check(f"{name}: version {version} made anew", got, (0, f"documents {documents}\n".encode(), b""))
+            wanted = build(Collection(collection), BUDGET, 2)
+            suite.check(f"{name}: all parts of version {version} made anew", read_parts(suite.folder / "new"), wanted)
+            suite.check(f"{name}: the old set of version {version} stays", read_parts(suite.folder / "old"), before)
+            remove(suite, "old")
+            remove(suite, "new")
+    put_set(suite, "old", K, 1)
+    same = (16, b"", b"mg: both names are the same\n")
+    suite.check("a set made from itself", suite.run(["migrate", "old", "old"]), same)
+    suite.check("which stays", suite.run(["decode", "old"]), (0, K, b""))
+    unbuilt = suite.run(["migrate", "none", "new"])
+    suite.check("a set made from none", (unbuilt[0], unbuilt[1]), (5, b""))
+    suite.check("which makes none", (suite.folder / "new.head").exists(), False)
+    unread = (1, b"", b"mg: the words are not understood\n")
+    for words in [["old"], ["old", "new", "more"], ["old", ""]]:
+        suite.check(f"a migration of {words}", suite.run(["migrate", *words]), unread)
+    with open("/dev/full", "wb") as full:
+        unwritten = (4, None, b"mg: the output could not be written\n")
+        suite.check("a full output of migrate", suite.run(["migrate", "old", "new"], stdout=full), unwritten)
+    suite.check("and the new set stands", suite.run(["decode", "new"]), (0, K, b""))
+    remove(suite, "old")
+    remove(suite, "new")
+
+
 def limits(suite):
     """The greatest collections and the first ones beyond them; minutes, and gigabytes of files."""
     for count, status, line in [(1 << 24, 0, b""), ((1 << 24) + 1, 9, b"mg: more than 16777216 documents\n")]:
@@ -168,5 +200,5 @@ def limits(suite):
         remove(suite, "set")
 
 
-PARTS = [kinds, bytes_of_parts, refusals, stopped, trials]
+PARTS = [kinds, bytes_of_parts, refusals, stopped, trials, migrations]
 SLOW = [limits]

@@ -62,10 +62,10 @@ stops_too s o files name base InputTooLong cause = cause
 stops_too s o files name base SameName cause = cause
 stops_too s o files name base (TooManyRotations count) cause = cause
 
-same_fault : (status : Status) (f g : Fault) → status ≡ Stopped f → status ≡ Stopped g → f ≡ g
+pub same_fault : (status : Status) (f g : Fault) → status ≡ Stopped f → status ≡ Stopped g → f ≡ g
 same_fault status f g one two = cc
 
-not_done : (status : Status) (f : Fault) → status ≡ Stopped f → status ≡ Done → ⊥
+pub not_done : (status : Status) (f : Fault) → status ≡ Stopped f → status ≡ Done → ⊥
 not_done status f one two = cc
 
 module _ (name base : List ℕ) (budget : ℕ) (run : Run) (f : Fault) (is : run.status ≡ Stopped f)
@@ -126,7 +126,7 @@ never_early (Ok u) status g is soon end = absurd (not_done status g end is)
 never_early (Err put.Failed) status g is soon end = subst (λ (g : Fault). IsEarly g) (same_fault status g WriteFault end is) soon
 never_early (Err put.Memory) status g is soon end = subst (λ (g : Fault). IsEarly g) (same_fault status g Memory end is) soon
 
-put_when_done : (w : Result (Unit {0}) PutErr) (status : Status) (old new : Option (List ℕ)) (bytes : List ℕ) → status ≡ status_of_put w → status ≡ Done → AfterPut old new bytes w → new ≡ appended old bytes
+pub put_when_done : (w : Result (Unit {0}) PutErr) (status : Status) (old new : Option (List ℕ)) (bytes : List ℕ) → status ≡ status_of_put w → status ≡ Done → AfterPut old new bytes w → new ≡ appended old bytes
 put_when_done (Ok u) status old new bytes is end put = put
 put_when_done (Err e) status old new bytes is end put = absurd (not_done status (fault_of_output e) is end)
 
@@ -136,7 +136,7 @@ put_stops (Ok u) s files name base before now has = tt
 put_stops (Err put.Failed) s files name base before now has = has.failed refl
 put_stops (Err put.Memory) s files name base before now has = tt
 
-put_done_or : (w : Result (Unit {0}) PutErr) (run : Run) → run.status ≡ status_of_put w → HasPutCause run.out.faults run.out_now.faults w → (OutputFailed run → ⊥) → (run.status ≡ Done) ⊎ Stops run Memory
+pub put_done_or : (w : Result (Unit {0}) PutErr) (run : Run) → run.status ≡ status_of_put w → HasPutCause run.out.faults run.out_now.faults w → (OutputFailed run → ⊥) → (run.status ≡ Done) ⊎ Stops run Memory
 put_done_or (Ok u) run is has never = inl is
 put_done_or (Err put.Failed) run is has never = absurd (never (has.failed refl))
 put_done_or (Err put.Memory) run is has never = inr is

@@ -11,3 +11,4 @@ mod TrialLaws
 mod TriedLaws
 mod NothingDone
 mod Asked
+mod MigratedLaws

@@ -22,6 +22,7 @@ use Rattle.mg_top.specs.Ends.{IfStopped, ToldWhy}
 use Rattle.mg_top.specs.Runs.{Run, SaysNothing, KeepsFiles, Stops, StoreFailed, InputFailed, OutputFailed}
 use Rattle.mg_top.specs.Built.{Built, BuildStops, collection_of}
 use Rattle.mg_top.specs.Decoded.{Decoded}
+use Rattle.mg_top.specs.Migrated.{Migrated, MigrateStops, documents_line}
 use Rattle.mg_top.specs.Queried.{Queried}
 use Rattle.mg_top.specs.Scanned.{Scanned}
 use Rattle.mg_top.specs.Trials.{SilentAfter, TrialStops}
@@ -123,6 +124,23 @@ module _ (run : Run) (stops : Stops run Memory) (store : run.store_now ≡ run.s
     input = input;
   }
 
+  migrated : (n m : List ℕ) → Migrated n m run
+  migrated n m = record {
+    done = λ version cap c stands is. absurd (not_done is);
+    printed = λ c stands is. absurd (not_done is);
+    prefix = λ c stands. prefix (documents_line c);
+    silent = λ fault early is. silent;
+    unchanged = λ fault early is. files;
+    kept = λ version cap c stands is. absurd (not_write is);
+    left = λ c stands. inl files;
+    others = same_files m;
+    cause = caused (MigrateStops (StoreFailed run) (OutputFailed run) run.store.files n m) tt;
+    same = λ is. inr stops;
+    not_built = λ told apart none. inr (inr stops);
+    complete = λ c stands apart no_store no_output. inr stops;
+    input = input;
+  }
+
   tried : (seed docs : ℕ) → Tried seed docs run
   tried seed docs = record {
     done = λ is. absurd (not_done is);
@@ -144,7 +162,7 @@ module _ (run : Run) (stops : Stops run Memory) (store : run.store_now ≡ run.s
   nothing_done (Some (decode n)) = decoded n
   nothing_done (Some (scan n)) = scanned n
   nothing_done (Some (trial s d)) = tried s d
-  nothing_done (Some (migrate n m)) = not_understood
+  nothing_done (Some (migrate n m)) = migrated n m
   nothing_done (Some (check n)) = not_understood
   nothing_done (Some (wild n)) = not_understood
   nothing_done (Some (phrase n)) = not_understood

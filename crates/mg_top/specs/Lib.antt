@@ -8,3 +8,4 @@ pub mod Decoded
 pub mod Trials
 pub mod Tried
 pub mod Does
+pub mod Migrated

@@ -4,14 +4,15 @@
 //! what its one clause says. That clause is a table: for what the words ask, a record a tool, over what
 //! the devices told and counted before the run and after it, and the status. It is generic over the
 //! store, the input and the outputs; tests run it over devices in memory, the program over files and
-//! standard streams. Built so far: `build`, `query`, `decode`, `scan` and
-//! `trial`, of which [`trial`] is the work over any store.
+//! standard streams. Built so far: `build`, `query`, `decode`, `scan`,
+//! `migrate` and `trial`, of which [`trial`] is the work over any store.
 #![tactic(auto)]
 
 mod building;
 mod comparing;
 mod decoding;
 mod lines;
+mod migrating;
 mod querying;
 mod scanning;
 mod stopping;

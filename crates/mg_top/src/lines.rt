@@ -152,6 +152,15 @@ fn put_lines<O: Sink>(out: &mut O, lines: &[Line<'_>]) -> Result<(), PutErr>
     }
 }
 
+/// Writes how many documents a set has.
+pub(crate) fn put_documents<O: Sink>(out: &mut O, documents: u32) -> Result<(), PutErr>
+    ensures content { AfterPut (O.written out.old) (O.written out.new) (number_line (codes "documents") documents) result }
+    ensures cause { HasPutCause (O.faults out.old) (O.faults out.new) result }
+    ensures lack { HasLack (O.lacks out.old) (O.lacks out.new) result }
+{
+    put_number(out, "documents", u64::from(documents))
+}
+
 /// Writes the seven lines of a build's summary.
 #[tactic(auto, unfolding(crate::specs::Lines::summary_lines))]
 pub(crate) fn put_summary<O: Sink>(out: &mut O, summary: &Summary) -> Result<(), PutErr>

@@ -1,6 +1,6 @@
 use Rattle.std.proofs.Common.{rules, refl}
 use Rattle.mg_top.proofs.NothingDone.{ran_nothing}
-use Rattle.mg_top.proofs.Asked.{ran_build, ran_decode, ran_trial}
+use Rattle.mg_top.proofs.Asked.{ran_build, ran_decode, ran_migrate, ran_trial}
 use Rattle.mg_top.proofs.top.run.Goals as goal
 
 pub returns-in-Err : goal.returns-in-Err
@@ -14,3 +14,6 @@ returns-in-Ok-Some-Build g c = ran_build _ c.in-Ok-Some-Build.collection.now c.i
 
 pub returns-in-Ok-Some-Trial : goal.returns-in-Ok-Some-Trial
 returns-in-Ok-Some-Trial g c = ran_trial _ c.in-Ok-Some-Trial.seed c.in-Ok-Some-Trial.docs _ (search rules) (c.run_trial.ensures.does _ _) c.run_trial.ensures.told
+
+pub returns-in-Ok-Some-Migrate : goal.returns-in-Ok-Some-Migrate
+returns-in-Ok-Some-Migrate g c = ran_migrate _ c.in-Ok-Some-Migrate.name.now c.in-Ok-Some-Migrate.new.now _ (search rules) (c.run_migrate.ensures.does _) c.run_migrate.ensures.told

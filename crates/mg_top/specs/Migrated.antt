@@ -1,0 +1,62 @@
+-- What a run of `migrate NAME NEW` does.
+use Rattle.std.specs.Prelude.{◌≡◌, ◌≢◌, ◌⊎◌, ℕ, List, [], length, codes, Some, IsSome}
+use Rattle.std.specs.declared.option.Option.{Option}
+use Rattle.mg_dev.specs.Files.{Files, bytes_at, file_at}
+use Rattle.mg_dev.specs.Names.{full_name}
+use Rattle.mg_dev.specs.Streams.{appended, GrewByPrefix}
+use Rattle.mg_dev.specs.declared.part.Part.TheVariants as part
+use Rattle.mg_dev.specs.declared.fault.Fault.{Fault}
+use Rattle.mg_dev.specs.declared.fault.Fault.TheVariants.{WriteFault, NotBuilt, Memory, SameName}
+use Rattle.mg_dev.specs.declared.status.Status.TheVariants.{Done}
+use Rattle.mg_defs.specs.Split.{documents}
+use Rattle.mg_defs.specs.Summaries.{number_line}
+use Rattle.mg_layout.specs.Stands.{Stands, StandsIn}
+use Rattle.mg_make.specs.Putting.{OthersSame}
+use Rattle.mg_build.specs.Building.{Left}
+use Rattle.mg_build.specs.Migrating as migrating
+use Rattle.mg_build.specs.Migrating.{ComesFirst}
+use Rattle.mg_top.specs.Ends.{IfStopped}
+use Rattle.mg_top.specs.Runs.{Run, StoreFailed, OutputFailed, SaysNothing, KeepsFiles, Stops, StopsUnless}
+
+-- the line that is printed: how many documents the collection has
+abbrev pub documents_line : List ℕ → List ℕ
+documents_line collection = number_line (codes "documents") (length (documents collection))
+
+-- The set of this base stands for the collection in version 2, with so many occurrences to a run.
+pub record IsMadeAnew (files : Option Files) (base collection : List ℕ) (cap : ℕ) : Type 0 where
+  pub stands : StandsIn 2 cap files base collection
+  pub merge_a : file_at files (full_name base part.MergeA) ≡ Some []
+  pub merge_b : file_at files (full_name base part.MergeB) ≡ Some []
+
+-- the cause of each refusal: that of the call, or the output failed
+abbrev pub MigrateStops : Type 0 → Type 0 → Option Files → List ℕ → List ℕ → Fault → Type 0
+MigrateStops store_rose output_rose files name new WriteFault = output_rose
+MigrateStops store_rose output_rose files name new fault = migrating.MigrateStops store_rose files name new fault
+
+-- of each collection that the set of this name stands for, in either version
+pub record Migrated (name new : List ℕ) (run : Run) : Type 0 where
+  -- status 0: the new set is made, and the line is printed
+  pub done : (version cap : ℕ) (collection : List ℕ) → StandsIn version cap run.store.files name collection → run.status ≡ Done
+      → IsMadeAnew run.store_now.files new collection cap
+  pub printed : (collection : List ℕ) → Stands run.store.files name collection → run.status ≡ Done
+      → run.out_now.written ≡ appended run.out.written (documents_line collection)
+  -- every status: a prefix of the line is printed; after the statuses 16 and 5 nothing, and no file changes
+  pub prefix : (collection : List ℕ) → Stands run.store.files name collection → GrewByPrefix run.out.written run.out_now.written (documents_line collection)
+  pub silent : (fault : Fault) → ComesFirst fault → Stops run fault → SaysNothing run
+  pub unchanged : (fault : Fault) → ComesFirst fault → Stops run fault → KeepsFiles run
+  -- where the line could not be written the new set is made
+  pub kept : (version cap : ℕ) (collection : List ℕ) → StandsIn version cap run.store.files name collection → Stops run WriteFault
+      → IsMadeAnew run.store_now.files new collection cap
+  -- every status: all files are as before, or the new set stands for none, or for this collection; no file but its own changes
+  pub left : (collection : List ℕ) → Stands run.store.files name collection → Left new run.store.files run.store_now.files collection
+  pub others : OthersSame new run.store.files run.store_now.files
+  -- the cause of every other status
+  pub cause : IfStopped run.status (MigrateStops (StoreFailed run) (OutputFailed run) run.store.files name new)
+  -- 16 and 5 come exactly where they have it, in this order, unless the store fails or memory is wanting
+  pub same : new ≡ name → Stops run SameName ⊎ Stops run Memory
+  pub not_built : IsSome run.store.files → new ≢ name → bytes_at run.store.files (full_name name part.Head) ≡ [] → StopsUnless run NotBuilt
+  -- where the set stands, the names differ and no device fails, it is done, or memory is wanting
+  pub complete : (collection : List ℕ) → Stands run.store.files name collection → new ≢ name → ¬ StoreFailed run → ¬ OutputFailed run
+      → (run.status ≡ Done) ⊎ Stops run Memory
+  -- the input is not read
+  pub input : run.input_now ≡ run.input
