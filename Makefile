@@ -2,6 +2,7 @@
 # make try      builds the sample collection, decodes it, and asks it a few questions
 # make check    the gate: every proof, edit, test and program, then the black-box suite
 # make install  copies the program to PREFIX/bin
+# make bench    measures it beside SQLite's FTS5, Xapian and grep, on the kernel's documentation
 
 PREFIX ?= /usr/local
 SOURCES := crates.txt $(shell find crates -path '*/out' -prune -o -type f -print)
@@ -11,7 +12,7 @@ bin/mg: $(SOURCES)
 	mkdir -p bin
 	cp crates/mg/out/mg bin/mg
 
-.PHONY: try check install
+.PHONY: try check install bench
 
 try: bin/mg
 	bin/mg build examples/letters.mail bin/letters
@@ -25,3 +26,8 @@ check:
 
 install: bin/mg
 	install -D bin/mg $(DESTDIR)$(PREFIX)/bin/mg
+
+bench: bin/mg
+	test -d /usr/share/doc/linux-doc-6.1 || { apt-get update && apt-get install -y linux-doc; }
+	/usr/bin/python3 -c 'import sqlite3, xapian' || { apt-get update && apt-get install -y python3 python3-xapian; }
+	/usr/bin/python3 bench/compare.py bin/mg
