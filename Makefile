@@ -29,5 +29,6 @@ install: bin/mg
 
 bench: bin/mg
 	test -d /usr/share/doc/linux-doc-6.1 || { apt-get update && apt-get install -y linux-doc; }
+	test -x /usr/bin/time || { apt-get update && apt-get install -y time; }
 	/usr/bin/python3 -c 'import sqlite3, xapian' || { apt-get update && apt-get install -y python3 python3-xapian; }
 	/usr/bin/python3 bench/compare.py bin/mg

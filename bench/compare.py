@@ -204,21 +204,18 @@ CHILDREN = {
 # ---- measuring
 
 
-def run(words, give=b"", taken=None):
-    """Seconds of the processor and the peak in bytes of one process."""
-    out = open(taken or os.devnull, "wb")
-    started = subprocess.Popen(words, stdin=subprocess.PIPE, stdout=out)
-    try:
-        started.stdin.write(give)
-    except BrokenPipeError:
-        pass
-    started.stdin.close()
-    _, status, used = os.wait4(started.pid, 0)
-    started.returncode = 0
-    out.close()
-    if status != 0:
-        sys.exit("bench: %s ended with %d" % (" ".join(words), status))
-    return used.ru_utime + used.ru_stime, used.ru_maxrss * 1024
+def run(words, give=b""):
+    """Seconds of the processor and the peak in bytes of one process.
+
+    Each is started by the program `time`, which is small: a process that Python starts itself would
+    have Python's own size as its peak."""
+    with tempfile.NamedTemporaryFile("r") as told:
+        timed = ["/usr/bin/time", "--format", "%U %S %M", "--output", told.name] + words
+        ended = subprocess.run(timed, input=give, stdout=subprocess.DEVNULL)
+        if ended.returncode != 0:
+            sys.exit("bench: %s ended with %d" % (" ".join(words), ended.returncode))
+        user, system, peak = told.read().split()
+    return float(user) + float(system), int(peak) * 1024
 
 
 def medians(runs, measure):
