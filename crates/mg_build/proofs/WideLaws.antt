@@ -59,7 +59,8 @@ text_fits false n h = omega (arith, h)
 
 pub wide_within : (h : defs.Head) → IsWithin h → IsWithin (wide_of h)
 wide_within h is = record {
-  version = omega arith;
+  version_low = omega arith;
+  version_high = omega arith;
   documents = docs_fit (h.version == 1) h.documents is.documents;
   words = pieces_fit (h.version == 1) h.words is.words;
   others = pieces_fit (h.version == 1) h.others is.others;

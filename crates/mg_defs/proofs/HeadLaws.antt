@@ -335,7 +335,8 @@ unfolding AllPass
 narrow_within bytes small pass =
     let p = pass.1.1.1 in
     let q = p.1.1.1 in record {
-      version = omega arith;
+      version_low = omega arith;
+      version_high = omega arith;
       documents = high_of 8 0 _ _ pass.0;
       words = high_of 12 0 _ _ pass.1.0;
       others = high_of 16 0 _ _ pass.1.1.0;
@@ -350,14 +351,15 @@ narrow_within bytes small pass =
       skip_count = high_of 56 0 _ _ q.1.1.1.0;
     }
 
-wide_within : (version : ℕ) (bytes : List ℕ) → version ≡ slice_index bytes 6 - 48 → version ≤ 2 → (version == 1) ≡ false → ((i : ℕ) → slice_index bytes i < 256) → AllPass (first_checks (limits 2) bytes ++ wide_checks bytes) → IsWithin (wide_head bytes)
+wide_within : (version : ℕ) (bytes : List ℕ) → version ≡ slice_index bytes 6 - 48 → 1 ≤ version → version ≤ 2 → (version == 1) ≡ false → ((i : ℕ) → slice_index bytes i < 256) → AllPass (first_checks (limits 2) bytes ++ wide_checks bytes) → IsWithin (wide_head bytes)
 unfolding AllPass
-wide_within version bytes is most other small pass =
+wide_within version bytes is least most other small pass =
     let p = pass.1.1.1 in
     let q = p.1.1.1 in
     let same : (slice_index bytes 6 - 48 == 1) ≡ false = ap (λ v. v == 1) (sym is) ∙ other in
     record {
-      version = omega (arith, is);
+      version_low = omega (arith, is);
+      version_high = omega (arith, is);
       documents = subst (λ b. four_at bytes 8 ≤ (cond b (limits 1) (limits 2)).documents) (sym same) (high_of 8 0 _ _ pass.0);
       words = subst (λ b. four_at bytes 12 ≤ (cond b (limits 1) (limits 2)).pieces) (sym same) (high_of 8 0 _ _ pass.1.0);
       others = subst (λ b. four_at bytes 16 ≤ (cond b (limits 1) (limits 2)).pieces) (sym same) (high_of 8 0 _ _ pass.1.1.0);
@@ -391,9 +393,9 @@ is_same : (d e : ℕ) → (d == e) ≡ true → d ≡ e
 is_same d e h = grind (arith, nat_tests)
 
 -- bytes with no damage are the head that is read from them
-pub undamaged : (low high : ℕ) (bytes : List ℕ) → high ≤ 2 → ((i : ℕ) → slice_index bytes i < 256) → first_damage low high bytes ≡ None → IsHead low high bytes (read_head bytes)
+pub undamaged : (low high : ℕ) (bytes : List ℕ) → 1 ≤ low → high ≤ 2 → ((i : ℕ) → slice_index bytes i < 256) → first_damage low high bytes ≡ None → IsHead low high bytes (read_head bytes)
 unfolding first_damage read_head head_bytes AllPass
-undamaged low high bytes few small none = by_version (slice_index bytes 6 == 49) refl
+undamaged low high bytes some few small none = by_version (slice_index bytes 6 == 49) refl
   where
     long : (64 ≤ length bytes) × (find is_wrong (magic_checks low high bytes ++ rest_checks bytes) ≡ None)
     long = not_short (length bytes) (find is_wrong (magic_checks low high bytes ++ rest_checks bytes)) none
@@ -419,7 +421,7 @@ undamaged low high bytes few small none = by_version (slice_index bytes 6 == 49)
         let other : (slice_index bytes 6 - 48 == 1) ≡ false = other_version (slice_index bytes 6) e in
         record {
           bytes_are = sym (ap (λ b. cond b (narrow_bytes (wide_head bytes)) (wide_bytes (wide_head bytes))) other ∙ wide_whole low high bytes small (is_exactly 0 80 (length bytes) pass.0) (omega (arith, digit.0)) both.0 (high_of 28 0 1 (four_at bytes 28) pass.1.1.1.1.1.1.0) (is_exactly 52 0 (four_at bytes 52) pass.1.1.1.1.1.1.1.1.1.1.0));
-          within = wide_within (slice_index bytes 6 - 48) bytes refl (omega (arith, digit.1, few)) other small pass.1;
+          within = wide_within (slice_index bytes 6 - 48) bytes refl (omega (arith, digit.0, some)) (omega (arith, digit.1, few)) other small pass.1;
           from = omega (arith, digit.0);
           to = omega (arith, digit.1);
         }

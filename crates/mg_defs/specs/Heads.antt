@@ -5,7 +5,7 @@ use Rattle.std.specs.Int.{div_ceil}
 use Rattle.mg_defs.specs.Numbers.{four, eight, four_at, eight_at}
 
 pub record Head : Type 0 where
-  -- 1 or 2; 0 until every part is written, in the layout of 2
+  -- 1 or 2
   pub version : ℕ
   pub documents : ℕ
   -- how many distinct pieces of each kind
@@ -38,7 +38,7 @@ first_fields h = magic h.version ++ four h.documents ++ four h.words ++ four h.o
 abbrev pub narrow_bytes : Head → List ℕ
 narrow_bytes h = first_fields h ++ four h.collection ++ four h.occurrences ++ four h.runs ++ four h.text_bytes ++ eight h.post_bytes ++ eight h.skip_count
 
--- the other versions: 80 bytes
+-- version 2: 80 bytes
 abbrev pub wide_bytes : Head → List ℕ
 wide_bytes h = first_fields h ++ eight h.collection ++ eight h.occurrences ++ four h.runs ++ four 0 ++ eight h.text_bytes ++ eight h.post_bytes ++ eight h.skip_count
 
@@ -63,7 +63,8 @@ limits version = if version == 1 then record { documents = 2 ^ 20; pieces = 2 ^ 
 
 -- each field is in the range of its version
 pub record IsWithin (h : Head) : Type 0 where
-  pub version : h.version ≤ 2
+  pub version_low : 1 ≤ h.version
+  pub version_high : h.version ≤ 2
   pub documents : h.documents ≤ (limits h.version).documents
   pub words : h.words ≤ (limits h.version).pieces
   pub others : h.others ≤ (limits h.version).pieces
@@ -118,7 +119,7 @@ first_checks most bytes =
 abbrev pub narrow_checks : List ℕ → List Check
 narrow_checks bytes = within 32 0 (2 ^ 28) (four_at bytes 32) ∷ within 36 0 (four_at bytes 32) (four_at bytes 36) ∷ exactly 40 (run_count (four_at bytes 36) (four_at bytes 24)) (four_at bytes 40) ∷ within 56 0 (four_at bytes 36) (eight_at bytes 56) ∷ []
 
--- and of the other versions
+-- and of version 2
 abbrev pub wide_checks : List ℕ → List Check
 wide_checks bytes =
     within 32 0 (2 ^ 32 - 1) (eight_at bytes 32) ∷ within 40 0 (eight_at bytes 32) (eight_at bytes 40) ∷ exactly 48 (run_count (eight_at bytes 40) (four_at bytes 24)) (four_at bytes 48) ∷ exactly 52 0 (four_at bytes 52)

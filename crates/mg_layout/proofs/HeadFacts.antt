@@ -105,24 +105,24 @@ NarrowRead bytes r = MatchResult r (λ head. (find is_wrong (first_checks (limit
 abbrev pub WideRead : List ℕ → Result Head Bad → Type 0
 WideRead bytes r = MatchResult r (λ head. (find is_wrong (first_checks (limits 2) bytes ++ wide_checks bytes) ≡ None) × (fields_of head ≡ wide_head bytes)) (λ bad. TellsOf bad (find is_wrong (first_checks (limits 2) bytes ++ wide_checks bytes)))
 
-pub narrow_answers : (low high : ℕ) (all : List ℕ) (r : Result Head Bad) → high ≤ 2 → ((i : ℕ) → slice_index all i < 256) → first_damage low high all ≡ find is_wrong (rest_checks all) → slice_index all 6 ≡ 49 → length all ≡ 64 →
+pub narrow_answers : (low high : ℕ) (all : List ℕ) (r : Result Head Bad) → 1 ≤ low → high ≤ 2 → ((i : ℕ) → slice_index all i < 256) → first_damage low high all ≡ find is_wrong (rest_checks all) → slice_index all 6 ≡ 49 → length all ≡ 64 →
     NarrowRead all r → AnswersParse low high all r
 unfolding read_head
-narrow_answers low high all (Ok head) few small d digit is read =
+narrow_answers low high all (Ok head) some few small d digit is read =
     let damage : first_damage low high all ≡ None = d ∙ ap (find is_wrong) (narrow_rest all digit) ∙ size_right 64 (length all) (first_checks (limits 1) all ++ narrow_checks all) is ∙ read.0 in
-    subst (IsHead low high all) (ap (λ n. cond (n == 49) (narrow_head all) (wide_head all)) digit ∙ sym read.1) (undamaged low high all few small damage)
-narrow_answers low high all (Err bad) few small d digit is tells = record { part_is = tells.part_is; damage_is = d ∙ ap (find is_wrong) (narrow_rest all digit) ∙ size_right 64 (length all) (first_checks (limits 1) all ++ narrow_checks all) is ∙ tells.damage_is }
+    subst (IsHead low high all) (ap (λ n. cond (n == 49) (narrow_head all) (wide_head all)) digit ∙ sym read.1) (undamaged low high all some few small damage)
+narrow_answers low high all (Err bad) some few small d digit is tells = record { part_is = tells.part_is; damage_is = d ∙ ap (find is_wrong) (narrow_rest all digit) ∙ size_right 64 (length all) (first_checks (limits 1) all ++ narrow_checks all) is ∙ tells.damage_is }
 
-pub wide_answers : (low high : ℕ) (all : List ℕ) (r : Result Head Bad) → high ≤ 2 → ((i : ℕ) → slice_index all i < 256) → first_damage low high all ≡ find is_wrong (rest_checks all) → slice_index all 6 ≢ 49 → length all ≡ 80 →
+pub wide_answers : (low high : ℕ) (all : List ℕ) (r : Result Head Bad) → 1 ≤ low → high ≤ 2 → ((i : ℕ) → slice_index all i < 256) → first_damage low high all ≡ find is_wrong (rest_checks all) → slice_index all 6 ≢ 49 → length all ≡ 80 →
     WideRead all r → AnswersParse low high all r
 unfolding read_head
-wide_answers low high all (Ok head) few small d digit is read =
+wide_answers low high all (Ok head) some few small d digit is read =
     let damage : first_damage low high all ≡ None = d ∙ ap (find is_wrong) (wide_rest all digit) ∙ size_right 80 (length all) (first_checks (limits 2) all ++ wide_checks all) is ∙ read.0 in
-    subst (IsHead low high all) (ap (λ b. cond b (narrow_head all) (wide_head all)) (other (slice_index all 6) digit) ∙ sym read.1) (undamaged low high all few small damage)
+    subst (IsHead low high all) (ap (λ b. cond b (narrow_head all) (wide_head all)) (other (slice_index all 6) digit) ∙ sym read.1) (undamaged low high all some few small damage)
   where
     other : (d : ℕ) → d ≢ 49 → (d == 49) ≡ false
     other d e = grind (arith, nat_tests)
-wide_answers low high all (Err bad) few small d digit is tells = record { part_is = tells.part_is; damage_is = d ∙ ap (find is_wrong) (wide_rest all digit) ∙ size_right 80 (length all) (first_checks (limits 2) all ++ wide_checks all) is ∙ tells.damage_is }
+wide_answers low high all (Err bad) some few small d digit is tells = record { part_is = tells.part_is; damage_is = d ∙ ap (find is_wrong) (wide_rest all digit) ∙ size_right 80 (length all) (first_checks (limits 2) all ++ wide_checks all) is ∙ tells.damage_is }
 
 -- a part of 64 or 80 bytes is those bytes
 pub all_is : (size : ℕ) (buf all : List ℕ) → length all ≡ size → size ≤ 80 → take (min 80 size) buf ≡ take 80 all → take size buf ≡ all

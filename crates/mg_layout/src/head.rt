@@ -146,6 +146,7 @@ fn load_from<S: Store>(
     low: u8,
     high: u8,
 ) -> Result<Option<Head>, PartErr>
+    requires first { 1 ≤ low }
     requires low { low ≤ high }
     requires high { high ≤ 2 }
     ensures answer { IsSome (S.files store.old) → AnswersHead low high (bytes_at (S.files store.old) (full_name base.now part.Head)) result }

@@ -9,7 +9,7 @@ use crate::head::Head;
 use crate::numbers::{eight_at, four_at};
 use mg_dev::Bad;
 
-// The sizes of a head of version 1 and of the others.
+// The sizes of a head of version 1 and of version 2.
 const NARROW: u64 = 64;
 
 const WIDE: u64 = 80;
@@ -17,6 +17,7 @@ const WIDE: u64 = 80;
 /// Reads a head of a version from low to high, in a part of this size that begins with these bytes.
 pub(crate) fn parse(bytes: &[u8; 80], size: u64, low: u8, high: u8) -> Result<Head, Bad>
     requires size { 64 ≤ size }
+    requires first { 1 ≤ low }
     requires low { low ≤ high }
     requires high { high ≤ 2 }
     ensures told { (all : List ℕ) → length all ≡ size → take (min 80 size) bytes.now ≡ take 80 all → AnswersParse low high all result }
