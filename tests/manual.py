@@ -129,9 +129,8 @@ def read_so_far(process):
         return int(re.search(r"rchar: (\d+)", counts.read())[1])
 
 
-def changed(suite):
-    """A collection that grows while it is read: the program is held meanwhile."""
-    data = b"".join(b"%d some words of a document that is long enough\n\x02" % number for number in range(50_000))
+def held(suite, data):
+    """A build whose collection loses its second half while the program is held, at the first pages that it read."""
     suite.file("text", data)
     process = subprocess.Popen(
         [suite.program, "build", "text", "new"], cwd=suite.folder, stdout=subprocess.PIPE, stderr=subprocess.PIPE
@@ -142,7 +141,14 @@ def changed(suite):
     suite.file("text", data[: len(data) // 2])
     process.send_signal(signal.SIGCONT)
     out, err = process.communicate()
-    told(suite, told_statuses(), 11, (process.returncode, out, err))
+    return process.returncode, out, err
+
+
+def changed(suite):
+    """A collection that changes while it is read. A build that ended before it was held is tried again."""
+    data = b"".join(b"%d some words of a document that is long enough\n\x02" % number for number in range(100_000))
+    runs = (held(suite, data) for _ in range(5))
+    told(suite, told_statuses(), 11, next((run for run in runs if run[0] != 0), (0, b"", b"")))
 
 
 def refused_lines(suite):

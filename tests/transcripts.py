@@ -32,8 +32,8 @@ def markdown_blocks(path):
     """The indented blocks and the fenced ones of a page, each a list of lines."""
     text = path.read_text()
     fenced = [match[1].splitlines() for match in re.finditer(r"^```\w*\n(.*?)^```$", text, re.M | re.S)]
-    indented = [[line[4:] for line in match[0].splitlines()] for match in re.finditer(r"(?:^    .*\n)+", text, re.M)]
-    return fenced + indented
+    indented = re.finditer(r"^    .*\n(?:(?:\n)*    .*\n)*", text, re.M)
+    return fenced + [[line[4:] for line in match[0].splitlines()] for match in indented]
 
 
 def commands_of(block):
@@ -71,10 +71,10 @@ def shell(suite, command, folder):
 
 
 def run_block(suite, name, block, folder):
-    """Compares what each command of a block prints, and answers how many commands there are."""
+    """Compares what each command of a block prints, but for empty lines at its end; answers how many commands there are."""
     commands = commands_of(block)
     for command, wanted in commands:
-        suite.check(f"{name}: {command}", shell(suite, command, folder), wanted)
+        suite.check(f"{name}: {command}", shell(suite, command, folder).rstrip("\n"), wanted.rstrip("\n"))
     return len(commands)
 
 
