@@ -7,6 +7,7 @@ The texts that are wanted are read from the pages, so that a page cannot say one
 import os
 import pty
 import re
+import resource
 import select
 import shlex
 import shutil
@@ -14,7 +15,7 @@ import signal
 import subprocess
 
 from files import K
-from transcripts import ROOT, fresh_folder, manual_blocks, run_block, shell
+from transcripts import ROOT, fresh_folder, manual_blocks, run_block, tools
 
 MAN = ROOT / "man"
 PAGES = ["mg.1", "mg-collect.1", "mg-files.5"]
@@ -124,9 +125,23 @@ def statuses(suite):
     (suite.folder / "large").unlink()
 
 
+def out_of_memory(suite):
+    """A collection that is no larger than the limit, in less memory than it has bytes."""
+    with open(suite.folder / "large", "wb") as large:
+        large.truncate(200_000_000)
+    few = lambda: resource.setrlimit(resource.RLIMIT_AS, (100_000_000, 100_000_000))
+    run = subprocess.run([suite.program, "scan", "large"], cwd=suite.folder, input=b"a\n", capture_output=True, preexec_fn=few, timeout=300)
+    told(suite, told_statuses(), 12, (run.returncode, run.stdout, run.stderr))
+    (suite.folder / "large").unlink()
+
+
 def read_so_far(process):
-    with open(f"/proc/{process.pid}/io") as counts:
-        return int(re.search(r"rchar: (\d+)", counts.read())[1])
+    """How many bytes a process has read; more than any file has, where it ended meanwhile."""
+    try:
+        with open(f"/proc/{process.pid}/io") as counts:
+            return int(re.search(r"rchar: (\d+)", counts.read())[1])
+    except OSError:
+        return 1 << 64
 
 
 def held(suite, data):
@@ -206,33 +221,49 @@ def limits(suite):
             suite.check(f"{limit}: {number}", (refusal + "\n" == out) == refused and ("?" in out) == refused, True)
 
 
-def by_hand(suite):
-    """A session in a terminal: no prompt, each reply before the next line, and control-D ends it."""
-    suite.file("text", K)
-    suite.run(["build", "text", "set"])
-    process, terminal = pty.fork()
-    if process == 0:
-        os.chdir(suite.folder)
-        os.execv(suite.program, [str(suite.program), "query", "set"])
+class Terminal:
+    """A command in a terminal of its own, typed to line by line."""
 
-    def seen(wanted=b""):
+    def __init__(self, suite, command):
+        self.process, self.file = pty.fork()
+        if self.process == 0:
+            os.chdir(suite.folder)
+            os.environ["PATH"] = f"{tools(suite)}:{os.environ['PATH']}"
+            os.execvp("sh", ["sh", "-c", command])
+
+    def seen(self, wanted=b""):
+        """What is printed up to these bytes; without any, what is printed in a short while."""
         text = b""
-        while select.select([terminal], [], [], 10 if wanted else 0.3)[0]:
+        while select.select([self.file], [], [], 60 if wanted else 0.3)[0]:
             try:
-                text += os.read(terminal, 4096)
+                text += os.read(self.file, 4096)
             except OSError:
                 break
             if wanted and text.endswith(wanted):
                 break
         return text
 
-    suite.check("by hand: no prompt", seen(), b"")
-    for line, reply in [(b"sat", b"1\r\n= 1\r\n"), (b"cat &", b"? syntax at 5\r\n")]:
-        os.write(terminal, line + b"\n")
-        suite.check(f"by hand: {line}", seen(reply), line + b"\r\n" + reply)
-    os.write(terminal, b"\x04")
-    suite.check("by hand: the end", os.waitpid(process, 0)[1], 0)
-    os.close(terminal)
+    def end(self):
+        """The status after control-D."""
+        os.write(self.file, b"\x04")
+        status = os.waitpid(self.process, 0)[1]
+        os.close(self.file)
+        return status
+
+
+def by_hand(suite):
+    """A session in a terminal: no prompt, each reply before the next line, and control-D ends it."""
+    suite.file("text", K)
+    suite.file("text.table", b"1\tfirst\n2\tsecond\n3\tthird\n")
+    suite.run(["build", "text", "set"])
+    tools(suite)
+    for command, row in [("exec mg query set", b"1\r\n"), ("mg query set | mg-collect names text.table", b"1\tfirst\r\n")]:
+        terminal = Terminal(suite, command)
+        suite.check(f"{command}: no prompt", terminal.seen(), b"")
+        for line, reply in [(b"sat", row + b"= 1\r\n"), (b"cat &", b"? syntax at 5\r\n")]:
+            os.write(terminal.file, line + b"\n")
+            suite.check(f"{command}: {line}", terminal.seen(reply), line + b"\r\n" + reply)
+        suite.check(f"{command}: the end", terminal.end(), 0)
 
 
 def greatest(suite):
@@ -249,5 +280,5 @@ def greatest(suite):
     suite.file("text", b"")
 
 
-PARTS = [lint, examples, first_version, statuses, changed, refused_lines, commands, limits, by_hand]
+PARTS = [lint, examples, first_version, statuses, out_of_memory, changed, refused_lines, commands, limits, by_hand]
 SLOW = [greatest]
