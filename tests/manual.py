@@ -106,6 +106,7 @@ def statuses(suite):
     (suite.folder / "folder").mkdir(exist_ok=True)
     for status, words, given in [
         (0, ["build", "text", "set"], b""), (0, ["scan", "text"], b"sat\n"), (0, ["query", "set"], b"cat & (\n"),
+        (0, ["build", "text", "--", "-x"], b""), (0, ["decode", "--", "-x"], b""),
         (1, ["index", "text"], b""), (1, ["trial", "1", "20001"], b""), (1, ["query", ""], b""),
         (2, ["scan", "folder"], b""), (2, ["build", "text", "nowhere/set"], b""), (5, ["query", "none"], b""),
         (5, ["decode", "none"], b""), (6, ["decode", "M"], b""), (7, ["scan", "none"], b""), (7, ["build", "none", "set"], b""),
