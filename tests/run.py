@@ -14,7 +14,11 @@ import sys
 import tempfile
 
 import builds
+import collect
 import files
+import installed
+import manual
+import pages
 from kinds import Draws, cases
 
 EXPECTED = pathlib.Path(__file__).parent / "expected"
@@ -183,12 +187,19 @@ def long_input(suite):
         suite.check(name, (run.returncode, err, out), (*wanted, b""))
 
 
+PARTS = [rows, stored, words, devices, large_collection]
+SLOW = [long_input]
+for module in (files, builds, manual, collect, installed, pages):
+    PARTS += module.PARTS
+    SLOW += getattr(module, "SLOW", [])
+
+
 def main():
     slow = "--slow" in sys.argv
     program = [word for word in sys.argv[1:] if word != "--slow"][0]
     with tempfile.TemporaryDirectory() as folder:
         suite = Suite(program, folder)
-        for part in [rows, stored, words, devices, large_collection, *files.PARTS, *builds.PARTS] + [long_input, *builds.SLOW] * slow:
+        for part in PARTS + SLOW * slow:
             part(suite)
     print(f"{suite.passed} passed, {suite.failed} failed")
     return 1 if suite.failed or not suite.passed else 0
