@@ -1,5 +1,7 @@
 // Parts that hold other bytes than they should, and builds whose store fails: whatever stands there, the status is true.
 // Expected lines are worked by hand from the form of the parts.
+ghost use Rattle.std.specs.Prelude.{◌≤◌, ◌<◌};
+
 use crate::tests::ran_over;
 use mg_dev::{Fault, MemSink, MemStore, Status};
 use mg_gen::make_collection;
@@ -79,7 +81,7 @@ fn told(alloc: Global, store: &mut MemStore) -> Result<(MemSink, bool), AllocErr
 fn damages_of_a_head_of_version_2_are_told(rt: HostRuntime) -> Result<(), Fail> {
     let alloc = rt.alloc();
     // A place in the head, the bytes that are written there, and the line.
-    let rows: [(usize, &[u8], &[u8]); 15] = [
+    let rows: [(usize, &[u8], &[u8]); 16] = [
         (
             7,
             b"\x0b",
@@ -149,6 +151,11 @@ fn damages_of_a_head_of_version_2_are_told(rt: HostRuntime) -> Result<(), Fail> 
             72,
             b"\0\0\0\0\0\0\0\x05",
             b"mg: damaged: part head at 72: found 5, wanted 0 to 4\n",
+        ),
+        (
+            8,
+            b"\x01\0\0\0",
+            b"mg: damaged: part places at 0: found 16, wanted 134217736 to 134217736\n",
         ),
         (
             12,
@@ -293,20 +300,26 @@ struct Draws {
 }
 
 impl Draws {
-    /// A number below a count, or 0 where the count is 0.
-    fn below(&mut self, count: usize) -> usize {
+    /// A number below a count.
+    fn below(&mut self, count: usize) -> usize
+        requires some { 1 ≤ count }
+        ensures below { result < count }
+    {
         self.state = self
             .state
             .wrapping_mul(6_364_136_223_846_793_005)
             .wrapping_add(1_442_695_040_888_963_407);
-        let draw = (self.state >> 33) as usize;
-        if count == 0 { 0 } else { draw % count }
+        (self.state >> 33) as usize % count
     }
 }
 
 /// The bytes cut, with another byte, or with up to sixteen other bytes in their midst or behind them.
 fn damaged(alloc: Global, draws: &mut Draws, sound: &[u8]) -> Result<Vec<u8>, AllocError> {
-    let at = draws.below(sound.len());
+    let at = if sound.is_empty() {
+        0
+    } else {
+        draws.below(sound.len())
+    };
     let mut other = sound.to_vec(alloc)?;
     match draws.below(4) {
         0 => other.truncate(at),

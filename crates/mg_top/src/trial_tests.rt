@@ -1,6 +1,6 @@
 // Trials over devices in memory. The numbers are those of another implementation.
 use crate::{run, trial};
-use mg_build::decode;
+use mg_build::{build, decode};
 use mg_dev::{Fault, MemSink, MemSource, MemStore, Part, Status};
 use std::alloc::{AllocError, Global};
 use std::test::Fail;
@@ -103,6 +103,11 @@ fn a_trial_asks_what_it_built(rt: HostRuntime) -> Result<(), Fail> {
     assert!(rt; decode(rt.alloc(), &mut store, "set", &mut decoded) == Ok(()));
     assert_eq!(rt; decoded.bytes().len(), 1019);
     assert!(rt; store.file("text") == Some(decoded.bytes()));
+    // The text is read by the scan too, and not by the build alone.
+    let mut alone = MemStore::new(rt.alloc());
+    alone.put_file("text", decoded.bytes())?;
+    assert!(rt; build(rt.alloc(), &mut alone, "text", "set", 4096).is_ok());
+    assert!(rt; store.reads_of(Part::Plain) > alone.reads_of(Part::Plain));
     Ok(())
 }
 
