@@ -176,6 +176,8 @@ def folders(case):
         case.check("a folder that has the collection", case.run("folder", "notes/all", "notes"), (0, b"documents 4\n", b""))
     os.remove(os.path.join(case.folder, "notes/all"))
     os.remove(os.path.join(case.folder, "notes/all.table"))
+    case.file("-d/a", b"x")
+    case.made("a folder that looks like an option", [b"x"], b"1\t./-d/a\n", b"documents 1\n", "folder", "new", "-d")
     case.file("notes/sub/closed", b"one\ntwo \x02\n\x02")
     told = b"mg-collect: notes/sub/closed:2:5: a control-B within a document; -r BYTE replaces it\n"
     case.refused("a control-B in a folder", 3, told, "folder", "new", "notes")
