@@ -1,68 +1,14 @@
--- Pieces with their counts, and what counting a piece does to them.
-use Rattle.std.proofs.Common.{◌≡◌, ℕ, zero, suc, ◌+◌, ◌-◌, ◌^◌, ◌<◌, ◌≤◌, Bool, true, false, cond, List, [], ◌∷◌, ◌++◌, length, get_or, refl, sym, ap, subst, ◌∙◌, arith, if◌then◌else◌, ◌||◌, None, Some, position}
-use Rattle.std.proofs.Math.ListN.{set}
-use Rattle.std.specs.List.{AllByRecursion, IsDistinct, list_any, zip}
+-- The entries of a map from pieces to counts, and what counting a piece does to them.
+use Rattle.std.proofs.Common.{◌≡◌, ℕ, zero, suc, ◌+◌, ◌-◌, ◌^◌, ◌<◌, ◌≤◌, Bool, true, false, cond, not, List, [], ◌∷◌, Vec, Global, length, map, refl, sym, ap, subst, ◌∙◌, arith, if◌then◌else◌, ◌||◌, Option, None, Some, position, slice_get, ltb}
+use Rattle.std.specs.List.{AllByRecursion, IsDistinct, position_or_len}
+use Rattle.std.specs.Map.{keys_of, lookup, set_value}
 use Rattle.std.specs.Str.{bytes_eq}
 use Rattle.std.proofs.lemmas.Cmp.{nat_list_eq_equiv}
-use Rattle.std.proofs.lemmas.Grind.{get_or_default_zero}
-use Rattle.std.proofs.lemmas.List.Folds.{list_any_at}
-use Rattle.std.proofs.lemmas.List.Quantifiers.{position-Some}
+use Rattle.std.proofs.lemmas.List.{length-map}
 use Rattle.std.proofs.lemmas.List.Sums.{sum_by-cons}
+use Rattle.indexmap.specs.IndexMap.{insert_entry}
 use Rattle.mg_defs.specs.Vocabulary.{has_piece, counted, total}
-use Rattle.mg_model.specs.Vocabularies.{IsVocabulary, pieces_of, entry_counts}
-use Rattle.mg_model.proofs.Tabling.{any-none}
-
-pub pieces-zip : (pieces : List (List ℕ)) (counts : List ℕ) → length counts ≡ length pieces → pieces_of (zip pieces counts) ≡ pieces
-pieces-zip [] counts h = refl
-pieces-zip (p ∷ pieces) [] h = absurd (omega arith)
-pieces-zip (p ∷ pieces) (n ∷ counts) h = ap (λ ps. p ∷ ps) (pieces-zip pieces counts (omega arith))
-
-pub numbers-zip : (pieces : List (List ℕ)) (counts : List ℕ) → length counts ≡ length pieces → entry_counts (zip pieces counts) ≡ counts
-numbers-zip [] [] h = refl
-numbers-zip [] (n ∷ counts) h = absurd (omega arith)
-numbers-zip (p ∷ pieces) [] h = absurd (omega arith)
-numbers-zip (p ∷ pieces) (n ∷ counts) h = ap (λ ns. n ∷ ns) (numbers-zip pieces counts (omega arith))
-
-pub length-zip : (pieces : List (List ℕ)) (counts : List ℕ) → length counts ≡ length pieces → length (zip pieces counts) ≡ length counts
-length-zip [] [] h = refl
-length-zip [] (n ∷ counts) h = absurd (omega arith)
-length-zip (p ∷ pieces) [] h = absurd (omega arith)
-length-zip (p ∷ pieces) (n ∷ counts) h = ap suc (length-zip pieces counts (omega arith))
-
-pub has-zip : (piece : List ℕ) (pieces : List (List ℕ)) (counts : List ℕ) → length counts ≡ length pieces → has_piece (zip pieces counts) piece ≡ list_any (bytes_eq piece) pieces
-has-zip piece [] counts h = refl
-has-zip piece (p ∷ pieces) [] h = absurd (omega arith)
-has-zip piece (p ∷ pieces) (n ∷ counts) h = ap (λ b. bytes_eq piece p || b) (has-zip piece pieces counts (omega arith))
-
--- one more of a piece that is there
-pub counted-there : (piece : List ℕ) (pieces : List (List ℕ)) (counts : List ℕ) (place : ℕ) → length counts ≡ length pieces → place < length pieces → bytes_eq piece (get_or pieces place []) ≡ true →
-    ((k : ℕ) → k < place → bytes_eq piece (get_or pieces k []) ≡ false) → zip pieces (set counts place (get_or counts place 0 + 1)) ≡ counted piece (zip pieces counts)
-counted-there piece [] counts place h low here before = absurd (omega arith)
-counted-there piece (p ∷ pieces) [] place h low here before = absurd (omega arith)
-counted-there piece (p ∷ pieces) (n ∷ counts) zero h low here before = ap (λ b. if b then (p, n + 1) ∷ zip pieces counts else (p, n) ∷ counted piece (zip pieces counts)) (sym here)
-counted-there piece (p ∷ pieces) (n ∷ counts) (suc place) h low here before =
-    let rest = counted-there piece pieces counts place (omega arith) (omega arith) here (λ k less. before (suc k) (omega arith)) in
-    let other : bytes_eq piece p ≡ false = before 0 (omega arith) in
-    ap (λ es. (p, n) ∷ es) rest ∙ ap (λ b. if b then (p, n + 1) ∷ zip pieces counts else (p, n) ∷ counted piece (zip pieces counts)) (sym other)
-
--- one of a piece that is not there
-pub counted-new : (piece : List ℕ) (pieces : List (List ℕ)) (counts : List ℕ) → length counts ≡ length pieces → list_any (bytes_eq piece) pieces ≡ false → zip (pieces ++ piece ∷ []) (counts ++ 1 ∷ []) ≡ counted piece (zip pieces counts)
-counted-new piece [] [] h none = refl
-counted-new piece [] (n ∷ counts) h none = absurd (omega arith)
-counted-new piece (p ∷ pieces) [] h none = absurd (omega arith)
-counted-new piece (p ∷ pieces) (n ∷ counts) h none = by (bytes_eq piece p) none (counted-new piece pieces counts (omega arith))
-  where
-    by : (b : Bool) → (b || list_any (bytes_eq piece) pieces) ≡ false → (list_any (bytes_eq piece) pieces ≡ false → zip (pieces ++ piece ∷ []) (counts ++ 1 ∷ []) ≡ counted piece (zip pieces counts)) →
-        (p, n) ∷ zip (pieces ++ piece ∷ []) (counts ++ 1 ∷ []) ≡ (if b then (p, n + 1) ∷ zip pieces counts else (p, n) ∷ counted piece (zip pieces counts))
-    by true e rest = absurd cc
-    by false e rest = ap (λ es. (p, n) ∷ es) (rest e)
-
--- no count is above the number of all
-pub fits : (pieces : List (List ℕ)) (counts : List ℕ) (place : ℕ) → length counts ≡ length pieces → place < length pieces → get_or counts place 0 ≤ total (zip pieces counts)
-fits [] counts place h low = absurd (omega arith)
-fits (p ∷ pieces) [] place h low = absurd (omega arith)
-fits (p ∷ pieces) (n ∷ counts) zero h low = omega (arith, sum_by-cons (λ (x : List ℕ × ℕ). x.1) (p, n) (zip pieces counts))
-fits (p ∷ pieces) (n ∷ counts) (suc place) h low = omega (arith, fits pieces counts place (omega arith) (omega arith), sum_by-cons (λ (x : List ℕ × ℕ). x.1) (p, n) (zip pieces counts))
+use Rattle.mg_model.specs.Vocabularies.{IsVocabulary, entries_of, pieces_of, entry_counts}
 
 pub total-counted : (piece : List ℕ) (es : List (List ℕ × ℕ)) → total (counted piece es) ≡ total es + 1
 total-counted piece [] = refl
@@ -123,28 +69,94 @@ still piece es new is few short room same = subst IsVocabulary (sym same) (recor
   short = short-counted piece es short is.short;
 })
 
--- ---- a piece that was sought
+-- ---- a piece that is looked up in the map
 
-pub record IsFound (piece : List ℕ) (pieces : List (List ℕ)) (counts : List ℕ) (place now : ℕ) : Type 0 where
-  pub low : place < length pieces
-  pub fits : now ≤ total (zip pieces counts)
-  pub has : has_piece (zip pieces counts) piece ≡ true
-  pub counted : zip pieces (set counts place (now + 1)) ≡ counted piece (zip pieces counts)
+-- whether a key has the bytes of a piece
+abbrev pub sought : List ℕ → Vec ℕ Global → Bool
+sought piece key = bytes_eq piece key.items
 
-pub found : (piece : List ℕ) (pieces : List (List ℕ)) (counts : List ℕ) (place now : ℕ) → length counts ≡ length pieces → Some place ≡ position (bytes_eq piece) pieces → now ≡ get_or counts place now → IsFound piece pieces counts place now
-found piece pieces counts place now long there is =
-    let first = position-Some (bytes_eq piece) pieces place [] (sym there) in
-    let low : place < length pieces = first.0 in
-    let number : now ≡ get_or counts place 0 = is ∙ get_or_default_zero counts place now (omega arith) in
-    record {
-      low = low;
-      fits = omega (arith, number, fits pieces counts place long low);
-      has = has-zip piece pieces counts long ∙ list_any_at (bytes_eq piece) pieces place [] low first.1;
-      counted = ap (λ n. zip pieces (set counts place (n + 1))) number ∙ counted-there piece pieces counts place long low first.1 first.2;
-    }
+-- whether two keys have the same bytes
+abbrev pub same_bytes : Vec ℕ Global → Vec ℕ Global → Bool
+same_bytes a b = bytes_eq a.items b.items
 
-pub not-found : (piece : List ℕ) (pieces : List (List ℕ)) (counts : List ℕ) → length counts ≡ length pieces → None ≡ position (bytes_eq piece) pieces → has_piece (zip pieces counts) piece ≡ false
-not-found piece pieces counts long none = has-zip piece pieces counts long ∙ any-none piece pieces (sym none)
+-- a piece that was found, with its count
+pub record IsFound (piece : List ℕ) (es : List (Vec ℕ Global × ℕ)) (count : ℕ) : Type 0 where
+  pub fits : count ≤ total (entries_of es)
+  pub has : has_piece (entries_of es) piece ≡ true
+  pub counted : entries_of (set_value (sought piece) es (count + 1)) ≡ counted piece (entries_of es)
 
-pub counted-last : (piece : List ℕ) (pieces new : List (List ℕ)) (counts now : List ℕ) → length counts ≡ length pieces → None ≡ position (bytes_eq piece) pieces → new ≡ pieces ++ piece ∷ [] → now ≡ counts ++ 1 ∷ [] → zip new now ≡ counted piece (zip pieces counts)
-counted-last piece pieces new counts now long none e f = ap (λ ps. zip ps now) e ∙ ap (zip (pieces ++ piece ∷ [])) f ∙ counted-new piece pieces counts long (any-none piece pieces (sym none))
+pub found : (piece : List ℕ) (es : List (Vec ℕ Global × ℕ)) (count : ℕ) → lookup (sought piece) es ≡ Some count → IsFound piece es count
+found piece [] count is = absurd cc
+found piece (e ∷ es) count is = by (bytes_eq piece e.0.items) refl is (found piece es count)
+  where
+    sum : total (entries_of (e ∷ es)) ≡ e.1 + total (entries_of es)
+    sum = sum_by-cons (λ (x : List ℕ × ℕ). x.1) (e.0.items, e.1) (entries_of es)
+
+    by : (b : Bool) → bytes_eq piece e.0.items ≡ b → cond b (Some e.1) (lookup (sought piece) es) ≡ Some count → (lookup (sought piece) es ≡ Some count → IsFound piece es count) → IsFound piece (e ∷ es) count
+    by true here is later =
+        let same : e.1 ≡ count = cc in
+        record {
+          fits = omega (arith, sum, same);
+          has = ap (λ b. b || has_piece (entries_of es) piece) here;
+          counted = rw (here, same) refl;
+        }
+    by false other is later =
+        let rest = later is in
+        record {
+          fits = omega (arith, sum, rest.fits);
+          has = ap (λ b. b || has_piece (entries_of es) piece) other ∙ rest.has;
+          counted = rw other (ap (λ t. (e.0.items, e.1) ∷ t) rest.counted);
+        }
+
+pub not-found : (piece : List ℕ) (es : List (Vec ℕ Global × ℕ)) → lookup (sought piece) es ≡ None → has_piece (entries_of es) piece ≡ false
+not-found piece [] is = refl
+not-found piece (e ∷ es) is = by (bytes_eq piece e.0.items) is (not-found piece es)
+  where
+    by : (b : Bool) → cond b (Some e.1) (lookup (sought piece) es) ≡ None → (lookup (sought piece) es ≡ None → has_piece (entries_of es) piece ≡ false) → (b || has_piece (entries_of es) piece) ≡ false
+    by true is later = absurd cc
+    by false is later = later is
+
+-- a piece that was not found is put in last
+pub counted-new : (piece : List ℕ) (es : List (Vec ℕ Global × ℕ)) (key : Vec ℕ Global) → lookup (sought piece) es ≡ None → key.items ≡ piece → entries_of (insert_entry same_bytes es key 1) ≡ counted piece (entries_of es)
+counted-new piece [] key is same = ap (λ p. (p, 1) ∷ []) same
+counted-new piece (e ∷ es) key is same = by (bytes_eq piece e.0.items) refl is (λ h. counted-new piece es key h same)
+  where
+    by : (b : Bool) → bytes_eq piece e.0.items ≡ b → cond b (Some e.1) (lookup (sought piece) es) ≡ None
+        → (lookup (sought piece) es ≡ None → entries_of (insert_entry same_bytes es key 1) ≡ counted piece (entries_of es))
+        → entries_of (insert_entry same_bytes (e ∷ es) key 1) ≡ counted piece (entries_of (e ∷ es))
+    by true here is later = absurd cc
+    by false other is later =
+        let apart : bytes_eq key.items e.0.items ≡ false = ap (λ p. bytes_eq p e.0.items) same ∙ other in
+        rw (apart, other) (ap (λ t. (e.0.items, e.1) ∷ t) (later is))
+
+-- ---- columns of the map
+
+pieces-keys : (es : List (Vec ℕ Global × ℕ)) → map (λ (k : Vec ℕ Global). k.items) (keys_of es) ≡ pieces_of (entries_of es)
+pieces-keys [] = refl
+pieces-keys (e ∷ es) = ap (λ ps. e.0.items ∷ ps) (pieces-keys es)
+
+first-keys : (piece : List ℕ) (es : List (Vec ℕ Global × ℕ)) → position_or_len (sought piece) (keys_of es) ≡ position_or_len (bytes_eq piece) (pieces_of (entries_of es))
+first-keys piece [] = refl
+first-keys piece (e ∷ es) = ap (λ n. cond (not (bytes_eq piece e.0.items)) (1 + n) 0) (first-keys piece es)
+
+pub place-keys : (piece : List ℕ) (es : List (Vec ℕ Global × ℕ)) → position (sought piece) (keys_of es) ≡ position (bytes_eq piece) (pieces_of (entries_of es))
+place-keys piece es =
+    let long : length (keys_of es) ≡ length (pieces_of (entries_of es)) = sym (length-map (keys_of es) (λ (k : Vec ℕ Global). k.items)) ∙ ap length (pieces-keys es) in
+    λ i. cond (ltb (first-keys piece es i) (long i)) (Some (first-keys piece es i)) None
+
+pub length-entries : (es : List (Vec ℕ Global × ℕ)) → length (entries_of es) ≡ length es
+length-entries es = length-map es (λ (e : Vec ℕ Global × ℕ). (e.0.items, e.1))
+
+pub piece-there : (es : List (Vec ℕ Global × ℕ)) (i : ℕ) (key : Vec ℕ Global) (count : ℕ) → slice_get es i ≡ Some (key, count) → slice_get (pieces_of (entries_of es)) i ≡ Some key.items
+piece-there [] i key count h = absurd cc
+piece-there (e ∷ es) zero key count h = let same : e ≡ (key, count) = cc in ap (λ (x : Vec ℕ Global × ℕ). Some x.0.items) same
+piece-there (e ∷ es) (suc i) key count h = piece-there es i key count h
+
+pub count-there : (es : List (Vec ℕ Global × ℕ)) (i : ℕ) (key : Vec ℕ Global) (count : ℕ) → slice_get es i ≡ Some (key, count) → slice_get (entry_counts (entries_of es)) i ≡ Some count
+count-there [] i key count h = absurd cc
+count-there (e ∷ es) zero key count h = let same : e ≡ (key, count) = cc in ap (λ (x : Vec ℕ Global × ℕ). Some x.1) same
+count-there (e ∷ es) (suc i) key count h = count-there es i key count h
+
+pub none-counted : IsVocabulary (entries_of [])
+unfolding IsDistinct
+none-counted = record { distinct = tt; few = omega arith; total = omega arith; counted = tt; short = tt }

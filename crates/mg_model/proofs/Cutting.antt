@@ -120,32 +120,3 @@ short-part ends bytes lent lent_bytes place start end h l e s t piece is =
     let from : start ≡ start_from 0 ends place = s ∙ ap (λ x. start_of x place) e ∙ sym (start-is ends place) in
     let to : end ≡ get_or ends place 0 = t ∙ ap (λ x. get_or x place 0) e in
     omega (arith, piece-short 0 ends (length bytes) place h l, from, to, ap length is, length-take (end - start) (drop start lent_bytes))
-
--- ---- one piece fewer
-
-ends-less : (from : ℕ) (ends : List ℕ) (to place : ℕ) → AreEnds from ends to → place < length ends → AreEnds from (take place ends) (start_from from ends place)
-ends-less from [] to place h l = absurd (omega arith)
-ends-less from (end ∷ ends) to zero h l = refl
-ends-less from (end ∷ ends) to (suc zero) h l = (h.0, h.1, ends-less end ends to zero h.2 (omega arith))
-ends-less from (end ∷ ends) to (suc (suc place)) h l = (h.0, h.1, ends-less end ends to (suc place) h.2 (omega arith))
-
-cut-take : (from place : ℕ) (ends bytes : List ℕ) → cut from (take place ends) bytes ≡ take place (cut from ends bytes)
-cut-take from zero ends bytes = refl
-cut-take from (suc place) [] bytes = refl
-cut-take from (suc place) (end ∷ ends) bytes = ap (λ t. take (end - from) (drop from bytes) ∷ t) (cut-take end place ends bytes)
-
-pub block-less : (ends bytes : List ℕ) (place start : ℕ) → IsBlock ends bytes → place < length ends → start ≡ start_of ends place → IsBlock (take place ends) (take start bytes)
-block-less ends bytes place start is low e =
-    let all = ends-less 0 ends (length bytes) place is.ends_are low in
-    let within = (rises-at 0 ends (length bytes) place is.ends_are low) in
-    let from : start_from 0 ends place ≡ length (take start bytes) = omega (arith, length-take start bytes, e, start-is ends place, within.0, within.1) in
-    record {
-      few = omega (arith, length-take place ends, is.few);
-      ends_are = subst (AreEnds 0 (take place ends)) from all;
-    }
-
-pub cut-less : (ends bytes : List ℕ) (place start : ℕ) → IsBlock ends bytes → place < length ends → start ≡ start_of ends place → cut 0 (take place ends) (take start bytes) ≡ take place (cut 0 ends bytes)
-cut-less ends bytes place start is low e =
-    let less = block-less ends bytes place start is low e in
-    let same = cut-same 0 (take place ends) (length (take start bytes)) (take start bytes) (drop start bytes) less.ends_are (omega arith) in
-    sym same ∙ ap (cut 0 (take place ends)) (take-append-drop start bytes) ∙ cut-take 0 place ends bytes

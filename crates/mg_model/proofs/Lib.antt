@@ -1,6 +1,4 @@
 mod Lists
-mod Chaining
-mod Tabling
 mod Counting
 mod Order
 mod Sorting

@@ -1,8 +1,5 @@
 pub mod Vocabularies
 pub mod Blocks
-pub mod Chains
-pub mod Tables
-pub mod Rows
 pub mod Pieces
 pub mod Models
 pub mod Sizes

@@ -102,17 +102,6 @@ impl PieceBlock {
         Ok(())
     }
 
-    /// Takes the last piece away.
-    pub fn pop(&mut self)
-        requires { 0 < length self.old }
-        ensures { self.new ≡ take (length self.old - 1) self.old }
-    {
-        let place = self.ends.len() - 1;
-        let start = start_of(&self.ends, place);
-        self.ends.truncate(place);
-        self.bytes.truncate(start as usize);
-    }
-
     /// Gives back the memory that the bytes do not need.
     pub fn shrink(&mut self)
         ensures { self.new ≡ self.old }

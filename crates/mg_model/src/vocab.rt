@@ -8,8 +8,7 @@ ghost use Rattle.mg_defs.specs.Vocabulary.{has_piece, counted, total, sorted_of,
 ghost use Rattle.mg_model.specs.Vocabularies.{IsVocabulary, pieces_of, entry_counts};
 
 use crate::VocabErr;
-use crate::piece_table::{PieceTable, hash_of};
-use crate::room::make_room;
+use indexmap::IndexMap;
 use std::alloc::{AllocError, Global};
 use std::marker::Model;
 
@@ -19,25 +18,21 @@ const MOST_PIECES: usize = 1 << 22;
 /// The distinct pieces of a stream in the order of their first appearance, each with how often it
 /// came.
 ///
-/// The pieces stand in one table; a count takes four bytes beside it, for fewer than 2^32 pieces are
-/// counted. With what they grow by, that is less than 48 bytes a piece beside its own.
+/// A count takes four bytes, for fewer than 2^32 pieces are counted.
 #[derive(Drop)]
 pub struct Vocab {
-    alloc: Global,
-    pieces: PieceTable,
-    counts: Vec<u32>,
+    counts: IndexMap<Vec<u8>, u32>,
 }
 
 impl Model for Vocab {
     ghost use Rattle.std.specs.Prelude.{ℕ, List};
-    ghost use Rattle.std.specs.List.{zip};
-    ghost use Rattle.mg_model.specs.Vocabularies.{IsCounted};
+    ghost use Rattle.mg_model.specs.Vocabularies.{IsVocabulary, entries_of};
 
     ghost Value = { List (List ℕ × ℕ) };
 
-    ghost view = { λ v. zip v.pieces v.counts.items };
+    ghost view = { λ v. entries_of v.counts.entries };
 
-    ghost invariant = { λ v. IsCounted v.pieces v.counts.items };
+    ghost invariant = { λ v. IsVocabulary (entries_of v.counts.entries) };
 }
 
 impl Vocab {
@@ -46,9 +41,7 @@ impl Vocab {
         ensures { result ≡ [] }
     {
         Vocab {
-            alloc,
-            pieces: PieceTable::new(alloc),
-            counts: Vec::new(alloc),
+            counts: IndexMap::new(alloc),
         }
     }
 
@@ -74,17 +67,15 @@ impl Vocab {
         ensures known { has_piece self.old piece.now ≡ true → IsOk result }
         ensures err { OnErr result (self.new ≡ self.old) }
     {
-        let hash = hash_of(piece);
-        if let Some(place) = self.pieces.find(hash, piece) {
-            self.counts[place as usize] += 1;
+        if let Some(count) = self.counts.get_mut(piece) {
+            *count += 1;
             return Ok(());
         }
         if self.counts.len() >= MOST_PIECES {
             return Err(VocabErr::TooMany);
         }
-        make_room(&mut self.counts)?;
-        self.pieces.push(hash, piece)?;
-        self.counts.push_reserved(1);
+        let piece = Vec::from_slice(*self.counts.allocator(), piece)?;
+        self.counts.insert(piece, 1)?;
         Ok(())
     }
 
@@ -94,8 +85,7 @@ impl Vocab {
         ensures counts { OnOk result (entry_counts self.new ≡ counts_of self.old) }
         ensures rising { OnOk result (IsStrictlySortedBy (slice_cmp nat_cmp) (pieces_of self.new)) }
     {
-        let counts = self.pieces.sort(&self.counts)?;
-        self.counts = counts;
+        self.counts.sort_unstable_keys()?;
         Ok(())
     }
 
@@ -104,7 +94,7 @@ impl Vocab {
         ensures counts { IfOk result (λ counts. counts.items ≡ entry_counts self.now) }
         ensures keeps { IsVocabulary self.now }
     {
-        let mut counts = Vec::with_capacity(self.alloc, self.counts.len())?;
+        let mut counts = Vec::with_capacity(*self.counts.allocator(), self.counts.len())?;
         for place in 0..self.counts.len() {
             counts.push(u64::from(self.count_at(place)))?;
         }
@@ -116,14 +106,20 @@ impl Vocab {
         requires { place < length self.now }
         ensures { slice_get (entry_counts self.now) place ≡ Some result }
     {
-        self.counts[place]
+        match self.counts.get_index(place) {
+            Some((_, count)) => *count,
+            None => 0,
+        }
     }
 
     /// The place of a piece among the entries.
     pub(crate) fn place_of(&self, piece: &[u8]) -> Option<u32>
         ensures { result ≡ position (bytes_eq piece.now) (pieces_of self.now) }
     {
-        self.pieces.place_of(piece)
+        match self.counts.get_index_of(piece) {
+            Some(place) => Some(place as u32),
+            None => None,
+        }
     }
 
     /// The piece at a place, of at most 255 bytes.
@@ -132,6 +128,9 @@ impl Vocab {
         ensures piece { slice_get (pieces_of self.now) place ≡ Some result.now }
         ensures short { length result.now ≤ 255 }
     {
-        self.pieces.piece(place)
+        match self.counts.get_index(place as usize) {
+            Some((piece, _)) => piece,
+            None => &[],
+        }
     }
 }

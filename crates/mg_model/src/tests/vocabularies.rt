@@ -119,8 +119,8 @@ fn numbers_have_places(vocab: &Vocab, count: u32) -> bool
     vocab.place_of(&digits_of(count)).is_none()
 }
 
-// Whether so many pieces are found while a table is filled.
-fn table_holds(alloc: Global, count: u32) -> Result<bool, VocabErr>
+// Whether so many pieces are found while a map is filled.
+fn map_holds(alloc: Global, count: u32) -> Result<bool, VocabErr>
     requires { count ≤ 2 ^ 24 }
 {
     let mut vocab = Vocab::new(alloc);
@@ -132,9 +132,9 @@ fn table_holds(alloc: Global, count: u32) -> Result<bool, VocabErr>
 }
 
 #[test]
-fn pieces_keep_their_places_as_the_table_grows(rt: HostRuntime) -> Result<(), Fail> {
+fn pieces_keep_their_places_as_the_map_grows(rt: HostRuntime) -> Result<(), Fail> {
     for count in [1, 2, 15, 16, 17, 31, 32, 33, 64, 65, 1000] {
-        assert!(rt; table_holds(rt.alloc(), count)?, "{count} pieces");
+        assert!(rt; map_holds(rt.alloc(), count)?, "{count} pieces");
     }
     Ok(())
 }

@@ -1,14 +1,7 @@
-use Rattle.std.proofs.Common.{arith, ◌<◌, ◌∙◌, sym, ap, length, slice_get}
+use Rattle.std.proofs.Common.{◌∙◌, sym, ap, slice_get}
 use Rattle.mg_model.specs.Vocabularies.{entry_counts}
-use Rattle.mg_model.proofs.Counting.{length-zip, numbers-zip}
-use Rattle.mg_model.proofs.Lists.{there-is}
+use Rattle.mg_model.proofs.Counting.{count-there, length-entries}
 use Rattle.mg_model.proofs.vocab.Vocab.count_at.Goals as goal
 
-pub index-requires : goal.index-requires
-index-requires c = omega (arith, length-zip c.self.inside.pieces c.self.inside.counts.items c.self.invariant.same, ap length c.self.view_is, c.requires, c.self.inside.counts.ok.0)
-
-pub returns : goal.returns
-returns c =
-    let low : c.args.place < length c.self.inside.counts.items = omega (arith, length-zip c.self.inside.pieces c.self.inside.counts.items c.self.invariant.same, ap length c.self.view_is, c.requires) in
-    ap (λ es. slice_get (entry_counts es) c.args.place) (sym c.self.view_is) ∙ ap (λ ns. slice_get ns c.args.place) (numbers-zip c.self.inside.pieces c.self.inside.counts.items c.self.invariant.same)
-    ∙ there-is c.self.inside.counts.items c.args.place c.index.result.now low c.index.ensures
+pub returns-in-Some : goal.returns-in-Some
+returns-in-Some c = ap (λ es. slice_get (entry_counts es) c.args.place) (sym c.self.view_is) ∙ count-there c.self.inside.counts.entries c.args.place _ _ (sym c.in-Some.ensures.entry)

@@ -1,18 +1,15 @@
-use Rattle.std.proofs.Common.{arith, ◌≤◌, ◌∙◌, ℕ, List, sym, ap, subst, length, slice_get}
-use Rattle.std.specs.List.{AllByRecursion, zip}
+use Rattle.std.proofs.Common.{◌≤◌, ◌∙◌, ℕ, List, sym, ap, subst, length, slice_get, Some}
+use Rattle.std.specs.List.{AllByRecursion}
 use Rattle.mg_model.specs.Vocabularies.{pieces_of}
 use Rattle.mg_model.proofs.Codes.{pieces-short}
-use Rattle.mg_model.proofs.Counting.{pieces-zip, length-zip}
+use Rattle.mg_model.proofs.Counting.{piece-there}
 use Rattle.mg_model.proofs.Lists.{all-there}
 use Rattle.mg_model.proofs.vocab.Vocab.piece.Goals as goal
 
-pub piece-requires : goal.piece-requires
-piece-requires c = omega (arith, length-zip c.self.inside.pieces c.self.inside.counts.items c.self.invariant.same, ap length c.self.view_is, c.requires, c.self.invariant.same)
+pub returns-in-Some-clause-piece : goal.returns-in-Some-clause-piece
+returns-in-Some-clause-piece c =
+    ap (λ es. slice_get (pieces_of es) c.args.place) (sym c.self.view_is) ∙ piece-there c.self.inside.counts.entries c.args.place _ _ (sym c.in-Some.ensures.entry) ∙ ap Some (sym c.deref.ensures.value)
 
-pub returns-clause-piece : goal.returns-clause-piece
-returns-clause-piece c = ap (λ ps. slice_get ps c.args.place) (ap pieces_of (sym c.self.view_is) ∙ pieces-zip c.self.inside.pieces c.self.inside.counts.items c.self.invariant.same) ∙ c.piece.ensures
-
-pub returns-clause-short : goal.returns-clause-short
-returns-clause-short c =
-    let all = subst (AllByRecursion (λ (p : List ℕ). length p ≤ 255)) (pieces-zip c.self.inside.pieces c.self.inside.counts.items c.self.invariant.same) (pieces-short (zip c.self.inside.pieces c.self.inside.counts.items) c.self.invariant.vocabulary.short) in
-    all-there (λ (p : List ℕ). length p ≤ 255) c.self.inside.pieces c.args.place c.piece.result.now all c.piece.ensures
+pub returns-in-Some-clause-short : goal.returns-in-Some-clause-short
+returns-in-Some-clause-short c =
+    all-there (λ (p : List ℕ). length p ≤ 255) (pieces_of c.args.self.now) c.args.place c.deref.result.now (pieces-short c.args.self.now (subst (AllByRecursion (λ (e : List ℕ × ℕ). length e.0 ≤ 255)) c.self.view_is c.self.invariant.short)) (returns-in-Some-clause-piece c)
