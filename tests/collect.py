@@ -4,7 +4,9 @@ Each case is run with every awk and every shell of Debian that is here; mawk, bu
 """
 
 import os
+import resource
 import shutil
+import signal
 import subprocess
 
 from transcripts import ROOT, fresh_folder, tools
@@ -78,10 +80,16 @@ class Collect:
         self.awk = awk
         self.folder = folder
 
-    def run(self, *words, given=b""):
-        environment = {**os.environ, "AWK": self.awk}
+    def run(self, *words, given=b"", most=resource.RLIM_INFINITY):
+        """The script's status, output and error output, where a file may have at most so many bytes."""
+
+        def narrow():
+            signal.signal(signal.SIGXFSZ, signal.SIG_IGN)
+            resource.setrlimit(resource.RLIMIT_FSIZE, (most, most))
+
         run = subprocess.run(
-            [*self.shell, SCRIPT, *words], cwd=self.folder, input=given, capture_output=True, env=environment, timeout=300
+            [*self.shell, SCRIPT, *words], cwd=self.folder, input=given, capture_output=True, preexec_fn=narrow,
+            env={**os.environ, "AWK": self.awk}, timeout=300,
         )
         return run.returncode, run.stdout, run.stderr
 
@@ -194,6 +202,21 @@ def folders(case):
     case.refused("a folder in a list", 2, b"mg-collect: notes: it is a folder\n", "files", "new", given=b"notes/B\nnotes\n")
 
 
+def full(case):
+    """A disk that takes no more than a few bytes of a file: the old collection stays."""
+    case.file("a.mbox", MBOX)
+    case.file("Mail/cur/1", MESSAGES[0])
+    case.file("Mail/new/2", MESSAGES[1])
+    case.file("new", b"old")
+    before = set(os.listdir(case.folder))
+    for words in [["mbox", "new", "a.mbox"], ["maildir", "new", "Mail"], ["folder", "new", "Mail"]]:
+        for most in [0, 20, 300]:
+            status, out, _ = case.run(*words, most=most)
+            with open(os.path.join(case.folder, "new"), "rb") as file:
+                case.check(f"{words[0]} into files of at most {most} bytes", (status, out, file.read()), (2, b"", b"old"))
+            case.check(f"{words[0]} into files of {most} bytes leaves none", set(os.listdir(case.folder)), before)
+
+
 def named(case):
     case.file("text.table", b"1\tnotes/a\n2\tm.mbox:7\tJ\xf6rg\t\tcrane\n12\tlast\n")
     given = b"2\n12 3456\n= 2\n-- 1\n2\n12 3456\n= 9\n-- 2\n\xff\x02\n= 1\n-- 2 77\n\x02\n= 1\n? syntax at 2\n\n? bad command\n"
@@ -221,7 +244,7 @@ def every_case(suite):
     here = lambda command: bool(shutil.which(command.split()[0]))
     pairs = [("sh", awk) for awk in AWKS if here(awk)] + [(shell, "mawk") for shell in SHELLS if here(shell)]
     for shell, awk in pairs:
-        for part in [mailboxes, maildirs, folders, named, usage]:
+        for part in [mailboxes, maildirs, folders, full, named, usage]:
             with fresh_folder(suite) as folder:
                 part(Collect(suite, shell, awk, folder))
 
