@@ -1,18 +1,25 @@
-# make          proves and builds the program, and leaves it as bin/mg
-# make try      builds the sample collection, decodes it, and asks it a few questions
-# make check    the gate: every proof, edit, test and program, then the black-box suite
-# make install  copies the program to PREFIX/bin
-# make bench    measures it beside SQLite's FTS5, Xapian and grep, on the kernel's documentation
+# make            proves and builds the program, and leaves it as bin/mg
+# make try        builds the sample collection, decodes it, and asks it a few questions
+# make check      the gate: every proof, edit, test and program, then the black-box suite
+# make install    copies the program, mg-collect, the manual and the completion below PREFIX
+# make uninstall  takes them away
+# make bench      measures it beside SQLite's FTS5, Xapian and grep, on the kernel's documentation
 
 PREFIX ?= /usr/local
+PROGRAM ?= bin/mg
 SOURCES := crates.txt $(shell find crates -path '*/out' -prune -o -type f -print)
+
+BIN := $(DESTDIR)$(PREFIX)/bin
+MAN1 := $(DESTDIR)$(PREFIX)/share/man/man1
+MAN5 := $(DESTDIR)$(PREFIX)/share/man/man5
+COMPLETIONS := $(DESTDIR)$(PREFIX)/share/bash-completion/completions
 
 bin/mg: $(SOURCES)
 	cd crates/mg && rt run -- scan data/mail < stdin
 	mkdir -p bin
 	cp crates/mg/out/mg bin/mg
 
-.PHONY: try check install bench
+.PHONY: try check install uninstall bench
 
 try: bin/mg
 	bin/mg build examples/letters.mail bin/letters
@@ -24,8 +31,18 @@ check:
 	$(MAKE) bin/mg
 	python3 tests/run.py bin/mg
 
-install: bin/mg
-	install -D bin/mg $(DESTDIR)$(PREFIX)/bin/mg
+install: $(PROGRAM)
+	install -d "$(BIN)" "$(MAN1)" "$(MAN5)" "$(COMPLETIONS)"
+	install -m 755 $(PROGRAM) "$(BIN)/mg"
+	install -m 755 contrib/mg-collect "$(BIN)/mg-collect"
+	install -m 644 man/mg.1 man/mg-collect.1 "$(MAN1)"
+	install -m 644 man/mg-files.5 "$(MAN5)"
+	install -m 644 contrib/completions/mg contrib/completions/mg-collect "$(COMPLETIONS)"
+
+uninstall:
+	rm -f "$(BIN)/mg" "$(BIN)/mg-collect"
+	rm -f "$(MAN1)/mg.1" "$(MAN1)/mg-collect.1" "$(MAN5)/mg-files.5"
+	rm -f "$(COMPLETIONS)/mg" "$(COMPLETIONS)/mg-collect"
 
 bench: bin/mg
 	test -d /usr/share/doc/linux-doc-6.1 || { apt-get update && apt-get install -y linux-doc; }

@@ -10,6 +10,7 @@ import signal
 import subprocess
 import sys
 import time
+import zipfile
 
 sys.path.insert(0, str(pathlib.Path(__file__).parent / "reference"))
 
@@ -22,6 +23,7 @@ from standing import check, read_parts
 from texts import Collection
 
 EXPECTED = pathlib.Path(__file__).parent / "expected"
+KEPT = pathlib.Path(__file__).parent / "data" / "version_1.zip"
 BUDGETS = [4096, 65_536, BUDGET]
 # The parts that no choice of codeword lengths and no budget changes.
 SETTLED = ["lex", "lexat", "post", "skip", "weights"]
@@ -185,6 +187,23 @@ def migrations(suite):
     remove(suite, "new")
 
 
+def kept_set(suite):
+    """A set of version 1 with 3,000 documents that is kept as a file: made anew, it answers the same lines."""
+    with zipfile.ZipFile(KEPT) as archive:
+        archive.extractall(suite.folder)
+        collection, asked, replies = (archive.read(name) for name in ("collection", "asked", "replies"))
+    before = read_parts(suite.folder / "old")
+    suite.check("the kept set made anew", suite.run(["migrate", "old", "new"]), (0, b"documents 3000\n", b""))
+    suite.check("the kept set stays", read_parts(suite.folder / "old"), before)
+    for name in ("old", "new"):
+        suite.check(f"the kept set {name}: decode", suite.run(["decode", name]), (0, collection, b""))
+        suite.check(f"the kept set {name}: query", suite.run(["query", name], asked), (0, replies, b""))
+    made = read_parts(suite.folder / "new")
+    suite.check("the kept set made anew stands", (check(made).data, made["head"][:8]), (collection, b"MGROWv2\n"))
+    remove(suite, "old")
+    remove(suite, "new")
+
+
 def limits(suite):
     """The greatest collections and the first ones beyond them; minutes, and gigabytes of files."""
     for count, status, line in [(1 << 24, 0, b""), ((1 << 24) + 1, 9, b"mg: more than 16777216 documents\n")]:
@@ -200,5 +219,5 @@ def limits(suite):
         remove(suite, "set")
 
 
-PARTS = [kinds, bytes_of_parts, refusals, stopped, trials, migrations]
+PARTS = [kinds, bytes_of_parts, refusals, stopped, trials, migrations, kept_set]
 SLOW = [limits]

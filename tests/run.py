@@ -1,20 +1,28 @@
 """The black-box suite: drives the built program through real files and pipes.
 
-    python3 tests/run.py [--slow] bin/mg
+    python3 tests/run.py [--slow] [--seed N] bin/mg
 
 Expected outputs are rows worked by hand or stored ones, which a reference wrote that shares no
 code with the program (tests/make_expected.py). The last line is `N passed, N failed`. With --slow
-it also feeds an input of more than 4,294,967,296 bytes.
+it also feeds an input of more than 4,294,967,296 bytes. The damages of files are drawn from a seed,
+another one at each run if none is given.
 """
 
+import argparse
 import os
 import pathlib
 import subprocess
 import sys
 import tempfile
+import time
 
 import builds
+import collect
+import damages
 import files
+import installed
+import manual
+import pages
 from kinds import Draws, cases
 
 EXPECTED = pathlib.Path(__file__).parent / "expected"
@@ -25,9 +33,10 @@ MOST = 268_435_456
 class Suite:
     """Runs of the program in a folder of its own, and how many came out as they should."""
 
-    def __init__(self, program, folder):
+    def __init__(self, program, folder, seed):
         self.program = pathlib.Path(program).resolve()
         self.folder = pathlib.Path(folder)
+        self.seed = seed
         self.passed = 0
         self.failed = 0
 
@@ -183,12 +192,22 @@ def long_input(suite):
         suite.check(name, (run.returncode, err, out), (*wanted, b""))
 
 
+PARTS = [rows, stored, words, devices, large_collection]
+SLOW = [long_input]
+for module in (files, builds, damages, manual, collect, installed, pages):
+    PARTS += module.PARTS
+    SLOW += getattr(module, "SLOW", [])
+
+
 def main():
-    slow = "--slow" in sys.argv
-    program = [word for word in sys.argv[1:] if word != "--slow"][0]
+    parser = argparse.ArgumentParser(description="Drives the built program through real files and pipes.")
+    parser.add_argument("--slow", action="store_true", help="also the cases that take minutes and gigabytes")
+    parser.add_argument("--seed", type=int, default=time.time_ns() % 2**32, help="the seed of the damages of files")
+    parser.add_argument("program")
+    given = parser.parse_args()
     with tempfile.TemporaryDirectory() as folder:
-        suite = Suite(program, folder)
-        for part in [rows, stored, words, devices, large_collection, *files.PARTS, *builds.PARTS] + [long_input, *builds.SLOW] * slow:
+        suite = Suite(given.program, folder, given.seed)
+        for part in PARTS + SLOW * given.slow:
             part(suite)
     print(f"{suite.passed} passed, {suite.failed} failed")
     return 1 if suite.failed or not suite.passed else 0

@@ -1,6 +1,7 @@
 // What no clause says: that sets are made anew where memory is there, the parts of one, and what a failing store leaves.
+use crate::other_store::OtherStore;
 use crate::{decode, migrate};
-use mg_dev::{Bad, Fault, MemSink, MemStore, Part};
+use mg_dev::{Bad, Fault, MemSink, MemStore, Part, SureStore};
 use std::alloc::{AllocError, Global};
 use std::test::Fail;
 
@@ -154,5 +155,86 @@ fn a_set_is_not_made_from_itself_or_from_none(rt: HostRuntime) -> Result<(), Fai
         Err(Fault::Damaged(bad))
     );
     assert_eq!(rt; decoded(alloc, &store, "new")?, Some(Err(Fault::NotBuilt)));
+    Ok(())
+}
+
+// A store with the set under `old` that gives, of the file of one part, the bytes of another file.
+fn giving_less(
+    alloc: Global,
+    head: &[u8],
+    places: &[u8],
+    part: Part,
+    other: &str,
+    given: &[u8],
+) -> Result<OtherStore, AllocError> {
+    let mut held = SureStore::new(alloc);
+    for (name, _, bytes) in COPIED {
+        held.put_file(name, bytes)?;
+    }
+    held.put_file("old.head", head)?;
+    held.put_file("old.places", places)?;
+    held.put_file(other, given)?;
+    let mut store = OtherStore::new(held);
+    store.changes = part;
+    store.from = 0;
+    Ok(store)
+}
+
+#[test]
+fn a_part_that_gives_fewer_bytes_than_its_size_is_told(rt: HostRuntime) -> Result<(), Fail> {
+    let alloc = rt.alloc();
+    // A part, the file that it gives in place of its own, the bytes of that file, and the size that is told.
+    let rows: [(Part, &str, &[u8], u64); 10] = [
+        (Part::Words, "other.words", b"\x01a", 3),
+        (Part::Nonwords, "other.nonwords", b"\x01 ", 3),
+        (Part::Text, "other.text", b"\xc8", 2),
+        (
+            Part::Places,
+            "other.places",
+            b"\0\0\0\0\0\0\0\0\0\0\0\0\0\0\0",
+            16,
+        ),
+        (
+            Part::Lex,
+            "other.lex",
+            b"\x01a\0\0\0\x01\0\0\0\0\0\0\0\0\0\0\0",
+            18,
+        ),
+        (Part::LexAt, "other.lexat", b"\0", 4),
+        (Part::Post, "other.post", b"", 1),
+        (Part::Skip, "other.skip", b"\0\0\0\0\0\0\0\x01", 16),
+        (Part::Weights, "other.weights", b"\0\0\x03", 4),
+        (Part::Run, "other.run", b"", 1),
+    ];
+    for (part, other, given, size) in rows {
+        let mut store = giving_less(alloc, WIDE_HEAD, WIDE_PLACES, part, other, given)?;
+        let bad = Bad {
+            part,
+            at: 0,
+            low: size,
+            high: size,
+            found: given.len() as u64,
+        };
+        assert_eq!(rt;
+            migrate(alloc, &mut store, "old", "new"),
+            Err(Fault::Damaged(bad)),
+            "{other}"
+        );
+        assert_eq!(rt; store.held.file("new.head"), Some(b"".as_slice()));
+    }
+    // Places of four bytes are read a number at a time: the second one is not there.
+    let given = b"\0\0\0\0";
+    let mut store = giving_less(alloc, HEAD, PLACES, Part::Places, "other.places", given)?;
+    let bad = Bad {
+        part: Part::Places,
+        at: 4,
+        low: 1,
+        high: 1,
+        found: 0,
+    };
+    assert_eq!(rt;
+        migrate(alloc, &mut store, "old", "new"),
+        Err(Fault::Damaged(bad))
+    );
     Ok(())
 }

@@ -12,12 +12,11 @@ ghost use Rattle.mg_build.specs.Copying.{AreNarrow, ChangedAlone, CopyStops, Has
 
 use mg_bits::{PageFeed, PageWriter};
 use mg_dev::{Bad, Fault, FileRef, Part, Store};
+use mg_fields::{eight_bytes, four_at};
 use mg_layout::expect_size;
-use mg_layout::numbers::four_at;
 use std::alloc::Global;
 
 // Writes the number in the four bytes at an index in eight.
-#[tactic(auto, unfolding(mg_defs::specs::Numbers::eight))]
 fn widen_one<S: Store>(
     store: &mut S,
     places: &mut PageFeed<'_, S>,
@@ -51,7 +50,7 @@ fn widen_one<S: Store>(
         Err(_) => return Err(Fault::StoreFault),
     }
     let number = u64::from(four_at(&bytes, 0));
-    match wide.put_all(store, &number.to_be_bytes()) {
+    match wide.put_all(store, &eight_bytes(number)) {
         Ok(()) => Ok(()),
         Err(refusal) => Err(Fault::of_store(refusal)),
     }

@@ -1,7 +1,7 @@
 -- The steps of the decoder by lengths.
 use Rattle.std.proofs.Common.{◌≡◌, ℕ, zero, suc, ◌+◌, ◌-◌, ◌*◌, ◌/◌, ◌%◌, ◌^◌, ◌<◌, ◌≤◌, Bool, true, false, cond, List, [], ◌∷◌, ◌++◌, length, refl, sym, ap, ◌∙◌, subst, arith, take, get_or, ◌⊎◌, inl, inr, ⊎_elim, add-one}
 use Rattle.std.proofs.lemmas.Grind.{common_steps}
-use Rattle.std.proofs.lemmas.List.{get_or_default}
+use Rattle.std.proofs.lemmas.List.{get_or_default, get_or_append_left, get_or_push, length_push}
 use Rattle.std.proofs.lemmas.Nat.{shr-shr}
 use Rattle.std.proofs.lemmas.Bool.{cases_lt, cases_eq}
 use Rattle.std.specs.Prelude.{◌==◌}
@@ -11,7 +11,8 @@ use Rattle.mg_defs.specs.Answers.{Below, CutShort, IsNone}
 use Rattle.mg_defs.proofs.BitLaws.{length_digits}
 use Rattle.mg_defs.proofs.CanonSteps.{first-step, first-zero, first-last, nth}
 use Rattle.mg_defs.proofs.CanonLaws.{digits-low, good_within, good_full, codeword-many, goes_on_to}
-use Rattle.mg_canon.specs.Tables.{count_below, place_of, AreFirsts, AreNumbered, AreTables}
+use Rattle.mg_canon.specs.Tables.{count_below, place_of, AreFirsts, AreNumbered, AreTables, AreBeginnings, IsBeginning, none_found as no_codeword}
+use Rattle.mg_canon.specs.declared.found.Found.{Found}
 use Rattle.mg_canon.proofs.Refused.{good_from}
 use Rattle.mg_canon.proofs.Placing.{room_for}
 
@@ -58,6 +59,11 @@ first_none : (lengths : List ℕ) → AreGood lengths → length lengths ≡ 1 �
 first_none [] good e = absurd (omega arith)
 first_none (l ∷ []) good e = let P : ℕ → Type 0 = λ k. first 0 (k ∷ []) ≡ 0 in subst P (sym good) refl
 first_none (l ∷ m ∷ lengths) good e = absurd (omega arith)
+
+first_ten : (lengths : List ℕ) → AreGood lengths → length lengths ≡ 1 → first 10 lengths ≡ 0
+first_ten [] good e = absurd (omega arith)
+first_ten (l ∷ []) good e = let P : ℕ → Type 0 = λ k. first 10 (k ∷ []) ≡ 0 in subst P (sym good) refl
+first_ten (l ∷ m ∷ lengths) good e = absurd (omega arith)
 
 count_one : (lengths : List ℕ) → AreGood lengths → length lengths ≡ 1 → count_of 1 lengths ≡ 1
 count_one [] good e = absurd (omega arith)
@@ -220,6 +226,20 @@ module _ (lengths : List ℕ) (good : AreGood lengths) (some : 0 < length length
           cut = λ x taken begins. no_one (subst (λ c. Begins (true ∷ []) c) (one_codeword lengths good out.0 x) begins);
         })
 
+-- the way begins behind no bits, or behind ten below all codewords of ten bits
+pub walk_from : (lengths : List ℕ) (read value : ℕ) → AreGood lengths → (read ≡ 0) ⊎ (read ≡ 10) → (read ≡ 0 → value ≡ 0) → (read ≡ 10 → value < first 10 lengths) → Walk lengths read value
+walk_from lengths read value good from none below = ⊎_elim
+    (λ e. subst (λ r. Walk lengths r value) (sym e) (subst (λ v. Walk lengths 0 v) (sym (none e)) (walk_start lengths good)))
+    (λ e.
+    let lt = below e in
+    record {
+      short = omega (arith, e);
+      start = λ z. none z;
+      many = λ h. subst (λ r. value < first r lengths + count_of r lengths) (sym e) (omega (arith, lt));
+      one = λ h. absurd (omega (arith, lt, first_ten lengths good h));
+    })
+    from
+
 -- the same by the table of first codewords
 pub by_table : (lengths firsts : List ℕ) (read value : ℕ) → AreFirsts lengths firsts → read ≤ 48 → (read ≡ 0) ⊎ (value < get_or firsts read 0) → (read ≡ 0) ⊎ (value < first read lengths)
 by_table lengths firsts read value f short more = ⊎_elim (λ e. inl e) (λ lt. inr (omega (arith, f.at read short))) more
@@ -236,9 +256,34 @@ next_value next read value short is =
     let whole : 2 * value + cond (is_odd (next / 2 ^ (56 - read))) 1 0 ≡ next / 2 ^ (56 - read) = omega (arith, odd_or_not (next / 2 ^ (56 - read)), half) in
     whole ∙ ap (λ k. next / 2 ^ k) (sym f)
 
+-- 57 bits begin with what their first ten begin with
+pub of_first_ten : (next size : ℕ) → size ≤ 10 → next / 2 ^ 47 / 2 ^ (10 - size) ≡ next / 2 ^ (57 - size)
+of_first_ten next size h =
+    let e : 47 + (10 - size) ≡ 57 - size = omega arith in
+    shr-shr next 47 (10 - size) ∙ ap (λ k. next / 2 ^ k) e
+
+-- the same of ten bits that are followed by none
+pub of_ten_alone : (first_ten size : ℕ) → size ≤ 10 → first_ten * 2 ^ 47 / 2 ^ (57 - size) ≡ first_ten / 2 ^ (10 - size)
+of_ten_alone first_ten size h =
+    let e : first_ten * 2 ^ 47 / 2 ^ 47 ≡ first_ten = omega arith in
+    sym (of_first_ten (first_ten * 2 ^ 47) size h) ∙ ap (λ n. n / 2 ^ (10 - size)) e
+
 pub start_value : (next : ℕ) → next < 2 ^ 57 → 0 ≡ next / 2 ^ (57 - 0)
 start_value next small = omega arith
 
 -- an element that a list has is found with any default
 pub symbol_index : (items : List ℕ) (i x : ℕ) → x ≡ get_or items i x → i < length items → x ≡ get_or items i 0
 symbol_index items i x e h = e ∙ get_or_default items i x 0 h
+
+-- an entry that was read tells what the ten bits of its place begin with
+pub entry_is : (lengths : List ℕ) (entries : List Found) (i : ℕ) (found : Found) → AreBeginnings lengths entries → i < length entries → found ≡ get_or entries i found → IsBeginning lengths i found
+entry_is lengths entries i found told h e = subst (λ f. IsBeginning lengths i f) (sym (e ∙ get_or_default entries i found no_codeword h)) (told i h)
+
+-- an entry more
+pub entry_more : (lengths : List ℕ) (entries : List Found) (found : Found) → AreBeginnings lengths entries → IsBeginning lengths (length entries) found → AreBeginnings lengths (entries ++ found ∷ [])
+entry_more lengths entries found told begins = λ i h. ⊎_elim
+    (λ lt. subst (λ f. IsBeginning lengths i f) (sym (get_or_append_left entries (found ∷ []) no_codeword i lt)) (told i lt))
+    (λ le.
+    let e : i ≡ length entries = omega (arith, length_push entries found, h) in
+    subst (λ k. IsBeginning lengths k (get_or (entries ++ found ∷ []) k no_codeword)) (sym e) (subst (λ f. IsBeginning lengths (length entries) f) (sym (get_or_push entries found no_codeword (length entries) refl)) begins))
+    (cases_lt i (length entries))

@@ -9,30 +9,26 @@ ghost use Rattle.mg_bits.specs.BitWriting.{Holds, WroteBits};
 ghost use Rattle.mg_bits.specs.CodeAnswers.{AnswersCode, CodeCause, OnlyPagesOf};
 ghost use Rattle.mg_bits.specs.Feed.{Calm, Read};
 ghost use Rattle.mg_bits.specs.Writer.{WroteTo};
+ghost use Rattle.mg_canon.specs.Tables.{IsBeginning};
 ghost use Rattle.mg_canon.specs.Refusals.{IsFirstBad, IsUnfilled, HaveLengths};
 
 use crate::CanonErr;
 use crate::bits::{number_of, refused};
 use crate::check::check;
+use crate::found::Found;
 use crate::tables::{ByLength, count_lengths, first_codewords, first_places, number};
 use mg_bits::{BitReader, BitWriter, CodeErr, Feed};
 use mg_dev::{PutErr, Store};
 use std::alloc::{AllocError, Global};
 use std::marker::Model;
 
-/// A symbol and the number of bits of its codeword.
-#[derive(Clone, Copy)]
-struct Found {
-    symbol: u32,
-    size: u32,
-}
-
 /// A canonical code, seen as the list of its codewords' lengths.
 ///
 /// It holds no tree. The codewords of one length are consecutive numbers, so two small tables by
 /// length, of the first number and of the place of its symbol, and one of the symbols sorted by
 /// length turn bits into a symbol; a table of the codewords' numbers turns a symbol into bits. That
-/// is 9 bytes a symbol.
+/// is 9 bytes a symbol. A codeword of at most ten bits is found by one look at a table of what each
+/// ten bits begin with, which takes 8 KiB.
 #[derive(Drop)]
 pub struct Canon {
     lengths: Vec<u8>,
@@ -40,17 +36,18 @@ pub struct Canon {
     firsts: ByLength,
     offsets: ByLength,
     symbols: Vec<u32>,
+    beginnings: Vec<Found>,
 }
 
 impl Model for Canon {
     ghost use Rattle.std.specs.Prelude.{ℕ, List};
-    ghost use Rattle.mg_canon.specs.Tables.{AreTables};
+    ghost use Rattle.mg_canon.specs.Tables.{AreTablesWithBeginnings};
 
     ghost Value = { List ℕ };
 
     ghost view = { λ c. c.lengths.items };
 
-    ghost invariant = { λ c. AreTables c.lengths.items c.values.items c.firsts c.offsets c.symbols.items };
+    ghost invariant = { λ c. AreTablesWithBeginnings c.lengths.items c.values.items c.firsts c.offsets c.symbols.items c.beginnings.items };
 }
 
 impl Canon {
@@ -145,6 +142,7 @@ impl Canon {
 
     /// The symbol whose codeword 57 bits begin with: none is longer than 48. There is one but for a
     /// single symbol and a one-bit.
+    #[inline]
     fn first_of(&self, next: u64) -> Option<Found>
         requires next { next < 2 ^ 57 }
         requires some { 0 < length self.now }
@@ -153,9 +151,29 @@ impl Canon {
         ensures some { IfSome result (λ found. 1 ≤ found.size) }
         ensures small { IfSome result (λ found. found.size ≤ 48) }
     {
-        let mut value = 0u32;
-        let mut read = 0usize;
+        let first_ten = (next >> 47) as usize;
+        if first_ten < self.beginnings.len() {
+            let found = self.beginnings[first_ten];
+            if found.size > 0 {
+                return Some(found);
+            }
+        }
+        self.first_by_lengths(next)
+    }
+
+    /// The same by the lengths of codewords, from the shortest one on.
+    fn first_by_lengths(&self, next: u64) -> Option<Found>
+        requires next { next < 2 ^ 57 }
+        requires some { 0 < length self.now }
+        ensures symbol { IfSome result (λ found. found.symbol < length self.now) }
+        ensures code { IfSome result (λ found. codeword self.now found.symbol ≡ digits found.size (next / 2 ^ (57 - found.size))) }
+        ensures some { IfSome result (λ found. 1 ≤ found.size) }
+        ensures small { IfSome result (λ found. found.size ≤ 48) }
+    {
         let firsts = &self.firsts;
+        let from = start_of(firsts, next);
+        let mut value = from.value;
+        let mut read = from.read;
         while needs_bit(firsts, read, value) {
             let bit = (next >> (56 - read)) % 2 == 1;
             value = 2 * value + number_of(bit);
@@ -169,6 +187,34 @@ impl Canon {
             symbol: self.symbols[index],
             size: read as u32,
         })
+    }
+
+    /// What ten bits begin with.
+    fn beginning(&self, first_ten: u64) -> Found
+        requires bits { first_ten < 2 ^ 10 }
+        requires some { 0 < length self.now }
+        ensures { IsBeginning self.now first_ten result }
+    {
+        match self.first_by_lengths(first_ten << 47) {
+            Some(found) if found.size <= 10 => found,
+            _ => Found { symbol: 0, size: 0 },
+        }
+    }
+
+    /// The code with the table of what each ten bits begin with.
+    fn with_beginnings(self, alloc: Global) -> Result<Canon, AllocError>
+        ensures { IfOk result (λ code. code ≡ self) }
+    {
+        if self.count() == 0 {
+            return Ok(self);
+        }
+        let mut beginnings = Vec::with_capacity(alloc, 1024)?;
+        for first_ten in 0..1024 {
+            beginnings.push(self.beginning(first_ten))?;
+        }
+        let mut code = self;
+        code.beginnings = beginnings;
+        Ok(code)
     }
 
     /// Reads a symbol bit by bit.
@@ -235,6 +281,30 @@ fn needs_bit(firsts: &ByLength, read: usize, value: u32) -> bool
     value < firsts[read]
 }
 
+/// How many bits were read, and the number that they are.
+#[derive(Drop)]
+struct Walked {
+    read: usize,
+    value: u32,
+}
+
+/// Where the way by lengths begins: behind ten bits if all codewords that these begin are longer.
+fn start_of(firsts: &ByLength, next: u64) -> Walked
+    requires next { next < 2 ^ 57 }
+    ensures read { (result.read ≡ 0) ⊎ (result.read ≡ 10) }
+    ensures value { result.value ≡ next / 2 ^ (57 - result.read) }
+    ensures longer { result.read ≡ 10 → result.value < slice_index firsts.now 10 }
+{
+    let first_ten = (next >> 47) as u32;
+    if first_ten < firsts[10] {
+        return Walked {
+            read: 10,
+            value: first_ten,
+        };
+    }
+    Walked { read: 0, value: 0 }
+}
+
 /// The code of good lengths.
 fn made(alloc: Global, lengths: &[u8]) -> Result<Canon, AllocError>
     requires few { length lengths.now ≤ 2 ^ 22 }
@@ -247,11 +317,13 @@ fn made(alloc: Global, lengths: &[u8]) -> Result<Canon, AllocError>
     let offsets = first_places(&counts);
     let numbered = number(alloc, lengths, &firsts, &offsets)?;
     let lengths = lengths.to_vec(alloc)?;
-    Ok(Canon {
+    let code = Canon {
         lengths,
         values: numbered.values,
         firsts,
         offsets,
         symbols: numbered.symbols,
-    })
+        beginnings: Vec::new(alloc),
+    };
+    code.with_beginnings(alloc)
 }

@@ -12,6 +12,7 @@ mod bits;
 mod canon;
 mod canon_err;
 mod check;
+mod found;
 mod tables;
 
 pub use canon::Canon;

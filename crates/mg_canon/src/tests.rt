@@ -71,6 +71,28 @@ fn codewords_are_written_and_read(rt: HostRuntime) -> Result<(), Fail> {
     Ok(())
 }
 
+#[test]
+fn codewords_up_to_eleven_bits_are_read(rt: HostRuntime) -> Result<(), Fail> {
+    let alloc = rt.alloc();
+    let code = Canon::new(alloc, &[1, 2, 3, 4, 5, 6, 7, 8, 9, 10, 11, 11])?;
+    let mut store = SureStore::new(alloc);
+    let mut writer = BitWriter::start(alloc, &mut store, TEXT)?;
+    assert!(rt; put_each(&code, &mut writer, &mut store, 12)?);
+    assert!(rt; put_each(&code, &mut writer, &mut store, 12)?);
+    writer.finish(&mut store)?;
+    // 1, 01, 001 and so on up to 0000000001, then 00000000000 and 00000000001, all twice
+    let bytes: &[u8] = &[
+        0xa4, 0x42, 0x08, 0x10, 0x10, 0x08, 0x02, 0x00, 0x00, 0x0d, 0x22, 0x10, 0x40, 0x80, 0x80,
+        0x40, 0x10, 0x00, 0x00, 0x40,
+    ];
+    assert_eq!(rt; store.file("x.text"), Some(bytes));
+    let mut reader = BitReader::new(PageFeed::new(alloc, TEXT)?, 0);
+    assert!(rt; reads_each(&code, &mut reader, &mut store, 12));
+    assert!(rt; reads_each(&code, &mut reader, &mut store, 12));
+    assert_eq!(rt; reader.place(), 154);
+    Ok(())
+}
+
 /// What is read where so many bits, the last of a byte, stand before the end of the file, and the
 /// place afterwards.
 fn answer(code: &Canon, byte: u8, bits: u64) -> (Result<u32, CodeErr>, u64)

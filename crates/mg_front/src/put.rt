@@ -9,6 +9,7 @@ ghost use Rattle.mg_front.specs.Entries.{string_of};
 
 use mg_bits::PageWriter;
 use mg_dev::{PutErr, Store};
+use mg_fields::four_bytes;
 
 /// How many bytes two strings share at their front: the length of their longest common prefix.
 #[tactic(auto, unfolding(mg_defs::specs::Front::shared))]
@@ -94,7 +95,6 @@ pub fn put_entry<S: Store>(
 }
 
 /// Writes the place of a whole entry, where places are written.
-#[tactic(auto, unfolding(mg_defs::specs::Numbers::four))]
 pub fn put_place<S: Store>(
     places: &mut Option<PageWriter<'_>>,
     store: &mut S,
@@ -108,7 +108,7 @@ pub fn put_place<S: Store>(
 {
     if number % 4 == 0 {
         if let Some(writer) = places {
-            return writer.put_all(store, &(place as u32).to_be_bytes());
+            return writer.put_all(store, &four_bytes(place as u32));
         }
     }
     Ok(())

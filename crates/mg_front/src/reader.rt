@@ -18,14 +18,15 @@ use crate::FrontEntry;
 use crate::entry::{is_below, read_entry};
 use mg_bits::PageFeed;
 use mg_dev::{Bad, Failed, FileRef, PartErr, Store};
+use mg_fields::four_at;
 use std::alloc::Global;
 use std::marker::Model;
 
-/// The number of four bytes, the highest first.
+/// The number whose four bytes these are.
 fn number_of(bytes: &[u8; 4]) -> u32
     ensures { four result ≡ bytes.now }
 {
-    u32::from_be_bytes(*bytes)
+    four_at(bytes, 0)
 }
 
 /// The place of the whole entry of a block; None where the part has no such place.

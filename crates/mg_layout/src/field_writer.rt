@@ -2,7 +2,7 @@
 ghost use Rattle.std.specs.Prelude.{◌≡◌, ◌+◌, ◌≤◌, ◌++◌, [], length, take, drop};
 ghost use Rattle.mg_defs.specs.Numbers.{four, eight};
 
-use byteorder::{BigEndian, ByteOrder};
+use mg_fields::{eight_bytes, four_bytes};
 use std::marker::Model;
 
 const MOST: usize = 80;
@@ -50,26 +50,20 @@ impl FieldWriter {
         self.length = at + piece.len();
     }
 
-    #[tactic(auto, unfolding(mg_defs::specs::Numbers::four))]
     pub(crate) fn put_u32(&mut self, number: u32)
         requires room { length self.old ≤ 72 }
         ensures bytes { self.new ≡ self.old ++ four number }
         ensures length { length self.new ≡ length self.old + 4 }
     {
-        let mut piece = [0u8; 4];
-        BigEndian::write_u32(&mut piece, number);
-        self.put(&piece);
+        self.put(&four_bytes(number));
     }
 
-    #[tactic(auto, unfolding(mg_defs::specs::Numbers::eight))]
     pub(crate) fn put_u64(&mut self, number: u64)
         requires room { length self.old ≤ 72 }
         ensures bytes { self.new ≡ self.old ++ eight number }
         ensures length { length self.new ≡ length self.old + 8 }
     {
-        let mut piece = [0u8; 8];
-        BigEndian::write_u64(&mut piece, number);
-        self.put(&piece);
+        self.put(&eight_bytes(number));
     }
 }
 

@@ -6,8 +6,8 @@ ghost use Rattle.mg_layout.specs.HeadAnswers.{check_of, fields_of, AnswersParse,
 
 use crate::check::{Check, pass_all};
 use crate::head::Head;
-use crate::numbers::{eight_at, four_at};
 use mg_dev::Bad;
+use mg_fields::{eight_at, four_at};
 
 // The sizes of a head of version 1 and of version 2.
 const NARROW: u64 = 64;

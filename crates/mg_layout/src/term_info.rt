@@ -3,7 +3,7 @@ ghost use Rattle.std.specs.Prelude.{◌≡◌};
 ghost use Rattle.mg_defs.specs.Lexicon.{info_bytes};
 ghost use Rattle.mg_layout.specs.Infos.{info_of};
 
-use byteorder::{BigEndian, ByteOrder};
+use mg_fields::{eight_at, eight_bytes, four_at, four_bytes};
 
 /// What the lexicon tells of a term: its number, and where its inverted list stands.
 ///
@@ -27,9 +27,9 @@ impl TermInfo {
         ensures { result ≡ info_bytes (info_of self.now) }
     {
         let mut field = [0u8; 16];
-        BigEndian::write_u32(&mut field, self.docs);
-        BigEndian::write_u64(&mut field[4..], self.post_at);
-        BigEndian::write_u32(&mut field[12..], self.skip_at);
+        field[..4].copy_from_slice(&four_bytes(self.docs));
+        field[4..12].copy_from_slice(&eight_bytes(self.post_at));
+        field[12..].copy_from_slice(&four_bytes(self.skip_at));
         field
     }
 
@@ -40,11 +40,9 @@ impl TermInfo {
     {
         TermInfo {
             number,
-            docs: u32::from_be_bytes([field[0], field[1], field[2], field[3]]),
-            post_at: u64::from_be_bytes([
-                field[4], field[5], field[6], field[7], field[8], field[9], field[10], field[11],
-            ]),
-            skip_at: u32::from_be_bytes([field[12], field[13], field[14], field[15]]),
+            docs: four_at(field, 0),
+            post_at: eight_at(field, 4),
+            skip_at: four_at(field, 12),
         }
     }
 }

@@ -10,18 +10,18 @@ ghost use Rattle.mg_defs.specs.Numbers.{four};
 
 use mg_bits::PageWriter;
 use mg_dev::{FileRef, Part, PutErr, Store};
+use mg_fields::four_bytes;
 use mg_fixed::isqrt;
 use std::alloc::Global;
 
 /// Writes the root of one sum.
-#[tactic(auto, unfolding(mg_defs::specs::Numbers::four))]
 fn put_root<S: Store>(w: &mut PageWriter<'_>, store: &mut S, sum: u64) -> Result<(), PutErr>
     ensures bytes { IsSome (S.files store.old) → OnOk result (put_to w.new (S.files store.new) ≡ put_to w.old (S.files store.old) ++ four (root sum)) }
     ensures name { w.new.name ≡ w.old.name }
     ensures wrote { WroteTo w.old.name (S.files store.old) (S.files store.new) (S.reads store.old) (S.reads store.new) }
     ensures cause { HasPutCause (S.faults store.old) (S.faults store.new) result }
 {
-    w.put_all(store, &isqrt(sum).to_be_bytes())
+    w.put_all(store, &four_bytes(isqrt(sum)))
 }
 
 /// Writes the root of each sum in 4 bytes.

@@ -1,3 +1,4 @@
+mod EntryBytes
 mod WriterLaws
 mod ReadLaws
 mod FindLaws

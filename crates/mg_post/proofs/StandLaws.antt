@@ -147,13 +147,11 @@ pub took_stays : (w : Listing) (f g : Option Files) (lists : List (List Posting)
 took_stays w f g lists ps told post skip is = record {
   apart = is.apart;
   post_holds = holds_stay w.post f g told post is.post_holds;
-  skip_holds = holds_stay w.skip f g told skip is.skip_holds;
   post_bits = λ t. bits_stay w.post f g post ∙ is.post_bits (sym told ∙ t);
-  skip_bits = λ t. bits_stay w.skip f g skip ∙ is.skip_bits (sym told ∙ t);
+  skip_bytes = λ t. ap (λ o. unwrap_or o [] ++ w.skip.buffered) skip ∙ is.skip_bytes (sym told ∙ t);
   start = is.start;
   place = is.place;
   first = is.first;
-  skip_place = is.skip_place;
   pushed = is.pushed;
   last = is.last;
   full = is.full;

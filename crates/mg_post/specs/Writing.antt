@@ -4,10 +4,12 @@ use Rattle.std.specs.Option.{IsSome}
 use Rattle.std.specs.declared.option.Option.{Option}
 use Rattle.mg_dev.specs.Files.{Files, bytes_at}
 use Rattle.mg_bits.specs.BitWriting.{BitWriting, Holds, bits_put}
+use Rattle.mg_bits.specs.Writer.{Writing, put_to}
 use Rattle.mg_defs.specs.declared.Posting.{Posting}
 use Rattle.mg_defs.specs.Bits.{bits_of}
 use Rattle.mg_defs.specs.CodedText.{as_bytes}
 use Rattle.mg_defs.specs.Codes.{golomb_parameter}
+use Rattle.mg_defs.specs.Numbers.{eight}
 use Rattle.mg_defs.specs.Lists.{SkipEntry, bits_after, bits_before, last_doc, entry_bits, entries_to, lists_bits, lists_entries}
 
 abbrev pub posting_of : ℕ → ℕ → Posting
@@ -16,9 +18,13 @@ posting_of doc freq = record { doc = doc; freq = freq }
 abbrev pub skip_entry : ℕ → ℕ → SkipEntry
 skip_entry last bits = record { last = last; bits = bits }
 
+-- a skip entry in its part: two numbers of 8 bytes
+abbrev pub entry_bytes : SkipEntry → List ℕ
+entry_bytes e = eight e.last ++ eight e.bits
+
 pub record Listing : Type 0 where
   pub post : BitWriting
-  pub skip : BitWriting
+  pub skip : Writing
   -- the number of documents
   pub all : ℕ
   -- how many postings the list that was begun has, and its parameter
@@ -44,13 +50,11 @@ entries_so_far w lists ps = lists_entries w.all lists ++ entries_to w.parameter 
 pub record Took (w : Listing) (files : Option Files) (lists : List (List Posting)) (ps : List Posting) : Type 0 where
   pub apart : w.post.name ≢ w.skip.name
   pub post_holds : Holds w.post files
-  pub skip_holds : Holds w.skip files
   pub post_bits : IsSome files → bits_put w.post files ≡ lists_bits w.all lists ++ bits_after w.parameter 0 ps
-  pub skip_bits : IsSome files → bits_put w.skip files ≡ flat_map entry_bits (entries_so_far w lists ps)
+  pub skip_bytes : IsSome files → put_to w.skip files ≡ flat_map entry_bytes (entries_so_far w lists ps)
   pub start : w.start ≡ length (lists_bits w.all lists)
   pub place : w.post.place ≡ w.start + length (bits_after w.parameter 0 ps)
   pub first : w.first ≡ length (lists_entries w.all lists)
-  pub skip_place : w.skip.place ≡ 128 * (w.first + w.full)
   pub pushed : w.pushed ≡ length ps
   pub last : w.last ≡ last_doc 0 ps
   pub full : 64 * w.full ≤ length ps

@@ -5,15 +5,14 @@ ghost use Rattle.mg_dev.specs.Files.{file_at, bytes_at, written, SameReads};
 ghost use Rattle.mg_dev.specs.Names.{full_name};
 ghost use Rattle.mg_dev.specs.Causes.{HasPutCause};
 ghost use Rattle.mg_dev.specs.declared.part.Part.TheVariants as part;
-ghost use Rattle.mg_bits.specs.Writer.{WroteTo};
-ghost use Rattle.mg_bits.specs.BitWriting.{Holds, WroteBits};
+ghost use Rattle.mg_bits.specs.Writer.{Wrote, WroteTo};
 ghost use Rattle.mg_defs.specs.declared.Posting.{Posting};
 ghost use Rattle.mg_defs.specs.Codes.{golomb_parameter};
-ghost use Rattle.mg_defs.specs.Lists.{entry_bits, lists_bits, lists_entries};
-ghost use Rattle.mg_post.specs.Writing.{posting_of, skip_entry, Took, SameFiles, Pushed, IsBetween, Finished, InBytes};
+ghost use Rattle.mg_defs.specs.Lists.{lists_bits, lists_entries};
+ghost use Rattle.mg_post.specs.Writing.{entry_bytes, posting_of, skip_entry, Took, SameFiles, Pushed, IsBetween, Finished, InBytes};
 
 use crate::put::{put_entry, put_posting};
-use mg_bits::BitWriter;
+use mg_bits::{BitWriter, PageWriter};
 use mg_dev::{FileRef, Part, PutErr, Store};
 use std::alloc::Global;
 use std::marker::Model;
@@ -26,7 +25,7 @@ use std::marker::Model;
 #[derive(Drop)]
 pub struct ListWriter<'a> {
     post: BitWriter<'a>,
-    skip: BitWriter<'a>,
+    skip: PageWriter<'a>,
     all: u32,
     docs: u32,
     parameter: u64,
@@ -62,19 +61,16 @@ pub(crate) fn parameter_of(all: u32, docs: u32) -> u64
 
 /// Writes the entry of the last block, where it isn't full; answers how many blocks there are.
 fn put_last<S: Store>(
-    w: &mut BitWriter<'_>,
+    w: &mut PageWriter<'_>,
     store: &mut S,
     pushed: u64,
     full: u64,
     last: u32,
     block_at: u64,
 ) -> Result<u64, PutErr>
-    requires holds { Holds w.old (S.files store.old) }
-    requires place { w.old.place ≤ 2 ^ 62 }
     requires full { 64 * full ≤ pushed }
-    ensures holds { OnOk result (Holds w.new (S.files store.new)) }
-    ensures some { 64 * full < pushed → IfOk result (λ blocks. (blocks ≡ full + 1) × WroteBits w.old w.new (S.files store.old) (S.files store.new) (entry_bits (skip_entry last block_at))) }
-    ensures none { pushed ≤ 64 * full → IfOk result (λ blocks. (blocks ≡ full) × WroteBits w.old w.new (S.files store.old) (S.files store.new) []) }
+    ensures some { 64 * full < pushed → IfOk result (λ blocks. (blocks ≡ full + 1) × Wrote w.old w.new (S.files store.old) (S.files store.new) (entry_bytes (skip_entry last block_at))) }
+    ensures none { pushed ≤ 64 * full → IfOk result (λ blocks. (blocks ≡ full) × Wrote w.old w.new (S.files store.old) (S.files store.new) []) }
     ensures name { w.new.name ≡ w.old.name }
     ensures wrote { WroteTo w.old.name (S.files store.old) (S.files store.new) (S.reads store.old) (S.reads store.new) }
     ensures cause { HasPutCause (S.faults store.old) (S.faults store.new) result }
@@ -118,7 +114,7 @@ impl<'a> ListWriter<'a> {
             Ok(writer) => writer,
             Err(refusal) => return Err(refusal),
         };
-        let skip = match BitWriter::start(alloc, store, skip_file) {
+        let skip = match PageWriter::start(alloc, store, skip_file) {
             Ok(writer) => writer,
             Err(refusal) => return Err(refusal),
         };

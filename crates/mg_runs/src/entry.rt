@@ -2,12 +2,14 @@
 ghost use Rattle.std.specs.Prelude.{◌≡◌, ◌≤◌, ◌<◌, ◌+◌, ◌*◌, ◌++◌, [], ◌∷◌, length};
 ghost use Rattle.mg_runs.specs.Bytes.{entries_in, entry_in, bytes_of, number_in};
 
+use mg_fields::{four_at, four_bytes};
+
 /// The 12 bytes of an entry that counts one.
 fn entry_bytes(term: u32, doc: u32) -> [u8; 12]
     ensures { result ≡ bytes_of term doc 1 }
 {
-    let [a, b, c, d] = term.to_be_bytes();
-    let [e, f, g, h] = doc.to_be_bytes();
+    let [a, b, c, d] = four_bytes(term);
+    let [e, f, g, h] = four_bytes(doc);
     [a, b, c, d, e, f, g, h, 0, 0, 0, 1]
 }
 
@@ -16,12 +18,7 @@ pub fn number_at(bytes: &[u8; 12], from: usize) -> u32
     requires { from ≤ 8 }
     ensures { result ≡ number_in from bytes.now }
 {
-    u32::from_be_bytes([
-        bytes[from],
-        bytes[from + 1],
-        bytes[from + 2],
-        bytes[from + 3],
-    ])
+    four_at(bytes, from)
 }
 
 /// Sets the entry after the first so many.

@@ -9,7 +9,7 @@ ghost use Rattle.mg_text.specs.Places.{IsPlaceAt, place_width};
 
 use mg_bits::PageFeed;
 use mg_dev::{Bad, Failed, Part, PartErr, Store};
-use mg_layout::numbers::{eight_at, four_at};
+use mg_fields::{eight_at, four_at};
 
 // The last byte from which a document is read.
 const LAST: u64 = 1 << 60;

@@ -16,6 +16,7 @@ ghost use Rattle.mg_text.specs.Writing.{Began, Ended, IsOnText, PutOne, Document
 use mg_bits::{BitWriter, PageWriter};
 use mg_codes::put_gamma;
 use mg_dev::{FileRef, Part, PutErr, Store};
+use mg_fields::eight_bytes;
 use mg_model::{Stream, TextModel};
 use std::alloc::Global;
 use std::marker::Model;
@@ -48,13 +49,12 @@ impl<'a> Model for TextWriter<'a> {
 }
 
 /// Writes a place: a number of 8 bytes.
-#[tactic(auto, unfolding(mg_defs::specs::Numbers::eight))]
 fn put_place<S: Store>(places: &mut PageWriter<'_>, store: &mut S, place: u64) -> Result<(), PutErr>
     ensures bytes { OnOk result (Wrote places.old places.new (S.files store.old) (S.files store.new) (eight place)) }
     ensures wrote { WroteTo places.old.name (S.files store.old) (S.files store.new) (S.reads store.old) (S.reads store.new) }
     ensures cause { HasPutCause (S.faults store.old) (S.faults store.new) result }
 {
-    places.put_all(store, &place.to_be_bytes())
+    places.put_all(store, &eight_bytes(place))
 }
 
 impl<'a> TextWriter<'a> {

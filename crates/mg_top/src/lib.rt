@@ -11,6 +11,8 @@
 mod building;
 mod comparing;
 mod decoding;
+#[cfg(test)]
+mod hostile_tests;
 mod lines;
 mod migrating;
 mod querying;

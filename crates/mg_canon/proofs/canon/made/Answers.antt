@@ -1,4 +1,4 @@
-use Rattle.std.proofs.Common.{◌≡◌, sym, subst, rules}
+use Rattle.std.proofs.Common.{◌≡◌, sym, subst, rules, arith}
 use Rattle.mg_defs.proofs.CanonLaws.{good_full}
 use Rattle.mg_canon.specs.Tables.{AreTables}
 use Rattle.mg_canon.proofs.Refused.{are_within}
@@ -13,8 +13,8 @@ pub number-requires-clause-offsets : goal.number-requires-clause-offsets
 number-requires-clause-offsets c =
     offsets_from c.args.lengths.now c.count_lengths-counts.result c.first_places-offsets.result c.count_lengths-counts.ensures.counts c.first_places-offsets.ensures
 
-pub invariant_of-result : goal.invariant_of-result
-invariant_of-result c =
+pub invariant_of-code : goal.invariant_of-code
+invariant_of-code c =
     let items : c.in_ok-lengths.lengths.items ≡ c.args.lengths.now = search rules in
     let made = c.in_ok-numbered.ensures in
     let tables : AreTables c.args.lengths.now c.in_ok-numbered.numbered.values.items c.first_codewords-firsts.result c.first_places-offsets.result c.in_ok-numbered.numbered.symbols.items = record {
@@ -27,4 +27,7 @@ invariant_of-result c =
       value_count = made.values;
       symbol_count = made.symbols;
     } in
-    subst (λ l. AreTables l c.in_ok-numbered.numbered.values.items c.first_codewords-firsts.result c.first_places-offsets.result c.in_ok-numbered.numbered.symbols.items) (sym items) tables
+    record {
+      tables = subst (λ l. AreTables l c.in_ok-numbered.numbered.values.items c.first_codewords-firsts.result c.first_places-offsets.result c.in_ok-numbered.numbered.symbols.items) (sym items) tables;
+      entries = λ i h. absurd (omega arith);
+    }

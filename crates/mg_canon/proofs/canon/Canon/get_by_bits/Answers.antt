@@ -14,7 +14,7 @@ pub loop-reader-init : goal.loop-reader-init
 unfolding digits
 loop-reader-init g c =
     let s = c.self.inside in
-    let t = c.self.invariant in
+    let t = c.self.invariant.tables in
     let items : List ℕ = s.lengths.items in
     let good : AreGood items = tables_good items s.values.items s.firsts s.offsets s.symbols.items t in
     record {
@@ -28,7 +28,7 @@ loop-reader-init g c =
 pub loop-reader-smaller : goal.loop-reader-smaller
 loop-reader-smaller g c =
     let s = c.self.inside in
-    let t = c.self.invariant in
+    let t = c.self.invariant.tables in
     let items : List ℕ = s.lengths.items in
     let good : AreGood items = tables_good items s.values.items s.firsts s.offsets s.symbols.items t in
     let some : 0 < length items = subst (λ l. 0 < length l) (sym c.self.view_is) c.requires.some in
@@ -44,7 +44,7 @@ loop-reader-smaller g c =
 pub loop-reader-preserved : goal.loop-reader-preserved
 loop-reader-preserved g c =
     let s = c.self.inside in
-    let t = c.self.invariant in
+    let t = c.self.invariant.tables in
     let items : List ℕ = s.lengths.items in
     let good : AreGood items = tables_good items s.values.items s.firsts s.offsets s.symbols.items t in
     let some : 0 < length items = subst (λ l. 0 < length l) (sym c.self.view_is) c.requires.some in
@@ -74,7 +74,7 @@ returns-in-Err-clause-calm g c =
 pub returns-in-Err-clause-pages : goal.returns-in-Err-clause-pages
 returns-in-Err-clause-pages g c =
     let s = c.self.inside in
-    let t = c.self.invariant in
+    let t = c.self.invariant.tables in
     let items : List ℕ = s.lengths.items in
     let good : AreGood items = tables_good items s.values.items s.firsts s.offsets s.symbols.items t in
     let some : 0 < length items = subst (λ l. 0 < length l) (sym c.self.view_is) c.requires.some in
@@ -93,7 +93,7 @@ returns-in-Err-clause-pages g c =
 pub returns-in-Err-clause-told : goal.returns-in-Err-clause-told
 returns-in-Err-clause-told g c =
     let s = c.self.inside in
-    let t = c.self.invariant in
+    let t = c.self.invariant.tables in
     let items : List ℕ = s.lengths.items in
     let good : AreGood items = tables_good items s.values.items s.firsts s.offsets s.symbols.items t in
     let some : 0 < length items = subst (λ l. 0 < length l) (sym c.self.view_is) c.requires.some in
@@ -112,7 +112,7 @@ returns-in-Err-clause-told g c =
 pub returns-then-place-len-clause-pages : goal.returns-then-place-len-clause-pages
 returns-then-place-len-clause-pages g c =
     let s = c.self.inside in
-    let t = c.self.invariant in
+    let t = c.self.invariant.tables in
     let items : List ℕ = s.lengths.items in
     let good : AreGood items = tables_good items s.values.items s.firsts s.offsets s.symbols.items t in
     let some : 0 < length items = subst (λ l. 0 < length l) (sym c.self.view_is) c.requires.some in
@@ -135,7 +135,7 @@ returns-then-place-len-clause-pages g c =
 pub returns-then-place-len-clause-told : goal.returns-then-place-len-clause-told
 returns-then-place-len-clause-told g c =
     let s = c.self.inside in
-    let t = c.self.invariant in
+    let t = c.self.invariant.tables in
     let items : List ℕ = s.lengths.items in
     let good : AreGood items = tables_good items s.values.items s.firsts s.offsets s.symbols.items t in
     let some : 0 < length items = subst (λ l. 0 < length l) (sym c.self.view_is) c.requires.some in
@@ -157,7 +157,7 @@ returns-then-place-len-clause-told g c =
 pub returns-then-place-len-clause-over : goal.returns-then-place-len-clause-over
 returns-then-place-len-clause-over g c =
     let s = c.self.inside in
-    let t = c.self.invariant in
+    let t = c.self.invariant.tables in
     let items : List ℕ = s.lengths.items in
     let good : AreGood items = tables_good items s.values.items s.firsts s.offsets s.symbols.items t in
     let some : 0 < length items = subst (λ l. 0 < length l) (sym c.self.view_is) c.requires.some in
@@ -178,7 +178,7 @@ returns-then-place-len-clause-over g c =
 pub returns-clause-read : goal.returns-clause-read
 returns-clause-read g c =
     let s = c.self.inside in
-    let t = c.self.invariant in
+    let t = c.self.invariant.tables in
     let items : List ℕ = s.lengths.items in
     let good : AreGood items = tables_good items s.values.items s.firsts s.offsets s.symbols.items t in
     let some : 0 < length items = subst (λ l. 0 < length l) (sym c.self.view_is) c.requires.some in
@@ -204,7 +204,7 @@ returns-clause-read g c =
 pub returns-clause-place : goal.returns-clause-place
 returns-clause-place g c =
     let s = c.self.inside in
-    let t = c.self.invariant in
+    let t = c.self.invariant.tables in
     let items : List ℕ = s.lengths.items in
     let good : AreGood items = tables_good items s.values.items s.firsts s.offsets s.symbols.items t in
     let some : 0 < length items = subst (λ l. 0 < length l) (sym c.self.view_is) c.requires.some in
@@ -230,7 +230,7 @@ returns-clause-place g c =
 pub returns-clause-told : goal.returns-clause-told
 returns-clause-told g c =
     let s = c.self.inside in
-    let t = c.self.invariant in
+    let t = c.self.invariant.tables in
     let items : List ℕ = s.lengths.items in
     let good : AreGood items = tables_good items s.values.items s.firsts s.offsets s.symbols.items t in
     let some : 0 < length items = subst (λ l. 0 < length l) (sym c.self.view_is) c.requires.some in
@@ -256,7 +256,7 @@ returns-clause-told g c =
 pub returns-clause-symbol : goal.returns-clause-symbol
 returns-clause-symbol g c =
     let s = c.self.inside in
-    let t = c.self.invariant in
+    let t = c.self.invariant.tables in
     let items : List ℕ = s.lengths.items in
     let good : AreGood items = tables_good items s.values.items s.firsts s.offsets s.symbols.items t in
     let some : 0 < length items = subst (λ l. 0 < length l) (sym c.self.view_is) c.requires.some in

@@ -12,7 +12,7 @@ at_zero items i x e h = e ∙ get_or_default items i x 0 h
 pub returns-clause-bits : goal.returns-clause-bits
 returns-clause-bits g c =
     let s = c.self.inside in
-    let t = c.self.invariant in
+    let t = c.self.invariant.tables in
     let symbol : ℕ = c.args.symbol in
     let there : symbol < length s.lengths.items = subst (λ l. symbol < length l) (sym c.self.view_is) c.requires.symbol in
     let in_values : symbol < length s.values.items = omega (arith, t.value_count) in

@@ -1,6 +1,6 @@
 use Rattle.std.proofs.Common.{◌≡◌, ◌-◌, ◌/◌, ◌^◌}
 use Rattle.mg_canon.proofs.Decoding.{Walk}
-use Rattle.mg_canon.proofs.canon.Canon.first_of.Given as goal
+use Rattle.mg_canon.proofs.canon.Canon.first_by_lengths.Given as goal
 
 abbrev pub invariant-loop-bit : goal.invariant-loop-bit
 invariant-loop-bit l = record {

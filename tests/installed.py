@@ -1,0 +1,95 @@
+"""`make install` and `make uninstall`, and the completion for bash."""
+
+import os
+import shutil
+import subprocess
+
+from files import K
+from transcripts import ROOT, fresh_folder
+
+INSTALLED = {
+    "usr/bin/mg": 0o755, "usr/bin/mg-collect": 0o755, "usr/share/man/man1/mg.1": 0o644,
+    "usr/share/man/man1/mg-collect.1": 0o644, "usr/share/man/man5/mg-files.5": 0o644,
+    "usr/share/bash-completion/completions/mg": 0o644, "usr/share/bash-completion/completions/mg-collect": 0o644,
+}
+
+
+def make(suite, target, destination):
+    """Makes a target over the program that the suite tries, in whatever mask of rights."""
+    words = ["make", "-s", "-C", ROOT, target, f"PROGRAM={suite.program}", f"DESTDIR={destination}", "PREFIX=/usr"]
+    return subprocess.run(words, umask=0o022, capture_output=True, text=True)
+
+
+def files_below(folder):
+    return sorted(os.path.relpath(os.path.join(path, name), folder) for path, _, names in os.walk(folder) for name in names)
+
+
+def installation(suite):
+    """Every file is where Debian has it, and goes again; what others put there stays."""
+    with fresh_folder(suite) as folder:
+        destination = os.path.join(folder, "a folder")
+        run = make(suite, "install", destination)
+        suite.check("make install", (run.returncode, run.stderr), (0, ""))
+        suite.check("installed files", files_below(destination), sorted(INSTALLED))
+        rights = {name: os.stat(os.path.join(destination, name)).st_mode & 0o777 for name in files_below(destination)}
+        suite.check("the rights of installed files", rights, INSTALLED)
+        program = os.path.join(destination, "usr/bin/mg")
+        with open(program, "rb") as file:
+            suite.check("the installed program", file.read(), suite.program.read_bytes())
+        suite.file("text", K)
+        environment = {**os.environ, "PATH": f"{os.path.dirname(program)}:{os.environ['PATH']}"}
+        asked = "mg-collect files new other; echo cat | mg scan text"
+        suite.file("other", b"a cat")
+        out = subprocess.run(["sh", "-c", asked], cwd=suite.folder, env=environment, stdout=subprocess.PIPE, stderr=subprocess.DEVNULL)
+        suite.check("the installed tools", out.stdout, b"documents 1\n1\n3\n= 2\n")
+        other = os.path.join(destination, "usr/share/man/man1/other.1")
+        with open(other, "w"):
+            pass
+        run = make(suite, "uninstall", destination)
+        suite.check("make uninstall", (run.returncode, run.stderr), (0, ""))
+        suite.check("files of others stay", files_below(destination), ["usr/share/man/man1/other.1"])
+
+
+def completed(words, folder):
+    """What bash offers for the last word of a line, in a folder."""
+    script = ". \"$1/$2\"; shift; COMP_WORDS=(\"$@\"); COMP_CWORD=$(($# - 1)); _${1/-/_}; printf '%s\\n' \"${COMPREPLY[@]}\""
+    command = ["bash", "-c", script, "bash", ROOT / "contrib" / "completions", *words]
+    run = subprocess.run(command, cwd=folder, stdout=subprocess.PIPE, text=True)
+    return sorted(line for line in run.stdout.splitlines() if line)
+
+
+def completion(suite):
+    """Tools, options, sets by their heads, collections, and nothing where nothing fits."""
+    if not shutil.which("bash"):
+        suite.check("bash is installed", False, True)
+        return
+    tools = sorted(["build", "query", "decode", "scan", "migrate", "trial"])
+    with fresh_folder(suite) as folder:
+        for name in ["letters", "letters.mail", "letters.head", "letters.words", "a set.head", "sub/more.head", "x.table", ".head"]:
+            os.makedirs(os.path.dirname(os.path.join(folder, name)), exist_ok=True)
+            with open(os.path.join(folder, name), "w"):
+                pass
+        files = sorted(["letters", "letters.mail", "letters.head", "letters.words", "a set.head", "x.table", ".head", "sub"])
+        for words, wanted in [
+            (["mg", ""], tools), (["mg", "q"], ["query"]), (["mg", "x"], []), (["mg", "x", ""], []),
+            (["mg", "query", ""], ["a set", "letters", "sub"]), (["mg", "query", "let"], ["letters"]),
+            (["mg", "query", "a\\ s"], ["a set"]), (["mg", "query", "'a s"], ["a set"]), (["mg", "query", "sub/"], ["sub/more"]),
+            (["mg", "query", "letters", ""], []), (["mg", "decode", "s"], ["sub"]), (["mg", "decode", "z"], []),
+            (["mg", "migrate", "l"], ["letters"]), (["mg", "migrate", "letters", ""], ["a set", "letters", "sub"]),
+            (["mg", "migrate", "letters", "new", ""], []), (["mg", "scan", "letters.m"], ["letters.mail"]), (["mg", "scan", ""], files),
+            (["mg", "build", "letters.m"], ["letters.mail"]), (["mg", "build", "letters.mail", "l"], ["letters"]),
+            (["mg", "build", "-"], ["--budget"]), (["mg", "build", "letters.mail", "--b"], ["--budget"]),
+            (["mg", "build", "--budget", ""], []), (["mg", "build", "--budget", "=", ""], []),
+            (["mg", "build", "--budget", "4096", "letters.m"], ["letters.mail"]),
+            (["mg", "build", "--budget", "=", "4096", "letters.mail", "l"], ["letters"]),
+            (["mg", "build", "letters.mail", "--budget", "4096", "l"], ["letters"]), (["mg", "build", "--", "letters.m"], ["letters.mail"]),
+            (["mg", "build", "letters.mail", "letters", ""], []), (["mg", "trial", ""], []), (["mg", "trial", "7", ""], []),
+            (["mg-collect", "m"], ["maildir", "mbox"]), (["mg-collect", "-r", ""], []), (["mg-collect", "-r", "?", "fi"], ["files"]),
+            (["mg-collect", "names", ""], ["sub", "x.table"]), (["mg-collect", "names", "x.table", ""], []),
+            (["mg-collect", "mbox", "letters.m"], ["letters.mail"]), (["mg-collect", "folder", "new", ""], ["sub"]),
+            (["mg-collect", "-r", "?", "maildir", "new", ""], ["sub"]), (["mg-collect", "files", "new", "let"], [f for f in files if f[:3] == "let"]),
+        ]:
+            suite.check(f"completion of {words}", completed(words, folder), wanted)
+
+
+PARTS = [installation, completion]
