@@ -1,6 +1,6 @@
 use Rattle.std.proofs.Common.{◌∙◌, sym, ap, slice_get}
 use Rattle.mg_model.specs.Vocabularies.{entry_counts}
-use Rattle.mg_model.proofs.Counting.{count-there, length-entries}
+use Rattle.mg_model.proofs.Counting.{count-there}
 use Rattle.mg_model.proofs.vocab.Vocab.count_at.Goals as goal
 
 pub returns-in-Some : goal.returns-in-Some

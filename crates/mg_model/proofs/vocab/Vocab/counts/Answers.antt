@@ -1,5 +1,4 @@
 use Rattle.std.proofs.Common.{arith, ◌∙◌, ◌++◌, ◌∷◌, [], sym, ap, length, take}
-use Rattle.std.proofs.lemmas.List.{length-map}
 use Rattle.mg_model.specs.Vocabularies.{entry_counts}
 use Rattle.mg_model.proofs.Codes.{columns-long}
 use Rattle.mg_model.proofs.Counting.{length-entries}
