@@ -4,7 +4,9 @@ Each case is run with every awk and every shell of Debian that is here; mawk, bu
 """
 
 import os
+import resource
 import shutil
+import signal
 import subprocess
 
 from transcripts import ROOT, fresh_folder, tools
@@ -78,10 +80,16 @@ class Collect:
         self.awk = awk
         self.folder = folder
 
-    def run(self, *words, given=b""):
-        environment = {**os.environ, "AWK": self.awk}
+    def run(self, *words, given=b"", most=resource.RLIM_INFINITY):
+        """The script's status, output and error output, where a file may have at most so many bytes."""
+
+        def narrow():
+            signal.signal(signal.SIGXFSZ, signal.SIG_IGN)
+            resource.setrlimit(resource.RLIMIT_FSIZE, (most, most))
+
         run = subprocess.run(
-            [*self.shell, SCRIPT, *words], cwd=self.folder, input=given, capture_output=True, env=environment, timeout=300
+            [*self.shell, SCRIPT, *words], cwd=self.folder, input=given, capture_output=True, preexec_fn=narrow,
+            env={**os.environ, "AWK": self.awk}, timeout=300,
         )
         return run.returncode, run.stdout, run.stderr
 
@@ -176,6 +184,8 @@ def folders(case):
         case.check("a folder that has the collection", case.run("folder", "notes/all", "notes"), (0, b"documents 4\n", b""))
     os.remove(os.path.join(case.folder, "notes/all"))
     os.remove(os.path.join(case.folder, "notes/all.table"))
+    case.file("-d/a", b"x")
+    case.made("a folder that looks like an option", [b"x"], b"1\t./-d/a\n", b"documents 1\n", "folder", "new", "-d")
     case.file("notes/sub/closed", b"one\ntwo \x02\n\x02")
     told = b"mg-collect: notes/sub/closed:2:5: a control-B within a document; -r BYTE replaces it\n"
     case.refused("a control-B in a folder", 3, told, "folder", "new", "notes")
@@ -190,6 +200,21 @@ def folders(case):
     for words, name in [(["folder", "new", "none"], b"folder"), (["files", "new", "notes/B", "none"], b"file")]:
         case.refused(f"no {name}", 2, b"mg-collect: none: there is no such %s\n" % name, *words)
     case.refused("a folder in a list", 2, b"mg-collect: notes: it is a folder\n", "files", "new", given=b"notes/B\nnotes\n")
+
+
+def full(case):
+    """A disk that takes no more than a few bytes of a file: the old collection stays."""
+    case.file("a.mbox", MBOX)
+    case.file("Mail/cur/1", MESSAGES[0])
+    case.file("Mail/new/2", MESSAGES[1])
+    case.file("new", b"old")
+    before = set(os.listdir(case.folder))
+    for words in [["mbox", "new", "a.mbox"], ["maildir", "new", "Mail"], ["folder", "new", "Mail"]]:
+        for most in [0, 20, 300]:
+            status, out, _ = case.run(*words, most=most)
+            with open(os.path.join(case.folder, "new"), "rb") as file:
+                case.check(f"{words[0]} into files of at most {most} bytes", (status, out, file.read()), (2, b"", b"old"))
+            case.check(f"{words[0]} into files of {most} bytes leaves none", set(os.listdir(case.folder)), before)
 
 
 def named(case):
@@ -219,7 +244,7 @@ def every_case(suite):
     here = lambda command: bool(shutil.which(command.split()[0]))
     pairs = [("sh", awk) for awk in AWKS if here(awk)] + [(shell, "mawk") for shell in SHELLS if here(shell)]
     for shell, awk in pairs:
-        for part in [mailboxes, maildirs, folders, named, usage]:
+        for part in [mailboxes, maildirs, folders, full, named, usage]:
             with fresh_folder(suite) as folder:
                 part(Collect(suite, shell, awk, folder))
 
