@@ -23,13 +23,12 @@ use Rattle.mg_defs.proofs.SortedLaws.{has-sorted}
 use Rattle.mg_defs.proofs.WeightLaws.{weight_root}
 use Rattle.mg_defs.specs.Stands.{weights_part}
 use Rattle.mg_rank.specs.declared.best.Kept.{Kept}
-use Rattle.mg_rank.specs.Best.{Offered}
+use Rattle.mg_rank.specs.Best.{Offered, kept_cmp}
 use Rattle.mg_rank.specs.Ranked.{so_far, part_sum}
 use Rattle.mg_rank.specs.Rows.{AreNumbered}
 use Rattle.mg_rank.specs.Sums.{AreApart, AreWithin, sum_of}
 use Rattle.mg_rank.proofs.Adding.{look_here, look_past}
 use Rattle.mg_rank.proofs.HitLaws.{row_of}
-use Rattle.mg_rank.proofs.KeptLaws.{kept_cmp}
 
 -- ---- the entry of a place
 

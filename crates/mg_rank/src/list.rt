@@ -63,6 +63,20 @@ fn weight_of_list(docs: u32, all: u32) -> Result<u32, PartErr>
     Ok(term_weight(docs, all))
 }
 
+/// The weight of a term that comes so often in a document.
+#[inline]
+fn weight_of_count(freq: u32) -> u32
+    requires { 1 ≤ freq }
+    ensures is { result ≡ weight_in_doc freq }
+    ensures high { result < 2 ^ 15 }
+{
+    // Most documents have a term once, and its logarithm needs no digits.
+    if freq == 1 {
+        return 256;
+    }
+    doc_term_weight(freq)
+}
+
 /// Adds what a posting of a term of this weight adds to its document.
 fn add_posting(sums: &mut Sums, weight: u32, posting: Posting) -> Result<(), AllocError>
     requires small { sum_of posting.doc sums.old ≤ 2 ^ 41 }
@@ -72,7 +86,7 @@ fn add_posting(sums: &mut Sums, weight: u32, posting: Posting) -> Result<(), All
     ensures err { OnErr result (sums.new ≡ sums.old) }
     ensures few { weight_in_doc posting.freq * weight ≤ 2 ^ 29 }
 {
-    let more = u64::from(doc_term_weight(posting.freq)) * u64::from(weight);
+    let more = u64::from(weight_of_count(posting.freq)) * u64::from(weight);
     sums.add(posting.doc, more)
 }
 

@@ -161,6 +161,7 @@ fn rank_sized<S: Store>(
     ensures pages { (collection : List ℕ) (ts : List (List ℕ)) → ListsStand base.now (S.files store.old) collection → AreTold collection ts terms.now →
         all ≡ length (documents collection) → S.reads store.new part.Post ≤ S.reads store.old part.Post + ranked_bound collection ts }
     ensures reads { ReadsRanked (S.reads store.old) (S.reads store.new) }
+    ensures none { most ≡ 0 → S.reads store.new part.Weights ≡ S.reads store.old part.Weights }
     ensures files { S.files store.new ≡ S.files store.old }
     ensures cause { HasPartCause (S.faults store.old) (S.faults store.new) result }
 {
@@ -185,8 +186,9 @@ fn rank_sized<S: Store>(
 /// how many documents have one.
 ///
 /// The terms are distinct and the lexicon has each; `all` is the number of documents. Each term's list
-/// is read once, and the weights of the documents that were met. Over any parts every call returns,
-/// and no sum passes its type: 64 terms add less than 2^35 to a document.
+/// is read once, and the weights of the documents that were met; where no row is wanted, no weight is
+/// read. Over any parts every call returns, and no sum passes its type: 64 terms add less than 2^35 to
+/// a document.
 ///
 /// # Errors
 ///
@@ -208,6 +210,7 @@ pub fn rank<S: Store>(
     ensures pages { (collection : List ℕ) (ts : List (List ℕ)) → ListsStand base.now (S.files store.old) collection → AreTold collection ts terms.now →
         all ≡ length (documents collection) → S.reads store.new part.Post ≤ S.reads store.old part.Post + ranked_bound collection ts }
     ensures reads { ReadsRanked (S.reads store.old) (S.reads store.new) }
+    ensures none { most ≡ 0 → S.reads store.new part.Weights ≡ S.reads store.old part.Weights }
     ensures files { S.files store.new ≡ S.files store.old }
     ensures cause { HasPartCause (S.faults store.old) (S.faults store.new) result }
 {
