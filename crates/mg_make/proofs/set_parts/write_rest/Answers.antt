@@ -33,7 +33,8 @@ returns-clause-within g c =
     let low : 4096 ≤ c.args.limit = handed_low plan c.args.limit c.args.base.now fed c.requires.handed.1 _ c.args.inverted handed in
     let high : c.args.limit ≤ 2 ^ 30 = handed_high plan c.args.limit c.args.base.now fed c.requires.handed.1 _ c.args.inverted handed in
     record {
-      version = omega arith;
+      version_low = omega arith;
+      version_high = omega arith;
       documents = omega (arith, pairs, c.requires.plan.pairs);
       words = omega (arith, c.count.ensures.count, c.count.ensures.most);
       others = omega (arith, c.count-2.ensures.count, c.count-2.ensures.most);
