@@ -78,18 +78,14 @@ fn codewords_up_to_eleven_bits_are_read(rt: HostRuntime) -> Result<(), Fail> {
     let mut store = SureStore::new(alloc);
     let mut writer = BitWriter::start(alloc, &mut store, TEXT)?;
     assert!(rt; put_each(&code, &mut writer, &mut store, 12)?);
-    assert!(rt; put_each(&code, &mut writer, &mut store, 12)?);
+    assert_eq!(rt; writer.place(), 77);
     writer.finish(&mut store)?;
-    // 1, 01, 001 and so on up to 0000000001, then 00000000000 and 00000000001, all twice
-    let bytes: &[u8] = &[
-        0xa4, 0x42, 0x08, 0x10, 0x10, 0x08, 0x02, 0x00, 0x00, 0x0d, 0x22, 0x10, 0x40, 0x80, 0x80,
-        0x40, 0x10, 0x00, 0x00, 0x40,
-    ];
+    // 1, 01, 001 and so on up to 0000000001, then 00000000000 and 00000000001
+    let bytes: &[u8] = &[0xa4, 0x42, 0x08, 0x10, 0x10, 0x08, 0x02, 0x00, 0x00, 0x08];
     assert_eq!(rt; store.file("x.text"), Some(bytes));
     let mut reader = BitReader::new(PageFeed::new(alloc, TEXT)?, 0);
     assert!(rt; reads_each(&code, &mut reader, &mut store, 12));
-    assert!(rt; reads_each(&code, &mut reader, &mut store, 12));
-    assert_eq!(rt; reader.place(), 154);
+    assert_eq!(rt; reader.place(), 77);
     Ok(())
 }
 
