@@ -6,3 +6,4 @@ pub mod AheadOf
 pub mod Ahead
 pub mod Parsed
 pub mod Holds
+pub mod AllOf

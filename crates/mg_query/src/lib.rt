@@ -1,4 +1,4 @@
-//! Query lines: from a line's bytes to a Boolean query or to a list of terms.
+//! Query lines: from a line's bytes to a Boolean query, to a list of distinct terms, or to a phrase.
 //!
 //! A line is read in one pass, with one token in hand: no list of its tokens is kept, and a
 //! query's terms are the only copies of its bytes. The parser descends once for each open
@@ -14,6 +14,7 @@
 mod boolean;
 mod lexer;
 mod parser;
+mod phrase;
 mod query;
 mod query_err;
 mod ranked;
@@ -21,6 +22,7 @@ mod term;
 mod terms;
 
 pub use boolean::parse_boolean;
+pub use phrase::parse_phrase;
 pub use query::Query;
 pub use query_err::QueryErr;
 pub use ranked::parse_ranked;

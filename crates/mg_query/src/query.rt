@@ -4,6 +4,8 @@ ghost use Rattle.mg_defs.specs.QueryTerms.{query_terms};
 ghost use Rattle.mg_defs.specs.Sat.{both, either, satisfies};
 ghost use Rattle.mg_defs.specs.Read.{negated};
 ghost use Rattle.mg_query.specs.Holds.{AreThere, holds as holds_spec};
+ghost use Rattle.mg_defs.specs.Phrases.{all_of};
+ghost use Rattle.mg_query.specs.AllOf.{IsAllOf};
 ghost use Rattle.mg_query.specs.QueryOf.{query_of};
 
 use crate::term::Term;
@@ -63,6 +65,36 @@ impl Query {
         let left = Box::new(alloc, left)?;
         let right = Box::new(alloc, right)?;
         Ok(Query::Or(left, right))
+    }
+
+    /// The query of the documents that have all of these terms; none of no terms.
+    ///
+    /// It is as deep as the list is long.
+    ///
+    /// # Errors
+    ///
+    /// Want of memory.
+    pub fn all_of(alloc: Global, terms: &Terms) -> Result<Option<Query>, AllocError>
+        ensures { IfOk result (λ joined. IsAllOf terms.now joined) }
+    {
+        match terms.as_slice().split_first() {
+            None => Ok(None),
+            Some((first, rest)) => Ok(Some(Query::joined(alloc, first, rest)?)),
+        }
+    }
+
+    /// A term and those behind it, joined by `&` from the last to the first.
+    fn joined(alloc: Global, first: &Term, rest: &[Term]) -> Result<Query, AllocError>
+        ensures { IfOk result (λ q. query_of q ≡ all_of first.now rest.now) }
+    {
+        let term = Query::Term(first.copied(alloc)?);
+        match rest.split_first() {
+            None => Ok(term),
+            Some((next, rest)) => {
+                let behind = Query::joined(alloc, next, rest)?;
+                Query::and(alloc, term, behind)
+            }
+        }
     }
 
     /// The query under so many signs `!`.

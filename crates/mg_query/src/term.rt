@@ -34,8 +34,12 @@ impl MadeWith<Global> for Term {
 }
 
 impl Term {
-    /// The term of a word.
-    pub(crate) fn of_word(alloc: Global, word: &[u8]) -> Result<Term, AllocError>
+    /// The term of a word. One of more than 16 bytes takes memory.
+    ///
+    /// # Errors
+    ///
+    /// Want of memory.
+    pub fn of_word(alloc: Global, word: &[u8]) -> Result<Term, AllocError>
         ensures { IfOk result (λ t. t ≡ folded word.now) }
     {
         let mut bytes = SmallVec::new(alloc);

@@ -1,5 +1,5 @@
 //! Worked lines.
-use crate::{Query, QueryErr, parse_boolean, parse_ranked};
+use crate::{Query, QueryErr, Terms, parse_boolean, parse_phrase, parse_ranked};
 use std::alloc::{AllocError, Global};
 use std::test::Fail;
 
@@ -41,20 +41,44 @@ fn boolean_of(alloc: Global, line: &[u8]) -> Result<String, AllocError> {
     }
 }
 
+/// The terms of a list, with a blank after each.
+fn listed(alloc: Global, terms: &Terms) -> Result<String, AllocError> {
+    let mut text = String::new(alloc);
+    for term in terms.as_slice() {
+        for byte in term.as_bytes() {
+            text.push(*byte as char)?;
+        }
+        text.push(' ')?;
+    }
+    Ok(text)
+}
+
 fn ranked_of(alloc: Global, line: &[u8]) -> Result<String, AllocError> {
     if line.len() > crate::LINE_LIMIT {
         return String::from_str(alloc, "line too long");
     }
     match parse_ranked(alloc, line) {
-        Ok(terms) => {
-            let mut text = String::new(alloc);
-            for term in terms.as_slice() {
-                for byte in term.as_bytes() {
-                    text.push(*byte as char)?;
+        Ok(terms) => listed(alloc, &terms),
+        Err(QueryErr::Memory) => Err(AllocError),
+        Err(error) => format!(in alloc; "{error}"),
+    }
+}
+
+/// The words of a phrase, a bar, and the query that joins them.
+fn phrase_of(alloc: Global, line: &[u8]) -> Result<String, AllocError> {
+    if line.len() > crate::LINE_LIMIT {
+        return String::from_str(alloc, "line too long");
+    }
+    match parse_phrase(alloc, line) {
+        Ok(phrase) => {
+            let words = listed(alloc, &phrase)?;
+            match Query::all_of(alloc, &phrase)? {
+                Some(query) => {
+                    let joined = shown(alloc, &query)?;
+                    format!(in alloc; "{words}: {joined}")
                 }
-                text.push(' ')?;
+                None => format!(in alloc; "{words}: none"),
             }
-            Ok(text)
         }
         Err(QueryErr::Memory) => Err(AllocError),
         Err(error) => format!(in alloc; "{error}"),
@@ -151,17 +175,39 @@ fn ranked_lines(rt: HostRuntime) -> Result<(), Fail> {
 }
 
 #[test]
+fn phrases(rt: HostRuntime) -> Result<(), Fail> {
+    let alloc = rt.alloc();
+    for (line, want) in [
+        (", ,", ": none"),
+        ("the cat", "the cat : (& the cat)"),
+        ("Cat, CAT", "cat cat : (& cat cat)"),
+        ("(((a) !b | c", "a b c : (& a (& b c))"),
+    ] {
+        assert_eq!(rt;
+            phrase_of(alloc, line.as_bytes())?.as_str(),
+            want,
+            "at {line}"
+        );
+    }
+    let long = repeated(alloc, b'a', 256, b"")?;
+    assert_eq!(rt; phrase_of(alloc, &long)?.as_str(), "word too long at 0");
+    let mut many = Vec::new(alloc);
+    for _word in 0..64u8 {
+        many.extend_from_slice(b"a ")?;
+    }
+    many.extend_from_slice(b"a")?;
+    assert_eq!(rt; phrase_of(alloc, &many)?.as_str(), "too many words at 128");
+    many.extend_from_slice(&long)?;
+    assert_eq!(rt; phrase_of(alloc, &many)?.as_str(), "word too long at 128");
+    Ok(())
+}
+
+#[test]
 fn terms_from_left_to_right(rt: HostRuntime) -> Result<(), Fail> {
     let alloc = rt.alloc();
     let query = parse_boolean(alloc, b"Cat (dog | !a-much-longer-term) cat sat the end")?;
     let terms = query.terms(alloc)?;
-    let mut text = String::new(alloc);
-    for term in terms.as_slice() {
-        for byte in term.as_bytes() {
-            text.push(*byte as char)?;
-        }
-        text.push(' ')?;
-    }
+    let text = listed(alloc, &terms)?;
     assert_eq!(rt;
         text.as_str(),
         "cat dog a much longer term cat sat the end "
