@@ -1,5 +1,5 @@
 -- The query of the documents that have all terms of a list: there is none where there are no terms.
-use Rattle.std.specs.Prelude.{◌≡◌, ℕ, ⊥, Unit, List, [], ◌∷◌, Option, None, Some}
+use Rattle.std.specs.Prelude.{◌≡◌, ℕ, List, [], ◌∷◌, Option, None, Some}
 use Rattle.mg_defs.specs.Phrases.{all_of}
 use Rattle.mg_query.specs.QueryOf.{query_of}
 use Rattle.mg_query.specs.declared.query.Query.{Query}
