@@ -7,6 +7,7 @@
 #![tactic(auto)]
 
 mod best;
+mod document_hasher;
 mod list;
 #[cfg(test)]
 mod many_tests;

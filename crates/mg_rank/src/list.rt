@@ -116,6 +116,11 @@ pub(crate) fn add_list<S: Store>(
         Ok(weight) => weight,
         Err(refusal) => return Err(refusal),
     };
+    // No document stands twice in a list, so at least as many sums are to come.
+    match sums.make_room(info.docs) {
+        Ok(()) => {}
+        Err(_lack) => return Err(PartErr::Memory),
+    }
     let mut cursor = match Cursor::start(alloc, base, info, all) {
         Ok(cursor) => cursor,
         Err(_lack) => return Err(PartErr::Memory),
