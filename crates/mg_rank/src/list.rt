@@ -70,9 +70,12 @@ fn weight_of_count(freq: u32) -> u32
     ensures is { result ≡ weight_in_doc freq }
     ensures high { result < 2 ^ 15 }
 {
-    // Most documents have a term once, and its logarithm needs no digits.
+    // Most documents have a term once or twice, and these logarithms need no digits.
     if freq == 1 {
         return 256;
+    }
+    if freq == 2 {
+        return 512;
     }
     doc_term_weight(freq)
 }
