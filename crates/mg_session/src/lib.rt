@@ -15,6 +15,7 @@ mod hit;
 mod ranked;
 mod searcher;
 mod session;
+mod texts;
 #[cfg(test)]
 mod tests;
 
