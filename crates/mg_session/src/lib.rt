@@ -15,8 +15,8 @@ mod hit;
 mod ranked;
 mod searcher;
 mod session;
-mod texts;
 #[cfg(test)]
 mod tests;
+mod texts;
 
 pub use session::serve;

@@ -48,7 +48,15 @@ fn show_rows<S: Store, O: Sink>(
 {
     for place in 0..rows.len() {
         let row = rows.row(place);
-        match show_doc(texts, store, pending, out, mode, row.number, Some(row.score)) {
+        match show_doc(
+            texts,
+            store,
+            pending,
+            out,
+            mode,
+            row.number,
+            Some(row.score),
+        ) {
             Ok(()) => {}
             Err(refusal) => return Err(refusal),
         }

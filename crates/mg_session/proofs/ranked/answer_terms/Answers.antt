@@ -25,7 +25,7 @@ returns-in-Err-show_rows-clause-answer g c = λ code collection terms stands tol
     let is_told : AreTold collection kept c.deref.result.now = subst (λ (xs : List TermInfo). AreTold collection kept xs) (sym (c.deref.ensures.value ∙ c.in-Ok.ensures.known)) (known_told collection terms c.args.infos.now told apart) in
     let top = c.in-Ok-rank.ensures.answer collection kept stands.weights is_told stands.all_is in
     let are = are_rows collection kept terms c.args.now.now c.args.all c.rows_asked-most.result c.in-Ok-rank.ranked.total c.rows.result.now (known_hits collection terms c.args.infos.now told) stands.all_is c.rows_asked-most.ensures (c.rows.ensures ∙ top.0) top.1 in
-    let text = texts_later _ _ _ _ code collection (same_texts _) c.in-Ok-rank.ensures.files stands.texts_are in
+    let text = texts_later c.args.texts.now c.args.texts.now _ _ code collection (same_texts c.args.texts.now) c.in-Ok-rank.ensures.files stands.texts_are in
     rows_stop _ _ _ terms _ _ _ _ _ _ _ _ _ (g.S.Store.reads c.rank.new.store) _ _ are (known_bound collection terms c.args.infos.now told.size) (c.in-Ok-rank.ensures.pages collection kept stands.weights.lists is_told stands.all_is) (ranked_text _ _ c.in-Ok-rank.ensures.reads)
     c.new-pending.ensures (c.in-Err-show_rows.ensures.content code collection text) (shown_post _ _ _ _ _ _ _ c.in-Err-show_rows.ensures.looked) (c.in-Err-show_rows.ensures.pages code collection text) (c.in-Err-show_rows.ensures.sound code collection text)
 
@@ -35,7 +35,7 @@ returns-in-Err-count-clause-answer g c = λ code collection terms stands told ap
     let is_told : AreTold collection kept c.deref.result.now = subst (λ (xs : List TermInfo). AreTold collection kept xs) (sym (c.deref.ensures.value ∙ c.in-Ok.ensures.known)) (known_told collection terms c.args.infos.now told apart) in
     let top = c.in-Ok-rank.ensures.answer collection kept stands.weights is_told stands.all_is in
     let are = are_rows collection kept terms c.args.now.now c.args.all c.rows_asked-most.result c.total.result c.rows.result.now (known_hits collection terms c.args.infos.now told) stands.all_is c.rows_asked-most.ensures (c.rows.ensures ∙ top.0) (c.total.ensures ∙ top.1) in
-    let text = texts_later _ _ _ _ code collection (same_texts _) c.in-Ok-rank.ensures.files stands.texts_are in
+    let text = texts_later c.args.texts.now c.args.texts.now _ _ code collection (same_texts c.args.texts.now) c.in-Ok-rank.ensures.files stands.texts_are in
     rows_uncounted _ _ _ terms _ _ _ _ _ _ _ _ _ _ _ (g.S.Store.reads c.rank.new.store) _ _ are (known_bound collection terms c.args.infos.now told.size) (c.in-Ok-rank.ensures.pages collection kept stands.weights.lists is_told stands.all_is) (ranked_text _ _ c.in-Ok-rank.ensures.reads)
     c.new-pending.ensures (c.in-Ok-show_rows.ensures.content code collection text) (shown_post _ _ _ _ _ _ _ c.in-Ok-show_rows.ensures.looked) (c.in-Ok-show_rows.ensures.pages code collection text)
     c.in-Err-count.ensures.content (put_sound c.in-Err-count.refusal _ c.from-in-Err-count.ensures)
@@ -46,7 +46,7 @@ returns-in-Ok-flush-clause-answer g c = λ code collection terms stands told apa
     let is_told : AreTold collection kept c.deref.result.now = subst (λ (xs : List TermInfo). AreTold collection kept xs) (sym (c.deref.ensures.value ∙ c.in-Ok.ensures.known)) (known_told collection terms c.args.infos.now told apart) in
     let top = c.in-Ok-rank.ensures.answer collection kept stands.weights is_told stands.all_is in
     let are = are_rows collection kept terms c.args.now.now c.args.all c.rows_asked-most.result c.total.result c.rows.result.now (known_hits collection terms c.args.infos.now told) stands.all_is c.rows_asked-most.ensures (c.rows.ensures ∙ top.0) (c.total.ensures ∙ top.1) in
-    let text = texts_later _ _ _ _ code collection (same_texts _) c.in-Ok-rank.ensures.files stands.texts_are in
+    let text = texts_later c.args.texts.now c.args.texts.now _ _ code collection (same_texts c.args.texts.now) c.in-Ok-rank.ensures.files stands.texts_are in
     rows_end _ _ _ terms _ _ _ _ _ _ _ _ _ _ _ _ _ (g.S.Store.reads c.rank.new.store) _ _ are (known_bound collection terms c.args.infos.now told.size) (c.in-Ok-rank.ensures.pages collection kept stands.weights.lists is_told stands.all_is) (ranked_text _ _ c.in-Ok-rank.ensures.reads)
     c.new-pending.ensures (c.in-Ok-show_rows.ensures.content code collection text) (shown_post _ _ _ _ _ _ _ c.in-Ok-show_rows.ensures.looked) (c.in-Ok-show_rows.ensures.pages code collection text)
     c.in-Ok-count.ensures.content c.in-Ok-flush.ensures.content tt
@@ -57,7 +57,7 @@ returns-clause-answer g c = λ code collection terms stands told apart.
     let is_told : AreTold collection kept c.deref.result.now = subst (λ (xs : List TermInfo). AreTold collection kept xs) (sym (c.deref.ensures.value ∙ c.in-Ok.ensures.known)) (known_told collection terms c.args.infos.now told apart) in
     let top = c.in-Ok-rank.ensures.answer collection kept stands.weights is_told stands.all_is in
     let are = are_rows collection kept terms c.args.now.now c.args.all c.rows_asked-most.result c.total.result c.rows.result.now (known_hits collection terms c.args.infos.now told) stands.all_is c.rows_asked-most.ensures (c.rows.ensures ∙ top.0) (c.total.ensures ∙ top.1) in
-    let text = texts_later _ _ _ _ code collection (same_texts _) c.in-Ok-rank.ensures.files stands.texts_are in
+    let text = texts_later c.args.texts.now c.args.texts.now _ _ code collection (same_texts c.args.texts.now) c.in-Ok-rank.ensures.files stands.texts_are in
     rows_end _ _ _ terms _ _ _ _ _ _ _ _ _ _ _ _ _ (g.S.Store.reads c.rank.new.store) _ _ are (known_bound collection terms c.args.infos.now told.size) (c.in-Ok-rank.ensures.pages collection kept stands.weights.lists is_told stands.all_is) (ranked_text _ _ c.in-Ok-rank.ensures.reads)
     c.new-pending.ensures (c.in-Ok-show_rows.ensures.content code collection text) (shown_post _ _ _ _ _ _ _ c.in-Ok-show_rows.ensures.looked) (c.in-Ok-show_rows.ensures.pages code collection text)
     c.in-Ok-count.ensures.content c.in-Err-flush.ensures.content (put_sound c.in-Err-flush.refusal _ c.from-in-Err-flush.ensures)

@@ -1,8 +1,8 @@
 use Rattle.std.proofs.Common.{arith, sym, ◌∙◌, subst}
 use Rattle.mg_dev.specs.StreamLaws.{grew_nothing}
 use Rattle.mg_dev.specs.declared.part.Part.TheVariants as part
-use Rattle.mg_session.specs.Searching.{Opened, OpenedOver, SearchFits}
-use Rattle.mg_session.proofs.SetLaws.{opened_fits, opened_over, set_lexicon}
+use Rattle.mg_session.specs.Searching.{Opened, OpenedOver}
+use Rattle.mg_session.proofs.SetLaws.{opened_over, set_lexicon}
 use Rattle.mg_session.proofs.StopLaws.{load_stops, stops_wider, within_from}
 use Rattle.mg_session.proofs.session.serve_set.Goals as goal
 
@@ -12,9 +12,6 @@ returns-in-Err-clause-prefix g c = λ code collection stands x told. grew_nothin
 pub returns-in-Err-clause-cause : goal.returns-in-Err-clause-cause
 returns-in-Err-clause-cause g c = rw c.from.ensures (load_stops c.in-Err.refusal _ (g.S.Store.faults c.args.store.now) _ _ _ _ _ (omega arith) c.in-Err.ensures.cause
     (λ bad code collection stands. bad (c.in-Err.ensures.never_bad collection (set_lexicon _ _ _ code collection stands))))
-
-pub serve_searcher-requires-clause-fits : goal.serve_searcher-requires-clause-fits
-serve_searcher-requires-clause-fits g c = subst (λ (o : Opened). SearchFits (g.S.Store.files c.load.new.store) o) (sym c.new-searcher.ensures) (opened_fits c.args.base.now _ c.args.head.now c.in-Ok.lex c.in-Ok.ensures.fits c.requires.words c.requires.others)
 
 pub returns-clause-all : goal.returns-clause-all
 returns-clause-all g c = λ code collection stands x told.
