@@ -17,5 +17,6 @@ mod searcher;
 mod session;
 #[cfg(test)]
 mod tests;
+mod texts;
 
 pub use session::serve;

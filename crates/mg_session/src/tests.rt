@@ -103,6 +103,57 @@ fn a_session_stops_for_its_cause(rt: HostRuntime) -> Result<(), Fail> {
     Ok(())
 }
 
+#[test]
+fn the_models_are_loaded_for_the_first_text_and_once(rt: HostRuntime) -> Result<(), Fail> {
+    let alloc = rt.alloc();
+    // A session, and how often each part that texts are shown from is read: each has one page.
+    let rows: [(&[u8], u64); 5] = [
+        (
+            b"cat & !the\n!x\n.set query ranked\ncat dog\n.set mode count\ncat\n",
+            0,
+        ),
+        (b".set mode text\n.set mode count\ncat\n", 0),
+        (b".set mode text\nzebra\n", 0),
+        (b".set mode text\nsat\n", 1),
+        (
+            b"cat\n.set mode text\ncat\ncat\n.set query ranked\ncat dog\n",
+            1,
+        ),
+    ];
+    let parts = [Part::Words, Part::Nonwords, Part::Text, Part::Places];
+    for (given, reads) in rows {
+        let mut store = store_of(alloc)?;
+        let (_, status) = session(alloc, &mut store, given)?;
+        assert_eq!(rt; status, Ok(()));
+        for part in parts {
+            assert_eq!(rt; store.reads_of(part), reads, "{part:?}");
+        }
+    }
+    Ok(())
+}
+
+#[test]
+fn a_damaged_model_stops_a_session_at_its_first_text(rt: HostRuntime) -> Result<(), Fail> {
+    let alloc = rt.alloc();
+    let whole: &[u8] = b"1\n3\n= 2\n-- 1\nthe cat sat\n\x02\n= 1\n";
+    for name in ["set.words", "set.nonwords"] {
+        let mut store = store_of(alloc)?;
+        store.put_file(name, b"\x03Cat")?;
+        let (out, status) = session(alloc, &mut store, b"cat\n.set mode text\nsat\n")?;
+        let damaged = matches!(status, Err(Fault::Damaged(_)));
+        assert!(rt; damaged, "{name}");
+        assert!(rt; whole.starts_with(out.bytes()), "{name}");
+        assert!(rt; out.bytes().starts_with(b"1\n3\n= 2\n"), "{name}");
+        assert!(rt; !out.bytes().starts_with(b"1\n3\n= 2\n-- 1\nt"), "{name}");
+
+        // Where no text is shown, the model is not looked at.
+        let (out, status) = session(alloc, &mut store, b"cat\n")?;
+        assert_eq!(rt; status, Ok(()));
+        assert!(rt; out.bytes() == b"1\n3\n= 2\n".as_slice());
+    }
+    Ok(())
+}
+
 // The head and the places of the same collection in version 1; the other parts are the same.
 const OLDER: [(&str, &[u8]); 2] = [
     (
