@@ -1,6 +1,6 @@
 // What no clause says: that sessions over real parts succeed, and what failing devices leave.
-use crate::serve;
 use mg_dev::{Fault, MemSink, MemSource, MemStore, Part};
+use mg_session::serve;
 use std::alloc::{AllocError, Global};
 use std::test::Fail;
 

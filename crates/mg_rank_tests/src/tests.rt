@@ -1,9 +1,9 @@
 // What no clause says: that calls succeed, and rows over parts that another implementation made.
 ghost use Rattle.std.specs.Prelude.{◌≤◌, length};
 
-use crate::{Ranked, Row, rank};
 use mg_dev::{MemStore, Part, PartErr, PutErr};
 use mg_layout::TermInfo;
+use mg_rank::{Ranked, Row, rank};
 use std::alloc::Global;
 use std::test::Fail;
 

@@ -1,7 +1,7 @@
 use Rattle.std.proofs.Common.{◌≡◌, ◌+◌, List}
 use Rattle.mg_defs.specs.declared.Posting.{Posting}
 use Rattle.mg_post.specs.Writing.{Took}
-use Rattle.mg_rank.proofs.random_tests.put_list.Given as goal
+use Rattle.mg_rank_tests.proofs.random_tests.put_list.Given as goal
 
 abbrev pub invariant-loop-i : goal.invariant-loop-i
 invariant-loop-i g l = record {
