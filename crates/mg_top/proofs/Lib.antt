@@ -4,6 +4,7 @@ mod Grown
 mod LineLaws
 mod BuiltLaws
 mod QueriedLaws
+mod PhrasedLaws
 mod ScannedLaws
 mod DecodedLaws
 mod TrialSteps

@@ -11,6 +11,7 @@ use Rattle.mg_dev.specs.declared.fault.Fault.TheVariants.{Usage, WriteFault, Mem
 use Rattle.mg_dev.specs.declared.status.Status.{Status}
 use Rattle.mg_dev.specs.declared.status.Status.TheVariants.{Done, Stopped}
 use Rattle.mg_defs.specs.Generator.{made_collection}
+use Rattle.mg_defs.specs.PhraseSession.{phrase_session}
 use Rattle.mg_defs.specs.Replies.{session}
 use Rattle.mg_defs.specs.Summaries.{summary_text, trial_text}
 use Rattle.mg_make.specs.Putting.{OthersSame}
@@ -23,6 +24,7 @@ use Rattle.mg_top.specs.Runs.{Run, SaysNothing, KeepsFiles, Stops, StoreFailed, 
 use Rattle.mg_top.specs.Built.{Built, BuildStops, collection_of}
 use Rattle.mg_top.specs.Decoded.{Decoded}
 use Rattle.mg_top.specs.Migrated.{Migrated, MigrateStops, documents_line}
+use Rattle.mg_top.specs.Phrased.{Phrased}
 use Rattle.mg_top.specs.Queried.{Queried}
 use Rattle.mg_top.specs.Scanned.{Scanned}
 use Rattle.mg_top.specs.Trials.{SilentAfter, TrialStops}
@@ -112,6 +114,21 @@ module _ (run : Run) (stops : Stops run Memory) (store : run.store_now ≡ run.s
     texts_unread = λ given some asks p is. same_reads p;
   }
 
+  phrased : (n : List ℕ) → Phrased n run
+  phrased n = record {
+    done = λ c given stands some is. absurd (not_done is);
+    left = λ given some is. absurd (not_done is);
+    within = λ given some is. absurd (not_done is);
+    prefix = λ c given stands some. prefix (phrase_session c given);
+    silent = λ is. silent;
+    cause = caused (serves.StopsFor (StoreFailed run) (InputFailed run) (OutputFailed run) run.store.files n run.input.left) tt;
+    not_built = λ told none. inr (inr stops);
+    complete = λ c given stands some short no_store no_input no_output. inr stops;
+    files = files;
+    pages = λ head code c given stands some. record { post = rw (same_reads part.Post) (omega arith); text = rw (same_reads part.Text) (omega arith) };
+    unread = λ p never. same_reads p;
+  }
+
   decoded : (n : List ℕ) → Decoded n run
   decoded n = record {
     done = λ c stands is. absurd (not_done is);
@@ -166,7 +183,7 @@ module _ (run : Run) (stops : Stops run Memory) (store : run.store_now ≡ run.s
   nothing_done (Some (migrate n m)) = migrated n m
   nothing_done (Some (check n)) = not_understood
   nothing_done (Some (wild n)) = not_understood
-  nothing_done (Some (phrase n)) = not_understood
+  nothing_done (Some (phrase n)) = phrased n
   nothing_done (Some (merge a b c)) = not_understood
 
   -- memory was wanting before the words were read

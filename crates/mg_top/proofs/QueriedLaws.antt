@@ -61,7 +61,7 @@ only_memory s i o files base collection given left InputTooLong cause stands is 
 only_memory s i o files base collection given left SameName cause stands is short no_store no_input no_output = absurd cause
 only_memory s i o files base collection given left (TooManyRotations count) cause stands is short no_store no_input no_output = absurd cause
 
-done_or : (base collection given : List ℕ) (run : Run) (r : Result (Unit {0}) Fault) → run.status ≡ status_of r
+pub done_or : (base collection given : List ℕ) (run : Run) (r : Result (Unit {0}) Fault) → run.status ≡ status_of r
     → IfErr r (StopsFor (StoreFailed run) (InputFailed run) (OutputFailed run) run.store.files base run.input.left)
     → Stands run.store.files base collection → run.input.left ≡ Some given → is_too_much input_limit given ≡ false
     → ¬ StoreFailed run → ¬ InputFailed run → ¬ OutputFailed run → (run.status ≡ Done) ⊎ Stops run Memory

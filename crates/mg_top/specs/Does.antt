@@ -2,12 +2,13 @@
 use Rattle.std.specs.Prelude.{◌≡◌, ◌⊎◌, Some, None}
 use Rattle.std.specs.declared.option.Option.{Option}
 use Rattle.mg_dev.specs.declared.fault.Fault.TheVariants.{Usage, Memory}
-use Rattle.mg_words.specs.Tasks.{Task, build, query, decode, scan, migrate, trial}
+use Rattle.mg_words.specs.Tasks.{Task, build, query, decode, scan, migrate, trial, phrase}
 use Rattle.mg_top.specs.Ends.{ToldWhy}
 use Rattle.mg_top.specs.Runs.{Run, Stops}
 use Rattle.mg_top.specs.Built.{Built}
 use Rattle.mg_top.specs.Decoded.{Decoded}
 use Rattle.mg_top.specs.Migrated.{Migrated}
+use Rattle.mg_top.specs.Phrased.{Phrased}
 use Rattle.mg_top.specs.Queried.{Queried}
 use Rattle.mg_top.specs.Scanned.{Scanned}
 use Rattle.mg_top.specs.Tried.{Tried}
@@ -27,6 +28,7 @@ built (Some (decode name)) = Some (decode name)
 built (Some (scan name)) = Some (scan name)
 built (Some (migrate name new)) = Some (migrate name new)
 built (Some (trial seed docs)) = Some (trial seed docs)
+built (Some (phrase name)) = Some (phrase name)
 built other = None
 
 -- what the words ask is done
@@ -37,6 +39,7 @@ Does (Some (decode name)) run = Decoded name run
 Does (Some (scan name)) run = Scanned name run
 Does (Some (migrate name new)) run = Migrated name new run
 Does (Some (trial seed docs)) run = Tried seed docs run
+Does (Some (phrase name)) run = Phrased name run
 Does other run = NotUnderstood run
 
 pub record Ran (task : Option Task) (run : Run) : Type 0 where

@@ -3,6 +3,7 @@ pub mod Runs
 pub mod Lines
 pub mod Built
 pub mod Queried
+pub mod Phrased
 pub mod Scanned
 pub mod Decoded
 pub mod Trials

@@ -1,0 +1,68 @@
+"""Sessions of phrases over sets that the program builds, against the reference."""
+
+import pathlib
+import sys
+
+sys.path.insert(0, str(pathlib.Path(__file__).parent / "reference"))
+
+from files import K, remove
+from kinds import Draws, cases, words_of
+from sessions import phrase_session
+from texts import Collection
+
+ROWS = [
+    (K, b"the cat", b"1 1\n= 1\n"),
+    (K, b"Cat, CAT", b"3 1\n= 1\n"),
+    (K, b"cat", b"1 1\n3 2\n= 2\n"),
+    (K, b"cat dog", b"3 1\n= 1\n"),
+    (K, b"dog cat", b"= 0\n"),
+    (K, b"zebra cat", b"= 0\n"),
+    (K, b", ,", b"= 0\n"),
+    (K, b" \t ", b""),
+    (K, b".set mode text", b"= 0\n"),
+    (K, b".quit\ncat", b""),
+    (b"a a a a ", b"a a", b"1 3\n= 1\n"),
+    (b"a a a a ", b"a " * 64 + b"a", b"? too many words at 128\n"),
+    (b"a a a a ", b"a" * 256, b"? word too long at 0\n"),
+    (b"a a a a ", b"a" * 1025, b"? line too long\n"),
+]
+
+
+def rows(suite):
+    """Phrases over two small sets, worked by hand."""
+    for collection, line, wanted in ROWS:
+        suite.file("text", collection)
+        suite.run(["build", "text", "set"])
+        suite.check(f"the phrase {line[:30]!r}", suite.run(["phrase", "set"], line + b"\n"), (0, wanted, b""))
+        remove(suite, "set")
+    suite.check("phrases of no set", suite.run(["phrase", "none"], b"cat\n"), (5, b"", b"mg: nothing is built under this name\n"))
+
+
+def spoken(draws, collection, count=60):
+    """Lines of one to four words that stand together in a document, or were drawn at random."""
+    documents = [words for words in (d.split() for d in collection.split(b"\x02")) if words]
+    drawn = words_of(collection)
+    lines = []
+    for _ in range(count):
+        length = 1 + draws.below(4)
+        if documents and draws.below(4):
+            words = draws.one_of(documents)
+            start = draws.below(len(words))
+            lines.append(b" ".join(words[start : start + length]))
+        else:
+            lines.append(b", ".join(draws.one_of(drawn) for _ in range(length)))
+    return b"\n".join(line.replace(b"\n", b" ") for line in lines)
+
+
+def kinds(suite):
+    """Phrases over each kind of collection."""
+    for seed, (name, collection, _) in enumerate(cases(), 1):
+        suite.file("text", collection)
+        suite.run(["build", "text", "set", "--budget", "4096"])
+        lines = spoken(Draws(seed), collection)
+        wanted = phrase_session(Collection(collection), lines)
+        suite.check(f"{name}: phrases", suite.run(["phrase", "set"], lines), (0, wanted, b""))
+        remove(suite, "set")
+
+
+PARTS = [rows, kinds]
