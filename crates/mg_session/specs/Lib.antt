@@ -3,3 +3,6 @@ pub mod Searching
 pub mod Answering
 pub mod Serves
 pub mod SearchLaws
+pub mod PhraseAnswers
+pub mod PhraseSearching
+pub mod PhraseSearchLaws

@@ -10,12 +10,17 @@
 #![tactic(auto)]
 
 mod boolean;
+mod candidates;
 mod find;
+mod held;
 mod hit;
+mod phrase;
+mod phrase_searcher;
 mod ranked;
 mod searcher;
 mod session;
 #[cfg(test)]
 mod tests;
 
+pub use phrase::serve_phrase;
 pub use session::serve;
