@@ -19,7 +19,7 @@ use Rattle.mg_dev.specs.declared.show_err.ShowErr.{ShowErr}
 use Rattle.mg_dev.specs.declared.show_err.ShowErr.TheVariants as show
 use Rattle.mg_defs.specs.CodedText.{TextCode}
 use Rattle.mg_defs.specs.Lines.{lines}
-use Rattle.mg_defs.specs.Phrases.{phrase_from, phrase_next, phrase_of, phrase_token, phrase_with}
+use Rattle.mg_defs.specs.Phrases.{phrase_from, phrase_next, phrase_of, phrase_places, phrase_token, phrase_with}
 use Rattle.mg_defs.specs.PhraseSession.{found_text, phrase_reply, phrase_session, with_places}
 use Rattle.mg_defs.specs.PlainSession.{plain_questions, plain_session}
 use Rattle.mg_defs.specs.Read.{Reading, Refusal, reads, refused}
@@ -135,7 +135,7 @@ none_answered code collection phrase w r = record { put = grew_nothing w (found_
 
 -- no document has a phrase without words
 no_places : (n : ℕ) (ds : List (List ℕ)) → with_places [] n ds ≡ []
-unfolding with_places Rattle.mg_defs.specs.Phrases.phrase_places
+unfolding with_places phrase_places
 no_places n [] = refl
 no_places n (d ∷ ds) = no_places (n + 1) ds
 

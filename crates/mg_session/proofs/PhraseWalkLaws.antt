@@ -1,5 +1,5 @@
 -- An answer to a phrase that is under way.
-use Rattle.std.proofs.Common.{arith, ◌≡◌, ◌≢◌, ℕ, ◌+◌, ◌<◌, ◌≤◌, ⊥, inl, inr, if◌then◌else◌, Bool, true, false, List, [], ◌∷◌, ◌++◌, length, drop, map, filter, nat_lt, Some, None, Err, refl, sym, ◌∙◌, ap, subst, append_assoc, append-nil, length-append, sum_by}
+use Rattle.std.proofs.Common.{arith, ◌≡◌, ◌≢◌, ℕ, ◌+◌, ◌<◌, ◌≤◌, inl, inr, if◌then◌else◌, Bool, true, false, List, [], ◌∷◌, ◌++◌, length, drop, map, filter, nat_lt, Some, None, Err, refl, sym, ◌∙◌, ap, subst, append_assoc, append-nil, length-append, sum_by}
 use Rattle.std.specs.Prelude.{flat_map}
 use Rattle.std.specs.List.{AllByRecursion, enumerate_from}
 use Rattle.std.specs.declared.option.Option.{Option}
@@ -36,7 +36,7 @@ use Rattle.mg_query.specs.declared.query.Query as declared
 use Rattle.mg_reply.specs.Pending.{AfterPass, Passed}
 use Rattle.mg_reply.proofs.CallerLemmas.{pass_nothing, pass_both, pass_cut, pass_put}
 use Rattle.mg_text.specs.Reading.{ShowIsNotBad}
-use Rattle.mg_session.specs.PhraseAnswers.{PhraseAnswered, PhraseWalked, candidate_pages, found_among, found_at, joined_bound, rows_of}
+use Rattle.mg_session.specs.PhraseAnswers.{PhraseAnswered, PhraseWalked, candidate_pages, found_among, found_at, found_if, joined_bound, rows_of}
 
 -- ---- the query of all terms
 
@@ -95,7 +95,7 @@ found_from collection t us front (d ∷ ds) n e at =
           ∙ sym (among-cons collection (t ∷ us) (plain n) (found (all_of t us) (n + 1) ds))
           ∙ ap (found_among collection (t ∷ us)) (sym (found-hit (all_of t us) n d ds is))
       | inr none ↦ now
-          ∙ ap (λ b. (if b then record { number = n; places = phrase_places (t ∷ us) d } ∷ [] else []) ++ found_among collection (t ∷ us) (found (all_of t us) (n + 1) ds)) (missed t us d none)
+          ∙ ap (λ (b : Bool). found_if b n (phrase_places (t ∷ us) d) ++ found_among collection (t ∷ us) (found (all_of t us) (n + 1) ds)) (missed t us d none)
           ∙ ap (found_among collection (t ∷ us)) (sym (found-miss (all_of t us) n d ds none))
     ]
 
@@ -164,7 +164,7 @@ text_front : (xs ys : List Found) → (rest : List ℕ) × (found_text (xs ++ ys
 text_front xs ys = (rows_of ys ++ count (length (xs ++ ys)), text-is (xs ++ ys) ∙ ap (λ t. t ++ count (length (xs ++ ys))) (rows-append xs ys) ∙ append_assoc (rows_of xs) (rows_of ys) (count (length (xs ++ ys))))
 
 pub size_some : (number places : ℕ) → 0 < places → length (found_at number places) ≡ 1
-size_some number places some = ap (λ b. length (if b then record { number = number; places = places } ∷ [] else [])) (lt-ltb 0 places some)
+size_some number places some = ap (λ (b : Bool). length (found_if b number places)) (lt-ltb 0 places some)
 
 pub size_none : (number places : ℕ) → places ≤ 0 → length (found_at number places) ≡ 0
 size_none number places none = let e : places ≡ 0 = omega (arith, none) in ap (λ n. length (found_at number n)) e
@@ -316,7 +316,7 @@ walked_uncounted base code collection phrase q w0 w1 w2 waiting total m n r0 r1 
 one-row : (number places : ℕ) → (places ≡ 0 → ⊥) → rows_of (found_at number places) ≡ row number (Some places)
 unfolding rows_of
 one-row number places some =
-    let found_one = ap (λ (b : Bool). flat_map (λ (f : Found). row f.number (Some f.places)) (if b then record { number = number; places = places } ∷ [] else [])) (lt-ltb 0 places (omega (arith, some))) in
+    let found_one = ap (λ (b : Bool). flat_map (λ (f : Found). row f.number (Some f.places)) (found_if b number places)) (lt-ltb 0 places (omega (arith, some))) in
     found_one ∙ append-nil (row number (Some places))
 
 pub row_found : {T E : Type 0} (w0 w1 : Option (List ℕ)) (p0 p1 : List ℕ) (number places : ℕ) (r : Result T E) → (places ≡ 0 → ⊥) → AfterPass w0 w1 p0 p1 (row number (Some places)) r → AfterPass w0 w1 p0 p1 (rows_of (found_at number places)) r

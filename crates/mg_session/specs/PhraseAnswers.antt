@@ -1,5 +1,5 @@
 -- The answer to a phrase: the documents that have it, which are sought among those that have all its terms.
-use Rattle.std.specs.Prelude.{◌≡◌, ℕ, ◌+◌, ◌≤◌, nat_lt, if◌then◌else◌, List, [], ◌∷◌, ◌++◌, length, map, filter, flat_map, sum_by, Option, Some}
+use Rattle.std.specs.Prelude.{◌≡◌, ℕ, ◌+◌, ◌≤◌, nat_lt, Bool, true, false, List, [], ◌∷◌, ◌++◌, length, flat_map, sum_by, Option, Some}
 use Rattle.std.specs.declared.result.Result.{Result}
 use Rattle.mg_dev.specs.Files.{Reads}
 use Rattle.mg_dev.specs.Streams.{AfterPut}
@@ -24,9 +24,13 @@ use Rattle.mg_text.specs.Reading.{ShowIsNotBad}
 
 -- ---- rows
 
+abbrev pub found_if : Bool → ℕ → ℕ → List Found
+found_if true number places = record { number = number; places = places } ∷ []
+found_if false number places = []
+
 -- a document as it is found, where it has places
 abbrev pub found_at : ℕ → ℕ → List Found
-found_at number places = if nat_lt 0 places then record { number = number; places = places } ∷ [] else []
+found_at number places = found_if (nat_lt 0 places) number places
 
 -- of these documents, those that have places of a phrase
 unfoldable pub found_among : List ℕ → List (List ℕ) → List Shown → List Found

@@ -17,7 +17,7 @@ use Rattle.mg_session.proofs.PhraseReplyLaws.{none_answered}
 use Rattle.mg_session.proofs.PhraseStepLaws.{decoded_post, lists_reads, looked_reads}
 use Rattle.mg_session.proofs.PhraseWalkLaws.{joined, size_none, size_some, walked_cut, walked_end, walked_searched, walked_start, walked_stop, walked_uncounted, walked_unread}
 use Rattle.mg_session.proofs.ReplyLaws.{list_sound, put_sound}
-use Rattle.mg_session.proofs.StepLaws.{lists_text}
+use Rattle.mg_session.proofs.StepLaws.{cause_after, lists_text}
 use Rattle.mg_session.proofs.WalkLaws.{fit_later}
 use Rattle.mg_session.proofs.candidates.answer_phrase.Goals as goal
 
@@ -70,6 +70,9 @@ returns-in-Err-hold-clause-answer g c = λ collection stands told.
     (decoded_post _ _ _ _ _ _ c.in-Err-hold.ensures.looked)
     (subst (λ (code : TextCode). g.S.Store.reads c.hold.new.store part.Text ≤ g.S.Store.reads c.next.new.store part.Text + doc_pages code collection (plain c.in-Ok-Some.number)) inv.same.code (c.in-Err-hold.ensures.pages collection text))
     (c.in-Err-hold.ensures.sound collection text)
+
+pub returns-in-Err-hold-clause-cause : goal.returns-in-Err-hold-clause-cause
+returns-in-Err-hold-clause-cause g c = cause_after _ _ (g.S.Store.faults c.next.new.store) _ _ (g.O.Sink.faults c.matches.out) _ (omega (arith, c.matches.invariant.step.faults, c.in-Ok-Some.ensures.cause.later)) c.matches.invariant.output (c.in-Err-hold.ensures.cause (g.O.Sink.faults c.matches.out))
 
 pub returns-in-Err-hold-clause-step : goal.returns-in-Err-hold-clause-step
 returns-in-Err-hold-clause-step g c = reads_then _ _ _ _ _ _ _ _ _ (reads_then _ _ _ _ _ _ _ _ _ c.matches.invariant.step (lists_reads _ _ _ _ _ _ c.in-Ok-Some.ensures.files c.in-Ok-Some.ensures.cause.later c.in-Ok-Some.ensures.reads)) (looked_reads part.Text part.Places _ _ _ _ _ _ (omega arith) (omega arith) c.in-Err-hold.ensures.looked)
@@ -128,8 +131,8 @@ matches-preserved-then-places-gt0 g c =
           (omega (arith, size_some c.in-Ok-Some.number c.phrase_places-places.result c.if-places-gt0.true));
     }
 
-pub matches-preserved-else-places-gt0 : goal.matches-preserved-else-places-gt0
-matches-preserved-else-places-gt0 g c =
+pub matches-preserved : goal.matches-preserved
+matches-preserved g c =
     let inv = c.matches.invariant in
     let range = subst (λ (found : Option ℕ). IfSome found (λ doc. (c.matches.matches.decided < doc) × (doc ≤ c.matches.matches.all) × (c.next.new.self.decided ≡ doc))) c.in-Ok-Some.field-0-is c.in-Ok-Some.ensures.range in
     let kept = c.in-Ok-Some.ensures.same in

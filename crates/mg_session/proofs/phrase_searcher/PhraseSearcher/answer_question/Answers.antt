@@ -25,6 +25,12 @@ returns-in-Err-put_refused-clause-replied g c = λ collection over. line_unput c
 pub returns-in-Err-all_of-clause-replied : goal.returns-in-Err-all_of-clause-replied
 returns-in-Err-all_of-clause-replied g c = λ collection over. nothing_replied _ collection _ _ _ _ _ tt refl refl
 
+pub returns-in-Ok-put_count-clause-replied : goal.returns-in-Ok-put_count-clause-replied
+returns-in-Ok-put_count-clause-replied g c = λ collection over. line_counted _ collection _ c.in-Ok.phrase _ _ _ _ c.in-Ok.ensures.reads (subst (IsAllOf c.in-Ok.phrase) c.in-None.is c.in-Ok-all_of.ensures) c.in-Ok-put_count.ensures.content tt
+
+pub returns-in-Err-put_count-clause-replied : goal.returns-in-Err-put_count-clause-replied
+returns-in-Err-put_count-clause-replied g c = λ collection over. line_counted _ collection _ c.in-Ok.phrase _ _ _ _ c.in-Ok.ensures.reads (subst (IsAllOf c.in-Ok.phrase) c.in-None.is c.in-Ok-all_of.ensures) c.in-Err-put_count.ensures.content (put_sound c.in-Err-put_count.refusal _ c.from-in-Err-put_count.ensures)
+
 pub returns-in-Err-find_terms-clause-replied : goal.returns-in-Err-find_terms-clause-replied
 returns-in-Err-find_terms-clause-replied g c = λ collection over.
     nothing_replied _ collection _ _ _ _ _
