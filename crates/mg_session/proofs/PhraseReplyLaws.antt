@@ -1,5 +1,5 @@
 -- The reply to a phrase.
-use Rattle.std.proofs.Common.{arith, ◌≡◌, ℕ, ◌+◌, ◌≤◌, Bool, true, false, List, [], ◌∷◌, ◌++◌, length, None, Some, Ok, Err, refl, sym, ◌∙◌, ap, subst, sum_by, length-append}
+use Rattle.std.proofs.Common.{arith, ◌≡◌, ℕ, ◌+◌, ◌≤◌, true, List, [], ◌∷◌, ◌++◌, length, None, Some, Ok, Err, refl, sym, ◌∙◌, ap, subst, sum_by, length-append}
 use Rattle.std.specs.Prelude.{IfSome, IfErr, OnOk, map, nat_le, nat_lt}
 use Rattle.std.specs.Option.{ForSome}
 use Rattle.std.specs.declared.option.Option.{Option}
@@ -8,7 +8,7 @@ use Rattle.std.proofs.lemmas.Bool.{cond_both, leb-false}
 use Rattle.std.proofs.lemmas.List.Sums.{sum_by-append, sum_by-cons}
 use Rattle.mg_dev.specs.Causes.{Rose}
 use Rattle.mg_dev.specs.Faults.{show_of_put}
-use Rattle.mg_dev.specs.Files.{Files, Reads}
+use Rattle.mg_dev.specs.Files.{Reads}
 use Rattle.mg_dev.specs.Streams.{AfterPut, GrewByPrefix, appended}
 use Rattle.mg_dev.specs.StreamLaws.{grew_nothing}
 use Rattle.mg_dev.specs.declared.device.PutErr.{PutErr}
@@ -21,7 +21,7 @@ use Rattle.mg_defs.specs.CodedText.{TextCode}
 use Rattle.mg_defs.specs.Lines.{lines}
 use Rattle.mg_defs.specs.Phrases.{phrase_from, phrase_next, phrase_of, phrase_places, phrase_token, phrase_with}
 use Rattle.mg_defs.specs.PhraseSession.{found_text, phrase_reply, phrase_session, with_places}
-use Rattle.mg_defs.specs.PlainSession.{plain_questions, plain_session}
+use Rattle.mg_defs.specs.PlainSession.{plain_questions}
 use Rattle.mg_defs.specs.Read.{Reading, Refusal, reads, refused}
 use Rattle.mg_defs.specs.Replies.{refusal}
 use Rattle.mg_defs.specs.Session.{Question, heard_questions, heard_session}
@@ -36,7 +36,6 @@ use Rattle.mg_query.specs.AllOf.{IsAllOf}
 use Rattle.mg_query.specs.RefusalOf.{refusal_of}
 use Rattle.mg_query.specs.declared.query_err.QueryErr.{QueryErr}
 use Rattle.mg_query.specs.declared.query_err.QueryErr.TheVariants as query
-use Rattle.mg_query.specs.declared.query.Query as declared
 use Rattle.mg_reply.specs.Served.{EndsFor, PartStops}
 use Rattle.mg_reply.specs.declared.serve.ServeErr.{ServeErr}
 use Rattle.mg_reply.specs.declared.serve.ServeErr.TheVariants as serve
@@ -45,7 +44,6 @@ use Rattle.mg_defs.specs.Limit.{input_limit, is_too_much}
 use Rattle.mg_text.specs.Decoding as decoding
 use Rattle.mg_text.specs.Reading.{ShowIsNotBad}
 use Rattle.mg_session.specs.Answering.{HasShowCause}
-use Rattle.mg_session.specs.Parts.{NeverRead}
 use Rattle.mg_session.specs.PhraseAnswers.{PhraseAnswered, PhraseReplied, ReadsPhrases, candidate_pages, joined_bound, line_lists, line_pages}
 use Rattle.mg_session.specs.PhraseSearching.{OnlyReads, PhraseMayStop, PhraseState, PhrasesAsked, PhrasesBy, PhrasesOver, SamePhraseParts}
 use Rattle.mg_session.proofs.ReplyLaws.{put_sound}

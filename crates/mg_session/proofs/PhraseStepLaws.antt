@@ -1,5 +1,5 @@
 -- Steps of a session of phrases: what they leave of the store, and what is opened of a set.
-use Rattle.std.proofs.Common.{arith, ◌≡◌, ◌≢◌, ◌==◌, ◌≤◌, ℕ, true, false, List, refl, ◌∙◌, ap, subst, sym}
+use Rattle.std.proofs.Common.{arith, ◌≡◌, ◌≢◌, ◌==◌, ◌≤◌, ℕ, false, List, refl, ◌∙◌, ap, subst, sym}
 use Rattle.std.specs.declared.option.Option.{Option}
 use Rattle.std.proofs.lemmas.Bool.Decides.{nat_tests}
 use Rattle.mg_dev.specs.Files.{Files, Reads, SameReads}

@@ -1,15 +1,15 @@
 -- An answer to a phrase that is under way.
-use Rattle.std.proofs.Common.{arith, ◌≡◌, ◌≢◌, ℕ, ◌+◌, ◌<◌, ◌≤◌, inl, inr, if◌then◌else◌, Bool, true, false, List, [], ◌∷◌, ◌++◌, length, drop, map, filter, nat_lt, Some, None, Err, refl, sym, ◌∙◌, ap, subst, append_assoc, append-nil, length-append, sum_by}
+use Rattle.std.proofs.Common.{arith, ◌≡◌, ℕ, ◌+◌, ◌<◌, ◌≤◌, inl, inr, Bool, true, false, List, [], ◌∷◌, ◌++◌, length, drop, map, nat_lt, Some, None, Err, refl, sym, ◌∙◌, ap, subst, append_assoc, append-nil, length-append, sum_by}
 use Rattle.std.specs.Prelude.{flat_map}
-use Rattle.std.specs.List.{AllByRecursion, enumerate_from}
+use Rattle.std.specs.List.{AllByRecursion}
 use Rattle.std.specs.declared.option.Option.{Option}
 use Rattle.std.specs.declared.result.Result.{Result}
-use Rattle.std.proofs.lemmas.Bool.{cond-true, cond-false, cases_Bool, false≢true, ltb-true, lt-ltb}
+use Rattle.std.proofs.lemmas.Bool.{cases_Bool, false≢true, ltb-true, lt-ltb}
 use Rattle.std.proofs.lemmas.Bool.Decides.{leb_tells}
 use Rattle.std.proofs.lemmas.Grind.{flat_map-append}
 use Rattle.std.proofs.lemmas.List.Sums.{sum_by-append}
 use Rattle.std.proofs.Math.Seq.{take-length}
-use Rattle.mg_dev.specs.Files.{Files, Reads}
+use Rattle.mg_dev.specs.Files.{Reads}
 use Rattle.mg_dev.specs.Streams.{AfterPut, GrewByPrefix, appended}
 use Rattle.mg_dev.specs.StreamLaws.{grew_first}
 use Rattle.mg_dev.specs.declared.part.Part.TheVariants as part
@@ -55,9 +55,9 @@ none_lt n h = grind (arith, leb_tells)
 
 missed : (t : List ℕ) (us : List (List ℕ)) (doc : List ℕ) → satisfies (all_of t us) doc ≡ false → nat_lt 0 (phrase_places (t ∷ us) doc) ≡ false
 missed t us doc none = elim (cases_Bool (nat_lt 0 (phrase_places (t ∷ us) doc))) [
-    | inl some ↦ absurd (false≢true (sym none ∙ candidates_are_enough t us doc (ltb-true 0 (phrase_places (t ∷ us) doc) some)))
-    | inr zero_is ↦ zero_is
-  ]
+  | inl some ↦ absurd (false≢true (sym none ∙ candidates_are_enough t us doc (ltb-true 0 (phrase_places (t ∷ us) doc) some)))
+  | inr zero_is ↦ zero_is
+]
 
 among-cons : (collection : List ℕ) (phrase : List (List ℕ)) (s : Shown) (ss : List Shown) → found_among collection phrase (s ∷ ss) ≡ found_at s.number (phrase_places phrase (document collection s.number)) ++ found_among collection phrase ss
 unfolding found_among
@@ -74,9 +74,9 @@ found-miss q n d ds is = rw is refl
 places-cons : (phrase : List (List ℕ)) (n : ℕ) (d : List ℕ) (ds : List (List ℕ)) → with_places phrase n (d ∷ ds) ≡ found_at n (phrase_places phrase d) ++ with_places phrase (n + 1) ds
 unfolding with_places
 places-cons phrase n d ds = elim (cases_Bool (nat_lt 0 (phrase_places phrase d))) [
-    | inl some ↦ rw some refl
-    | inr none ↦ rw none refl
-  ]
+  | inl some ↦ rw some refl
+  | inr none ↦ rw none refl
+]
 
 none_from : (collection t : List ℕ) (us : List (List ℕ)) (n : ℕ) → with_places (t ∷ us) n [] ≡ found_among collection (t ∷ us) (found (all_of t us) n [])
 unfolding with_places found_among found

@@ -15,7 +15,7 @@ use Rattle.mg_post.specs.TermLists.{ListsStand}
 use Rattle.mg_text.specs.Places.{most_text}
 use Rattle.mg_text.specs.Reading.{SameText, TextReading, TextStands}
 use Rattle.mg_session.specs.PhraseAnswers.{line_lists, line_pages}
-use Rattle.mg_session.specs.PhraseSearching.{OnlyReads, PartsOver, PhraseMayStop, PhraseParts, PhraseSources, PhraseState, PhrasesAsked, PhrasesBy, PhrasesOver, SamePhraseParts}
+use Rattle.mg_session.specs.PhraseSearching.{OnlyReads, PhraseMayStop, PhraseParts, PhraseSources, PhraseState, PhrasesAsked, PhrasesBy, PhrasesOver, SamePhraseParts}
 use Rattle.mg_session.specs.SearchLaws.{lex_later, parts_then, same_parts}
 
 -- ---- the same text

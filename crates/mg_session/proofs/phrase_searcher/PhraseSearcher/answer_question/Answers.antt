@@ -1,4 +1,4 @@
-use Rattle.std.proofs.Common.{arith, ℕ, Some, None, List, length, refl, sym, ◌∙◌, ap, subst}
+use Rattle.std.proofs.Common.{arith, ℕ, List, length, refl, sym, ◌∙◌, ap, subst}
 use Rattle.std.specs.declared.option.Option.{Option}
 use Rattle.mg_defs.specs.QueryTerms.{query_terms}
 use Rattle.mg_bool.specs.Places.{AreInfos}
@@ -6,7 +6,6 @@ use Rattle.mg_layout.specs.declared.term_info.TermInfo.{TermInfo}
 use Rattle.mg_lex.specs.Reading.{LexStands}
 use Rattle.mg_query.specs.AllOf.{IsAllOf}
 use Rattle.mg_query.specs.QueryOf.{query_of}
-use Rattle.mg_query.specs.declared.query.Query.{Query}
 use Rattle.mg_session.specs.PhraseAnswers.{PhraseReplied}
 use Rattle.mg_session.specs.PhraseSearching.{PartsOver, PhraseParts}
 use Rattle.mg_session.specs.PhraseSearchLaws.{sources_stay}
