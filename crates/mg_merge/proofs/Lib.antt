@@ -1,0 +1,7 @@
+mod JoinedLaws
+mod TextLaws
+mod StayLaws
+mod StopLaws
+mod HeadLaws
+mod PassLaws
+mod MergeLaws
