@@ -3,5 +3,6 @@ mod TextLaws
 mod StayLaws
 mod StopLaws
 mod HeadLaws
+mod GivenLaws
 mod PassLaws
 mod MergeLaws

@@ -30,7 +30,7 @@ use Rattle.mg_merge.specs.Passes.{AreApart, ArePlanned}
 use Rattle.mg_merge.specs.Stops.{AreHeads, CountingStops, ReadStops}
 use Rattle.mg_merge.specs.Texts.{AreSetsBy, AreTextsOf, TextsStand, TwoTexts}
 use Rattle.mg_merge.proofs.JoinedLaws.{cap_again}
-use Rattle.mg_merge.proofs.StopLaws.{counting_cause, counting_documents, counting_only, counting_pieces, only_done, read_late, within_passes}
+use Rattle.mg_merge.proofs.StopLaws.{counting_cause, counting_documents, counting_only, counting_pieces, only_done, read_counts, read_late, within_passes}
 
 -- ---- names
 
@@ -86,13 +86,26 @@ cap_of version cap budget files first second a one other is are by =
 -- ---- what the passes answer
 
 -- a refusal of the second pass as one of both
-pub write_counts : {T : Type 0} (r : Result T Fault) (rose now whole : Type 0) (stands : List ℕ → Type 0) → (rose → now) → ((collection : List ℕ) → stands collection → whole) → IfErr r (ReadStops rose whole) → ((fault : Fault) → ReadStops rose whole fault → CountingStops now stands fault) → IfErr r (CountingStops now stands)
-write_counts (Ok value) rose now whole stands grows is stop by = tt
-write_counts (Err fault) rose now whole stands grows is stop by = by fault stop
+pub counts_all : {T : Type 0} (r : Result T Fault) (rose now whole : Type 0) (stands : List ℕ → Type 0) → (rose → now) → ((collection : List ℕ) → stands collection → whole) → IfErr r (ReadStops rose whole) → IfErr r (CountingStops now stands)
+counts_all (Ok value) rose now whole stands grows is stop = tt
+counts_all (Err fault) rose now whole stands grows is stop = read_counts rose now whole stands fault grows is stop
+
+pub on_ok : {T : Type 0} (r : Result T Fault) (P : Type 0) → P → OnOk r P
+on_ok (Ok value) P is = is
+on_ok (Err fault) P is = tt
+
+from_err : {T : Type 0} (a b : Fault) → ◌≡◌ {A = Result T Fault} (Err a) (Err b) → a ≡ b
+from_err a b is = cc
 
 pub early_all : {T : Type 0} (r : Result T Fault) (rose whole kept : Type 0) → IfErr r (ReadStops rose whole) → IfErr r (λ fault. IsEarly fault → kept)
 early_all (Ok value) rose whole kept stop = tt
 early_all (Err fault) rose whole kept stop = λ early. absurd (read_late rose whole fault stop early)
+
+-- a refusal of one call is that of another
+pub refused_other : {T U : Type 0} (fault wanted : Fault) → RefusedFor {T = T} (Err fault) wanted → RefusedFor {T = U} (Err fault) wanted
+refused_other {T} {U} fault wanted (inl is) = inl (ap Err (from_err {T = T} fault wanted is))
+refused_other {T} {U} fault wanted (inr (inl is)) = inr (inl (ap Err (from_err {T = T} fault cause.StoreFault is)))
+refused_other {T} {U} fault wanted (inr (inr is)) = inr (inr (ap Err (from_err {T = T} fault cause.Memory is)))
 
 -- ---- what both passes answer
 

@@ -1,6 +1,6 @@
 -- Bytes that are counted and written one after the other, and why a pass over them stops.
 use Rattle.std.proofs.Common.{arith, ◌≡◌, ◌≢◌, ◌≤◌, ◌<◌, ◌+◌, ◌^◌, ◌++◌, ◌∷◌, ◌∙◌, ◌⊎◌, ℕ, List, [], length, take, drop, Option, Some, Ok, Err, IsSome, is_some, refl, sym, ap, subst, inl, inr}
-use Rattle.std.proofs.lemmas.List.{append_assoc, length-append, take-append-drop, take_more}
+use Rattle.std.proofs.lemmas.List.{append_assoc}
 use Rattle.std.specs.Prelude.{IfErr, Result}
 use Rattle.mg_dev.specs.Causes.{Rose}
 use Rattle.mg_dev.specs.Files.{Files, file_at}
@@ -18,12 +18,6 @@ use Rattle.mg_make.specs.Putting.{HasPut, IsUnbuilt, OthersSame, Putting}
 use Rattle.mg_make.specs.Written.{SecondStops}
 use Rattle.mg_merge.specs.Merging.{IsEarly, Left}
 use Rattle.mg_merge.specs.Stops.{CountingStops, Differ, IsDamaged, IsRetold, ReadStops}
-
--- ---- lists
-
--- the first bytes of a document, one more
-pub one_more : (fed bytes : List ℕ) (i byte : ℕ) → i < length bytes → (take (i + 1) bytes ≡ take i bytes ++ byte ∷ []) → (fed ++ take i bytes) ++ byte ∷ [] ≡ fed ++ take (i + 1) bytes
-one_more fed bytes i byte within is = append_assoc fed (take i bytes) (byte ∷ []) ∙ ap (λ t. fed ++ t) (sym is)
 
 -- ---- counting
 
@@ -126,6 +120,25 @@ list_differs rose same (cause.NameClash part) stop = tt
 list_differs rose same cause.InputTooLong stop = tt
 list_differs rose same cause.SameName stop = tt
 list_differs rose same (cause.TooManyRotations count) stop = tt
+
+-- a cause still is one where failures still rose and less is the same
+pub second_wider : (rose now same less : Type 0) (fault : Fault) → (rose → now) → (less → same) → SecondStops rose same fault → SecondStops now less fault
+second_wider rose now same less cause.Usage grows back stop = absurd stop
+second_wider rose now same less cause.StoreFault grows back stop = grows stop
+second_wider rose now same less cause.ReadFault grows back stop = absurd stop
+second_wider rose now same less cause.WriteFault grows back stop = absurd stop
+second_wider rose now same less cause.NotBuilt grows back stop = absurd stop
+second_wider rose now same less (cause.Damaged bad) grows back stop = absurd stop
+second_wider rose now same less cause.NoCollection grows back stop = absurd stop
+second_wider rose now same less (cause.TooLarge bytes most) grows back stop = absurd stop
+second_wider rose now same less cause.TooManyDocuments grows back stop = absurd stop
+second_wider rose now same less (cause.TooManyPieces kind) grows back stop = absurd stop
+second_wider rose now same less (cause.Changed what one two) grows back stop = (stop.0, λ is. stop.1 (back is))
+second_wider rose now same less cause.Memory grows back stop = tt
+second_wider rose now same less (cause.NameClash part) grows back stop = absurd stop
+second_wider rose now same less cause.InputTooLong grows back stop = absurd stop
+second_wider rose now same less cause.SameName grows back stop = absurd stop
+second_wider rose now same less (cause.TooManyRotations count) grows back stop = absurd stop
 
 -- damage comes where nothing stands
 damage_stops : (now whole : Type 0) (fault : Fault) → IsDamaged fault → (whole → ⊥) → ReadStops now whole fault
