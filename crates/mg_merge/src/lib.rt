@@ -18,5 +18,3 @@ mod writing;
 
 pub use merging::merge;
 
-#[cfg(test)]
-mod tests;
