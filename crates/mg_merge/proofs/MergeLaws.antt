@@ -18,7 +18,6 @@ use Rattle.mg_defs.specs.Stands.{head_of}
 use Rattle.mg_defs.specs.Summaries.{run_cap}
 use Rattle.mg_defs.proofs.HeadLaws.{one_head}
 use Rattle.mg_defs.proofs.StandLaws.{stand-tells}
-use Rattle.mg_laws.proofs.JoinLaws.{size_joined}
 use Rattle.mg_layout.specs.HeadAnswers.{fields_of}
 use Rattle.mg_layout.specs.Stands.{Stands, StandsBy, StandsIn, parts_at}
 use Rattle.mg_layout.specs.declared.head.Head as layout
@@ -60,13 +59,6 @@ sets_by files now first second a b one other same are both =
     let left = loaded_set files first a one both.first_stands are.first_is in
     let right = loaded_set files second b other both.second_stands are.second_is in
     subst (λ f. AreSetsBy one other f first second a b) (sym same) (record { first_code = left.0; second_code = right.0; first_stands = left.1; second_stands = right.1 })
-
--- their heads tell the bytes of both in one
-pub size_of_sets : (files : Option Files) (first second a b : List ℕ) (one other : layout.Head) → AreSetsBy one other files first second a b → joined_size (fields_of one) (fields_of other) ≡ length (join a b)
-size_of_sets files first second a b one other sets =
-    let left : fields_of one ≡ head_of one.version one.cap sets.first_code a = sets.first_stands.head_is in
-    let right : fields_of other ≡ head_of other.version other.cap sets.second_code b = sets.second_stands.head_is in
-    ap (λ h. joined_size h (fields_of other)) left ∙ ap (joined_size (head_of one.version one.cap sets.first_code a)) right ∙ sym (size_joined a b)
 
 -- two heads tell one size
 pub one_size : (files : Option Files) (first second : List ℕ) (one other : defs.Head) (size : ℕ) → AreHeads files first second one other → IsSizeByHeads files first second size → joined_size one other ≡ size

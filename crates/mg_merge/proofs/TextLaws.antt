@@ -17,19 +17,20 @@ use Rattle.mg_dev.specs.declared.show_err.ShowErr.{ShowErr}
 use Rattle.mg_dev.specs.declared.show_err.ShowErr.TheVariants as show
 use Rattle.mg_dev.specs.Bads.{IsNotBad}
 use Rattle.mg_defs.specs.CodedText.{TextCode}
-use Rattle.mg_defs.specs.Heads as defs
 use Rattle.mg_defs.specs.Join.{join}
 use Rattle.mg_defs.specs.Split.{documents, has_open_end}
 use Rattle.mg_laws.proofs.JoinLaws.{count_joined, documents_joined, end_joined, size_joined}
 use Rattle.mg_layout.specs.HeadAnswers.{fields_of}
 use Rattle.mg_layout.specs.Stands.{StandsBy}
 use Rattle.mg_layout.specs.declared.head.Head.{Head}
+use Rattle.mg_layout.specs.declared.head.Head as layout
+use Rattle.mg_defs.specs.Stands.{head_of}
 use Rattle.mg_text.specs.Decoding.{IsShowCaused}
 use Rattle.mg_text.specs.Reading.{IsTextReader, SameText, ShowIsNotBad, TextFits, TextReading, TextStands}
 use Rattle.mg_text.proofs.CallerLemmas.{text_stays}
 use Rattle.mg_merge.specs.Merging.{joined_size}
 use Rattle.mg_merge.specs.Stops.{IsDecodeCaused, ReadStops}
-use Rattle.mg_merge.specs.Texts.{AreTexts, IsSetBy, SameTexts, TextsFit, TextsStand, TwoTexts, close, closed_document, is_closed, numbered}
+use Rattle.mg_merge.specs.Texts.{AreSetsBy, AreTexts, IsSetBy, SameTexts, TextsFit, TextsStand, TwoTexts, close, closed_document, is_closed, numbered}
 use Rattle.mg_merge.proofs.JoinedLaws.{numbered_first, numbered_second}
 
 -- ---- one text
@@ -105,9 +106,13 @@ document_behind t files collection number fits high stand =
     sym (ap (numbered number) stand.joins ∙ numbered_second stand.a stand.b number (number - t.ahead) low place)
 
 -- a sink that was empty holds what was put to it
-pub held_after : (held doc : List ℕ) (before now : List ℕ) → before ≡ [] → Some now ≡ appended (Some before) doc → now ≡ doc
+pub held_all : (r : Result (Unit {0}) ShowErr) (before now doc wanted : List ℕ) → before ≡ [] → doc ≡ wanted → AfterPut (Some before) (Some now) doc r → OnOk r (now ≡ wanted)
 unfolding appended
-held_after held doc before now empty is = cc
+held_all (Ok done) before now doc wanted empty is after = inside now (before ++ doc) after ∙ ap (λ b. b ++ doc) empty ∙ is
+  where
+    inside : (x y : List ℕ) → Some x ≡ Some y → x ≡ y
+    inside x y same = cc
+held_all (Err refusal) before now doc wanted empty is after = tt
 
 -- with the byte that closes it
 pub with_close : (closed : Bool) (doc : List ℕ) → closed ≡ true → doc ++ 2 ∷ [] ≡ doc ++ close closed
@@ -120,6 +125,15 @@ pub closes : (t : TwoTexts) (files : Option Files) (collection held now : List �
 closes t files collection held now closed number fits is held_is now_is stand =
     now_is ∙ ap (λ h. h ++ close closed) held_is ∙ ap (λ c. numbered number collection ++ close c)
     (is ∙ ap (λ n. is_closed number n t.open_end) (documents_of_texts t files collection fits stand) ∙ ap (is_closed number (length (documents collection))) (end_of_texts t files collection stand))
+
+-- ---- heads
+
+-- their heads tell the bytes of both in one
+pub size_of_sets : (files : Option Files) (first second a b : List ℕ) (one other : layout.Head) → AreSetsBy one other files first second a b → joined_size (fields_of one) (fields_of other) ≡ length (join a b)
+size_of_sets files first second a b one other sets =
+    let left : fields_of one ≡ head_of one.version one.cap sets.first_code a = sets.first_stands.head_is in
+    let right : fields_of other ≡ head_of other.version other.cap sets.second_code b = sets.second_stands.head_is in
+    ap (λ h. joined_size h (fields_of other)) left ∙ ap (joined_size (head_of one.version one.cap sets.first_code a)) right ∙ sym (size_joined a b)
 
 -- ---- causes
 

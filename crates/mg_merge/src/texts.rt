@@ -89,22 +89,22 @@ impl<'a, S: Store> Texts<'a, S> {
         ensures later { S.faults store.old ≤ S.faults store.new }
         ensures refused { IfErr result (ReadStops (Rose (S.faults store.old) (S.faults store.new)) (AreSomeSetsBy heads.now.0 heads.now.1 (S.files store.old) first.entry.now second.entry.now)) }
     {
-        let (one, other) = (&heads.0, &heads.1);
-        let before = match load_text(alloc, store, first, one) {
+        let before = match load_text(alloc, store, first, &heads.0) {
             Ok(reader) => reader,
             Err(refusal) => return Err(refusal),
         };
-        let behind = match load_text(alloc, store, second, other) {
+        let behind = match load_text(alloc, store, second, &heads.1) {
             Ok(reader) => reader,
             Err(refusal) => return Err(refusal),
         };
+        let size = joined_size(&heads.0, &heads.1);
         Ok(Texts {
             first: before,
             second: behind,
-            ahead: one.documents,
-            all: one.documents + other.documents,
-            open_end: other.open_end,
-            size: joined_size(one, other),
+            ahead: heads.0.documents,
+            all: heads.0.documents + heads.1.documents,
+            open_end: heads.1.open_end,
+            size,
             held: Document::new(alloc),
         })
     }
@@ -151,9 +151,10 @@ impl<'a, S: Store> Texts<'a, S> {
             return Ok(());
         }
         match self.held.close() {
-            Ok(()) => Ok(()),
-            Err(_) => Err(Fault::Memory),
+            Ok(()) => {}
+            Err(_) => return Err(Fault::Memory),
         }
+        Ok(())
     }
 
     // Decodes a document, as it is.
@@ -171,15 +172,9 @@ impl<'a, S: Store> Texts<'a, S> {
     {
         self.held.clear();
         if number <= self.ahead {
-            match self.first.doc(store, number, &mut self.held) {
-                Ok(()) => Ok(()),
-                Err(refusal) => Err(refusal),
-            }
-        } else {
-            match self.second.doc(store, number - self.ahead, &mut self.held) {
-                Ok(()) => Ok(()),
-                Err(refusal) => Err(refusal),
-            }
+            return self.first.doc(store, number, &mut self.held);
         }
+        let behind = number - self.ahead;
+        self.second.doc(store, behind, &mut self.held)
     }
 }

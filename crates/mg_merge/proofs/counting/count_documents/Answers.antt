@@ -16,3 +16,10 @@ loop-index-init g c = record {
   later = omega arith;
   counted = ([], given_nothing _ _ _ c.size-size.ensures, c.requires.nothing);
 }
+
+pub returns-in-Err-clause-refused : goal.returns-in-Err-clause-refused
+returns-in-Err-clause-refused g c =
+    let so_far = c.loop-index.invariant in
+    read_counts _ _ _ _ c.in-Err.refusal (λ rose. rose_behind _ _ _ so_far.later rose)
+    (λ collection stand. (collection, texts_stand_on c.args.texts.now c.loop-index.texts (g.S.Store.files c.args.store.now) (g.S.Store.files c.loop-index.store) collection so_far.same so_far.files stand))
+    c.in-Err.ensures.refused

@@ -12,9 +12,10 @@ use Rattle.mg_make.specs.declared.summary.Summary.{Summary}
 use Rattle.mg_merge.specs.Merging.{BothStand, Left, joined_size, most_bytes}
 use Rattle.mg_merge.specs.Stops.{AreHeads}
 use Rattle.mg_merge.specs.Texts.{TextsStand}
-use Rattle.mg_merge.proofs.MergeLaws.{apart_of, both_in, cap_of, cause_all, documents_all, done_all, early_at, one_size, pieces_all, refused_other, sets_by, size_of_sets}
+use Rattle.mg_merge.proofs.MergeLaws.{apart_of, both_in, cap_of, cause_all, documents_all, done_all, early_at, one_size, pieces_all, refused_other, sets_by}
 use Rattle.mg_merge.proofs.PassLaws.{others_none, rose_behind}
 use Rattle.mg_merge.proofs.StopLaws.{heads_cause, heads_of_both, heads_only, none_missing, only_done, only_refused, read_cause, read_only}
+use Rattle.mg_merge.proofs.TextLaws.{size_of_sets}
 use Rattle.mg_merge.proofs.merging.merge.Goals as goal
 
 -- ---- the heads were not loaded
