@@ -27,7 +27,7 @@ more_behind fed bytes more i byte is =
 -- ---- documents
 
 pub given_nothing : (t : TwoTexts) (files : Option Files) (left : ℕ) → left ≡ t.size → AreGiven t files 0 left []
-given_nothing t files left is = record { size = is; told = λ collection stand. given_none collection }
+given_nothing t files left is = record { size = omega (arith, is); told = λ collection stand. given_none collection }
 
 pub first_next : (t : TwoTexts) (files : Option Files) (collection fed held : List ℕ) (i left : ℕ) → TextsFit t files → i < t.all → AreGiven t files i left fed → TextsStand t files collection → held ≡ closed_document (i + 1) collection → AreFirst (i + 1) (fed ++ held) collection
 first_next t files collection fed held i left fits more given stand is =

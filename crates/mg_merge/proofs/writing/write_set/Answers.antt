@@ -185,3 +185,8 @@ returns-clause-refused g c =
         = subst (λ plan. IsPlanOf plan fed) (sym (c.in-Ok-put_documents.ensures.plan ∙ c.in-Ok.ensures.plan)) (subst (IsPlanOf c.args.plan.now) (sym all) some.2) in
         (told, planned))
     c.retold.ensures (c.in-Err-finish.ensures.refused c.in-Ok-put_documents.ensures.put.0 c.in-Ok-put_documents.ensures.put.2)
+
+pub finish-requires : goal.finish-requires
+finish-requires g c =
+    let put = c.in-Ok-put_documents.ensures.put in
+    record { put = (put.0, put.2, omega (arith, put.1.size, c.in-Ok-put_documents.ensures.few)) }
