@@ -139,10 +139,10 @@ fn same_parts(store: &MemStore) -> bool {
 fn a_merged_set_is_the_one_that_is_built_of_both(rt: HostRuntime) -> Result<(), Fail> {
     let alloc = rt.alloc();
     for row in ROWS {
-        let mut store = sets(alloc, row.first, row.second, 16_777_216)?;
+        let mut store = sets(alloc, row.first, row.second, 4096)?;
         let merged = merge(alloc, &mut store, "one", "other", "new");
         assert!(rt; merged.is_ok(), "{merged:?}");
-        let whole = make(alloc, &mut store, row.both, "whole", 16_777_212);
+        let whole = make(alloc, &mut store, row.both, "whole", 4096);
         assert_eq!(rt; merged, whole);
         assert!(rt; same_parts(&store));
         let (out, status) = decoded(alloc, &mut store, "new");
@@ -263,7 +263,7 @@ fn a_call_that_fails_leaves_both_sets_and_no_half_of_the_new_one(
     let begin = whole.calls();
     assert!(rt; merge(alloc, &mut whole, "one", "other", "new").is_ok());
     let end = whole.calls();
-    assert!(rt; end.saturating_sub(begin) > 60);
+    assert!(rt; end.saturating_sub(begin) > 40);
     for call in begin..end {
         let mut store = sets(alloc, EIGHT, LETTERS, 4096)?;
         store.fail_from(call);

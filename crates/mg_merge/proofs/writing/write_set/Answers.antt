@@ -145,8 +145,8 @@ pub retold-requires : goal.retold-requires
 retold-requires g c =
     list_differs _ _ c.in-Err-finish.refusal (c.in-Err-finish.ensures.refused c.in-Ok-put_documents.ensures.put.0 c.in-Ok-put_documents.ensures.put.2)
 
-pub returns-clause-left : goal.returns-clause-left
-returns-clause-left g c = λ collection stand is.
+pub returns-in-Err-finish-clause-left : goal.returns-in-Err-finish-clause-left
+returns-in-Err-finish-clause-left g c = λ collection stand is.
     let fed = c.in-Ok-put_documents.ensures.put.0 in
     let given : AreAllGiven c.args.texts.now (g.S.Store.files c.start.new.store) fed = c.in-Ok-put_documents.ensures.put.1 in
     let has : HasPut c.put_documents.new.writer (g.S.Store.files c.put_documents.new.store) fed = c.in-Ok-put_documents.ensures.put.2 in
@@ -162,14 +162,14 @@ returns-clause-left g c = λ collection stand is.
     inr (subst (λ bytes. StandsForNone (g.S.Store.files c.finish.new.store) c.args.base.now ⊎ Stands (g.S.Store.files c.finish.new.store) c.args.base.now bytes) all
     (subst (λ b. StandsForNone (g.S.Store.files c.finish.new.store) b ⊎ Stands (g.S.Store.files c.finish.new.store) b fed) base (c.in-Err-finish.ensures.left fed told has planned)))
 
-pub returns-clause-others : goal.returns-clause-others
-returns-clause-others g c =
+pub returns-in-Err-finish-clause-others : goal.returns-in-Err-finish-clause-others
+returns-in-Err-finish-clause-others g c =
     others_more c.args.base.now _ _ _ c.in-Ok.ensures.others
     (others_more c.args.base.now _ _ _ (subst (λ base. OthersSame base (g.S.Store.files c.start.new.store) (g.S.Store.files c.put_documents.new.store)) c.in-Ok.ensures.base c.in-Ok-put_documents.ensures.others)
     (subst (λ base. OthersSame base (g.S.Store.files c.put_documents.new.store) (g.S.Store.files c.finish.new.store)) (c.in-Ok-put_documents.ensures.base ∙ c.in-Ok.ensures.base) c.in-Err-finish.ensures.others))
 
-pub returns-clause-refused : goal.returns-clause-refused
-returns-clause-refused g c =
+pub returns-in-Err-finish-clause-refused : goal.returns-in-Err-finish-clause-refused
+returns-in-Err-finish-clause-refused g c =
     finish_stops (Rose (g.S.Store.faults c.put_documents.new.store) (g.S.Store.faults c.finish.new.store)) _ _ _ c.in-Err-finish.refusal c.retold.result
     (λ rose. rose_behind _ _ _ (omega (arith, c.in-Ok.ensures.cause.later, c.in-Ok-put_documents.ensures.later)) rose)
     (λ some.
