@@ -17,4 +17,3 @@ mod texts;
 mod writing;
 
 pub use merging::merge;
-

@@ -80,16 +80,10 @@ const NARROW: [(&str, &[u8]); 11] = [
     ("one.nonwords", b"\x01 \x01"),
     ("one.text", b"\xc8\0"),
     ("one.places", b"\0\0\0\0\0\0\0\x02"),
-    (
-        "one.lex",
-        b"\x01a\0\0\0\x01\0\0\0\0\0\0\0\0\0\0\0\0",
-    ),
+    ("one.lex", b"\x01a\0\0\0\x01\0\0\0\0\0\0\0\0\0\0\0\0"),
     ("one.lexat", b"\0\0\0\0"),
     ("one.post", b"`"),
-    (
-        "one.skip",
-        b"\0\0\0\0\0\0\0\x01\0\0\0\0\0\0\0\0",
-    ),
+    ("one.skip", b"\0\0\0\0\0\0\0\x01\0\0\0\0\0\0\0\0"),
     ("one.weights", b"\0\0\x03\0"),
     ("one.run", b"\x18"),
 ];
@@ -153,9 +147,12 @@ fn a_merged_set_is_the_one_that_is_built_of_both(rt: HostRuntime) -> Result<(), 
 }
 
 #[test]
-fn the_numbers_are_those_of_both(rt: HostRuntime) -> Result<(), Fail> {
+fn sets_of_version_1_are_merged_with_the_cap_of_the_first(rt: HostRuntime) -> Result<(), Fail> {
     let alloc = rt.alloc();
-    let mut store = sets(alloc, EIGHT, LETTERS, 16_777_216)?;
+    let mut store = sets(alloc, EIGHT, LETTERS, 4096)?;
+    for (name, bytes) in NARROW {
+        store.put_file(name, bytes)?;
+    }
     assert_eq!(rt;
         merge(alloc, &mut store, "one", "other", "new"),
         Ok(Summary {
@@ -169,13 +166,13 @@ fn the_numbers_are_those_of_both(rt: HostRuntime) -> Result<(), Fail> {
             budget: 16_777_212,
         })
     );
-    // A set of version 1 in the place of the first one.
-    for (name, bytes) in NARROW {
-        store.put_file(name, bytes)?;
-    }
+    let (out, status) = decoded(alloc, &mut store, "new");
+    assert!(rt; status == Ok(()) && out.bytes() == BOTH);
+    let budget = merge(alloc, &mut store, "other", "one", "new").map(|summary| summary.budget);
+    assert_eq!(rt; budget, Ok(4096));
     assert!(rt; merge(alloc, &mut store, "one", "one", "new").is_ok());
-    assert!(rt; make(alloc, &mut store, b"a a a a \x02a a a a ", "whole", 16_777_212).is_ok());
-    assert!(rt; same_parts(&store));
+    let (out, status) = decoded(alloc, &mut store, "new");
+    assert!(rt; status == Ok(()) && out.bytes() == b"a a a a \x02a a a a ".as_slice());
     Ok(())
 }
 
@@ -193,8 +190,7 @@ fn three_sets_are_merged_in_either_order(rt: HostRuntime) -> Result<(), Fail> {
     assert_eq!(rt; status, Ok(()));
     assert!(rt;
         out.bytes()
-            == b"the cat sat\n\x02the dog\n\x02Cat, cat & dog!\n\x02a a a a \x02dog\x02\x02cat"
-                .as_slice()
+            == b"the cat sat\n\x02the dog\n\x02Cat, cat & dog!\n\x02a a a a \x02dog\x02\x02cat".as_slice()
     );
     Ok(())
 }
@@ -214,7 +210,10 @@ fn what_can_not_be_merged_is_refused_before_a_file_is_written(rt: HostRuntime) -
     }
     // The first head is damaged: that the second one is missing comes first.
     store.put_file("one.head", b"MGROW")?;
-    assert_eq!(rt; merge(alloc, &mut store, "one", "none", "new"), Err(Fault::NotBuilt));
+    assert_eq!(rt;
+        merge(alloc, &mut store, "one", "none", "new"),
+        Err(Fault::NotBuilt)
+    );
     let bad = Bad {
         part: Part::Head,
         at: 0,
@@ -222,7 +221,10 @@ fn what_can_not_be_merged_is_refused_before_a_file_is_written(rt: HostRuntime) -
         high: 64,
         found: 5,
     };
-    assert_eq!(rt; merge(alloc, &mut store, "one", "other", "new"), Err(Fault::Damaged(bad)));
+    assert_eq!(rt;
+        merge(alloc, &mut store, "one", "other", "new"),
+        Err(Fault::Damaged(bad))
+    );
     assert!(rt; store.file("new.head").is_none());
     Ok(())
 }

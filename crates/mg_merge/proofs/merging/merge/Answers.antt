@@ -1,4 +1,4 @@
-use Rattle.std.proofs.Common.{arith, ◌≡◌, ◌≤◌, ◌<◌, ◌∙◌, length, [], inl, inr, refl, sym, ap, subst, Err, Some, IsSome}
+use Rattle.std.proofs.Common.{arith, ◌≡◌, ◌≢◌, ◌≤◌, ◌<◌, ◌∙◌, length, [], inl, inr, refl, rules, sym, ap, subst, Err, Some, IsSome}
 use Rattle.std.specs.Prelude.{IfOk, OnOk}
 use Rattle.mg_dev.specs.Causes.{Rose}
 use Rattle.mg_dev.specs.declared.fault.Fault.TheVariants as fault
@@ -203,3 +203,9 @@ returns-clause-complete g c = λ a b both one two limits never.
 
 pub merge_texts-requires-clause-apart : goal.merge_texts-requires-clause-apart
 merge_texts-requires-clause-apart g c = apart_of c.args.new.now c.args.first.now c.args.second.now c.in-Ok-load.texts c.names_apart.ensures.bases (search rules) (search rules) c.in-Ok-load.ensures.of
+
+pub returns-clause-same_name : goal.returns-clause-same_name
+returns-clause-same_name g c = λ same.
+    let one : c.args.new.now ≢ c.args.first.now = search rules in
+    let other : c.args.new.now ≢ c.args.second.now = search rules in
+    elim same [ inl is ↦ absurd (one is) | inr is ↦ absurd (other is) ]

@@ -138,10 +138,10 @@ returns-in-Err-put_document-clause-refused g c =
     let rose = Rose (g.S.Store.faults c.read.new.store) (g.S.Store.faults c.put_document.new.store) in
     put_stops rose _ _ c.args.writer.now.plan (λ more. fed ++ (held ++ more)) c.in-Err-put_document.refusal c.retold.result (λ rises. rose_behind _ _ _ (omega (arith, so_far.later, c.in-Ok.ensures.later)) rises) short
     (λ some.
-        let rest = joined (drop (c.loop-index.index + 1) (documents some.0)) (has_open_end some.0) in
-        let whole : fed ++ (held ++ rest) ≡ some.0
-        = sym (append_assoc fed held rest) ∙ first_next texts before some.0 fed held c.loop-index.index c.loop-index.left c.requires.fits more given some.1 (is some.0 some.1) in
-        (rest, subst (λ n. n < 2 ^ 32) (some.1.size ∙ sym (ap length whole)) c.requires.fits.few, subst (IsPlanOf c.args.writer.now.plan) (sym whole) some.2))
+    let rest = joined (drop (c.loop-index.index + 1) (documents some.0)) (has_open_end some.0) in
+    let whole : fed ++ (held ++ rest) ≡ some.0
+    = sym (append_assoc fed held rest) ∙ first_next texts before some.0 fed held c.loop-index.index c.loop-index.left c.requires.fits more given some.1 (is some.0 some.1) in
+    (rest, subst (λ n. n < 2 ^ 32) (some.1.size ∙ sym (ap length whole)) c.requires.fits.few, subst (IsPlanOf c.args.writer.now.plan) (sym whole) some.2))
     c.retold.ensures
     (λ more few. subst (λ plan. SecondStops rose (IsPlanOf plan (fed ++ (held ++ more))) c.in-Err-put_document.refusal) so_far.plan (c.in-Err-put_document.ensures.refused fed more has few))
 

@@ -173,17 +173,17 @@ returns-in-Err-finish-clause-refused g c =
     finish_stops (Rose (g.S.Store.faults c.put_documents.new.store) (g.S.Store.faults c.finish.new.store)) _ _ _ c.in-Err-finish.refusal c.retold.result
     (λ rose. rose_behind _ _ _ (omega (arith, c.in-Ok.ensures.cause.later, c.in-Ok-put_documents.ensures.later)) rose)
     (λ some.
-        let fed = c.in-Ok-put_documents.ensures.put.0 in
-        let given : AreAllGiven c.args.texts.now (g.S.Store.files c.start.new.store) fed = c.in-Ok-put_documents.ensures.put.1 in
-        let has : HasPut c.put_documents.new.writer (g.S.Store.files c.put_documents.new.store) fed = c.in-Ok-put_documents.ensures.put.2 in
-        let later : TextsStand c.args.texts.now (g.S.Store.files c.start.new.store) some.0
-        = texts_stay c.args.base.now c.args.texts.now c.args.texts.now (g.S.Store.files c.args.store.now) (g.S.Store.files c.start.new.store) some.0 c.requires.apart (texts_none c.args.texts.now) c.in-Ok.ensures.others some.1 in
-        let all : fed ≡ some.0 = given.told some.0 later in
-        let told : IsSome (g.S.Store.files c.put_documents.new.store)
-        = still_told (g.S.Store.files c.start.new.store) _ c.in-Ok-put_documents.ensures.others.told (still_told (g.S.Store.files c.args.store.now) _ c.in-Ok.ensures.others.told some.1.first.told) in
-        let planned : IsPlanOf c.put_documents.new.writer.plan fed
-        = subst (λ plan. IsPlanOf plan fed) (sym (c.in-Ok-put_documents.ensures.plan ∙ c.in-Ok.ensures.plan)) (subst (IsPlanOf c.args.plan.now) (sym all) some.2) in
-        (told, planned))
+    let fed = c.in-Ok-put_documents.ensures.put.0 in
+    let given : AreAllGiven c.args.texts.now (g.S.Store.files c.start.new.store) fed = c.in-Ok-put_documents.ensures.put.1 in
+    let has : HasPut c.put_documents.new.writer (g.S.Store.files c.put_documents.new.store) fed = c.in-Ok-put_documents.ensures.put.2 in
+    let later : TextsStand c.args.texts.now (g.S.Store.files c.start.new.store) some.0
+    = texts_stay c.args.base.now c.args.texts.now c.args.texts.now (g.S.Store.files c.args.store.now) (g.S.Store.files c.start.new.store) some.0 c.requires.apart (texts_none c.args.texts.now) c.in-Ok.ensures.others some.1 in
+    let all : fed ≡ some.0 = given.told some.0 later in
+    let told : IsSome (g.S.Store.files c.put_documents.new.store)
+    = still_told (g.S.Store.files c.start.new.store) _ c.in-Ok-put_documents.ensures.others.told (still_told (g.S.Store.files c.args.store.now) _ c.in-Ok.ensures.others.told some.1.first.told) in
+    let planned : IsPlanOf c.put_documents.new.writer.plan fed
+    = subst (λ plan. IsPlanOf plan fed) (sym (c.in-Ok-put_documents.ensures.plan ∙ c.in-Ok.ensures.plan)) (subst (IsPlanOf c.args.plan.now) (sym all) some.2) in
+    (told, planned))
     c.retold.ensures (c.in-Err-finish.ensures.refused c.in-Ok-put_documents.ensures.put.0 c.in-Ok-put_documents.ensures.put.2)
 
 pub finish-requires : goal.finish-requires
