@@ -70,9 +70,12 @@ fn weight_of_count(freq: u32) -> u32
     ensures is { result ≡ weight_in_doc freq }
     ensures high { result < 2 ^ 15 }
 {
-    // Most documents have a term once, and its logarithm needs no digits.
+    // Most documents have a term once or twice, and these logarithms need no digits.
     if freq == 1 {
         return 256;
+    }
+    if freq == 2 {
+        return 512;
     }
     doc_term_weight(freq)
 }
@@ -116,6 +119,11 @@ pub(crate) fn add_list<S: Store>(
         Ok(weight) => weight,
         Err(refusal) => return Err(refusal),
     };
+    // No document stands twice in a list, so at least as many sums are to come.
+    match sums.make_room(info.docs) {
+        Ok(()) => {}
+        Err(_lack) => return Err(PartErr::Memory),
+    }
     let mut cursor = match Cursor::start(alloc, base, info, all) {
         Ok(cursor) => cursor,
         Err(_lack) => return Err(PartErr::Memory),

@@ -6,7 +6,7 @@ use Rattle.mg_defs.specs.PageBounds.{numbers_in}
 use Rattle.mg_post.specs.TermLists.{ListsStand}
 use Rattle.mg_rank.specs.Sums.{AreApart, AreWithin, sum_of}
 use Rattle.mg_rank.proofs.Adding.{apart_more, within_more}
-use Rattle.mg_rank.proofs.SumLaws.{bounded_start, bounded_next, head_sound, none_at, walk_start, walk_next, walk_end}
+use Rattle.mg_rank.proofs.SumLaws.{Bounded, Walking, bounded_start, bounded_next, head_sound, none_at, walk_start, walk_next, walk_end}
 use Rattle.mg_defs.specs.Weights.{wt}
 use Rattle.mg_rank.proofs.WalkLaws.{for_within, weight_of, list_later, told, or_list}
 use Rattle.mg_rank.proofs.list.add_list.Goals as goal
@@ -22,10 +22,10 @@ loop-last-init g c = record {
   files = refl;
   reads = record { later = λ p. omega arith; others = λ p a b. refl };
   faults = omega arith;
-  bounded = λ n small. bounded_start n c.args.sums.now small;
-  within = λ h. h;
-  apart = λ h. h;
-  walk = λ collection t done stand i all_is s. walk_start collection done t c.args.sums.now s;
+  bounded = λ n small. subst (Bounded n 0) (sym c.make_room.ensures) (bounded_start n c.args.sums.now small);
+  within = λ h. subst (AreWithin c.args.all) (sym c.make_room.ensures) h;
+  apart = λ h. subst AreApart (sym c.make_room.ensures) h;
+  walk = λ collection t done stand i all_is s. subst (Walking collection done t 0) (sym c.make_room.ensures) (walk_start collection done t c.args.sums.now s);
   list = λ collection t stand i all_is. c.in-Ok-start.ensures.term collection (numbers_in (postings collection t)) t 0 i all_is;
   post = λ collection t stand i all_is. omega arith;
 }
