@@ -12,3 +12,4 @@ mod TriedLaws
 mod NothingDone
 mod Asked
 mod MigratedLaws
+mod MergedLaws

@@ -9,3 +9,4 @@ pub mod Trials
 pub mod Tried
 pub mod Does
 pub mod Migrated
+pub mod Merged
