@@ -22,6 +22,7 @@ import damages
 import files
 import installed
 import manual
+import merges
 import pages
 from kinds import Draws, cases
 
@@ -194,7 +195,7 @@ def long_input(suite):
 
 PARTS = [rows, stored, words, devices, large_collection]
 SLOW = [long_input]
-for module in (files, builds, damages, manual, collect, installed, pages):
+for module in (files, builds, merges, damages, manual, collect, installed, pages):
     PARTS += module.PARTS
     SLOW += getattr(module, "SLOW", [])
 
