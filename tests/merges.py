@@ -16,7 +16,7 @@ from texts import Collection
 
 A = b"a a a a "
 ROWS = b"documents 4\nwords 6\nothers 5\nterms 5\noccurrences 12\nruns 1\npool 144 of 16777212\n"
-SAME = (16, b"", b"mg: a set is not made from itself\n")
+SAME = (16, b"", b"mg: both names are the same\n")
 
 
 def joined(first, second):
