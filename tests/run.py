@@ -22,7 +22,9 @@ import damages
 import files
 import installed
 import manual
+import merges
 import pages
+import phrases
 from kinds import Draws, cases
 
 EXPECTED = pathlib.Path(__file__).parent / "expected"
@@ -194,7 +196,7 @@ def long_input(suite):
 
 PARTS = [rows, stored, words, devices, large_collection]
 SLOW = [long_input]
-for module in (files, builds, damages, manual, collect, installed, pages):
+for module in (files, builds, merges, phrases, damages, manual, collect, installed, pages):
     PARTS += module.PARTS
     SLOW += getattr(module, "SLOW", [])
 

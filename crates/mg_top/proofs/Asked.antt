@@ -3,11 +3,12 @@ use Rattle.std.proofs.Common.{◌≡◌, ℕ, List, Option, Some, sym, subst}
 use Rattle.mg_dev.specs.declared.fault.Fault.{Fault}
 use Rattle.mg_dev.specs.declared.fault.Fault.TheVariants.{Usage}
 use Rattle.mg_dev.specs.declared.status.Status.{Status}
-use Rattle.mg_words.specs.Tasks.{Task, build, decode, migrate, trial}
+use Rattle.mg_words.specs.Tasks.{Task, build, decode, migrate, merge, trial}
 use Rattle.mg_top.specs.Ends.{IfStopped, ToldWhy}
 use Rattle.mg_top.specs.Runs.{Run, Stops}
 use Rattle.mg_top.specs.Built.{Built}
 use Rattle.mg_top.specs.Decoded.{Decoded}
+use Rattle.mg_top.specs.Merged.{Merged}
 use Rattle.mg_top.specs.Migrated.{Migrated}
 use Rattle.mg_top.specs.Tried.{Tried}
 use Rattle.mg_top.specs.Does.{Does, Ran}
@@ -44,5 +45,13 @@ pub ran_migrate : (task : Option Task) (name new : List ℕ) (run : Run) → tas
 ran_migrate task name new run is migrated told = record {
   usage = λ stops. absurd (no_usage run _ migrated.cause (λ bad. bad) stops);
   does = subst (λ (t : Option Task). Does t run) (sym is) migrated;
+  told = told;
+}
+
+pub ran_merge : (task : Option Task) (first second new : List ℕ) (run : Run) → task ≡ Some (merge first second new) → Merged first second new run
+    → ToldWhy run.status run.err.written run.err_now.written run.err.faults run.err_now.faults run.err.lacks run.err_now.lacks → Ran task run
+ran_merge task first second new run is merged told = record {
+  usage = λ stops. absurd (no_usage run _ merged.cause (λ bad. bad) stops);
+  does = subst (λ (t : Option Task). Does t run) (sym is) merged;
   told = told;
 }

@@ -36,7 +36,7 @@ use Rattle.mg_top.specs.Lines.{pool_line, summary_lines}
 use Rattle.mg_top.proofs.Endings.{status_of, unless_by, only_lacks}
 use Rattle.mg_top.proofs.Grown.{put_grew}
 
-text_of_summary : (budget : ℕ) (collection : List ℕ) → summary_lines (summary_of budget collection) ≡ summary_text collection budget
+pub text_of_summary : (budget : ℕ) (collection : List ℕ) → summary_lines (summary_of budget collection) ≡ summary_text collection budget
 unfolding summary_lines summary_text pool_line
 text_of_summary budget collection = refl
 

@@ -13,3 +13,4 @@ mod TriedLaws
 mod NothingDone
 mod Asked
 mod MigratedLaws
+mod MergedLaws

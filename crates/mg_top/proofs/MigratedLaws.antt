@@ -99,7 +99,7 @@ put_stops (Ok u) s files name new before now has = tt
 put_stops (Err put.Failed) s files name new before now has = has.failed refl
 put_stops (Err put.Memory) s files name new before now has = tt
 
-in_stands : (version cap : ℕ) (files : Option Files) (name collection : List ℕ) → StandsIn version cap files name collection → Stands files name collection
+pub in_stands : (version cap : ℕ) (files : Option Files) (name collection : List ℕ) → StandsIn version cap files name collection → Stands files name collection
 in_stands version cap files name collection is = record { told = is.told; stand = record { version = version; cap = cap; code = is.code; are = is.are } }
 
 module _ (name new : List ℕ) (run : Run) (n : ℕ) (w : Result (Unit {0}) PutErr) (is : run.status ≡ status_of_put w) (input : run.input_now ≡ run.input)

@@ -11,10 +11,12 @@ use Rattle.mg_dev.specs.declared.fault.Fault.TheVariants.{Usage, WriteFault, Mem
 use Rattle.mg_dev.specs.declared.status.Status.{Status}
 use Rattle.mg_dev.specs.declared.status.Status.TheVariants.{Done, Stopped}
 use Rattle.mg_defs.specs.Generator.{made_collection}
+use Rattle.mg_defs.specs.Join.{join}
 use Rattle.mg_defs.specs.PhraseSession.{phrase_session}
 use Rattle.mg_defs.specs.Replies.{session}
 use Rattle.mg_defs.specs.Summaries.{summary_text, trial_text}
 use Rattle.mg_make.specs.Putting.{OthersSame}
+use Rattle.mg_merge.specs.Merging.{budget_of}
 use Rattle.mg_session.specs.Serves as serves
 use Rattle.mg_plain.specs.Scans.{StopsFor}
 use Rattle.mg_build.specs.Outcomes.{DecodeStops}
@@ -23,6 +25,7 @@ use Rattle.mg_top.specs.Ends.{IfStopped, ToldWhy}
 use Rattle.mg_top.specs.Runs.{Run, SaysNothing, KeepsFiles, Stops, StoreFailed, InputFailed, OutputFailed}
 use Rattle.mg_top.specs.Built.{Built, BuildStops, collection_of}
 use Rattle.mg_top.specs.Decoded.{Decoded}
+use Rattle.mg_top.specs.Merged.{Merged, MergeStops}
 use Rattle.mg_top.specs.Migrated.{Migrated, MigrateStops, documents_line}
 use Rattle.mg_top.specs.Phrased.{Phrased}
 use Rattle.mg_top.specs.Queried.{Queried}
@@ -159,6 +162,26 @@ module _ (run : Run) (stops : Stops run Memory) (store : run.store_now ≡ run.s
     input = input;
   }
 
+  merged : (a b m : List ℕ) → Merged a b m run
+  merged a b m = record {
+    done = λ version cap c d one two is. absurd (not_done is);
+    printed = λ version cap c d one two is. absurd (not_done is);
+    prefix = λ version cap c d one two. prefix (summary_text (join c d) (budget_of cap));
+    silent = λ fault early is. silent;
+    unchanged = λ fault early is. files;
+    kept = λ version cap c d one two is. absurd (not_write is);
+    left = λ c d stand. inl files;
+    others = same_files m;
+    cause = caused (MergeStops (StoreFailed run) (OutputFailed run) run.store.files a b m) tt;
+    same = λ is. inr stops;
+    missing = λ told one two none. inr (inr stops);
+    large = λ size told one two by more. inr (inr stops);
+    documents = λ c d stand one two few passes. inr (inr stops);
+    pieces = λ c d stream word stand one two few passes. inr (inr stops);
+    complete = λ c d stand one two within no_store no_output. inr stops;
+    input = input;
+  }
+
   tried : (seed docs : ℕ) → Tried seed docs run
   tried seed docs = record {
     done = λ is. absurd (not_done is);
@@ -184,7 +207,7 @@ module _ (run : Run) (stops : Stops run Memory) (store : run.store_now ≡ run.s
   nothing_done (Some (check n)) = not_understood
   nothing_done (Some (wild n)) = not_understood
   nothing_done (Some (phrase n)) = phrased n
-  nothing_done (Some (merge a b c)) = not_understood
+  nothing_done (Some (merge a b c)) = merged a b c
 
   -- memory was wanting before the words were read
   pub ran_nothing : (task : Option Task) → ToldWhy run.status run.err.written run.err_now.written run.err.faults run.err_now.faults run.err.lacks run.err_now.lacks → Ran task run

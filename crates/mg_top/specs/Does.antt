@@ -2,11 +2,12 @@
 use Rattle.std.specs.Prelude.{◌≡◌, ◌⊎◌, Some, None}
 use Rattle.std.specs.declared.option.Option.{Option}
 use Rattle.mg_dev.specs.declared.fault.Fault.TheVariants.{Usage, Memory}
-use Rattle.mg_words.specs.Tasks.{Task, build, query, decode, scan, migrate, trial, phrase}
+use Rattle.mg_words.specs.Tasks.{Task, build, query, decode, scan, migrate, merge, trial, phrase}
 use Rattle.mg_top.specs.Ends.{ToldWhy}
 use Rattle.mg_top.specs.Runs.{Run, Stops}
 use Rattle.mg_top.specs.Built.{Built}
 use Rattle.mg_top.specs.Decoded.{Decoded}
+use Rattle.mg_top.specs.Merged.{Merged}
 use Rattle.mg_top.specs.Migrated.{Migrated}
 use Rattle.mg_top.specs.Phrased.{Phrased}
 use Rattle.mg_top.specs.Queried.{Queried}
@@ -27,6 +28,7 @@ built (Some (query name)) = Some (query name)
 built (Some (decode name)) = Some (decode name)
 built (Some (scan name)) = Some (scan name)
 built (Some (migrate name new)) = Some (migrate name new)
+built (Some (merge first second new)) = Some (merge first second new)
 built (Some (trial seed docs)) = Some (trial seed docs)
 built (Some (phrase name)) = Some (phrase name)
 built other = None
@@ -38,6 +40,7 @@ Does (Some (query name)) run = Queried name run
 Does (Some (decode name)) run = Decoded name run
 Does (Some (scan name)) run = Scanned name run
 Does (Some (migrate name new)) run = Migrated name new run
+Does (Some (merge first second new)) run = Merged first second new run
 Does (Some (trial seed docs)) run = Tried seed docs run
 Does (Some (phrase name)) run = Phrased name run
 Does other run = NotUnderstood run

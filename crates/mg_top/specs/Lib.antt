@@ -10,3 +10,4 @@ pub mod Trials
 pub mod Tried
 pub mod Does
 pub mod Migrated
+pub mod Merged

@@ -5,13 +5,14 @@
 //! the devices told and counted before the run and after it, and the status. It is generic over the
 //! store, the input and the outputs; tests run it over devices in memory, the program over files and
 //! standard streams. Built so far: `build`, `query`, `decode`, `scan`,
-//! `migrate`, `phrase` and `trial`, of which [`trial`] is the work over any store.
+//! `phrase`, `migrate`, `merge` and `trial`, of which [`trial`] is the work over any store.
 #![tactic(auto)]
 
 mod building;
 mod comparing;
 mod decoding;
 mod lines;
+mod merging;
 mod migrating;
 mod phrasing;
 mod querying;

@@ -1,0 +1,77 @@
+"""Sets that the program makes of two sets: their parts, their summaries, and what is refused.
+
+The reference (`reference/`) decides of every part whether it is that of both collections in one.
+"""
+
+import pathlib
+import sys
+
+sys.path.insert(0, str(pathlib.Path(__file__).parent / "reference"))
+
+from files import BUDGET, K, put_set, remove
+from kinds import cases
+from parts import Damaged, summary
+from standing import check, read_parts
+from texts import Collection
+
+A = b"a a a a "
+ROWS = b"documents 4\nwords 6\nothers 5\nterms 5\noccurrences 12\nruns 1\npool 144 of 16777212\n"
+SAME = (16, b"", b"mg: both names are the same\n")
+
+
+def joined(first, second):
+    """The bytes of both, with the one that closes an open last document of the first."""
+    return first + (b"\x02" if first and not first.endswith(b"\x02") else b"") + second
+
+
+def merged(suite, name, first, second, versions=(2, 2), budget=BUDGET):
+    """Merges two sets, and compares all that is printed and left with the reference."""
+    put_set(suite, "a", first, versions[0])
+    put_set(suite, "b", second, versions[1])
+    whole = joined(first, second)
+    # The pool has as many entries again as the first set's, so at least 4,096 bytes.
+    pool = max(4096, budget // 12 * 12)
+    suite.check(f"{name}: summary", suite.run(["merge", "a", "b", "set"]), (0, summary(Collection(whole), pool), b""))
+    try:
+        stands = check(read_parts(suite.folder / "set")).data == whole
+    except Damaged as damaged:
+        stands = str(damaged)
+    suite.check(f"{name}: the set stands", stands, True)
+    suite.check(f"{name}: decoded", suite.run(["decode", "set"]), (0, whole, b""))
+    suite.check(f"{name}: the first set decoded", suite.run(["decode", "a"]), (0, first, b""))
+    for base in ("a", "b", "set"):
+        remove(suite, base)
+
+
+def rows(suite):
+    """Two small sets, worked by hand."""
+    put_set(suite, "j", A, 1)
+    put_set(suite, "k", K, 2)
+    suite.check("a merge", suite.run(["merge", "j", "k", "n"]), (0, ROWS, b""))
+    suite.check("a merge decoded", suite.run(["decode", "n"]), (0, A + b"\x02" + K, b""))
+    suite.check("a merge asked", suite.run(["query", "n"], b"cat\n"), (0, b"2\n4\n= 2\n", b""))
+    suite.check("a merge the other way", suite.run(["merge", "k", "j", "n"])[0], 0)
+    suite.check("a merge with an open end", suite.run(["decode", "n"]), (0, K + A, b""))
+    suite.check("a set with itself", suite.run(["merge", "k", "k", "n"])[0], 0)
+    suite.check("a set twice", suite.run(["decode", "n"]), (0, K + K, b""))
+    suite.check("a merge into the first", suite.run(["merge", "k", "j", "k"]), SAME)
+    suite.check("a merge into the second", suite.run(["merge", "j", "k", "k"]), SAME)
+    missing = (5, b"", b"mg: nothing is built under this name\n")
+    suite.check("a merge with nothing", suite.run(["merge", "k", "none", "n"]), missing)
+    suite.check("a merge of nothing", suite.run(["merge", "none", "k", "n"]), missing)
+    suite.check("what was there is left", suite.run(["decode", "n"]), (0, K + K, b""))
+    for base in ("j", "k", "n"):
+        remove(suite, base)
+
+
+def kinds(suite):
+    """Each kind of collection with the one before it, in both versions."""
+    before = b""
+    for number, (name, collection, _) in enumerate(cases()):
+        merged(suite, f"{name} behind another", before, collection, (1 + number % 2, 2 - number % 2))
+        before = collection
+    merged(suite, "nothing with nothing", b"", b"")
+    merged(suite, "nothing behind an open end", A, b"")
+
+
+PARTS = [rows, kinds]
