@@ -21,14 +21,3 @@ mod widening;
 pub use building::build;
 pub use decoding::decode;
 pub use migrating::migrate;
-
-#[cfg(test)]
-mod building_rows;
-#[cfg(test)]
-mod building_tests;
-#[cfg(test)]
-mod decoding_tests;
-#[cfg(test)]
-mod migrating_tests;
-#[cfg(test)]
-mod other_store;

@@ -16,6 +16,3 @@ mod lex_writer;
 pub use laws::{fields_tell, lexicon_has_its_terms, terms_stay};
 pub use lex::Lex;
 pub use lex_writer::LexWriter;
-
-#[cfg(test)]
-mod tests;

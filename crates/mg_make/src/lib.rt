@@ -26,8 +26,3 @@ pub use count::Count;
 pub use plan::{Plan, Room};
 pub use summary::Summary;
 pub use writer::{SetWriter, empty_heads_stand_for_none, heads_make_sets};
-
-#[cfg(test)]
-mod index_tests;
-#[cfg(test)]
-mod tests;

@@ -32,6 +32,3 @@ pub use term_table::TermTable;
 pub use text_model::TextModel;
 pub use vocab::Vocab;
 pub use vocab_err::VocabErr;
-
-#[cfg(test)]
-mod tests;

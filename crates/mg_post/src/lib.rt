@@ -27,8 +27,3 @@ pub use laws::{
 };
 pub use mg_defs::Posting;
 pub use writer::ListWriter;
-
-#[cfg(test)]
-mod beside_tests;
-#[cfg(test)]
-mod tests;

@@ -11,15 +11,9 @@
 mod best;
 mod document_hasher;
 mod list;
-#[cfg(test)]
-mod many_tests;
-#[cfg(test)]
-mod random_tests;
 mod ranking;
 mod rows;
 mod sums;
-#[cfg(test)]
-mod tests;
 mod weight;
 
 pub use ranking::{RankRows, Ranked, Row, rank};

@@ -29,6 +29,3 @@ pub use laws::runs_stay;
 pub use merge::Merge;
 pub use pool::Pool;
 pub use runs::Runs;
-
-#[cfg(test)]
-mod tests;

@@ -1,4 +1,5 @@
 pub mod StepLaws
+pub mod TextsLaws
 pub mod ShowLaws
 pub mod HitLaws
 pub mod FindLaws

@@ -1,8 +1,9 @@
 -- The reply to a query line.
-use Rattle.std.proofs.Common.{arith, ◌≡◌, ℕ, Bool, true, false, List, [], ◌∷◌, Ok, Err, refl, sym, subst}
+use Rattle.std.proofs.Common.{arith, ◌≡◌, ◌≢◌, inl, inr, ℕ, Bool, true, false, List, [], ◌∷◌, Ok, Err, refl, sym, subst}
 use Rattle.std.specs.Prelude.{IfSome, IfErr, IsErrOf}
 use Rattle.std.specs.declared.option.Option.{Option}
 use Rattle.std.specs.declared.result.Result.{Result}
+use Rattle.std.proofs.lemmas.List.Elements.{All-head}
 use Rattle.mg_dev.specs.Causes.{Rose}
 use Rattle.mg_dev.specs.Faults.{show_of_put}
 use Rattle.mg_dev.specs.Files.{Files, Reads}
@@ -22,6 +23,8 @@ use Rattle.mg_defs.specs.Replies.{refusal, reply, reply_as}
 use Rattle.mg_defs.specs.Reply.{Shown, answer_text, ranking, satisfying}
 use Rattle.mg_defs.specs.Sat.{Query}
 use Rattle.mg_defs.specs.TextBounds.{answer_by, answer_of, line_text_bound}
+use Rattle.mg_defs.specs.Session.{Question}
+use Rattle.mg_defs.specs.declared.session.Mode.TheVariants as mode
 use Rattle.mg_defs.specs.declared.session.Settings.{Settings}
 use Rattle.mg_query.specs.RefusalOf.{refusal_of}
 use Rattle.mg_query.specs.declared.query_err.QueryErr.{QueryErr}
@@ -32,7 +35,7 @@ use Rattle.mg_reply.specs.Served.{PartStops}
 use Rattle.mg_text.specs.Reading.{ShowIsNotBad}
 use Rattle.mg_session.specs.Answering.{Answered, AnswersFor, HasShowCause, Replied, answer_pages}
 use Rattle.mg_session.specs.Parts.{Stepped}
-use Rattle.mg_session.specs.SearchLaws.{text_later, weights_later, same_text}
+use Rattle.mg_session.specs.SearchLaws.{same_texts, texts_later, weights_later}
 use Rattle.mg_session.specs.Searching.{Asked, MayStop, Opened, OpenedOver, Over, SameOpened, Searching}
 
 -- ---- refusals that say of no part that it is bad
@@ -154,10 +157,10 @@ ranked_answered code collection terms now line w0 w1 r0 r1 r2 result is a post t
     }
 
 -- what stands for the answer, after the lexicon was read
-pub answers_for : (files now : Option Files) (o : Opened) (collection : List ℕ) → now ≡ files → OpenedOver files o collection → AnswersFor o.base now o.text o.all collection
-answers_for files now o collection same over = record {
+pub answers_for : (files now : Option Files) (o : Opened) (code : TextCode) (collection : List ℕ) → now ≡ files → OpenedOver files o code collection → AnswersFor o.base now o.texts o.all code collection
+answers_for files now o code collection same over = record {
   weights = weights_later o.base o.base files now collection refl same over.weights;
-  text_is = text_later o.text o.text files now collection (same_text o.text) same over.text;
+  texts_are = texts_later o.texts o.texts files now code collection (same_texts o.texts) same over.texts;
   all_is = over.all;
 }
 
@@ -167,18 +170,19 @@ pub line_put : (code : TextCode) (collection : List ℕ) (now : Settings) (line 
 unfolding reply
 line_put code collection now line w0 w1 r0 r1 result replied = replied.put
 
-pub asked_one : (s t : Searching) (now : Settings) (line : List ℕ) (w0 w1 : Option (List ℕ)) (result : Result (Unit {0}) ShowErr) → Stepped s.files t.files s.reads t.reads s.faults t.faults → SameOpened s.opened t.opened → ((collection : List ℕ) → Over s collection → Replied s.opened.text.code collection now.ranked now line w0 w1 s.reads t.reads result) → Asked s t (record { now = now; line = line } ∷ [])
+pub asked_one : (s t : Searching) (now : Settings) (line : List ℕ) (w0 w1 : Option (List ℕ)) (result : Result (Unit {0}) ShowErr) → Stepped now.mode s.files t.files s.reads t.reads s.faults t.faults → SameOpened s.opened t.opened → ((code : TextCode) (collection : List ℕ) → Over s code collection → Replied code collection now.ranked now line w0 w1 s.reads t.reads result) → Asked s t (record { now = now; line = line } ∷ [])
 unfolding line_bound line_text_bound answer_of
 asked_one s t now line w0 w1 result step same replied = record {
   files = step.files;
   faults = step.faults;
   same = same;
-  unread = step.unread;
-  post = λ collection over. omega (arith, (replied collection over).post);
-  shown = λ collection over. omega (arith, (replied collection over).text);
+  unread = λ p never. step.unread p (inl never);
+  texts_unread = λ none p of_text. step.unread p (inr (All-head (λ (q : Question). q.now.mode ≢ mode.Text) (record { now = now; line = line }) [] none, of_text));
+  post = λ code collection over. omega (arith, (replied code collection over).post);
+  shown = λ code collection over. omega (arith, (replied code collection over).text);
 }
 
-pub line_stops : (s t : Searching) (f g : ℕ) (error : ShowErr) → HasShowCause (Err error) s.faults t.faults f g → ((collection : List ℕ) → Over s collection → ShowIsNotBad (Err error)) → PartStops (MayStop s t) error
+pub line_stops : (s t : Searching) (f g : ℕ) (error : ShowErr) → HasShowCause (Err error) s.faults t.faults f g → ((code : TextCode) (collection : List ℕ) → Over s code collection → ShowIsNotBad (Err error)) → PartStops (MayStop s t) error
 line_stops s t f g (show.Part Device) cause sound = cause.caused
 line_stops s t f g (show.Part Memory) cause sound = tt
 line_stops s t f g (show.Part (Bad bad)) cause sound = sound
@@ -188,6 +192,6 @@ line_stops s t f g show.Memory cause sound = tt
 pub line_written : (r : Result (Unit {0}) ShowErr) (s t f g : ℕ) → HasShowCause r s t f g → IsErrOf r show.Write → Rose f g
 line_written r s t f g cause is = (subst (λ x. HasShowCause x s t f g) is cause).caused
 
-pub line_part : (s t : Searching) (f g : ℕ) (r : Result (Unit {0}) ShowErr) → HasShowCause r s.faults t.faults f g → ((collection : List ℕ) → Over s collection → ShowIsNotBad r) → IfErr r (PartStops (MayStop s t))
+pub line_part : (s t : Searching) (f g : ℕ) (r : Result (Unit {0}) ShowErr) → HasShowCause r s.faults t.faults f g → ((code : TextCode) (collection : List ℕ) → Over s code collection → ShowIsNotBad r) → IfErr r (PartStops (MayStop s t))
 line_part s t f g (Ok value) cause sound = tt
 line_part s t f g (Err error) cause sound = line_stops s t f g error cause sound

@@ -1,5 +1,5 @@
 -- Sets that stand: their lists, weights and lexicon, and what is opened of them.
-use Rattle.std.proofs.Common.{arith, ◌≡◌, ℕ, List, length, refl, sym, ◌∙◌, ap, subst}
+use Rattle.std.proofs.Common.{arith, ◌≡◌, ◌≤◌, ◌^◌, ℕ, List, length, refl, sym, ◌∙◌, ap, subst}
 use Rattle.std.specs.declared.option.Option.{Option}
 use Rattle.mg_dev.specs.Files.{Files, bytes_at}
 use Rattle.mg_dev.specs.Names.{full_name}
@@ -27,9 +27,9 @@ use Rattle.mg_lex.specs.Reading.{IsLexicon, LexStands}
 use Rattle.mg_post.specs.TermLists.{ListsStand}
 use Rattle.mg_rank.specs.Ranked.{WeightsStand}
 use Rattle.mg_text.proofs.CallerLemmas.{set_is_text}
-use Rattle.mg_text.specs.Reading.{IsText, IsTextReader, TextFits, TextReading, TextStands}
-use Rattle.mg_session.specs.SearchLaws.{lex_later, same_parts, weights_later}
-use Rattle.mg_session.specs.Searching.{OpenedOver, SearchFits}
+use Rattle.mg_text.specs.Reading.{IsText}
+use Rattle.mg_session.specs.SearchLaws.{weights_later}
+use Rattle.mg_session.specs.Searching.{OpenedOver, SearchFits, opened_at}
 
 -- ---- the parts of a set
 
@@ -65,22 +65,21 @@ set_text base files now head code collection same is = subst (λ f. IsText base 
 
 -- ---- what is opened of a set
 
-pub opened_over : (base : List ℕ) (files then now : Option Files) (head : Head) (code : TextCode) (collection : List ℕ) (lex : Fronted) (text : TextReading) → then ≡ files → now ≡ then → StandsBy head code files base collection → LexStands lex then collection → TextStands text now collection →
-    OpenedOver now (record { base = base; lex = lex; text = text; all = head.documents }) collection
-opened_over base files then now head code collection lex text first second is lexicon stands = record {
+pub opened_over : (base : List ℕ) (files now : Option Files) (head : Head) (code : TextCode) (collection : List ℕ) (lex : Fronted) → now ≡ files → StandsBy head code files base collection → LexStands lex now collection → OpenedOver now (opened_at base lex head) code collection
+opened_over base files now head code collection lex same is lexicon = record {
   version = head.version;
   limits = is.are.limits;
-  weights = weights_later base base files now collection refl (second ∙ first) (set_weights base files head code collection is);
-  lex = lex_later lex lex then now collection (same_parts lex) second lexicon;
-  text = stands;
+  weights = weights_later base base files now collection refl same (set_weights base files head code collection is);
+  lex = lexicon;
+  texts = set_text base files now head code collection same is;
   all = ap (λ (h : defs.Head). h.documents) is.head_is;
 }
 
-pub opened_fits : (base : List ℕ) (then now : Option Files) (head : Head) (lex : Fronted) (text : TextReading) → now ≡ then → FrontFits lex then → TextFits text now → IsTextReader text base head → SearchFits now (record { base = base; lex = lex; text = text; all = head.documents })
-opened_fits base then now head lex text same lexicon fits reader = record {
-  lex = subst (FrontFits lex) (sym same) lexicon;
-  text = fits;
-  all = reader.documents_are;
+pub opened_fits : (base : List ℕ) (files : Option Files) (head : Head) (lex : Fronted) → FrontFits lex files → head.words ≤ 2 ^ 22 → head.others ≤ 2 ^ 22 → SearchFits files (opened_at base lex head)
+opened_fits base files head lex lexicon words others = record {
+  lex = lexicon;
+  texts = record { words = words; others = others; reader = tt };
+  all = refl;
 }
 
 -- ---- the head of a set

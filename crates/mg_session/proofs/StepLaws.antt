@@ -1,7 +1,9 @@
 -- Steps of a session: what they leave of the store, and their causes.
-use Rattle.std.proofs.Common.{arith, ◌≡◌, ◌≢◌, ℕ, ◌≤◌, false, Ok, Err, refl, ◌∙◌, ap}
+use Rattle.std.proofs.Common.{arith, ◌≡◌, ◌≢◌, ◌⊎◌, inl, inr, ℕ, suc, ◌≤◌, false, true, Ok, Err, refl, ◌∙◌, ap}
 use Rattle.std.specs.declared.option.Option.{Option}
 use Rattle.std.specs.declared.result.Result.{Result}
+use Rattle.mg_defs.specs.declared.session.Mode.{Mode}
+use Rattle.mg_defs.specs.declared.session.Mode.TheVariants as mode
 use Rattle.mg_dev.specs.Files.{Files, Reads}
 use Rattle.mg_dev.specs.Names.{number, same_part}
 use Rattle.mg_dev.specs.PartCauses.{HasPartCause}
@@ -14,16 +16,17 @@ use Rattle.mg_dev.specs.declared.show_err.ShowErr.TheVariants as show
 use Rattle.mg_front.specs.Reading.{LookedAt}
 use Rattle.mg_post.specs.TermLists.{ReadsLists}
 use Rattle.mg_rank.specs.Ranked.{ReadsRanked}
+use Rattle.mg_text.specs.Decoding as text
 use Rattle.mg_session.specs.Answering.{HasShowCause, IsShowCaused}
-use Rattle.mg_session.specs.Parts.{NeverRead, Stepped}
+use Rattle.mg_session.specs.Parts.{NeverRead, ShownIn, Stepped, UnreadIn, is_of_text, is_shown_from}
 
 -- ---- what is left of the store
 
-pub stepped_none : (f : Option Files) (r : Reads) (n : ℕ) → Stepped f f r r n n
-stepped_none f r n = record { files = refl; faults = omega arith; unread = λ p never. refl }
+pub stepped_none : (w : Mode) (f : Option Files) (r : Reads) (n : ℕ) → Stepped w f f r r n n
+stepped_none w f r n = record { files = refl; faults = omega arith; unread = λ p never. refl }
 
-pub stepped_then : (f g h : Option Files) (r s t : Reads) (k m n : ℕ) → Stepped f g r s k m → Stepped g h s t m n → Stepped f h r t k n
-stepped_then f g h r s t k m n a b = record {
+pub stepped_then : (w : Mode) (f g h : Option Files) (r s t : Reads) (k m n : ℕ) → Stepped w f g r s k m → Stepped w g h s t m n → Stepped w f h r t k n
+stepped_then w f g h r s t k m n a b = record {
   files = b.files ∙ a.files;
   faults = omega (arith, a.faults, b.faults);
   unread = λ p never. b.unread p never ∙ a.unread p never;
@@ -46,32 +49,150 @@ never_early part.MergeA never = omega arith
 never_early part.MergeB never = omega arith
 never_early part.Plain never = omega arith
 
-other_than : (p q : Part) → 10 ≤ number p → number q ≤ 9 → p ≢ q
-other_than p q late early = λ e. omega (arith, ap number e, late, early)
+-- a part from which documents are decoded is one of the second to fifth, and one from which they are not is none of those
+text_early : (p : Part) → is_of_text p ≡ true → number p ≤ 4
+text_early part.Head is = absurd cc
+text_early part.Words is = omega arith
+text_early part.Nonwords is = omega arith
+text_early part.Text is = omega arith
+text_early part.Places is = omega arith
+text_early part.Lex is = absurd cc
+text_early part.LexAt is = absurd cc
+text_early part.Post is = absurd cc
+text_early part.Skip is = absurd cc
+text_early part.Weights is = absurd cc
+text_early part.Run is = absurd cc
+text_early part.MergeA is = absurd cc
+text_early part.MergeB is = absurd cc
+text_early part.Plain is = absurd cc
 
-same_false : (p q : Part) → 10 ≤ number p → number q ≤ 9 → same_part p q ≡ false
-same_false p q late early = grind (arith, late, early)
+pub text_behind : (p : Part) → is_of_text p ≡ true → 1 ≤ number p
+text_behind part.Head is = absurd cc
+text_behind part.Words is = omega arith
+text_behind part.Nonwords is = omega arith
+text_behind part.Text is = omega arith
+text_behind part.Places is = omega arith
+text_behind part.Lex is = omega arith
+text_behind part.LexAt is = omega arith
+text_behind part.Post is = omega arith
+text_behind part.Skip is = omega arith
+text_behind part.Weights is = omega arith
+text_behind part.Run is = omega arith
+text_behind part.MergeA is = omega arith
+text_behind part.MergeB is = omega arith
+text_behind part.Plain is = omega arith
 
-pub looked_step : (one other : Part) (f g : Option Files) (r s : Reads) (m n : ℕ) → number one ≤ 9 → number other ≤ 9 → LookedAt one other f g r s m n → Stepped f g r s m n
-looked_step one other f g r s m n low high looked = record {
+not_text : (p : Part) → is_of_text p ≡ false → (number p ≤ 0) ⊎ (5 ≤ number p)
+not_text part.Head is = inl (omega arith)
+not_text part.Words is = absurd cc
+not_text part.Nonwords is = absurd cc
+not_text part.Text is = absurd cc
+not_text part.Places is = absurd cc
+not_text part.Lex is = inr (omega arith)
+not_text part.LexAt is = inr (omega arith)
+not_text part.Post is = inr (omega arith)
+not_text part.Skip is = inr (omega arith)
+not_text part.Weights is = inr (omega arith)
+not_text part.Run is = inr (omega arith)
+not_text part.MergeA is = inr (omega arith)
+not_text part.MergeB is = inr (omega arith)
+not_text part.Plain is = inr (omega arith)
+
+pub never_text : (p : Part) → NeverRead p → is_of_text p ≡ false
+never_text part.Head never = absurd never
+never_text part.Words never = absurd never
+never_text part.Nonwords never = absurd never
+never_text part.Text never = absurd never
+never_text part.Places never = absurd never
+never_text part.Lex never = absurd never
+never_text part.LexAt never = absurd never
+never_text part.Post never = absurd never
+never_text part.Skip never = absurd never
+never_text part.Weights never = absurd never
+never_text part.Run never = refl
+never_text part.MergeA never = refl
+never_text part.MergeB never = refl
+never_text part.Plain never = refl
+
+-- where the number is outside of these, the part is none of them
+outside : (p q : Part) (low high : ℕ) → (number p ≤ low) ⊎ (high ≤ number p) → suc low ≤ number q → suc (number q) ≤ high → p ≢ q
+outside p q low high (inl less) above below = λ e. omega (arith, ap number e, less, above)
+outside p q low high (inr more) above below = λ e. omega (arith, ap number e, more, below)
+
+same_false : (p q : Part) (low high : ℕ) → (number p ≤ low) ⊎ (high ≤ number p) → suc low ≤ number q → suc (number q) ≤ high → same_part p q ≡ false
+same_false p q low high (inl less) above below = grind (arith, less, above)
+same_false p q low high (inr more) above below = grind (arith, more, below)
+
+-- a part that is not read is none of those of the lexicon, the lists and the weights
+unread_part : (w : Mode) (p : Part) → UnreadIn w p → (number p ≤ 4) ⊎ (10 ≤ number p)
+unread_part w p (inl never) = inr (never_early p never)
+unread_part w p (inr more) = inl (text_early p more.1)
+
+unread_than : (w : Mode) (p q : Part) → UnreadIn w p → 5 ≤ number q → number q ≤ 9 → p ≢ q
+unread_than w p q unread above below = outside p q 4 10 (unread_part w p unread) above (omega (arith, below))
+
+pub lex_step : (w : Mode) (f g : Option Files) (r s : Reads) (m n : ℕ) → LookedAt part.Lex part.LexAt f g r s m n → Stepped w f g r s m n
+lex_step w f g r s m n looked = record {
   files = looked.files;
   faults = looked.faults;
-  unread = λ p never. looked.others p (same_false p one (never_early p never) low) (same_false p other (never_early p never) high);
+  unread = λ p unread. looked.others p (same_false p part.Lex 4 10 (unread_part w p unread) (omega arith) (omega arith)) (same_false p part.LexAt 4 10 (unread_part w p unread) (omega arith) (omega arith));
 }
 
-pub lists_step : (f g : Option Files) (r s : Reads) (m n : ℕ) → g ≡ f → m ≤ n → ReadsLists r s → Stepped f g r s m n
-lists_step f g r s m n files later reads = record {
+pub lists_step : (w : Mode) (f g : Option Files) (r s : Reads) (m n : ℕ) → g ≡ f → m ≤ n → ReadsLists r s → Stepped w f g r s m n
+lists_step w f g r s m n files later reads = record {
   files = files;
   faults = later;
-  unread = λ p never. reads.others p (other_than p part.Post (never_early p never) (omega arith)) (other_than p part.Skip (never_early p never) (omega arith));
+  unread = λ p unread. reads.others p (unread_than w p part.Post unread (omega arith) (omega arith)) (unread_than w p part.Skip unread (omega arith) (omega arith));
 }
 
-pub ranked_step : (f g : Option Files) (r s : Reads) (m n : ℕ) → g ≡ f → m ≤ n → ReadsRanked r s → Stepped f g r s m n
-ranked_step f g r s m n files later reads = record {
+pub ranked_step : (w : Mode) (f g : Option Files) (r s : Reads) (m n : ℕ) → g ≡ f → m ≤ n → ReadsRanked r s → Stepped w f g r s m n
+ranked_step w f g r s m n files later reads = record {
   files = files;
   faults = later;
-  unread = λ p never. reads.others p (other_than p part.Post (never_early p never) (omega arith)) (other_than p part.Skip (never_early p never) (omega arith)) (other_than p part.Weights (never_early p never) (omega arith));
+  unread = λ p unread. reads.others p (unread_than w p part.Post unread (omega arith) (omega arith)) (unread_than w p part.Skip unread (omega arith) (omega arith)) (unread_than w p part.Weights unread (omega arith) (omega arith));
 }
+
+-- ---- documents that are shown
+
+shown_not : (w : Mode) (p : Part) → UnreadIn w p → is_shown_from w p ≡ false
+shown_not mode.Docnums p unread = refl
+shown_not mode.Text p (inl never) = never_text p never
+shown_not mode.Text p (inr more) = absurd (more.0 refl)
+shown_not mode.Count p unread = refl
+
+pub shown_step : (w : Mode) (f g : Option Files) (r s : Reads) (m n : ℕ) → ShownIn w f g r s m n → Stepped w f g r s m n
+shown_step w f g r s m n shown = record {
+  files = shown.files;
+  faults = shown.faults;
+  unread = λ p unread. shown.others p (shown_not w p unread);
+}
+
+pub shown_none : (w : Mode) (f : Option Files) (r : Reads) (n : ℕ) → ShownIn w f f r r n n
+shown_none w f r n = record { files = refl; faults = omega arith; others = λ p other. refl }
+
+pub shown_then : (w : Mode) (f g h : Option Files) (r s t : Reads) (k m n : ℕ) → ShownIn w f g r s k m → ShownIn w g h s t m n → ShownIn w f h r t k n
+shown_then w f g h r s t k m n a b = record {
+  files = b.files ∙ a.files;
+  faults = omega (arith, a.faults, b.faults);
+  others = λ p other. b.others p other ∙ a.others p other;
+}
+
+-- the models were read, or the text
+pub looked_shown : (one other : Part) (f g : Option Files) (r s : Reads) (m n : ℕ) → 1 ≤ number one → number one ≤ 4 → 1 ≤ number other → number other ≤ 4 → LookedAt one other f g r s m n → ShownIn mode.Text f g r s m n
+looked_shown one other f g r s m n low high low_other high_other looked = record {
+  files = looked.files;
+  faults = looked.faults;
+  others = λ p not. looked.others p (same_false p one 0 5 (not_text p not) low (omega (arith, high))) (same_false p other 0 5 (not_text p not) low_other (omega (arith, high_other)));
+}
+
+post_not : (w : Mode) → is_shown_from w part.Post ≡ false
+post_not mode.Docnums = refl
+post_not mode.Text = refl
+post_not mode.Count = refl
+
+-- Post is not read
+pub shown_post : (w : Mode) (f g : Option Files) (r s : Reads) (m n : ℕ) → ShownIn w f g r s m n → s part.Post ≡ r part.Post
+shown_post w f g r s m n shown = shown.others part.Post (post_not w)
 
 -- neither Post nor Text is read
 pub lex_post : (f g : Option Files) (r s : Reads) (m n : ℕ) → LookedAt part.Lex part.LexAt f g r s m n → s part.Post ≡ r part.Post
@@ -80,17 +201,11 @@ lex_post f g r s m n looked = looked.others part.Post refl refl
 pub lex_text : (f g : Option Files) (r s : Reads) (m n : ℕ) → LookedAt part.Lex part.LexAt f g r s m n → s part.Text ≡ r part.Text
 lex_text f g r s m n looked = looked.others part.Text refl refl
 
-pub text_post : (f g : Option Files) (r s : Reads) (m n : ℕ) → LookedAt part.Text part.Places f g r s m n → s part.Post ≡ r part.Post
-text_post f g r s m n looked = looked.others part.Post refl refl
-
 pub lists_text : (r s : Reads) → ReadsLists r s → s part.Text ≡ r part.Text
 lists_text r s reads = reads.others part.Text (λ e. omega (arith, ap number e)) (λ e. omega (arith, ap number e))
 
 pub ranked_text : (r s : Reads) → ReadsRanked r s → s part.Text ≡ r part.Text
 ranked_text r s reads = reads.others part.Text (λ e. omega (arith, ap number e)) (λ e. omega (arith, ap number e)) (λ e. omega (arith, ap number e))
-
-pub looked_none : (one other : Part) (f : Option Files) (r : Reads) (n : ℕ) → LookedAt one other f f r r n n
-looked_none one other f r n = record { files = refl; faults = omega arith; later = λ p. omega arith; others = λ p a b. refl }
 
 pub looked_then : (one other : Part) (f g h : Option Files) (r s t : Reads) (k m n : ℕ) → LookedAt one other f g r s k m → LookedAt one other g h s t m n → LookedAt one other f h r t k n
 looked_then one other f g h r s t k m n a b = record {
@@ -122,6 +237,18 @@ cause_done s t f g store output = record { store = store; output = output; cause
 
 pub cause_memory : (s t f g : ℕ) → s ≤ t → f ≤ g → HasShowCause (Err (show.Part Memory)) s t f g
 cause_memory s t f g store output = record { store = store; output = output; caused = tt }
+
+-- a document was shown or not, and no memory was wanted but by the output
+pub cause_doc : (result : Result (Unit {0}) ShowErr) (s t f g l m : ℕ) → s ≤ t → f ≤ g → text.IsShowCaused result s t f g l m → HasShowCause result s t f g
+cause_doc result s t f g l m store output cause = record { store = store; output = output; caused = caused result cause }
+  where
+    caused : (r : Result (Unit {0}) ShowErr) → text.IsShowCaused r s t f g l m → IsShowCaused r s t f g
+    caused (Ok done) is = tt
+    caused (Err (show.Part Device)) is = is
+    caused (Err (show.Part Memory)) is = tt
+    caused (Err (show.Part (Bad bad))) is = tt
+    caused (Err show.Write) is = is
+    caused (Err show.Memory) is = tt
 
 -- a part was refused
 pub cause_part : {T : Type 0} (error : PartErr) (s0 s1 s2 f0 f1 : ℕ) → s0 ≤ s1 → f0 ≤ f1 → HasPartCause {T = T} s1 s2 (Err error) → HasShowCause (Err (show.Part error)) s0 s2 f0 f1

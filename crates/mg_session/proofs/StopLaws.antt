@@ -22,14 +22,14 @@ use Rattle.mg_defs.specs.Limit.{has_quit, input_limit, is_too_much}
 use Rattle.mg_defs.specs.Stands.{head_of}
 use Rattle.mg_defs.proofs.HeadLaws.{no_damage}
 use Rattle.mg_defs.proofs.StandLaws.{stand-tells}
-use Rattle.mg_front.specs.Reading.{IsNotBad, LookedAt}
+use Rattle.mg_front.specs.Reading.{IsNotBad}
 use Rattle.mg_layout.specs.HeadAnswers.{AnswersBack, AnswersHead, fields_of}
 use Rattle.mg_layout.specs.Stands.{Stands, StandsBy, StandsForNone, parts_at}
 use Rattle.mg_layout.specs.declared.head.Head.{Head}
 use Rattle.mg_layout.proofs.CallerLemmas.{loaded_set}
-use Rattle.mg_session.specs.Parts.{NeverRead}
+use Rattle.mg_session.specs.Parts.{NeverRead, is_of_text}
 use Rattle.mg_session.specs.Serves.{IsDone, ReadsWithin, Stops, StopsFor}
-use Rattle.mg_session.proofs.StepLaws.{never_early}
+use Rattle.mg_session.proofs.StepLaws.{never_early, text_behind}
 
 -- ---- heads
 
@@ -82,25 +82,11 @@ head_read r s (inr one) p high = one p ∙ ap (λ b. cond b (max (r p) (min (r p
 pub head_unread : (r s : Reads) → SameReads r s ⊎ OneRead r s part.Head → (p : Part) → NeverRead p → s p ≡ r p
 head_unread r s read p never = head_read r s read p (omega (arith, never_early p never))
 
-models_unread : (f g : Option Files) (r s : Reads) (m n : ℕ) → LookedAt part.Words part.Nonwords f g r s m n → (p : Part) → 3 ≤ number p → s p ≡ r p
-models_unread f g r s m n looked p high = looked.others p (other (number p) high 1 (omega arith)) (other (number p) high 2 (omega arith))
-  where
-    other : (k : ℕ) → 3 ≤ k → (q : ℕ) → q ≤ 2 → (k == q) ≡ false
-    other k h q low = grind (arith, nat_tests)
+pub head_no_text : (r s : Reads) → SameReads r s ⊎ OneRead r s part.Head → (p : Part) → is_of_text p ≡ true → s p ≡ r p
+head_no_text r s read p of_text = head_read r s read p (text_behind p of_text)
 
-pub set_unread : (f g : Option Files) (q r s : Reads) (m n : ℕ) → SameReads q r → LookedAt part.Words part.Nonwords f g r s m n → (p : Part) → NeverRead p → s p ≡ q p
-set_unread f g q r s m n same looked p never = models_unread f g r s m n looked p (omega (arith, never_early p never)) ∙ same p
-
-pub set_post : (f g : Option Files) (q r s : Reads) (m n : ℕ) → SameReads q r → LookedAt part.Words part.Nonwords f g r s m n → s part.Post ≡ q part.Post
-set_post f g q r s m n same looked = models_unread f g r s m n looked part.Post (omega arith) ∙ same part.Post
-
-pub set_text_reads : (f g : Option Files) (q r s : Reads) (m n : ℕ) → SameReads q r → LookedAt part.Words part.Nonwords f g r s m n → s part.Text ≡ q part.Text
-set_text_reads f g q r s m n same looked = models_unread f g r s m n looked part.Text (omega arith) ∙ same part.Text
-
-pub within_from : (code now_code : TextCode) (collection given : List ℕ) (r0 r1 r2 : Reads) → now_code ≡ code → r1 part.Post ≡ r0 part.Post → r1 part.Text ≡ r0 part.Text → ReadsWithin now_code collection given r1 r2 → ReadsWithin code collection given r0 r2
-within_from code now_code collection given r0 r1 r2 same post text within =
-    let w = subst (λ c. ReadsWithin c collection given r1 r2) same within in
-    record { post = omega (arith, w.post, post); text = omega (arith, w.text, text) }
+pub within_from : (code : TextCode) (collection given : List ℕ) (r0 r1 r2 : Reads) → r1 part.Post ≡ r0 part.Post → r1 part.Text ≡ r0 part.Text → ReadsWithin code collection given r1 r2 → ReadsWithin code collection given r0 r2
+within_from code collection given r0 r1 r2 post text w = record { post = omega (arith, w.post, post); text = omega (arith, w.text, text) }
 
 pub nothing_within : (code : TextCode) (collection given : List ℕ) (r0 r1 : Reads) → r1 part.Post ≡ r0 part.Post → r1 part.Text ≡ r0 part.Text → ReadsWithin code collection given r0 r1
 nothing_within code collection given r0 r1 post text = record { post = omega (arith, post); text = omega (arith, text) }

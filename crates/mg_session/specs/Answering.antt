@@ -24,7 +24,8 @@ use Rattle.mg_bool.specs.Places.{IsToldOf, pages_read}
 use Rattle.mg_layout.specs.declared.term_info.TermInfo.{TermInfo}
 use Rattle.mg_rank.specs.Ranked.{WeightsStand}
 use Rattle.mg_reply.specs.Pending.{Passed}
-use Rattle.mg_text.specs.Reading.{ShowIsNotBad, TextReading, TextStands}
+use Rattle.mg_text.specs.Reading.{ShowIsNotBad}
+use Rattle.mg_session.specs.Texts.{Texting, TextsStand}
 
 -- ---- causes
 
@@ -63,10 +64,10 @@ hit_pages code collection now total hit = if shows now.most total then mode_page
 abbrev pub answer_pages : TextCode → List ℕ → Settings → List Shown → ℕ
 answer_pages code collection now answer = sum_by (doc_pages code collection) (texts_in now.mode now.most answer)
 
--- the lists, weights and text are those of this collection, which has so many documents
-pub record AnswersFor (base : List ℕ) (files : Option Files) (text : TextReading) (all : ℕ) (collection : List ℕ) : Type 0 where
+-- the lists, weights and text are those of this collection, which has so many documents, its text under these codes
+pub record AnswersFor (base : List ℕ) (files : Option Files) (texts : Texting) (all : ℕ) (code : TextCode) (collection : List ℕ) : Type 0 where
   pub weights : WeightsStand base files collection
-  pub text_is : TextStands text files collection
+  pub texts_are : TextsStand texts files code collection
   pub all_is : all ≡ length (documents collection)
 
 -- An answer was printed, or a part of its text; no part is bad, and no pages were read but so many of Post, and those of the documents that are shown.

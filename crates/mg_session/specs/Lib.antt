@@ -1,4 +1,5 @@
 pub mod Parts
+pub mod Texts
 pub mod Searching
 pub mod Answering
 pub mod Serves

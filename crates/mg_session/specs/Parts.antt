@@ -1,6 +1,8 @@
 -- The parts that a session does not read, and what a step of it does to the store.
-use Rattle.std.specs.Prelude.{◌≡◌, ◌≤◌, ℕ}
+use Rattle.std.specs.Prelude.{◌≡◌, ◌≢◌, ◌≤◌, ◌⊎◌, ℕ, Bool, true, false}
 use Rattle.std.specs.declared.option.Option.{Option}
+use Rattle.mg_defs.specs.declared.session.Mode.{Mode}
+use Rattle.mg_defs.specs.declared.session.Mode.TheVariants as mode
 use Rattle.mg_dev.specs.Files.{Files, Reads}
 use Rattle.mg_dev.specs.declared.part.Part.{Part}
 use Rattle.mg_dev.specs.declared.part.Part.TheVariants as part
@@ -12,8 +14,32 @@ NeverRead part.MergeB = Unit {0}
 NeverRead part.Plain = Unit {0}
 NeverRead _ = ⊥
 
--- no file changed, no fault was forgotten, and no part was read that a session never reads
-pub record Stepped (files_before files_now : Option Files) (reads_before reads_now : Reads) (faults_before faults_now : ℕ) : Type 0 where
+-- whether documents are decoded from this part: the models of both streams, the coded text and its places
+abbrev pub is_of_text : Part → Bool
+is_of_text part.Words = true
+is_of_text part.Nonwords = true
+is_of_text part.Text = true
+is_of_text part.Places = true
+is_of_text _ = false
+
+-- whether what a reply shows of a document in this mode is decoded from this part
+abbrev pub is_shown_from : Mode → Part → Bool
+is_shown_from mode.Docnums p = false
+is_shown_from mode.Text p = is_of_text p
+is_shown_from mode.Count p = false
+
+-- a query line that is answered in this mode does not read this part
+abbrev pub UnreadIn : Mode → Part → Type 0
+UnreadIn m p = NeverRead p ⊎ ((m ≢ mode.Text) × (is_of_text p ≡ true))
+
+-- no file changed, no fault was forgotten, and no part was read that a query line in this mode does not read
+pub record Stepped (m : Mode) (files_before files_now : Option Files) (reads_before reads_now : Reads) (faults_before faults_now : ℕ) : Type 0 where
   pub files : files_now ≡ files_before
   pub faults : faults_before ≤ faults_now
-  pub unread : (p : Part) → NeverRead p → reads_now p ≡ reads_before p
+  pub unread : (p : Part) → UnreadIn m p → reads_now p ≡ reads_before p
+
+-- a call that only reads, and that reads no part but those that documents are shown from in this mode
+pub record ShownIn (m : Mode) (files_before files_now : Option Files) (reads_before reads_now : Reads) (faults_before faults_now : ℕ) : Type 0 where
+  pub files : files_now ≡ files_before
+  pub faults : faults_before ≤ faults_now
+  pub others : (p : Part) → is_shown_from m p ≡ false → reads_now p ≡ reads_before p

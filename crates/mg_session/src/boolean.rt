@@ -1,22 +1,23 @@
 //! The answer to a Boolean query.
 ghost use Rattle.std.specs.Prelude.{◌≡◌, ℕ, List, length};
+ghost use Rattle.mg_defs.specs.CodedText.{TextCode};
 ghost use Rattle.mg_defs.specs.PageBounds.{boolean_bound};
 ghost use Rattle.mg_defs.specs.QueryTerms.{query_terms};
 ghost use Rattle.mg_defs.specs.Reply.{satisfying};
 ghost use Rattle.mg_bool.specs.Places.{AreInfos};
 ghost use Rattle.mg_query.specs.QueryOf.{query_of};
-ghost use Rattle.mg_text.specs.Reading.{SameText, TextFits};
 ghost use Rattle.mg_session.specs.Answering.{Answered, AnswersFor, HasShowCause};
 ghost use Rattle.mg_session.specs.Parts.{Stepped};
+ghost use Rattle.mg_session.specs.Texts.{SameTexts, TextsFit};
 
 use crate::hit::show_hit;
+use crate::texts::Texts;
 use mg_bool::Matches;
 use mg_defs::Settings;
 use mg_dev::{PartErr, ShowErr, Sink, Store};
 use mg_layout::TermInfo;
 use mg_query::Query;
 use mg_reply::Pending;
-use mg_text::TextReader;
 use std::alloc::Global;
 
 /// Shows the documents that satisfy a query, rising: the first of them, and how many there are.
@@ -26,7 +27,7 @@ pub(crate) fn answer_query<S: Store, O: Sink>(
     alloc: Global,
     store: &mut S,
     base: &str,
-    text: &mut TextReader<'_, S>,
+    texts: &mut Texts<'_, S>,
     query: &Query,
     infos: &[Option<TermInfo>],
     all: u32,
@@ -34,15 +35,16 @@ pub(crate) fn answer_query<S: Store, O: Sink>(
     out: &mut O,
 ) -> Result<(), ShowErr>
     requires size { length infos.now ≡ length (query_terms (query_of query.now)) }
-    requires fits { TextFits text.old (S.files store.old) }
-    requires all { text.old.documents ≡ all }
-    ensures fits { TextFits text.new (S.files store.new) }
-    ensures same { SameText text.old text.new }
-    ensures answer { (collection : List ℕ) → AnswersFor base.now (S.files store.old) text.old all collection →
+    requires fits { TextsFit (S.files store.old) texts.old }
+    requires all { texts.old.head.documents ≡ all }
+    ensures fits { TextsFit (S.files store.new) texts.new }
+    ensures same { SameTexts texts.old texts.new }
+    ensures answer { (code : TextCode) (collection : List ℕ) → AnswersFor base.now (S.files store.old) texts.old all code collection →
         AreInfos collection (query_terms (query_of query.now)) infos.now →
-        Answered text.old.code collection now.now (satisfying collection (query_of query.now)) (boolean_bound collection (query_of query.now))
+        Answered code collection now.now (satisfying collection (query_of query.now)) (boolean_bound collection (query_of query.now))
         (O.written out.old) (O.written out.new) (S.reads store.old) (S.reads store.new) result }
-    ensures step { Stepped (S.files store.old) (S.files store.new) (S.reads store.old) (S.reads store.new) (S.faults store.old) (S.faults store.new) }
+    ensures step { Stepped now.now.mode (S.files store.old) (S.files store.new)
+        (S.reads store.old) (S.reads store.new) (S.faults store.old) (S.faults store.new) }
     ensures cause { HasShowCause result (S.faults store.old) (S.faults store.new) (O.faults out.old) (O.faults out.new) }
 {
     let mut matches = match Matches::start(alloc, base, query, infos, all) {
@@ -57,7 +59,7 @@ pub(crate) fn answer_query<S: Store, O: Sink>(
             Ok(None) => break,
             Err(refusal) => return Err(ShowErr::from(refusal)),
         };
-        match show_hit(text, store, &mut pending, out, now, total, number) {
+        match show_hit(texts, store, &mut pending, out, now, total, number) {
             Ok(()) => {}
             Err(refusal) => return Err(refusal),
         }

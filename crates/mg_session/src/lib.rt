@@ -15,7 +15,6 @@ mod hit;
 mod ranked;
 mod searcher;
 mod session;
-#[cfg(test)]
-mod tests;
+mod texts;
 
 pub use session::serve;

@@ -3,22 +3,24 @@ ghost use Rattle.std.specs.Prelude.{◌≡◌, ◌≤◌, ℕ, List, [], ◌∷�
 ghost use Rattle.mg_dev.specs.Causes.{Rose};
 ghost use Rattle.mg_dev.specs.Streams.{AfterPut};
 ghost use Rattle.mg_dev.specs.declared.show_err.ShowErr.TheVariants.{Write};
+ghost use Rattle.mg_defs.specs.CodedText.{TextCode};
 ghost use Rattle.mg_defs.specs.Replies.{reply};
 ghost use Rattle.mg_reply.specs.Served.{PartStops};
 ghost use Rattle.mg_session.specs.Answering.{HasShowCause, Replied};
 ghost use Rattle.mg_session.specs.Parts.{Stepped};
-ghost use Rattle.mg_session.specs.Searching.{AnswersBy, Asked, Fits, MayStop, OpenedOver, Over, SameOpened, SearchFits, Searching, state_of};
+ghost use Rattle.mg_session.specs.Searching.{AnswersBy, Asked, Fits, MayStop, OpenedOver, Over, SameOpened, SearchFits, Searching, opened_at, state_of};
 ghost use Rattle.mg_session.specs.SearchLaws.{answers_later, asked_more, asked_none, stops_later};
 
 use crate::boolean::answer_query;
 use crate::find::find_terms;
 use crate::ranked::answer_terms;
+use crate::texts::Texts;
 use mg_defs::Settings;
 use mg_dev::{PartErr, ShowErr, Sink, Store};
+use mg_layout::Head;
 use mg_lex::Lex;
 use mg_query::{parse_boolean, parse_ranked};
 use mg_reply::{Answerer, put_refused};
-use mg_text::TextReader;
 use std::alloc::Global;
 use std::marker::Model;
 
@@ -28,7 +30,7 @@ pub(crate) struct Searcher<'a, S: Store> {
     alloc: Global,
     base: &'a str,
     lex: Lex<'a, S>,
-    text: TextReader<'a, S>,
+    texts: Texts<'a, S>,
     all: u32,
 }
 
@@ -37,26 +39,20 @@ impl<'a, S: Store> Model for Searcher<'a, S> {
 
     ghost Value = { Opened };
 
-    ghost view = { λ s. record { base = s.base.now; lex = s.lex; text = s.text; all = s.all } };
+    ghost view = { λ s. record { base = s.base.now; lex = s.lex; texts = s.texts; all = s.all } };
 }
 
 impl<'a, S: Store> Searcher<'a, S> {
-    /// Over these parts of a base, and so many documents.
-    pub(crate) fn new(
-        alloc: Global,
-        base: &'a str,
-        lex: Lex<'a, S>,
-        text: TextReader<'a, S>,
-        all: u32,
-    ) -> Self
-        ensures { result ≡ record { base = base.entry.now; lex = lex.entry; text = text.entry; all = all } }
+    /// Over the parts of a base: its lexicon, which is loaded, and what its head tells of.
+    pub(crate) fn new(alloc: Global, base: &'a str, lex: Lex<'a, S>, head: &Head) -> Self
+        ensures { result ≡ opened_at base.entry.now lex.entry head.now }
     {
         Searcher {
             alloc,
             base,
             lex,
-            text,
-            all,
+            texts: Texts::new(alloc, base, head),
+            all: head.documents,
         }
     }
 
@@ -72,10 +68,11 @@ impl<'a, S: Store> Searcher<'a, S> {
         requires fits { SearchFits (S.files store.old) self.old }
         ensures fits { SearchFits (S.files store.new) self.new }
         ensures same { SameOpened self.old self.new }
-        ensures replied { (collection : List ℕ) → OpenedOver (S.files store.old) self.old collection →
-            Replied self.old.text.code collection false now.now line.now
+        ensures replied { (code : TextCode) (collection : List ℕ) → OpenedOver (S.files store.old) self.old code collection →
+            Replied code collection false now.now line.now
             (O.written out.old) (O.written out.new) (S.reads store.old) (S.reads store.new) result }
-        ensures step { Stepped (S.files store.old) (S.files store.new) (S.reads store.old) (S.reads store.new) (S.faults store.old) (S.faults store.new) }
+        ensures step { Stepped now.now.mode (S.files store.old) (S.files store.new)
+            (S.reads store.old) (S.reads store.new) (S.faults store.old) (S.faults store.new) }
         ensures cause { HasShowCause result (S.faults store.old) (S.faults store.new) (O.faults out.old) (O.faults out.new) }
     {
         let query = match parse_boolean(self.alloc, line) {
@@ -97,7 +94,7 @@ impl<'a, S: Store> Searcher<'a, S> {
             self.alloc,
             store,
             self.base,
-            &mut self.text,
+            &mut self.texts,
             &query,
             &infos,
             self.all,
@@ -118,10 +115,11 @@ impl<'a, S: Store> Searcher<'a, S> {
         requires fits { SearchFits (S.files store.old) self.old }
         ensures fits { SearchFits (S.files store.new) self.new }
         ensures same { SameOpened self.old self.new }
-        ensures replied { (collection : List ℕ) → OpenedOver (S.files store.old) self.old collection →
-            Replied self.old.text.code collection true now.now line.now
+        ensures replied { (code : TextCode) (collection : List ℕ) → OpenedOver (S.files store.old) self.old code collection →
+            Replied code collection true now.now line.now
             (O.written out.old) (O.written out.new) (S.reads store.old) (S.reads store.new) result }
-        ensures step { Stepped (S.files store.old) (S.files store.new) (S.reads store.old) (S.reads store.new) (S.faults store.old) (S.faults store.new) }
+        ensures step { Stepped now.now.mode (S.files store.old) (S.files store.new)
+            (S.reads store.old) (S.reads store.new) (S.faults store.old) (S.faults store.new) }
         ensures cause { HasShowCause result (S.faults store.old) (S.faults store.new) (O.faults out.old) (O.faults out.new) }
     {
         let terms = match parse_ranked(self.alloc, line) {
@@ -139,7 +137,7 @@ impl<'a, S: Store> Searcher<'a, S> {
             self.alloc,
             store,
             self.base,
-            &mut self.text,
+            &mut self.texts,
             &infos,
             self.all,
             now,
@@ -159,10 +157,11 @@ impl<'a, S: Store> Searcher<'a, S> {
         requires fits { SearchFits (S.files store.old) self.old }
         ensures fits { SearchFits (S.files store.new) self.new }
         ensures same { SameOpened self.old self.new }
-        ensures replied { (collection : List ℕ) → OpenedOver (S.files store.old) self.old collection →
-            Replied self.old.text.code collection now.now.ranked now.now line.now
+        ensures replied { (code : TextCode) (collection : List ℕ) → OpenedOver (S.files store.old) self.old code collection →
+            Replied code collection now.now.ranked now.now line.now
             (O.written out.old) (O.written out.new) (S.reads store.old) (S.reads store.new) result }
-        ensures step { Stepped (S.files store.old) (S.files store.new) (S.reads store.old) (S.reads store.new) (S.faults store.old) (S.faults store.new) }
+        ensures step { Stepped now.now.mode (S.files store.old) (S.files store.new)
+            (S.reads store.old) (S.reads store.new) (S.faults store.old) (S.faults store.new) }
         ensures cause { HasShowCause result (S.faults store.old) (S.faults store.new) (O.faults out.old) (O.faults out.new) }
     {
         if now.ranked {

@@ -1,5 +1,5 @@
 //! A session over built files, from their head to the last reply.
-ghost use Rattle.std.specs.Prelude.{◌≡◌, ℕ, ◌≤◌, ◌^◌, List, [], Err, Some, false, OnOk, IfErr, IsSome, length};
+ghost use Rattle.std.specs.Prelude.{◌≡◌, ℕ, ◌≤◌, ◌^◌, List, [], Err, Some, false, true, OnOk, IfErr, IsSome, length};
 ghost use Rattle.std.specs.Option.{ForSome};
 ghost use Rattle.mg_dev.specs.Causes.{Rose};
 ghost use Rattle.mg_dev.specs.Files.{bytes_at};
@@ -11,11 +11,12 @@ ghost use Rattle.mg_dev.specs.declared.fault.Fault.TheVariants.{NotBuilt};
 ghost use Rattle.mg_defs.specs.CodedText.{TextCode};
 ghost use Rattle.mg_defs.specs.Limit.{is_too_much, input_limit};
 ghost use Rattle.mg_defs.specs.Replies.{session};
+ghost use Rattle.mg_defs.specs.Session.{questions_of};
 ghost use Rattle.mg_layout.specs.Stands.{Stands, StandsBy};
 ghost use Rattle.mg_layout.specs.declared.head.Head.{Head};
 ghost use Rattle.mg_reply.specs.Served.{LeftEnough};
-ghost use Rattle.mg_session.specs.Parts.{NeverRead};
-ghost use Rattle.mg_session.specs.Searching.{Opened, OpenedOver, SearchFits};
+ghost use Rattle.mg_session.specs.Parts.{NeverRead, is_of_text};
+ghost use Rattle.mg_session.specs.Searching.{AskForNoText, OpenedOver, SearchFits};
 ghost use Rattle.mg_session.specs.Serves.{IsDone, ReadsWithin, RefusedFor, Stops, StopsFor, fault_of_serve};
 
 use crate::searcher::Searcher;
@@ -23,7 +24,6 @@ use mg_dev::{Fault, Sink, Source, Store};
 use mg_layout::Head;
 use mg_lex::Lex;
 use mg_reply::{Hearing, ServeErr, serve_lines};
-use mg_text::TextReader;
 use std::alloc::Global;
 
 /// The fault of a session that stopped.
@@ -46,18 +46,20 @@ fn serve_searcher<S: Store, I: Source, O: Sink>(
 ) -> Result<(), Fault>
     requires fits { SearchFits (S.files store.old) searcher.old }
     ensures files { S.files store.new ≡ S.files store.old }
-    ensures all { (collection : List ℕ) → OpenedOver (S.files store.old) searcher.old collection →
+    ensures all { (code : TextCode) (collection : List ℕ) → OpenedOver (S.files store.old) searcher.old code collection →
         ForSome (I.left input.old) (λ given. OnOk result (O.written out.new ≡ appended (O.written out.old) (session collection given))) }
-    ensures prefix { (collection : List ℕ) → OpenedOver (S.files store.old) searcher.old collection →
+    ensures prefix { (code : TextCode) (collection : List ℕ) → OpenedOver (S.files store.old) searcher.old code collection →
         ForSome (I.left input.old) (λ given. GrewByPrefix (O.written out.old) (O.written out.new) (session collection given)) }
-    ensures pages { (collection : List ℕ) → OpenedOver (S.files store.old) searcher.old collection →
-        ForSome (I.left input.old) (λ given. ReadsWithin searcher.old.text.code collection given (S.reads store.old) (S.reads store.new)) }
+    ensures pages { (code : TextCode) (collection : List ℕ) → OpenedOver (S.files store.old) searcher.old code collection →
+        ForSome (I.left input.old) (λ given. ReadsWithin code collection given (S.reads store.old) (S.reads store.new)) }
     ensures unread { (p : Part) → NeverRead p → S.reads store.new p ≡ S.reads store.old p }
+    ensures texts_unread { ForSome (I.left input.old) (λ given. AskForNoText (questions_of given) →
+        (p : Part) → is_of_text p ≡ true → S.reads store.new p ≡ S.reads store.old p) }
     ensures left { ForSome (I.left input.old) (λ given. OnOk result (LeftEnough given (I.left input.new))) }
     ensures within { ForSome (I.left input.old) (λ given. OnOk result (is_too_much input_limit given ≡ false)) }
     ensures cause { IfErr result (Stops
         (Rose (S.faults store.old) (S.faults store.new)) (Rose (I.faults input.old) (I.faults input.new)) (Rose (O.faults out.old) (O.faults out.new))
-        ⊥ ((collection : List ℕ) → OpenedOver (S.files store.old) searcher.old collection → ⊥) (I.left input.old)) }
+        ⊥ ((code : TextCode) (collection : List ℕ) → OpenedOver (S.files store.old) searcher.old code collection → ⊥) (I.left input.old)) }
     ensures later { S.faults store.old ≤ S.faults store.new }
 {
     match serve_lines(Hearing::Commands, searcher, store, input, out) {
@@ -85,6 +87,8 @@ fn serve_set<S: Store, I: Source, O: Sink>(
     ensures pages { (code : TextCode) (collection : List ℕ) → StandsBy head.now code (S.files store.old) base.now collection →
         ForSome (I.left input.old) (λ given. ReadsWithin code collection given (S.reads store.old) (S.reads store.new)) }
     ensures unread { (p : Part) → NeverRead p → S.reads store.new p ≡ S.reads store.old p }
+    ensures texts_unread { ForSome (I.left input.old) (λ given. AskForNoText (questions_of given) →
+        (p : Part) → is_of_text p ≡ true → S.reads store.new p ≡ S.reads store.old p) }
     ensures left { ForSome (I.left input.old) (λ given. OnOk result (LeftEnough given (I.left input.new))) }
     ensures within { ForSome (I.left input.old) (λ given. OnOk result (is_too_much input_limit given ≡ false)) }
     ensures cause { IfErr result (Stops
@@ -96,19 +100,16 @@ fn serve_set<S: Store, I: Source, O: Sink>(
         Ok(lex) => lex,
         Err(refusal) => return Err(Fault::from(refusal)),
     };
-    let text = match TextReader::load(alloc, store, base, head) {
-        Ok(text) => text,
-        Err(refusal) => return Err(Fault::from(refusal)),
-    };
-    let mut searcher = Searcher::new(alloc, base, lex, text, head.documents);
+    let mut searcher = Searcher::new(alloc, base, lex, head);
     serve_searcher(&mut searcher, store, input, out)
 }
 
 /// Prints the session that the input asks of the files under a base.
 ///
-/// The head, the lexicon's places and the models are loaded before the first line; nothing is printed
-/// where one of them is refused. Where the files stand for a collection, the output is the session
-/// over its documents, and where the session stops early, a prefix of it.
+/// The head and the lexicon's places are loaded before the first line; nothing is printed where one of
+/// them is refused. The models are loaded when a document is first shown with its text. Where the files
+/// stand for a collection, the output is the session over its documents, and where the session stops
+/// early, a prefix of it.
 ///
 /// # Errors
 ///
@@ -131,10 +132,13 @@ pub fn serve<S: Store, I: Source, O: Sink>(
     // The input is read to its end, or to a line that ends the session.
     ensures left { ForSome (I.left input.old) (λ given. OnOk result (LeftEnough given (I.left input.new))) }
     ensures within { ForSome (I.left input.old) (λ given. OnOk result (is_too_much input_limit given ≡ false)) }
-    // What is read of the lists and of the text is bounded by the query lines; some parts are never read.
+    // What is read of the lists and of the text is bounded by the query lines; some parts are never read,
+    // and the models and the text not where no query line asks for texts.
     ensures pages { (head : Head) (code : TextCode) (collection : List ℕ) → StandsBy head code (S.files store.old) base.now collection →
         ForSome (I.left input.old) (λ given. ReadsWithin code collection given (S.reads store.old) (S.reads store.new)) }
     ensures unread { (p : Part) → NeverRead p → S.reads store.new p ≡ S.reads store.old p }
+    ensures texts_unread { ForSome (I.left input.old) (λ given. AskForNoText (questions_of given) →
+        (p : Part) → is_of_text p ≡ true → S.reads store.new p ≡ S.reads store.old p) }
     ensures files { S.files store.new ≡ S.files store.old }
     // The cause of each refusal.
     ensures cause { IfErr result (StopsFor

@@ -22,8 +22,3 @@ pub use reader_laws::texts_stand;
 pub use show_buffer::ShowBuffer;
 pub use text_reader::TextReader;
 pub use text_writer::TextWriter;
-
-#[cfg(test)]
-mod reader_tests;
-#[cfg(test)]
-mod writer_tests;

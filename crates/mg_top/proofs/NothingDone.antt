@@ -109,6 +109,7 @@ module _ (run : Run) (stops : Stops run Memory) (store : run.store_now ≡ run.s
     files = files;
     pages = λ head code c given stands some. record { post = rw (same_reads part.Post) (omega arith); text = rw (same_reads part.Text) (omega arith) };
     unread = λ p never. same_reads p;
+    texts_unread = λ given some asks p is. same_reads p;
   }
 
   decoded : (n : List ℕ) → Decoded n run

@@ -15,12 +15,14 @@ use Rattle.mg_defs.specs.CodedText.{TextCode}
 use Rattle.mg_defs.specs.Heads.{first_damage}
 use Rattle.mg_defs.specs.Limit.{is_too_much, input_limit}
 use Rattle.mg_defs.specs.Replies.{session}
+use Rattle.mg_defs.specs.Session.{questions_of}
 use Rattle.mg_defs.proofs.HeadLaws.{no_damage}
 use Rattle.mg_defs.proofs.StandLaws.{stand-tells}
 use Rattle.mg_layout.specs.Stands.{Stands, StandsBy, parts_at}
 use Rattle.mg_layout.specs.declared.head.Head.{Head}
 use Rattle.mg_reply.specs.Served.{LeftEnough}
-use Rattle.mg_session.specs.Parts.{NeverRead}
+use Rattle.mg_session.specs.Parts.{NeverRead, is_of_text}
+use Rattle.mg_session.specs.Searching.{AskForNoText}
 use Rattle.mg_session.specs.Serves.{ReadsWithin, RefusedFor, StopsFor}
 use Rattle.mg_top.specs.Ends.{IfStopped}
 use Rattle.mg_top.specs.Runs.{Run, StoreFailed, InputFailed, OutputFailed, Stops}
@@ -74,6 +76,7 @@ module _ (base : List ℕ) (run : Run) (r : Result (Unit {0}) Fault) (is : run.s
     (within : ForSome run.input.left (λ given. OnOk r (is_too_much input_limit given ≡ false)))
     (pages : (head : Head) (code : TextCode) (collection : List ℕ) → StandsBy head code run.store.files base collection → ForSome run.input.left (λ given. ReadsWithin code collection given run.store.reads run.store_now.reads))
     (unread : (p : Part) → NeverRead p → run.store_now.reads p ≡ run.store.reads p)
+    (texts_unread : ForSome run.input.left (λ given. AskForNoText (questions_of given) → (p : Part) → is_of_text p ≡ true → run.store_now.reads p ≡ run.store.reads p))
     (files : run.store_now.files ≡ run.store.files)
     (cause : IfErr r (StopsFor (StoreFailed run) (InputFailed run) (OutputFailed run) run.store.files base run.input.left))
     (silent : r ≡ Err NotBuilt → run.out_now.written ≡ run.out.written)
@@ -91,4 +94,5 @@ module _ (base : List ℕ) (run : Run) (r : Result (Unit {0}) Fault) (is : run.s
     files = files;
     pages = λ head code collection given stands some. pages head code collection stands given some;
     unread = unread;
+    texts_unread = λ given some. texts_unread given some;
   }

@@ -1,5 +1,5 @@
 -- What a run of `query NAME` does.
-use Rattle.std.specs.Prelude.{◌≡◌, ◌⊎◌, ℕ, false, List, [], Some, IsSome}
+use Rattle.std.specs.Prelude.{◌≡◌, ◌⊎◌, ℕ, false, true, List, [], Some, IsSome}
 use Rattle.mg_dev.specs.Files.{bytes_at}
 use Rattle.mg_dev.specs.Names.{full_name}
 use Rattle.mg_dev.specs.Streams.{appended, GrewByPrefix}
@@ -10,10 +10,12 @@ use Rattle.mg_dev.specs.declared.status.Status.TheVariants.{Done}
 use Rattle.mg_defs.specs.CodedText.{TextCode}
 use Rattle.mg_defs.specs.Limit.{is_too_much, input_limit}
 use Rattle.mg_defs.specs.Replies.{session}
+use Rattle.mg_defs.specs.Session.{questions_of}
 use Rattle.mg_layout.specs.Stands.{Stands, StandsBy}
 use Rattle.mg_layout.specs.declared.head.Head.{Head}
 use Rattle.mg_reply.specs.Served.{LeftEnough}
-use Rattle.mg_session.specs.Parts.{NeverRead}
+use Rattle.mg_session.specs.Parts.{NeverRead, is_of_text}
+use Rattle.mg_session.specs.Searching.{AskForNoText}
 use Rattle.mg_session.specs.Serves.{ReadsWithin, StopsFor}
 use Rattle.mg_top.specs.Ends.{IfStopped}
 use Rattle.mg_top.specs.Runs.{Run, StoreFailed, InputFailed, OutputFailed, SaysNothing, KeepsFiles, Stops, StopsUnless}
@@ -40,3 +42,6 @@ pub record Queried (base : List ℕ) (run : Run) : Type 0 where
   pub pages : (head : Head) (code : TextCode) (collection given : List ℕ) → StandsBy head code run.store.files base collection → run.input.left ≡ Some given
       → ReadsWithin code collection given run.store.reads run.store_now.reads
   pub unread : (p : Part) → NeverRead p → run.store_now.reads p ≡ run.store.reads p
+  -- where no query line asks for texts, neither the models nor the text are read
+  pub texts_unread : (given : List ℕ) → run.input.left ≡ Some given → AskForNoText (questions_of given) → (p : Part) → is_of_text p ≡ true
+      → run.store_now.reads p ≡ run.store.reads p

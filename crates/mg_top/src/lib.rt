@@ -11,19 +11,13 @@
 mod building;
 mod comparing;
 mod decoding;
-#[cfg(test)]
-mod hostile_tests;
 mod lines;
 mod migrating;
 mod querying;
 mod scanning;
 mod stopping;
-#[cfg(test)]
-mod tests;
 mod top;
 mod trial_summary;
-#[cfg(test)]
-mod trial_tests;
 mod trials;
 mod trying;
 

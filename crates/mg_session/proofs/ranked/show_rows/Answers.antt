@@ -1,65 +1,64 @@
-use Rattle.std.proofs.Common.{arith, ◌≡◌, ◌+◌, ◌≤◌, Some, length, subst}
-use Rattle.mg_dev.specs.declared.part.Part.TheVariants as part
-use Rattle.mg_defs.specs.CodedText.{TextCode}
-use Rattle.mg_session.specs.Answering.{RowsShown, at_score, mode_pages}
-use Rattle.mg_session.specs.SearchLaws.{same_text, text_later, text_then}
-use Rattle.mg_session.proofs.StepLaws.{looked_none, looked_then}
+use Rattle.std.proofs.Common.{arith, ◌≡◌, ap, length, subst}
+use Rattle.mg_layout.specs.declared.head.Head.{Head}
+use Rattle.mg_session.specs.Answering.{RowsShown}
+use Rattle.mg_session.specs.SearchLaws.{same_texts, texts_later, texts_then}
+use Rattle.mg_session.proofs.StepLaws.{shown_none, shown_then}
 use Rattle.mg_session.proofs.RankedLaws.{numbered, pages_cut, rows_cut, rows_more, rows_passed, rows_read, rows_start}
 use Rattle.mg_session.proofs.ranked.show_rows.Goals as goal
 
 pub loop-place-init : goal.loop-place-init
 loop-place-init g c = record {
   fits = c.requires.fits;
-  same = same_text _;
-  looked = looked_none _ _ _ _ _;
+  same = same_texts _;
+  looked = shown_none _ _ _ _;
   output = omega arith;
-  shown = λ collection is. rows_start _ _ _ _ _ _ _;
+  shown = λ code collection is. rows_start _ _ _ _ _ _ _;
 }
 
 pub show_doc-requires-clause-some : goal.show_doc-requires-clause-some
-show_doc-requires-clause-some g c = (numbered c.args.text.now.documents c.args.rows.now c.loop-place.place c.row-row.result.number c.requires.range (omega arith) c.row-row.ensures.number).0
+show_doc-requires-clause-some g c = (numbered c.args.texts.now.head.documents c.args.rows.now c.loop-place.place c.row-row.result.number c.requires.range (omega arith) c.row-row.ensures.number).0
 
 pub show_doc-requires-clause-within : goal.show_doc-requires-clause-within
-show_doc-requires-clause-within g c = omega (arith, (numbered c.args.text.now.documents c.args.rows.now c.loop-place.place c.row-row.result.number c.requires.range (omega arith) c.row-row.ensures.number).1, c.loop-place.invariant.same.documents)
+show_doc-requires-clause-within g c = omega (arith, (numbered c.args.texts.now.head.documents c.args.rows.now c.loop-place.place c.row-row.result.number c.requires.range (omega arith) c.row-row.ensures.number).1, ap (λ (h : Head). h.documents) c.loop-place.invariant.same.head)
 
 pub loop-place-preserved : goal.loop-place-preserved
 loop-place-preserved g c =
     let inv = c.loop-place.invariant in
     record {
       fits = c.in-Ok.ensures.fits;
-      same = text_then _ _ _ inv.same c.in-Ok.ensures.same;
-      looked = looked_then _ _ _ _ _ _ _ _ _ _ _ inv.looked c.in-Ok.ensures.looked;
+      same = texts_then _ _ _ inv.same c.in-Ok.ensures.same;
+      looked = shown_then _ _ _ _ _ _ _ _ _ _ inv.looked c.in-Ok.ensures.looked;
       output = omega (arith, inv.output, c.in-Ok.ensures.cause.output);
-      shown = λ collection is.
-          let text = text_later _ _ _ _ collection inv.same inv.looked.files is in
-          rows_more c.args.text.now.code collection c.args.mode c.args.rows.now c.loop-place.place c.row-row.result.number c.row-row.result.score _ _ _ _ _ _ _ (g.S.Store.reads c.loop-place.store) _ (omega arith) c.row-row.ensures.number c.row-row.ensures.score (inv.shown collection is) (c.in-Ok.ensures.content collection text)
-          (subst (λ (code : TextCode). g.S.Store.reads c.show_doc.new.store part.Text ≤ g.S.Store.reads c.loop-place.store part.Text + mode_pages code collection c.args.mode (at_score c.row-row.result.number (Some c.row-row.result.score))) inv.same.code (c.in-Ok.ensures.pages collection text));
+      shown = λ code collection is.
+          let text = texts_later _ _ _ _ code collection inv.same inv.looked.files is in
+          rows_more code collection c.args.mode c.args.rows.now c.loop-place.place c.row-row.result.number c.row-row.result.score _ _ _ _ _ _ _ (g.S.Store.reads c.loop-place.store) _ (omega arith) c.row-row.ensures.number c.row-row.ensures.score (inv.shown code collection is) (c.in-Ok.ensures.content code collection text)
+          (c.in-Ok.ensures.pages code collection text);
     }
 
 pub returns-in-Err-clause-content : goal.returns-in-Err-clause-content
-returns-in-Err-clause-content g c = λ collection is.
+returns-in-Err-clause-content g c = λ code collection is.
     let inv = c.loop-place.invariant in
-    let text = text_later _ _ _ _ collection inv.same inv.looked.files is in
-    rows_cut c.args.text.now.code collection c.args.mode c.args.rows.now c.loop-place.place c.row-row.result.number c.row-row.result.score _ _ _ _ _ _ (g.S.Store.reads c.loop-place.store) (omega arith) c.row-row.ensures.number c.row-row.ensures.score (inv.shown collection is) (c.in-Err.ensures.content collection text)
+    let text = texts_later _ _ _ _ code collection inv.same inv.looked.files is in
+    rows_cut code collection c.args.mode c.args.rows.now c.loop-place.place c.row-row.result.number c.row-row.result.score _ _ _ _ _ _ (g.S.Store.reads c.loop-place.store) (omega arith) c.row-row.ensures.number c.row-row.ensures.score (inv.shown code collection is) (c.in-Err.ensures.content code collection text)
 
 pub returns-in-Err-clause-pages : goal.returns-in-Err-clause-pages
-returns-in-Err-clause-pages g c = λ collection is.
+returns-in-Err-clause-pages g c = λ code collection is.
     let inv = c.loop-place.invariant in
-    let text = text_later _ _ _ _ collection inv.same inv.looked.files is in
-    pages_cut c.args.text.now.code collection c.args.mode c.args.rows.now c.loop-place.place c.row-row.result.number c.row-row.result.score _ _ _ _ _ (g.S.Store.reads c.loop-place.store) (g.S.Store.reads c.show_doc.new.store) (omega arith) c.row-row.ensures.number c.row-row.ensures.score (inv.shown collection is)
-    (subst (λ (code : TextCode). g.S.Store.reads c.show_doc.new.store part.Text ≤ g.S.Store.reads c.loop-place.store part.Text + mode_pages code collection c.args.mode (at_score c.row-row.result.number (Some c.row-row.result.score))) inv.same.code (c.in-Err.ensures.pages collection text))
+    let text = texts_later _ _ _ _ code collection inv.same inv.looked.files is in
+    pages_cut code collection c.args.mode c.args.rows.now c.loop-place.place c.row-row.result.number c.row-row.result.score _ _ _ _ _ (g.S.Store.reads c.loop-place.store) (g.S.Store.reads c.show_doc.new.store) (omega arith) c.row-row.ensures.number c.row-row.ensures.score (inv.shown code collection is)
+    (c.in-Err.ensures.pages code collection text)
 
 pub returns-in-Err-clause-sound : goal.returns-in-Err-clause-sound
-returns-in-Err-clause-sound g c = λ collection is.
+returns-in-Err-clause-sound g c = λ code collection is.
     let inv = c.loop-place.invariant in
-    c.in-Err.ensures.sound collection (text_later _ _ _ _ collection inv.same inv.looked.files is)
+    c.in-Err.ensures.sound code collection (texts_later _ _ _ _ code collection inv.same inv.looked.files is)
 
 pub returns-clause-content : goal.returns-clause-content
-returns-clause-content g c = λ collection is.
+returns-clause-content g c = λ code collection is.
     let all : c.loop-place.place ≡ length c.args.rows.now = omega arith in
-    rows_passed c.args.text.now.code collection c.args.mode c.args.rows.now _ _ _ _ (g.S.Store.reads c.args.store.now) (g.S.Store.reads c.loop-place.store) (subst (λ k. RowsShown c.args.text.now.code collection c.args.mode c.args.rows.now k (g.O.Sink.written c.args.out.now) (g.O.Sink.written c.loop-place.out) c.args.pending.now c.loop-place.pending (g.S.Store.reads c.args.store.now) (g.S.Store.reads c.loop-place.store)) all (c.loop-place.invariant.shown collection is))
+    rows_passed code collection c.args.mode c.args.rows.now _ _ _ _ (g.S.Store.reads c.args.store.now) (g.S.Store.reads c.loop-place.store) (subst (λ k. RowsShown code collection c.args.mode c.args.rows.now k (g.O.Sink.written c.args.out.now) (g.O.Sink.written c.loop-place.out) c.args.pending.now c.loop-place.pending (g.S.Store.reads c.args.store.now) (g.S.Store.reads c.loop-place.store)) all (c.loop-place.invariant.shown code collection is))
 
 pub returns-clause-pages : goal.returns-clause-pages
-returns-clause-pages g c = λ collection is.
+returns-clause-pages g c = λ code collection is.
     let all : c.loop-place.place ≡ length c.args.rows.now = omega arith in
-    rows_read c.args.text.now.code collection c.args.mode c.args.rows.now (g.O.Sink.written c.args.out.now) (g.O.Sink.written c.loop-place.out) c.args.pending.now c.loop-place.pending _ _ (subst (λ k. RowsShown c.args.text.now.code collection c.args.mode c.args.rows.now k (g.O.Sink.written c.args.out.now) (g.O.Sink.written c.loop-place.out) c.args.pending.now c.loop-place.pending (g.S.Store.reads c.args.store.now) (g.S.Store.reads c.loop-place.store)) all (c.loop-place.invariant.shown collection is))
+    rows_read code collection c.args.mode c.args.rows.now (g.O.Sink.written c.args.out.now) (g.O.Sink.written c.loop-place.out) c.args.pending.now c.loop-place.pending _ _ (subst (λ k. RowsShown code collection c.args.mode c.args.rows.now k (g.O.Sink.written c.args.out.now) (g.O.Sink.written c.loop-place.out) c.args.pending.now c.loop-place.pending (g.S.Store.reads c.args.store.now) (g.S.Store.reads c.loop-place.store)) all (c.loop-place.invariant.shown code collection is))

@@ -1,4 +1,4 @@
-use Rattle.std.proofs.Common.{arith, refl, sym, ◌∙◌, subst}
+use Rattle.std.proofs.Common.{arith, sym, ◌∙◌, subst}
 use Rattle.std.specs.declared.option.Option.{Option}
 use Rattle.mg_dev.specs.Faults.{fault_of_part}
 use Rattle.mg_dev.specs.Files.{Files}
@@ -6,7 +6,7 @@ use Rattle.mg_dev.specs.StreamLaws.{grew_nothing}
 use Rattle.mg_dev.specs.declared.part.Part.TheVariants as part
 use Rattle.mg_layout.specs.Stands.{StandsBy}
 use Rattle.mg_session.proofs.SetLaws.{loaded_too}
-use Rattle.mg_session.proofs.StopLaws.{bad_head, done, head_read, head_there, head_unread, no_empty_head, no_head, nothing_within, session_done, some_head, stands_loaded, stops_for, within_from}
+use Rattle.mg_session.proofs.StopLaws.{bad_head, done, head_no_text, head_read, head_there, head_unread, no_empty_head, no_head, nothing_within, session_done, some_head, stands_loaded, stops_for, within_from}
 use Rattle.mg_session.proofs.session.serve.Goals as goal
 
 pub returns-in-Err-clause-prefix : goal.returns-in-Err-clause-prefix
@@ -14,6 +14,9 @@ returns-in-Err-clause-prefix g c = λ collection stands x told. grew_nothing _ _
 
 pub returns-in-Err-clause-pages : goal.returns-in-Err-clause-pages
 returns-in-Err-clause-pages g c = λ head code collection stands x told. nothing_within code collection x _ _ (head_read _ _ c.in-Err.ensures.reads part.Post (omega arith)) (head_read _ _ c.in-Err.ensures.reads part.Text (omega arith))
+
+pub returns-in-Err-clause-texts_unread : goal.returns-in-Err-clause-texts_unread
+returns-in-Err-clause-texts_unread g c = λ x told none p of_text. head_no_text _ _ c.in-Err.ensures.reads p of_text
 
 pub returns-in-Err-clause-unread : goal.returns-in-Err-clause-unread
 returns-in-Err-clause-unread g c = λ p never. head_unread _ _ c.in-Err.ensures.reads p never
@@ -30,6 +33,9 @@ returns-in-None-clause-prefix g c = λ collection stands x told. grew_nothing _ 
 
 pub returns-in-None-clause-pages : goal.returns-in-None-clause-pages
 returns-in-None-clause-pages g c = λ head code collection stands x told. nothing_within code collection x _ _ (head_read _ _ c.in-Ok.ensures.reads part.Post (omega arith)) (head_read _ _ c.in-Ok.ensures.reads part.Text (omega arith))
+
+pub returns-in-None-clause-texts_unread : goal.returns-in-None-clause-texts_unread
+returns-in-None-clause-texts_unread g c = λ x told none p of_text. head_no_text _ _ c.in-Ok.ensures.reads p of_text
 
 pub returns-in-None-clause-unread : goal.returns-in-None-clause-unread
 returns-in-None-clause-unread g c = λ p never. head_unread _ _ c.in-Ok.ensures.reads p never
@@ -50,8 +56,11 @@ returns-clause-prefix g c = λ collection stands x told.
 pub returns-clause-pages : goal.returns-clause-pages
 returns-clause-pages g c = λ head code collection stands x told.
     let by = loaded_too _ _ collection head c.in-Some.head code stands (some_head _ c.in-Ok.loaded c.in-Some.head c.in-Some.is (c.in-Ok.ensures.answer stands.told)) in
-    within_from code code collection x _ (g.S.Store.reads c.load.new.store) _ refl (head_read _ _ c.in-Ok.ensures.reads part.Post (omega arith)) (head_read _ _ c.in-Ok.ensures.reads part.Text (omega arith))
+    within_from code collection x _ (g.S.Store.reads c.load.new.store) _ (head_read _ _ c.in-Ok.ensures.reads part.Post (omega arith)) (head_read _ _ c.in-Ok.ensures.reads part.Text (omega arith))
     (c.serve_set.ensures.pages code collection (subst (λ (f : Option Files). StandsBy c.in-Some.head code f c.args.base.now collection) (sym c.in-Ok.ensures.files) by) x told)
+
+pub returns-clause-texts_unread : goal.returns-clause-texts_unread
+returns-clause-texts_unread g c = λ x told none p of_text. c.serve_set.ensures.texts_unread x told none p of_text ∙ head_no_text _ _ c.in-Ok.ensures.reads p of_text
 
 pub returns-clause-unread : goal.returns-clause-unread
 returns-clause-unread g c = λ p never. c.serve_set.ensures.unread p never ∙ head_unread _ _ c.in-Ok.ensures.reads p never

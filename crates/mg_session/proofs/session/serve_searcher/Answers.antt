@@ -1,18 +1,21 @@
 use Rattle.mg_session.specs.Searching.{state_of}
-use Rattle.mg_session.proofs.SessionLaws.{answers_over, session_all, session_prefix, pages_within, stops_show}
+use Rattle.mg_session.proofs.SessionLaws.{answers_over, first_ask_none, session_all, session_prefix, pages_within, stops_show}
 use Rattle.mg_session.proofs.session.serve_searcher.Goals as goal
 
 pub returns-in-Ok-clause-files : goal.returns-in-Ok-clause-files
 returns-in-Ok-clause-files g c = c.in-Ok.ensures.answered.after.files
 
 pub returns-in-Ok-clause-all : goal.returns-in-Ok-clause-all
-returns-in-Ok-clause-all g c = λ collection over x told. session_all collection x _ _ (c.in-Ok.ensures.all _ (answers_over _ collection over) x told)
+returns-in-Ok-clause-all g c = λ code collection over x told. session_all collection x _ _ (c.in-Ok.ensures.all _ (answers_over _ code collection over) x told)
 
 pub returns-in-Ok-clause-prefix : goal.returns-in-Ok-clause-prefix
-returns-in-Ok-clause-prefix g c = λ collection over x told. session_prefix collection x _ _ (c.in-Ok.ensures.prefix _ (answers_over _ collection over) x told)
+returns-in-Ok-clause-prefix g c = λ code collection over x told. session_prefix collection x _ _ (c.in-Ok.ensures.prefix _ (answers_over _ code collection over) x told)
 
 pub returns-in-Ok-clause-pages : goal.returns-in-Ok-clause-pages
-returns-in-Ok-clause-pages g c = λ collection over x told. pages_within _ _ c.in-Ok.ensures.answered.answered collection x c.in-Ok.ensures.answered.after (c.in-Ok.ensures.answered.first x told) over
+returns-in-Ok-clause-pages g c = λ code collection over x told. pages_within _ _ c.in-Ok.ensures.answered.answered code collection x c.in-Ok.ensures.answered.after (c.in-Ok.ensures.answered.first x told) over
+
+pub returns-in-Ok-clause-texts_unread : goal.returns-in-Ok-clause-texts_unread
+returns-in-Ok-clause-texts_unread g c = λ x told none p of_text. first_ask_none _ _ c.in-Ok.ensures.answered.answered x c.in-Ok.ensures.answered.after (c.in-Ok.ensures.answered.first x told) none p of_text
 
 pub returns-in-Ok-clause-unread : goal.returns-in-Ok-clause-unread
 returns-in-Ok-clause-unread g c = λ p never. c.in-Ok.ensures.answered.after.unread p never
@@ -24,10 +27,13 @@ pub returns-in-Err-clause-files : goal.returns-in-Err-clause-files
 returns-in-Err-clause-files g c = c.in-Err.ensures.answered.after.files
 
 pub returns-in-Err-clause-prefix : goal.returns-in-Err-clause-prefix
-returns-in-Err-clause-prefix g c = λ collection over x told. session_prefix collection x _ _ (c.in-Err.ensures.prefix _ (answers_over _ collection over) x told)
+returns-in-Err-clause-prefix g c = λ code collection over x told. session_prefix collection x _ _ (c.in-Err.ensures.prefix _ (answers_over _ code collection over) x told)
 
 pub returns-in-Err-clause-pages : goal.returns-in-Err-clause-pages
-returns-in-Err-clause-pages g c = λ collection over x told. pages_within _ _ c.in-Err.ensures.answered.answered collection x c.in-Err.ensures.answered.after (c.in-Err.ensures.answered.first x told) over
+returns-in-Err-clause-pages g c = λ code collection over x told. pages_within _ _ c.in-Err.ensures.answered.answered code collection x c.in-Err.ensures.answered.after (c.in-Err.ensures.answered.first x told) over
+
+pub returns-in-Err-clause-texts_unread : goal.returns-in-Err-clause-texts_unread
+returns-in-Err-clause-texts_unread g c = λ x told none p of_text. first_ask_none _ _ c.in-Err.ensures.answered.answered x c.in-Err.ensures.answered.after (c.in-Err.ensures.answered.first x told) none p of_text
 
 pub returns-in-Err-clause-unread : goal.returns-in-Err-clause-unread
 returns-in-Err-clause-unread g c = λ p never. c.in-Err.ensures.answered.after.unread p never

@@ -6,13 +6,13 @@ use Rattle.mg_session.proofs.StepLaws.{lex_post, lex_text}
 use Rattle.mg_session.proofs.searcher.Searcher.answer_boolean.Goals as goal
 
 pub returns-in-Err-put_refused-clause-replied : goal.returns-in-Err-put_refused-clause-replied
-returns-in-Err-put_refused-clause-replied g c = λ collection over. boolean_unput c.in-Err.why _ collection _ _ _ _ _ c.in-Err-put_refused.refusal _ c.in-Err.ensures.refused c.in-Err-put_refused.ensures.content c.in-Err-put_refused.ensures.memory c.from.ensures
+returns-in-Err-put_refused-clause-replied g c = λ code collection over. boolean_unput c.in-Err.why code collection _ _ _ _ _ c.in-Err-put_refused.refusal _ c.in-Err.ensures.refused c.in-Err-put_refused.ensures.content c.in-Err-put_refused.ensures.memory c.from.ensures
 
 pub returns-in-Err-terms-clause-replied : goal.returns-in-Err-terms-clause-replied
-returns-in-Err-terms-clause-replied g c = λ collection over. nothing_replied _ collection _ _ _ _ _ _ _ tt refl refl
+returns-in-Err-terms-clause-replied g c = λ code collection over. nothing_replied code collection _ _ _ _ _ _ _ tt refl refl
 
 pub returns-in-Err-find_terms-clause-replied : goal.returns-in-Err-find_terms-clause-replied
-returns-in-Err-find_terms-clause-replied g c = λ collection over.
-    nothing_replied _ collection _ _ _ _ _ _ _
+returns-in-Err-find_terms-clause-replied g c = λ code collection over.
+    nothing_replied code collection _ _ _ _ _ _ _
     (part_sound c.in-Err-find_terms.refusal _ _ c.from-in-Err-find_terms.ensures (c.in-Err-find_terms.ensures.answer over.version collection over.limits (subst (λ (o : Opened). LexStands o.lex (g.S.Store.files c.args.store.now) collection) (sym c.self.view_is) over.lex)))
     (lex_post _ _ _ _ _ _ c.in-Err-find_terms.ensures.looked) (lex_text _ _ _ _ _ _ c.in-Err-find_terms.ensures.looked)

@@ -1,9 +1,8 @@
-use Rattle.std.proofs.Common.{arith, ℕ, true, List, length, sym, ap, subst}
+use Rattle.std.proofs.Common.{arith, ℕ, List, length, sym, ap, subst}
 use Rattle.std.specs.declared.option.Option.{Option}
 use Rattle.mg_bool.specs.Places.{AreInfos}
 use Rattle.mg_layout.specs.declared.term_info.TermInfo.{TermInfo}
 use Rattle.mg_lex.specs.Reading.{LexStands}
-use Rattle.mg_session.specs.Answering.{Replied}
 use Rattle.mg_session.specs.Searching.{Opened, OpenedOver}
 use Rattle.mg_session.proofs.ReplyLaws.{answers_for, nothing_replied, part_sound, ranked_answered, ranked_unput}
 use Rattle.mg_session.proofs.StepLaws.{lex_post, lex_text}
@@ -11,11 +10,11 @@ use Rattle.mg_session.proofs.TermLaws.{line_terms}
 use Rattle.mg_session.proofs.searcher.Searcher.answer_ranked.Goals as goal
 
 pub returns-in-Err-put_refused-clause-replied : goal.returns-in-Err-put_refused-clause-replied
-returns-in-Err-put_refused-clause-replied g c = λ collection over. ranked_unput c.in-Err.why _ collection _ _ _ _ _ c.in-Err-put_refused.refusal _ c.in-Err.ensures.refused c.in-Err-put_refused.ensures.content c.in-Err-put_refused.ensures.memory c.from.ensures
+returns-in-Err-put_refused-clause-replied g c = λ code collection over. ranked_unput c.in-Err.why code collection _ _ _ _ _ c.in-Err-put_refused.refusal _ c.in-Err.ensures.refused c.in-Err-put_refused.ensures.content c.in-Err-put_refused.ensures.memory c.from.ensures
 
 pub returns-in-Err-find_terms-clause-replied : goal.returns-in-Err-find_terms-clause-replied
-returns-in-Err-find_terms-clause-replied g c = λ collection over.
-    nothing_replied _ collection _ _ _ _ _ _ _
+returns-in-Err-find_terms-clause-replied g c = λ code collection over.
+    nothing_replied code collection _ _ _ _ _ _ _
     (part_sound c.in-Err-find_terms.refusal _ _ c.from-in-Err-find_terms.ensures (c.in-Err-find_terms.ensures.answer over.version collection over.limits (subst (λ (o : Opened). LexStands o.lex (g.S.Store.files c.args.store.now) collection) (sym c.self.view_is) over.lex)))
     (lex_post _ _ _ _ _ _ c.in-Err-find_terms.ensures.looked) (lex_text _ _ _ _ _ _ c.in-Err-find_terms.ensures.looked)
 
@@ -23,13 +22,12 @@ pub answer_terms-requires-clause-few : goal.answer_terms-requires-clause-few
 answer_terms-requires-clause-few g c = omega (arith, ap length c.deref.ensures.value, c.in-Ok-find_terms.ensures.size, ap length c.as_slice.ensures, (line_terms c.args.line.now c.in-Ok.terms c.in-Ok.ensures.reads).few)
 
 pub returns-clause-replied : goal.returns-clause-replied
-returns-clause-replied g c = λ collection over.
-    let own : Opened = record { base = c.self.inside.base.now; lex = c.self.inside.lex; text = c.self.inside.text; all = c.self.inside.all } in
-    let own_over : OpenedOver (g.S.Store.files c.args.store.now) own collection = subst (λ (o : Opened). OpenedOver (g.S.Store.files c.args.store.now) o collection) (sym c.self.view_is) over in
+returns-clause-replied g c = λ code collection over.
+    let own : Opened = record { base = c.self.inside.base.now; lex = c.self.inside.lex; texts = c.self.inside.texts; all = c.self.inside.all } in
+    let own_over : OpenedOver (g.S.Store.files c.args.store.now) own code collection = subst (λ (o : Opened). OpenedOver (g.S.Store.files c.args.store.now) o code collection) (sym c.self.view_is) over in
     let told = c.in-Ok-find_terms.ensures.answer own_over.version collection own_over.limits own_over.lex in
     let same : AreInfos collection c.in-Ok.terms c.deref.result.now = subst (λ (xs : List (Option TermInfo)). AreInfos collection c.in-Ok.terms xs) (sym c.deref.ensures.value) (subst (λ (ts : List (List ℕ)). AreInfos collection ts c.in-Ok-find_terms.infos.items) c.as_slice.ensures told) in
-    let stands = answers_for _ _ own collection c.in-Ok-find_terms.ensures.looked.files own_over in
-    subst (λ (o : Opened). Replied o.text.code collection true c.args.now.now c.args.line.now (g.O.Sink.written c.args.out.now) (g.O.Sink.written c.answer_terms.new.out) (g.S.Store.reads c.args.store.now) (g.S.Store.reads c.answer_terms.new.store) c.answer_terms.result) c.self.view_is
-    (ranked_answered own.text.code collection c.in-Ok.terms _ _ _ _ _ (g.S.Store.reads c.find_terms.new.store) _ _ c.in-Ok.ensures.reads
-    (c.answer_terms.ensures.answer collection c.in-Ok.terms stands same (line_terms c.args.line.now c.in-Ok.terms c.in-Ok.ensures.reads).apart)
-    (lex_post _ _ _ _ _ _ c.in-Ok-find_terms.ensures.looked) (lex_text _ _ _ _ _ _ c.in-Ok-find_terms.ensures.looked))
+    let stands = answers_for _ _ own code collection c.in-Ok-find_terms.ensures.looked.files own_over in
+    ranked_answered code collection c.in-Ok.terms _ _ _ _ _ (g.S.Store.reads c.find_terms.new.store) _ _ c.in-Ok.ensures.reads
+    (c.answer_terms.ensures.answer code collection c.in-Ok.terms stands same (line_terms c.args.line.now c.in-Ok.terms c.in-Ok.ensures.reads).apart)
+    (lex_post _ _ _ _ _ _ c.in-Ok-find_terms.ensures.looked) (lex_text _ _ _ _ _ _ c.in-Ok-find_terms.ensures.looked)

@@ -7,7 +7,7 @@ use Rattle.mg_session.proofs.searcher.SearcherAnswerer.answer_line.Goals as goal
 
 pub returns-clause-content : goal.returns-clause-content
 returns-clause-content g c = λ by answers. subst (λ (r : Settings → List ℕ → List ℕ). AfterPut (g.O.Sink.written c.args.out.now) (g.O.Sink.written c.answer_question.new.out) (r c.args.now.now c.args.line.now) c.answer_question.result) (sym answers.by_is)
-    (line_put _ answers.collection _ _ _ _ _ _ _ (c.answer_question.ensures.replied answers.collection answers.over))
+    (line_put answers.code answers.collection _ _ _ _ _ _ _ (c.answer_question.ensures.replied answers.code answers.collection answers.over))
 
 pub returns-clause-after : goal.returns-clause-after
 returns-clause-after g c = asked_one
@@ -19,4 +19,4 @@ pub returns-clause-part : goal.returns-clause-part
 returns-clause-part g c = line_part
     (state_of (g.S.Store.files c.args.dev.now) (g.S.Store.reads c.args.dev.now) (g.S.Store.faults c.args.dev.now) c.args.self.now)
     (state_of (g.S.Store.files c.answer_question.new.store) (g.S.Store.reads c.answer_question.new.store) (g.S.Store.faults c.answer_question.new.store) c.answer_question.new.self)
-    _ _ _ c.answer_question.ensures.cause (λ collection over. (c.answer_question.ensures.replied collection over).sound)
+    _ _ _ c.answer_question.ensures.cause (λ code collection over. (c.answer_question.ensures.replied code collection over).sound)

@@ -1,0 +1,16 @@
+//! Tests of `mg_build`, through its public calls.
+//!
+//! They stand in a crate of their own, as integration tests do: a crate that holds tests is proved once
+//! as a library and once more as the program that runs them.
+#![tactic(auto)]
+
+#[cfg(test)]
+mod building_rows;
+#[cfg(test)]
+mod building_tests;
+#[cfg(test)]
+mod decoding_tests;
+#[cfg(test)]
+mod migrating_tests;
+#[cfg(test)]
+mod other_store;

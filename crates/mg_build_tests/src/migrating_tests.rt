@@ -1,0 +1,240 @@
+// What no clause says: that sets are made anew where memory is there, the parts of one, and what a failing store leaves.
+use crate::other_store::OtherStore;
+use mg_build::{decode, migrate};
+use mg_dev::{Bad, Fault, MemSink, MemStore, Part, SureStore};
+use std::alloc::{AllocError, Global};
+use std::test::Fail;
+
+// The set of the eight bytes `a a a a ` in version 1, a part each: its name in the old set, in the new one, its bytes.
+const COPIED: [(&str, &str, &[u8]); 9] = [
+    ("old.words", "new.words", b"\x01a\x01"),
+    ("old.nonwords", "new.nonwords", b"\x01 \x01"),
+    ("old.text", "new.text", b"\xc8\0"),
+    (
+        "old.lex",
+        "new.lex",
+        b"\x01a\0\0\0\x01\0\0\0\0\0\0\0\0\0\0\0\0",
+    ),
+    ("old.lexat", "new.lexat", b"\0\0\0\0"),
+    ("old.post", "new.post", b"`"),
+    (
+        "old.skip",
+        "new.skip",
+        b"\0\0\0\0\0\0\0\x01\0\0\0\0\0\0\0\0",
+    ),
+    ("old.weights", "new.weights", b"\0\0\x03\0"),
+    ("old.run", "new.run", b"\x18"),
+];
+
+const HEAD: &[u8] =
+    b"MGROWv1\n\0\0\0\x01\0\0\0\x01\0\0\0\x01\0\0\0\x01\0\x15UU\0\0\0\x01\0\0\0\x08\0\0\0\x04\0\0\0\x01\0\0\0\x02\0\0\0\0\0\0\0\x01\0\0\0\0\0\0\0\x01";
+
+const PLACES: &[u8] = b"\0\0\0\0\0\0\0\x02";
+
+// Head and places in version 2.
+const WIDE_HEAD: &[u8] =
+    b"MGROWv2\n\0\0\0\x01\0\0\0\x01\0\0\0\x01\0\0\0\x01\0\x15UU\0\0\0\x01\0\0\0\0\0\0\0\x08\0\0\0\0\0\0\0\x04\0\0\0\x01\0\0\0\0\0\0\0\0\0\0\0\x02\0\0\0\0\0\0\0\x01\0\0\0\0\0\0\0\x01";
+
+const WIDE_PLACES: &[u8] = b"\0\0\0\0\0\0\0\0\0\0\0\0\0\0\0\x02";
+
+// The set under `old`, with this head and these places.
+fn old_set(alloc: Global, head: &[u8], places: &[u8]) -> Result<MemStore, AllocError> {
+    let mut store = MemStore::new(alloc);
+    for (name, _, bytes) in COPIED {
+        store.put_file(name, bytes)?;
+    }
+    store.put_file("old.head", head)?;
+    store.put_file("old.places", places)?;
+    Ok(store)
+}
+
+#[test]
+fn both_versions_become_version_2(rt: HostRuntime) -> Result<(), Fail> {
+    let alloc = rt.alloc();
+    for (head, places) in [(HEAD, PLACES), (WIDE_HEAD, WIDE_PLACES)] {
+        let mut store = old_set(alloc, head, places)?;
+        store.put_file("new.text", b"what was there before")?;
+        assert_eq!(rt; migrate(alloc, &mut store, "old", "new"), Ok(1));
+        for (_, name, bytes) in COPIED {
+            assert_eq!(rt; store.file(name), Some(bytes), "{name}");
+        }
+        for (name, bytes) in [
+            ("new.head", WIDE_HEAD),
+            ("new.places", WIDE_PLACES),
+            ("new.mergea", b"".as_slice()),
+            ("new.mergeb", b""),
+            ("old.head", head),
+            ("old.places", places),
+        ] {
+            assert_eq!(rt; store.file(name), Some(bytes), "{name}");
+        }
+    }
+    Ok(())
+}
+
+// How decoding a base in a store with these files ends; None where it prints other bytes than the set's.
+fn decoded(
+    alloc: Global,
+    store: &MemStore,
+    base: &str,
+) -> Result<Option<Result<(), Fault>>, AllocError> {
+    let mut copy = MemStore::new(alloc);
+    for (old, new, _) in COPIED {
+        for name in [old, new] {
+            if let Some(bytes) = store.file(name) {
+                copy.put_file(name, bytes)?;
+            }
+        }
+    }
+    for name in ["old.head", "old.places", "new.head", "new.places"] {
+        if let Some(bytes) = store.file(name) {
+            copy.put_file(name, bytes)?;
+        }
+    }
+    let mut out = MemSink::new(alloc);
+    let status = decode(alloc, &mut copy, base, &mut out);
+    if status == Ok(()) && out.bytes() != b"a a a a ".as_slice() {
+        return Ok(None);
+    }
+    Ok(Some(status))
+}
+
+#[test]
+fn a_call_that_fails_leaves_the_other_set_and_no_half_of_the_new_one(
+    rt: HostRuntime,
+) -> Result<(), Fail> {
+    let alloc = rt.alloc();
+    let mut whole = old_set(alloc, HEAD, PLACES)?;
+    assert_eq!(rt; migrate(alloc, &mut whole, "old", "new"), Ok(1));
+    let calls = whole.calls();
+    assert!(rt; calls > 40);
+    for call in 0..calls {
+        let mut store = old_set(alloc, HEAD, PLACES)?;
+        store.fail_from(call);
+        assert_eq!(rt;
+            migrate(alloc, &mut store, "old", "new"),
+            Err(Fault::StoreFault),
+            "call {call}"
+        );
+        assert_eq!(rt; decoded(alloc, &store, "old")?, Some(Ok(())), "call {call}");
+        let left = decoded(alloc, &store, "new")?;
+        assert!(rt;
+            matches!(
+                left,
+                Some(Ok(()) | Err(Fault::NotBuilt | Fault::Damaged(_)))
+            ),
+            "call {call}"
+        );
+    }
+    Ok(())
+}
+
+#[test]
+fn a_set_is_not_made_from_itself_or_from_none(rt: HostRuntime) -> Result<(), Fail> {
+    let alloc = rt.alloc();
+    let mut store = old_set(alloc, HEAD, PLACES)?;
+    assert_eq!(rt;
+        migrate(alloc, &mut store, "old", "old"),
+        Err(Fault::SameName)
+    );
+    assert_eq!(rt;
+        migrate(alloc, &mut store, "none", "new"),
+        Err(Fault::NotBuilt)
+    );
+    assert_eq!(rt; store.file("new.head"), None);
+    store.put_file("old.places", b"\0\0\0\0")?;
+    let bad = Bad {
+        part: Part::Places,
+        at: 0,
+        low: 8,
+        high: 8,
+        found: 4,
+    };
+    assert_eq!(rt;
+        migrate(alloc, &mut store, "old", "new"),
+        Err(Fault::Damaged(bad))
+    );
+    assert_eq!(rt; decoded(alloc, &store, "new")?, Some(Err(Fault::NotBuilt)));
+    Ok(())
+}
+
+// A store with the set under `old` that gives, of the file of one part, the bytes of another file.
+fn giving_less(
+    alloc: Global,
+    head: &[u8],
+    places: &[u8],
+    part: Part,
+    other: &str,
+    given: &[u8],
+) -> Result<OtherStore, AllocError> {
+    let mut held = SureStore::new(alloc);
+    for (name, _, bytes) in COPIED {
+        held.put_file(name, bytes)?;
+    }
+    held.put_file("old.head", head)?;
+    held.put_file("old.places", places)?;
+    held.put_file(other, given)?;
+    let mut store = OtherStore::new(held);
+    store.changes = part;
+    store.from = 0;
+    Ok(store)
+}
+
+#[test]
+fn a_part_that_gives_fewer_bytes_than_its_size_is_told(rt: HostRuntime) -> Result<(), Fail> {
+    let alloc = rt.alloc();
+    // A part, the file that it gives in place of its own, the bytes of that file, and the size that is told.
+    let rows: [(Part, &str, &[u8], u64); 10] = [
+        (Part::Words, "other.words", b"\x01a", 3),
+        (Part::Nonwords, "other.nonwords", b"\x01 ", 3),
+        (Part::Text, "other.text", b"\xc8", 2),
+        (
+            Part::Places,
+            "other.places",
+            b"\0\0\0\0\0\0\0\0\0\0\0\0\0\0\0",
+            16,
+        ),
+        (
+            Part::Lex,
+            "other.lex",
+            b"\x01a\0\0\0\x01\0\0\0\0\0\0\0\0\0\0\0",
+            18,
+        ),
+        (Part::LexAt, "other.lexat", b"\0", 4),
+        (Part::Post, "other.post", b"", 1),
+        (Part::Skip, "other.skip", b"\0\0\0\0\0\0\0\x01", 16),
+        (Part::Weights, "other.weights", b"\0\0\x03", 4),
+        (Part::Run, "other.run", b"", 1),
+    ];
+    for (part, other, given, size) in rows {
+        let mut store = giving_less(alloc, WIDE_HEAD, WIDE_PLACES, part, other, given)?;
+        let bad = Bad {
+            part,
+            at: 0,
+            low: size,
+            high: size,
+            found: given.len() as u64,
+        };
+        assert_eq!(rt;
+            migrate(alloc, &mut store, "old", "new"),
+            Err(Fault::Damaged(bad)),
+            "{other}"
+        );
+        assert_eq!(rt; store.held.file("new.head"), Some(b"".as_slice()));
+    }
+    // Places of four bytes are read a number at a time: the second one is not there.
+    let given = b"\0\0\0\0";
+    let mut store = giving_less(alloc, HEAD, PLACES, Part::Places, "other.places", given)?;
+    let bad = Bad {
+        part: Part::Places,
+        at: 4,
+        low: 1,
+        high: 1,
+        found: 0,
+    };
+    assert_eq!(rt;
+        migrate(alloc, &mut store, "old", "new"),
+        Err(Fault::Damaged(bad))
+    );
+    Ok(())
+}

@@ -1,0 +1,156 @@
+-- Laws of flags that go from one word of a document to the next.
+use Rattle.std.proofs.Common.{◌≡◌, ℕ, zero, suc, ◌+◌, ◌≤◌, if◌then◌else◌, Bool, true, false, ◌&&◌, ◌==◌, List, [], ◌∷◌, ◌++◌, length, take, drop, map, get_or, refl, sym, ◌∙◌, ap, arith, zero-add, inl, inr}
+use Rattle.std.proofs.Math.ListN.{replicate}
+use Rattle.std.proofs.lemmas.Bool.{cases_Bool, ne_eqb, and_right, false≢true}
+use Rattle.std.proofs.lemmas.List.{take-append-drop}
+use Rattle.mg_defs.specs.OnePass.{carry_on, complete, places_from}
+use Rattle.mg_defs.specs.Parse.{Pair, parse}
+use Rattle.mg_defs.specs.Phrases.{one_if, phrase_places}
+use Rattle.mg_defs.specs.Terms.{folded, same_term, is_empty, terms, terms_of_words}
+use Rattle.mg_laws.proofs.OnePassLaws.{one_pass}
+use Rattle.mg_phrase.specs.Flags.{to_come}
+
+-- ---- a word and a term
+
+other_lengths : (a b : List ℕ) → (length a ≡ length b → ⊥) → same_term a b ≡ false
+other_lengths [] [] ne = absurd (ne refl)
+other_lengths [] (c ∷ b) ne = refl
+other_lengths (d ∷ a) [] ne = refl
+other_lengths (d ∷ a) (c ∷ b) ne = and_right (d == c) (same_term a b) (other_lengths a b (λ e. ne (ap suc e)))
+
+length-folded : (w : List ℕ) → length (folded w) ≡ length w
+length-folded [] = refl
+length-folded (b ∷ w) = ap suc (length-folded w)
+
+pub other_word : (word t : List ℕ) → (length word ≡ length t → ⊥) → same_term t (folded word) ≡ false
+other_word word t ne = other_lengths t (folded word) (λ e. ne (sym (e ∙ length-folded word)))
+
+-- ---- flags after a word
+
+-- the flags behind a term, where the phrase stands before these words or does not
+abbrev pub stepped : Bool → List (List ℕ) → List Bool → List ℕ → List Bool
+stepped before [] flags t = flags
+stepped before (w ∷ ws) [] t = []
+stepped before (w ∷ ws) (flag ∷ flags) t = (before && same_term w t) ∷ stepped flag ws flags t
+
+carries : (before : Bool) (ws : List (List ℕ)) (flags : List Bool) (t : List ℕ) → length ws ≤ length flags → carry_on t (if before then ws ∷ to_come ws flags else to_come ws flags) ≡ to_come ws (stepped before ws flags t)
+unfolding to_come
+carries true [] flags t le = refl
+carries false [] flags t le = refl
+carries before (w ∷ ws) [] t le = absurd (omega (arith, le))
+carries true (w ∷ ws) (flag ∷ flags) t le =
+    let more = carries flag ws flags t (omega (arith, le)) in
+    elim (cases_Bool (same_term w t)) [
+      | inl is ↦ rw is (ap (λ (xs : List (List (List ℕ))). ws ∷ xs) more)
+      | inr isnt ↦ rw isnt more
+    ]
+carries false (w ∷ ws) (flag ∷ flags) t le = carries flag ws flags t (omega (arith, le))
+
+completes : (w : List ℕ) (ws : List (List ℕ)) (flags : List Bool) → length (w ∷ ws) ≤ length flags → complete (to_come (w ∷ ws) flags) ≡ one_if (get_or flags (length ws) false)
+unfolding to_come
+completes w ws [] le = absurd (omega (arith, le))
+completes w [] (true ∷ flags) le = refl
+completes w [] (false ∷ flags) le = refl
+completes w (v ∷ ws) (true ∷ flags) le = completes v ws flags (omega (arith, le))
+completes w (v ∷ ws) (false ∷ flags) le = completes v ws flags (omega (arith, le))
+
+drop-end : {X : Type 0} (n : ℕ) (xs : List X) → length xs ≤ n → drop n xs ≡ []
+drop-end zero [] le = refl
+drop-end (suc n) [] le = refl
+drop-end zero (x ∷ xs) le = absurd (omega (arith, le))
+drop-end (suc n) (x ∷ xs) le = drop-end n xs (omega (arith, le))
+
+-- behind the last one
+pub all_set : (ws : List (List ℕ)) (flags all : List Bool) (t : List ℕ) (before : Bool) (n : ℕ) → length ws ≤ n → all ≡ take n flags ++ stepped before (drop n ws) (drop n flags) t → flags ≡ all
+all_set ws flags all t before n le e = let old = rw (drop-end n ws le) at e in sym (old ∙ take-append-drop n flags)
+
+pub flags_carry : (ws : List (List ℕ)) (flags now : List Bool) (t : List ℕ) → length ws ≤ length flags → now ≡ stepped true ws flags t → to_come ws now ≡ carry_on t (ws ∷ to_come ws flags)
+flags_carry ws flags now t le e = ap (to_come ws) e ∙ sym (carries true ws flags t le)
+
+pub last_completes : (ws : List (List ℕ)) (flags : List Bool) (i : ℕ) → suc i ≡ length ws → length ws ≤ length flags → one_if (get_or flags i false) ≡ complete (to_come ws flags)
+last_completes [] flags i e le = absurd (omega (arith, e))
+last_completes (w ∷ ws) flags i e le = let same : i ≡ length ws = omega (arith, e) in rw same (sym (completes w ws flags le))
+
+pub none_set : (ws : List (List ℕ)) (n : ℕ) → to_come ws (replicate n false) ≡ []
+unfolding to_come
+none_set [] n = refl
+none_set (w ∷ ws) zero = refl
+none_set (w ∷ ws) (suc n) = none_set ws n
+
+-- ---- one pair after another
+
+unfoldable pub terms_in : List Pair → List (List ℕ)
+terms_in pairs = terms_of_words (map (λ (p : Pair). p.word) pairs)
+
+empty_test : (w : List ℕ) → is_empty w ≡ (length w == 0)
+empty_test [] = refl
+empty_test (b ∷ w) = sym (ne_eqb (length (b ∷ w)) 0 (λ e. omega (arith, e)))
+
+in-word : (p : Pair) (pairs : List Pair) → is_empty p.word ≡ false → terms_in (p ∷ pairs) ≡ folded p.word ∷ terms_in pairs
+unfolding terms_in
+in-word p pairs some = rw some refl
+
+in-empty : (p : Pair) (pairs : List Pair) → is_empty p.word ≡ true → terms_in (p ∷ pairs) ≡ terms_in pairs
+unfolding terms_in
+in-empty p pairs none = rw none refl
+
+pub counts_as : (b : Bool) → b ≡ true → one_if b ≡ 1
+counts_as b e = rw e refl
+
+pub counts_not : (b : Bool) → b ≡ false → one_if b ≡ 0
+counts_not b e = rw e refl
+
+from_word : (phrase : List (List ℕ)) (begun now : List (List (List ℕ))) (w : List ℕ) (ts : List (List ℕ)) → now ≡ carry_on (folded w) (phrase ∷ begun) → places_from phrase begun (folded w ∷ ts) ≡ complete now + places_from phrase now ts
+unfolding places_from
+from_word phrase begun now w ts e = rw e refl
+
+from_none : (phrase : List (List ℕ)) (begun : List (List (List ℕ))) → places_from phrase begun [] ≡ 0
+unfolding places_from
+from_none phrase begun = refl
+
+-- the phrase was carried on by a word that is not empty
+pub word_taken : (phrase : List (List ℕ)) (begun now : List (List (List ℕ))) (p : Pair) (pairs rest : List Pair) (places more total : ℕ) (none done : Bool) → pairs ≡ p ∷ rest → none ≡ (length p.word == 0) → none ≡ false →
+    now ≡ carry_on (folded p.word) (phrase ∷ begun) → one_if done ≡ complete now → more ≡ places + one_if done → places + places_from phrase begun (terms_in pairs) ≡ total → more + places_from phrase now (terms_in rest) ≡ total
+word_taken phrase begun now p pairs rest places more total none done e test some carried ends counted sum =
+    let step : places_from phrase begun (terms_in pairs) ≡ complete now + places_from phrase now (terms_in rest) = ap (λ ps. places_from phrase begun (terms_in ps)) e ∙ ap (places_from phrase begun) (in-word p rest (empty_test p.word ∙ sym test ∙ some)) ∙ from_word phrase begun now p.word (terms_in rest) carried in
+    omega (arith, step, ends, counted, sum)
+
+pub word_passed : (phrase : List (List ℕ)) (begun : List (List (List ℕ))) (p : Pair) (pairs rest : List Pair) (places total : ℕ) (none : Bool) → pairs ≡ p ∷ rest → none ≡ (length p.word == 0) → none ≡ true → places + places_from phrase begun (terms_in pairs) ≡ total → places + places_from phrase begun (terms_in rest) ≡ total
+word_passed phrase begun p pairs rest places total none e test is_none sum =
+    let step : places_from phrase begun (terms_in pairs) ≡ places_from phrase begun (terms_in rest) = ap (λ ps. places_from phrase begun (terms_in ps)) e ∙ ap (places_from phrase begun) (in-empty p rest (empty_test p.word ∙ sym test ∙ is_none)) in
+    omega (arith, step, sum)
+
+all_in : (doc : List ℕ) → terms_in (parse doc) ≡ terms doc
+unfolding terms_in
+all_in doc = refl
+
+whole_places : (phrase : List (List ℕ)) (doc : List ℕ) → (length phrase ≡ 0 → ⊥) → places_from phrase [] (terms doc) ≡ phrase_places phrase doc
+whole_places [] doc some = absurd (some refl)
+whole_places (w ∷ ws) doc some = one_pass w ws doc
+
+pub none_taken : (phrase : List (List ℕ)) (doc : List ℕ) (pairs : List Pair) (begun : List (List (List ℕ))) → (length phrase ≡ 0 → ⊥) → pairs ≡ parse doc → begun ≡ [] → 0 + places_from phrase begun (terms_in pairs) ≡ phrase_places phrase doc
+none_taken phrase doc pairs begun some e none = zero-add _ ∙ ap (λ b. places_from phrase b (terms_in pairs)) none ∙ ap (λ ps. places_from phrase [] (terms_in ps)) e ∙ ap (places_from phrase []) (all_in doc) ∙ whole_places phrase doc some
+
+none_in : terms_in [] ≡ []
+unfolding terms_in
+none_in = refl
+
+pub all_taken : (phrase : List (List ℕ)) (begun : List (List (List ℕ))) (pairs : List Pair) (places total : ℕ) → pairs ≡ [] → places + places_from phrase begun (terms_in pairs) ≡ total → places ≡ total
+all_taken phrase begun pairs places total e sum =
+    let step : places_from phrase begun (terms_in pairs) ≡ 0 = ap (λ ps. places_from phrase begun (terms_in ps)) e ∙ ap (places_from phrase begun) none_in ∙ from_none phrase begun in
+    omega (arith, step, sum)
+
+size_is : (phrase : List (List ℕ)) (none : Bool) → none ≡ (length phrase == 0) → none ≡ true → length phrase ≡ 0
+size_is [] none e is = refl
+size_is (w ∷ ws) none e is = absurd (false≢true (sym (ne_eqb (length (w ∷ ws)) 0 (λ n. omega (arith, n))) ∙ sym e ∙ is))
+
+-- a phrase without words
+pub no_words : (phrase : List (List ℕ)) (doc : List ℕ) (none : Bool) → none ≡ (length phrase == 0) → none ≡ true → 0 ≡ phrase_places phrase doc
+unfolding phrase_places
+no_words [] doc none e is = refl
+no_words (w ∷ ws) doc none e is = absurd (omega (arith, size_is (w ∷ ws) none e is))
+
+-- and one with some
+pub some_words : (phrase same : List (List ℕ)) (none : Bool) → same ≡ phrase → none ≡ (length phrase == 0) → none ≡ false → length same ≡ 0 → ⊥
+some_words [] same none is e some size = false≢true (sym some ∙ e)
+some_words (w ∷ ws) same none is e some size = omega (arith, ap length is, size)

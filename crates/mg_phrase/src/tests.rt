@@ -1,0 +1,77 @@
+//! Worked places, and the edges of 64 words and of 255 bytes.
+use crate::{QueryErr, parse_phrase, phrase_places};
+use std::alloc::{AllocError, Global};
+use std::test::Fail;
+
+/// At how many places the phrase of a line stands in a document; None where the line is refused.
+fn places(alloc: Global, line: &[u8], doc: &[u8]) -> Result<Option<u64>, AllocError> {
+    if line.len() > 1024 {
+        return Ok(None);
+    }
+    match parse_phrase(alloc, line) {
+        Ok(phrase) if phrase.len() <= 64 => Ok(Some(phrase_places(&phrase, doc))),
+        Err(QueryErr::Memory) => Err(AllocError),
+        _ => Ok(None),
+    }
+}
+
+/// The letter so many times, with a blank after each.
+fn letters(alloc: Global, count: u8) -> Result<Vec<u8>, AllocError> {
+    let mut text = Vec::new(alloc);
+    for _letter in 0..count {
+        text.extend_from_slice(b"a ")?;
+    }
+    Ok(text)
+}
+
+#[test]
+fn places_overlap_and_words_are_folded(rt: HostRuntime) -> Result<(), Fail> {
+    let rows: [(&str, &str, u64); 16] = [
+        ("the cat", "the cat sat\n", 1),
+        ("the cat", "Cat, cat & dog!\n", 0),
+        ("the cat", "the", 0),
+        ("Cat, CAT", "Cat, cat & dog!\n", 1),
+        ("cat", "the cat sat\n", 1),
+        ("cat", "Cat, cat & dog!\n", 2),
+        ("cat dog", "Cat, cat & dog!\n", 1),
+        ("dog cat", "Cat, cat & dog!\n", 0),
+        ("zebra cat", "the cat sat\n", 0),
+        (", ,", "the cat sat\n", 0),
+        ("a a", "a a a a ", 3),
+        ("a b a", "a b a b a", 2),
+        ("a a b", "a a a b", 1),
+        ("ab", "a b", 0),
+        ("café noir", "CAFé Noir", 1),
+        ("a", "", 0),
+    ];
+    for (line, doc, want) in rows {
+        assert_eq!(rt;
+            places(rt.alloc(), line.as_bytes(), doc.as_bytes())?,
+            Some(want),
+            "{line} in {doc}"
+        );
+    }
+    Ok(())
+}
+
+#[test]
+fn a_phrase_of_64_words_and_words_of_255_bytes(rt: HostRuntime) -> Result<(), Fail> {
+    let alloc = rt.alloc();
+    let phrase = letters(alloc, 64)?;
+    let doc = letters(alloc, 66)?;
+    assert_eq!(rt; places(alloc, &phrase, &doc)?, Some(3));
+    let short = letters(alloc, 63)?;
+    assert_eq!(rt; places(alloc, &phrase, &short)?, Some(0));
+    let long = letters(alloc, 65)?;
+    assert_eq!(rt; places(alloc, &long, &doc)?, None);
+    // A word of 256 bytes is one of 255 and one of a byte.
+    let doc = vec![in alloc; b'a'; 256]?;
+    assert_eq!(rt; places(alloc, b"a", &doc)?, Some(1));
+    // 300 blanks are an other of 255 and one of 45, with an empty word between: it is no term.
+    let mut doc = vec![in alloc; b' '; 300]?;
+    doc.extend_from_slice(b"cat")?;
+    let mut apart = Vec::from_slice(alloc, b"the")?;
+    apart.extend_from_slice(doc.as_slice())?;
+    assert_eq!(rt; places(alloc, b"the cat", &apart)?, Some(1));
+    Ok(())
+}

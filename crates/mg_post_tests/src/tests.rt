@@ -1,0 +1,493 @@
+// What no clause says: the bytes of real parts, that calls succeed, and how much is read.
+ghost use Rattle.std.specs.Prelude.{◌≡◌, ◌+◌, ◌*◌, ◌<◌, ◌≤◌, ◌^◌, ℕ, List, [], ◌∷◌, length, IfOk, IfSome, OnOk};
+ghost use Rattle.mg_defs.specs.declared.Posting.{Posting};
+ghost use Rattle.mg_post.specs.Writing.{Took};
+ghost use Rattle.mg_post.specs.Cursor.{CursorFits};
+
+use mg_dev::{MemStore, Part, PartErr, PutErr, Store, SureStore};
+use mg_layout::TermInfo;
+use mg_post::{Cursor, ListWriter, Posting};
+use std::alloc::Global;
+use std::test::Fail;
+
+const K_ENTRIES: [u64; 8] = [3, 0, 3, 0, 1, 0, 2, 0];
+
+const X_ENTRIES: [u64; 8] = [64, 0, 128, 128, 192, 256, 200, 384];
+
+const Y_ENTRIES: [u64; 16] = [
+    192, 0, 384, 412, 399, 822, 95, 0, 191, 159, 287, 319, 383, 479, 400, 639,
+];
+
+// Writes one list; None where it is none of rising documents up to `all`.
+fn put_list<S: Store>(
+    w: &mut ListWriter<'_>,
+    store: &mut S,
+    all: u32,
+    postings: &[Posting],
+) -> Result<Option<(u64, u32)>, PutErr>
+    requires took { (lists : List (List Posting)) × Took w.old (S.files store.old) lists [] }
+    requires total { w.old.total + length postings.now < 2 ^ 32 }
+    requires all { w.old.all ≡ all }
+    requires short { length postings.now < 2 ^ 32 }
+    ensures took { IfOk result (λ at. IfSome at (λ _. (lists : List (List Posting)) × Took w.new (S.files store.new) lists [])) }
+    ensures total { IfOk result (λ at. IfSome at (λ _. w.new.total ≡ w.old.total + length postings.now)) }
+    ensures all { IfOk result (λ at. IfSome at (λ _. w.new.all ≡ all)) }
+{
+    let count = postings.len() as u32;
+    if count < 1 || count > all {
+        return Ok(None);
+    }
+    w.begin(store, count)?;
+    let mut last = 0;
+    for i in 0..postings.len() {
+        let posting = postings[i];
+        if posting.doc <= last || posting.doc > all || posting.freq < 1 {
+            return Ok(None);
+        }
+        w.push(store, posting.doc, posting.freq)?;
+        last = posting.doc;
+    }
+    Ok(Some(w.end_list(store)?))
+}
+
+// Writes lists of at most 2^20 postings, at most 16 of them.
+fn put_lists<S: Store>(
+    alloc: Global,
+    store: &mut S,
+    all: u32,
+    lists: &[&[Posting]],
+    infos: &mut Vec<TermInfo>,
+) -> Result<Option<(u64, u64)>, PutErr> {
+    if all > 1 << 24 || lists.len() > 16 {
+        return Ok(None);
+    }
+    let mut w = ListWriter::start(alloc, store, "set", all)?;
+    for i in 0..lists.len() {
+        let list = lists[i];
+        if list.len() > 1 << 20 {
+            return Ok(None);
+        }
+        let Some((post_at, skip_at)) = put_list(&mut w, store, all, list)? else {
+            return Ok(None);
+        };
+        infos.push(TermInfo {
+            number: i as u32,
+            docs: list.len() as u32,
+            post_at,
+            skip_at,
+        })?;
+    }
+    Ok(Some(w.finish(store)?))
+}
+
+// The bytes of numbers of 8 bytes.
+fn bytes_of(alloc: Global, numbers: &[u64]) -> Result<Vec<u8>, PutErr> {
+    let mut bytes = Vec::new(alloc);
+    for number in numbers {
+        bytes.extend_from_slice(&number.to_be_bytes())?;
+    }
+    Ok(bytes)
+}
+
+// So many bytes, of which some repeat, with one at the end.
+fn cycled(alloc: Global, cycle: &[u8], count: usize, last: u8) -> Result<Vec<u8>, PutErr>
+    requires { 0 < length cycle.now }
+{
+    let mut bytes = Vec::new(alloc);
+    for i in 0..count {
+        bytes.push(cycle[i % cycle.len()])?;
+    }
+    bytes.push(last)?;
+    Ok(bytes)
+}
+
+// Postings of the documents from `first` on, each `gap` after the one before.
+pub fn spaced(alloc: Global, count: u32, first: u32, gap: u32) -> Result<Vec<Posting>, PutErr>
+    requires count { count < 2 ^ 20 }
+    requires gap { gap < 2 ^ 10 }
+    requires first { first < 2 ^ 10 }
+{
+    let mut list = Vec::new(alloc);
+    for i in 0..count {
+        list.push(Posting {
+            doc: first + gap * i,
+            freq: 1 + i % 3,
+        })?;
+    }
+    Ok(list)
+}
+
+// A list of so many postings alone, and where it stands.
+pub fn one_list<S: Store>(
+    alloc: Global,
+    store: &mut S,
+    all: u32,
+    list: &[Posting],
+) -> Result<TermInfo, PutErr> {
+    let mut infos = Vec::new(alloc);
+    let lists = [list];
+    let _sizes = put_lists(alloc, store, all, &lists, &mut infos)?;
+    let none = TermInfo {
+        number: 0,
+        docs: 0,
+        post_at: 0,
+        skip_at: 0,
+    };
+    Ok(infos.first().copied().unwrap_or(none))
+}
+
+#[derive(Clone, Copy, Debug, PartialEq, Eq)]
+enum Step {
+    Next,
+    To(u32),
+}
+
+fn one_step<S: Store>(
+    cursor: &mut Cursor<'_, S>,
+    store: &mut S,
+    step: Step,
+) -> Result<Option<Posting>, PartErr>
+    requires { CursorFits cursor.old (S.files store.old) }
+    ensures { OnOk result (CursorFits cursor.new (S.files store.new)) }
+{
+    match step {
+        Step::Next => cursor.next(store),
+        Step::To(doc) => cursor.advance_to(store, doc.max(1)),
+    }
+}
+
+// What a fresh cursor answers to steps.
+fn taken<S: Store>(
+    alloc: Global,
+    store: &mut S,
+    info: &TermInfo,
+    all: u32,
+    steps: &[Step],
+) -> Result<Vec<Option<Posting>>, PartErr> {
+    let mut cursor = Cursor::start(alloc, "set", info, all)?;
+    let mut answers = Vec::new(alloc);
+    for step in steps {
+        let answer = one_step(&mut cursor, store, *step)?;
+        if cursor.current() != answer {
+            return Ok(answers);
+        }
+        answers.push(answer)?;
+    }
+    Ok(answers)
+}
+
+// What a plain list answers to them.
+fn wanted(alloc: Global, list: &[Posting], steps: &[Step]) -> Result<Vec<Option<Posting>>, PutErr> {
+    let mut answers = Vec::new(alloc);
+    let mut from = 0usize;
+    let mut started = false;
+    for step in steps {
+        match *step {
+            Step::Next => {
+                if started && from < list.len() {
+                    from += 1;
+                }
+            }
+            Step::To(doc) => {
+                let rest = list.get(from..).unwrap_or(&[]);
+                let passed = rest
+                    .iter()
+                    .position(|posting| posting.doc >= doc)
+                    .unwrap_or(rest.len());
+                from = from.saturating_add(passed);
+            }
+        }
+        started = true;
+        answers.push(list.get(from).copied())?;
+    }
+    Ok(answers)
+}
+
+#[test]
+fn the_lists_of_small_collections_have_their_bytes(rt: HostRuntime) -> Result<(), Fail> {
+    let alloc = rt.alloc();
+    let posting = |doc, freq| Posting { doc, freq };
+    let mut store = SureStore::new(alloc);
+    let eight = [posting(1, 4)];
+    let info = one_list(alloc, &mut store, 1, &eight)?;
+    assert_eq!(rt; (info.docs, info.post_at, info.skip_at), (1, 0, 0));
+    assert_eq!(rt; store.file("set.post").unwrap_or(&[]), b"\x60".as_slice());
+    assert_eq!(rt;
+        store.file("set.skip").unwrap_or(&[]),
+        bytes_of(alloc, &[1, 0])?.as_slice()
+    );
+
+    let cat = [posting(1, 1), posting(3, 2)];
+    let dog = [posting(2, 1), posting(3, 1)];
+    let sat = [posting(1, 1)];
+    let the = [posting(1, 1), posting(2, 1)];
+    let lists = [cat.as_slice(), &dog, &sat, &the];
+    let mut infos = Vec::new(alloc);
+    assert_eq!(rt;
+        put_lists(alloc, &mut store, 3, &lists, &mut infos)?,
+        Some((4, 4))
+    );
+    assert_eq!(rt;
+        store.file("set.post").unwrap_or(&[]),
+        b"\x28\x80\x00\x00".as_slice()
+    );
+    assert_eq!(rt;
+        store.file("set.skip").unwrap_or(&[]),
+        bytes_of(alloc, &K_ENTRIES)?.as_slice()
+    );
+    let mut number = 0;
+    for info in &infos {
+        assert_eq!(rt; (info.post_at, info.skip_at), (u64::from(number), number));
+        number = number.saturating_add(1);
+    }
+    Ok(())
+}
+
+#[test]
+fn two_lists_among_four_hundred_documents_have_their_bytes(rt: HostRuntime) -> Result<(), Fail> {
+    let alloc = rt.alloc();
+    let mut third = Vec::new(alloc);
+    let mut other = Vec::new(alloc);
+    for doc in 1..401u32 {
+        if doc % 3 == 0 {
+            third.push(Posting {
+                doc,
+                freq: 1 + doc % 5,
+            })?;
+        } else {
+            other.push(Posting { doc, freq: 1 })?;
+        }
+    }
+    let lists = [third.as_slice(), other.as_slice()];
+    let mut infos = Vec::new(alloc);
+    let mut store = SureStore::new(alloc);
+    assert_eq!(rt;
+        put_lists(alloc, &mut store, 400, &lists, &mut infos)?,
+        Some((191, 8))
+    );
+    let mut post = cycled(alloc, b"\x98\x92\x66\x58", 106, 0x64)?;
+    let behind = cycled(alloc, b"\x08\x42\x10\x84\x21", 83, 0x80)?;
+    post.extend_from_slice(behind.as_slice())?;
+    assert_eq!(rt; store.file("set.post").unwrap_or(&[]), post.as_slice());
+    assert_eq!(rt;
+        store.file("set.skip").unwrap_or(&[]),
+        bytes_of(alloc, &Y_ENTRIES)?.as_slice()
+    );
+    Ok(())
+}
+
+#[test]
+fn a_block_in_the_middle_costs_one_page_of_each_part(rt: HostRuntime) -> Result<(), Fail> {
+    let alloc = rt.alloc();
+    let mut store = SureStore::new(alloc);
+    let mut list = Vec::new(alloc);
+    for doc in 1..201u32 {
+        list.push(Posting { doc, freq: 1 })?;
+    }
+    let info = one_list(alloc, &mut store, 200, list.as_slice())?;
+    assert_eq!(rt; store.file("set.post").unwrap_or(&[]), [0u8; 50].as_slice());
+    assert_eq!(rt;
+        store.file("set.skip").unwrap_or(&[]),
+        bytes_of(alloc, &X_ENTRIES)?.as_slice()
+    );
+    let answers = taken(alloc, &mut store, &info, 200, &[Step::To(150)])?;
+    assert_eq!(rt;
+        answers.as_slice(),
+        [Some(Posting { doc: 150, freq: 1 })].as_slice()
+    );
+    assert_eq!(rt; store.reads_of(Part::Post), 1);
+    assert_eq!(rt; store.reads_of(Part::Skip), 1);
+    Ok(())
+}
+
+#[test]
+fn a_long_list_is_skipped(rt: HostRuntime) -> Result<(), Fail> {
+    let alloc = rt.alloc();
+    let mut store = SureStore::new(alloc);
+    let mut list = Vec::new(alloc);
+    for doc in 1..200_001u32 {
+        list.push(Posting { doc, freq: 1 })?;
+    }
+    let info = one_list(alloc, &mut store, 200_000, list.as_slice())?;
+    assert_eq!(rt; store.file("set.post").unwrap_or(&[]).len(), 50_000);
+    let answers = taken(alloc, &mut store, &info, 200_000, &[Step::To(150_000)])?;
+    assert_eq!(rt;
+        answers.as_slice(),
+        [Some(Posting {
+            doc: 150_000,
+            freq: 1
+        })]
+        .as_slice()
+    );
+    assert_eq!(rt; store.reads_of(Part::Post), 1);
+    // Entry 2,343 is the one; a page has 256.
+    assert_eq!(rt; store.reads_of(Part::Skip), 10);
+
+    let past = [Step::To(200_001), Step::Next, Step::To(1), Step::Next];
+    let answers = taken(alloc, &mut store, &info, 200_000, &past)?;
+    assert_eq!(rt; answers.as_slice(), [None, None, None, None].as_slice());
+    assert_eq!(rt; store.reads_of(Part::Post), 1);
+    assert_eq!(rt; store.reads_of(Part::Skip), 23);
+    Ok(())
+}
+
+// Asks for documents in all ways that are told apart, and compares with the plain list.
+fn asked_all_ways(alloc: Global, store: &mut SureStore, count: u32) -> Result<u32, PartErr>
+    requires { count < 2 ^ 10 }
+{
+    let mut different = 0u32;
+    let Ok(list) = spaced(alloc, count, 3, 2) else {
+        return Err(PartErr::Memory);
+    };
+    let Ok(info) = one_list(alloc, store, 3000, list.as_slice()) else {
+        return Err(PartErr::Memory);
+    };
+    let mut rising = Vec::new(alloc);
+    let mut walk = Vec::new(alloc);
+    let mut mixed = Vec::new(alloc);
+    for doc in 1..2 * count + 8 {
+        rising.push(Step::To(doc))?;
+        walk.push(Step::Next)?;
+        mixed.push(if doc % 3 == 1 {
+            Step::Next
+        } else {
+            Step::To(doc * (1 + doc % 2))
+        })?;
+        let alone = [Step::To(doc), Step::Next, Step::To(doc + 9)];
+        let apart = told_apart(alloc, store, &info, list.as_slice(), &alone)?;
+        different = different.saturating_add(apart);
+    }
+    for steps in [rising, walk, mixed] {
+        let apart = told_apart(alloc, store, &info, list.as_slice(), steps.as_slice())?;
+        different = different.saturating_add(apart);
+    }
+    Ok(different)
+}
+
+// 1 where a cursor answers otherwise than the list.
+fn told_apart(
+    alloc: Global,
+    store: &mut SureStore,
+    info: &TermInfo,
+    list: &[Posting],
+    steps: &[Step],
+) -> Result<u32, PartErr>
+    ensures { IfOk result (λ n. n ≤ 1) }
+{
+    let answers = taken(alloc, store, info, 3000, steps)?;
+    let Ok(plain) = wanted(alloc, list, steps) else {
+        return Err(PartErr::Memory);
+    };
+    if answers == plain { Ok(0) } else { Ok(1) }
+}
+
+#[test]
+fn lists_around_the_size_of_a_block_answer_as_plain_lists(rt: HostRuntime) -> Result<(), Fail> {
+    let alloc = rt.alloc();
+    let mut store = SureStore::new(alloc);
+    for count in [1, 63, 64, 65, 128, 130] {
+        assert_eq!(rt; asked_all_ways(alloc, &mut store, count)?, 0);
+    }
+    Ok(())
+}
+
+// A store with the parts of a list of 130 postings, cut or changed.
+fn damaged(
+    alloc: Global,
+    post: &[u8],
+    skip: &[u8],
+    cut: usize,
+    flip: u8,
+    of_skip: bool,
+) -> Result<MemStore, PutErr> {
+    let mut post = post.to_vec(alloc)?;
+    let mut skip = skip.to_vec(alloc)?;
+    let bytes = if of_skip { &mut skip } else { &mut post };
+    if flip == 0 {
+        bytes.truncate(cut);
+    } else if cut < bytes.len() {
+        bytes[cut] ^= flip;
+    }
+    let mut store = MemStore::new(alloc);
+    store.put_file("set.post", post.as_slice())?;
+    store.put_file("set.skip", skip.as_slice())?;
+    Ok(store)
+}
+
+#[test]
+fn every_call_returns_on_damaged_and_cut_parts(rt: HostRuntime) -> Result<(), Fail> {
+    let alloc = rt.alloc();
+    let mut store = SureStore::new(alloc);
+    let list = spaced(alloc, 130, 3, 7)?;
+    let info = one_list(alloc, &mut store, 1000, list.as_slice())?;
+    let post = store.file("set.post").unwrap_or(&[]);
+    let skip = store.file("set.skip").unwrap_or(&[]);
+    let way = [
+        Step::Next,
+        Step::To(460),
+        Step::Next,
+        Step::To(910),
+        Step::Next,
+    ];
+    let mut bad = 0u32;
+    for of_skip in [false, true] {
+        let size = if of_skip { skip.len() } else { post.len() };
+        for cut in 0..size {
+            for flip in [0u8, 1, 128] {
+                let mut hurt = damaged(alloc, post, skip, cut, flip, of_skip)?;
+                match taken(alloc, &mut hurt, &info, 1000, &way) {
+                    Err(PartErr::Bad(_)) => {
+                        bad = bad.saturating_add(1);
+                    }
+                    Err(_) => assert!(rt; false, "no call failed"),
+                    Ok(_) => {}
+                }
+            }
+        }
+    }
+    assert!(rt; bad > 0);
+    let mut empty = MemStore::new(alloc);
+    match taken(alloc, &mut empty, &info, 1000, &[Step::Next]) {
+        Err(PartErr::Bad(found)) => assert_eq!(rt; found.part, Part::Skip),
+        _ => assert!(rt; false, "no entry stands there"),
+    }
+    Ok(())
+}
+
+#[test]
+fn a_failing_store_is_told_at_each_call(rt: HostRuntime) -> Result<(), Fail> {
+    let alloc = rt.alloc();
+    let mut sure = SureStore::new(alloc);
+    let list = spaced(alloc, 130, 3, 7)?;
+    let info = one_list(alloc, &mut sure, 1000, list.as_slice())?;
+    let post = sure.file("set.post").unwrap_or(&[]);
+    let skip = sure.file("set.skip").unwrap_or(&[]);
+    let way = [Step::Next, Step::To(460), Step::To(2000)];
+    for call in 0..4u64 {
+        let mut store = MemStore::new(alloc);
+        store.put_file("set.post", post)?;
+        store.put_file("set.skip", skip)?;
+        store.fail_at(call, 0)?;
+        let answer = taken(alloc, &mut store, &info, 1000, &way);
+        // A page of each part is read; nothing else is called.
+        if call < 2 {
+            assert_eq!(rt; answer.err(), Some(PartErr::Device));
+        } else {
+            assert_eq!(rt; answer?.len(), 3);
+        }
+    }
+    for call in 0..6u64 {
+        let mut store = MemStore::new(alloc);
+        store.fail_at(call, 1)?;
+        let mut infos = Vec::new(alloc);
+        let lists = [list.as_slice()];
+        let answer = put_lists(alloc, &mut store, 1000, &lists, &mut infos);
+        // Two resets, and an append of each part.
+        if call < 4 {
+            assert_eq!(rt; answer.err(), Some(PutErr::Failed));
+        } else {
+            assert_eq!(rt; answer?, Some((post.len() as u64, 3)));
+        }
+    }
+    Ok(())
+}

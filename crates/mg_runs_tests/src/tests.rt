@@ -1,0 +1,386 @@
+// What no clause says: bytes of runs as they stand in a file, postings beside those of a plain
+// sort, refusals of a store, and which damage is met first.
+ghost use Rattle.std.specs.Prelude.{◌≡◌, ◌≤◌, ◌/◌, ◌^◌, ℕ, List, IfOk, None, OnOk, codes, length};
+ghost use Rattle.mg_runs.specs.Fed.{IsFed};
+ghost use Rattle.mg_runs.specs.Left.{IsMerging};
+ghost use Rattle.mg_defs.specs.declared.TermPosting.{TermPosting};
+
+use mg_defs::TermPosting;
+use mg_dev::{Bad, Failed, FileRef, MemStore, Part, PartErr, PutErr, Store, SureStore};
+use mg_runs::{Merge, Pool, Runs, runs_stay};
+use std::alloc::{AllocError, Global};
+use std::test::Fail;
+
+/// A writer's refusal as a reader's.
+fn refused(refusal: PutErr) -> PartErr {
+    match refusal {
+        PutErr::Failed => PartErr::Device,
+        PutErr::Memory => PartErr::Memory,
+    }
+}
+
+fn posting(term: u32, doc: u32, count: u32) -> TermPosting {
+    TermPosting { term, doc, count }
+}
+
+/// Scattered occurrences, each a term of so many and how many documents come before its own.
+fn scattered(alloc: Global, count: u32, terms: u32) -> Result<Vec<(u32, u16)>, AllocError>
+    requires count { count ≤ 1000000 }
+    requires terms { 1 ≤ terms }
+    ensures len { IfOk result (λ sample. length sample.items ≡ count) }
+{
+    let mut sample = Vec::new(alloc);
+    let mut state = 12345u32;
+    for k in 0..count {
+        state = state.wrapping_mul(1664525).wrapping_add(1013904223);
+        sample.push(((state >> 16) % terms, (k / 40) as u16))?;
+    }
+    Ok(sample)
+}
+
+/// Takes these occurrences.
+fn take<S: Store>(
+    alloc: Global,
+    store: &mut S,
+    budget: u64,
+    sample: &[(u32, u16)],
+) -> Result<Runs<'static>, PutErr>
+    requires least { 4096 ≤ budget }
+    requires most { budget ≤ 2 ^ 30 }
+    requires count { length sample.now ≤ 1000000 }
+    ensures fed { IfOk result (λ runs. (fed : List (ℕ × ℕ)) × IsFed runs (S.files store.new) fed) }
+    ensures limit { IfOk result (λ runs. runs.pool.limit ≡ budget) }
+    ensures base { IfOk result (λ runs. runs.base ≡ codes "set") }
+{
+    let mut runs = Runs::start(alloc, store, "set", Pool::new(alloc, budget)?)?;
+    for k in 0..sample.len() {
+        let (term, before) = sample[k];
+        runs.add(store, term, u32::from(before) + 1)?;
+    }
+    Ok(runs)
+}
+
+/// Whether a merge has the postings of these sorted occurrences left, and no more.
+fn gives<S: Store>(
+    merge: &mut Merge<'_>,
+    store: &mut S,
+    sorted: &[(u32, u16)],
+) -> Result<bool, PartErr>
+    requires left { (left : List TermPosting) × IsMerging merge.old (S.files store.old) left }
+{
+    let mut from = 0;
+    while from < sorted.len() {
+        let (term, before) = sorted[from];
+        let mut count = 1u32;
+        from += 1;
+        while from < sorted.len() && sorted[from] == (term, before) {
+            from += 1;
+            count = count.wrapping_add(1);
+        }
+        match merge.next(store) {
+            Ok(next) => {
+                if next != Some(posting(term, u32::from(before) + 1, count)) {
+                    return Ok(false);
+                }
+            }
+            Err(refusal) => return Err(refusal),
+        }
+    }
+    match merge.next(store) {
+        Ok(next) => Ok(next.is_none()),
+        Err(refusal) => Err(refusal),
+    }
+}
+
+/// Whether the postings of a sample, merged with so many runs in use, are those of a plain sort.
+fn merges_as_sorted<S: Store>(
+    alloc: Global,
+    store: &mut S,
+    budget: u64,
+    width: usize,
+    sample: &[(u32, u16)],
+) -> Result<bool, PartErr>
+    requires least { 4096 ≤ budget }
+    requires most { budget ≤ 2 ^ 30 }
+    requires some { 2 ≤ width }
+    requires room { width ≤ budget / 64 }
+    requires count { length sample.now ≤ 1000000 }
+{
+    let mut sorted = Vec::new(alloc);
+    sorted.extend_from_slice(sample)?;
+    sorted.sort_unstable();
+    let runs = match take(alloc, store, budget, sample) {
+        Ok(runs) => runs,
+        Err(refusal) => return Err(refused(refusal)),
+    };
+    match runs.merge_by(store, width) {
+        Ok(mut merge) => gives(&mut merge, store, &sorted),
+        Err(refusal) => Err(refusal),
+    }
+}
+
+#[test]
+fn a_pool_tells_its_sizes(rt: HostRuntime) -> Result<(), Fail> {
+    let mut pool = Pool::new(rt.alloc(), 4096)?;
+    assert_eq!(rt; (pool.cap(), pool.width()), (341, 64));
+    assert_eq!(rt; (pool.used(), pool.peak(), pool.limit()), (0, 0, 4096));
+    pool.push(7, 1);
+    assert_eq!(rt; (pool.used(), pool.peak(), pool.limit()), (12, 12, 4096));
+    assert!(rt; !pool.is_full());
+    Ok(())
+}
+
+#[test]
+fn runs_are_these_bytes(rt: HostRuntime) -> Result<(), Fail> {
+    let alloc = rt.alloc();
+    let mut store = MemStore::new(alloc);
+    let words = [
+        (0, 0),
+        (2, 0),
+        (3, 0),
+        (1, 1),
+        (3, 1),
+        (0, 2),
+        (0, 2),
+        (1, 2),
+    ];
+    take(alloc, &mut store, 4096, &words)?.merge(&mut store)?;
+    assert_eq!(rt;
+        store.file("set.run"),
+        Some(b"\xd8\x49\x20\x42\x00".as_slice())
+    );
+    take(alloc, &mut store, 4096, &[(0, 0); 4])?.merge(&mut store)?;
+    assert_eq!(rt; store.file("set.run"), Some(b"\x18".as_slice()));
+    take(alloc, &mut store, 4096, &scattered(alloc, 6000, 97)?)?;
+    assert_eq!(rt; store.file("set.run").map(|bytes| bytes.len()), Some(4096));
+    let bytes = store.file("set.run").ok_or("no run")?;
+    assert!(rt; bytes.starts_with(b"\xff\x0d\x20\x2a\x6e\xc9\x14\xa8\x20\x4c\x12\x4d"));
+    assert!(rt; bytes.ends_with(b"\xc4\x27\xec\x44\x02\x7e\xc4\x10"));
+    assert_eq!(rt; store.reads_of(Part::MergeA), 0);
+    Ok(())
+}
+
+#[test]
+fn runs_and_peaks_are_counted(rt: HostRuntime) -> Result<(), Fail> {
+    let alloc = rt.alloc();
+    let cases = [
+        (0, 0, 0, b"".as_slice()),
+        (10000, 30, 4092, b"".as_slice()),
+        (
+            25000,
+            74,
+            4096,
+            b"\x1f\xff\x95\x40\x1f\xfd\x1a\x00".as_slice(),
+        ),
+    ];
+    let same = [(0, 0); 25000];
+    for (count, runs, peak, joined) in cases {
+        let sample = same.get(..count).ok_or("no case")?;
+        let mut store = MemStore::new(alloc);
+        let mut merge = take(alloc, &mut store, 4096, sample)?.merge(&mut store)?;
+        assert_eq!(rt; (merge.runs(), merge.peak()), (runs, peak));
+        assert!(rt; gives(&mut merge, &mut store, sample)?);
+        assert_eq!(rt; store.file("set.mergea"), Some(joined));
+        assert_eq!(rt; store.file("set.mergeb"), Some(b"".as_slice()));
+        assert_eq!(rt; store.reads_of(Part::MergeA) > 0, !joined.is_empty());
+        assert_eq!(rt;
+            (store.reads_of(Part::MergeB), store.reads_of(Part::Text)),
+            (0, 0)
+        );
+    }
+    Ok(())
+}
+
+#[test]
+fn postings_are_those_of_a_sort(rt: HostRuntime) -> Result<(), Fail> {
+    let alloc = rt.alloc();
+    let sample = scattered(alloc, 25000, 97)?;
+    let mut store = MemStore::new(alloc);
+    assert!(rt; merges_as_sorted(alloc, &mut store, 4096, 64, &sample)?);
+    assert_eq!(rt; store.file("set.mergeb"), Some(b"".as_slice()));
+    assert!(rt; merges_as_sorted(alloc, &mut store, 4096, 4, &sample)?);
+    assert!(rt; store.reads_of(Part::MergeB) > 0);
+    assert!(rt; merges_as_sorted(alloc, &mut store, 5000, 78, &sample)?);
+    assert!(rt; merges_as_sorted(alloc, &mut store, 65536, 1024, &sample)?);
+    assert!(rt; merges_as_sorted(alloc, &mut store, 16777216, 262144, &sample)?);
+    assert_eq!(rt; store.file("set.mergea"), Some(b"".as_slice()));
+    Ok(())
+}
+
+/// The next posting of a merge, once a byte more of Post was written.
+fn next_beside_post<S: Store>(
+    merge: &mut Merge<'_>,
+    store: &mut S,
+    base: &str,
+) -> Result<Option<TermPosting>, PartErr>
+    requires left { (left : List TermPosting) × IsMerging merge.old (S.files store.old) left }
+    requires base { merge.old.base ≡ base.now }
+    ensures base { merge.new.base ≡ merge.old.base }
+    ensures left { OnOk result ((left : List TermPosting) × IsMerging merge.new (S.files store.new) left) }
+{
+    let post = FileRef {
+        base,
+        part: Part::Post,
+    };
+    match store.append(&post, b"*") {
+        Ok(()) => {}
+        Err(refusal) => return Err(refused(refusal)),
+    }
+    runs_stay();
+    merge.next(store)
+}
+
+/// Whether so many postings of two merges are the same, where Post is written between those of the
+/// second.
+fn agree_beside_post<S: Store>(
+    alone: &mut Merge<'_>,
+    store: &mut S,
+    beside: &mut Merge<'_>,
+    other: &mut S,
+    count: usize,
+) -> Result<bool, PartErr>
+    requires alone { (left : List TermPosting) × IsMerging alone.old (S.files store.old) left }
+    requires beside { (left : List TermPosting) × IsMerging beside.old (S.files other.old) left }
+    requires base { beside.old.base ≡ codes "set" }
+{
+    for _ in 0..count {
+        let expected = alone.next(store)?;
+        if next_beside_post(beside, other, "set")? != expected {
+            return Ok(false);
+        }
+    }
+    Ok(true)
+}
+
+#[test]
+fn postings_come_while_post_is_written(rt: HostRuntime) -> Result<(), Fail> {
+    let alloc = rt.alloc();
+    let sample = scattered(alloc, 1400, 97)?;
+    let mut store = MemStore::new(alloc);
+    let mut alone = take(alloc, &mut store, 4096, &sample)?.merge(&mut store)?;
+    let mut other = MemStore::new(alloc);
+    let mut beside = take(alloc, &mut other, 4096, &sample)?.merge(&mut other)?;
+    assert!(rt; agree_beside_post(&mut alone, &mut store, &mut beside, &mut other, 1400)?);
+    assert_eq!(rt; other.file("set.post").map(|bytes| bytes.len()), Some(1400));
+    Ok(())
+}
+
+#[test]
+fn each_failing_call_is_told(rt: HostRuntime) -> Result<(), Fail> {
+    let alloc = rt.alloc();
+    let sample = scattered(alloc, 1400, 2)?;
+    let mut store = MemStore::new(alloc);
+    assert!(rt; merges_as_sorted(alloc, &mut store, 4096, 2, &sample)?);
+    assert!(rt; store.calls() > 20);
+    for call in 0..store.calls() {
+        let mut failing = MemStore::new(alloc);
+        failing.fail_at(call, 3)?;
+        let outcome = merges_as_sorted(alloc, &mut failing, 4096, 2, &sample);
+        assert_eq!(rt; outcome, Err(PartErr::Device), "a failure at call {call}");
+    }
+    Ok(())
+}
+
+/// A store that tells none of its files. So many reads are sound; those after it give one-bits alone.
+#[derive(Drop)]
+struct Spoiled {
+    sound: u64,
+    held: SureStore,
+}
+
+#[tactic(auto, unfolding(mg_dev::specs::Files::written))]
+impl Store for Spoiled {
+    ghost files = { λ _. None };
+
+    ghost faults = { λ _. 0 };
+
+    ghost reads = { λ s. ⟦<SureStore as Store>⟧.reads s.held };
+
+    fn size(&mut self, file: &FileRef<'_>) -> Result<Option<u64>, Failed> {
+        self.held.size(file)
+    }
+
+    fn read_at(&mut self, file: &FileRef<'_>, at: u64, buf: &mut [u8]) -> Result<usize, Failed> {
+        let read = self.held.read_at(file, at, buf);
+        if self.sound == 0 {
+            buf.fill(255);
+        } else {
+            self.sound -= 1;
+        }
+        read
+    }
+
+    fn reset(&mut self, file: &FileRef<'_>) -> Result<(), PutErr> {
+        match self.held.reset(file) {
+            Ok(()) => Ok(()),
+            Err(refusal) => Err(refusal),
+        }
+    }
+
+    fn append(&mut self, file: &FileRef<'_>, piece: &[u8]) -> Result<(), PutErr> {
+        match self.held.append(file, piece) {
+            Ok(()) => Ok(()),
+            Err(refusal) => Err(refusal),
+        }
+    }
+}
+
+/// How many occurrences the postings have that a merge has left.
+fn drained<S: Store>(merge: &mut Merge<'_>, store: &mut S) -> Result<u64, PartErr>
+    requires left { (left : List TermPosting) × IsMerging merge.old (S.files store.old) left }
+{
+    let mut count = 0u64;
+    loop {
+        match merge.next(store) {
+            Ok(Some(posting)) => count = count.wrapping_add(u64::from(posting.count)),
+            Ok(None) => return Ok(count),
+            Err(refusal) => return Err(refusal),
+        }
+    }
+}
+
+#[test]
+fn counts_are_those_of_all_occurrences(rt: HostRuntime) -> Result<(), Fail> {
+    let alloc = rt.alloc();
+    let sample = scattered(alloc, 1400, 2)?;
+    let mut store = Spoiled {
+        sound: u64::MAX,
+        held: SureStore::new(alloc),
+    };
+    let mut merge = take(alloc, &mut store, 4096, &sample)?.merge(&mut store)?;
+    assert_eq!(rt; drained(&mut merge, &mut store), Ok(1400));
+    Ok(())
+}
+
+#[test]
+fn the_first_damage_is_told_of_its_part(rt: HostRuntime) -> Result<(), Fail> {
+    let alloc = rt.alloc();
+    let sample = scattered(alloc, 1400, 2)?;
+    let mut store = Spoiled {
+        sound: u64::MAX,
+        held: SureStore::new(alloc),
+    };
+    assert!(rt; merges_as_sorted(alloc, &mut store, 4096, 2, &sample)?);
+    let Spoiled { held, .. } = store;
+    let of_run = held.reads_of(Part::Run);
+    let of_both = of_run.saturating_add(held.reads_of(Part::MergeA));
+    let cases = [
+        (0, Part::Run),
+        (of_run, Part::MergeA),
+        (of_both, Part::MergeB),
+    ];
+    for (sound, part) in cases {
+        let held = SureStore::new(alloc);
+        let mut spoiled = Spoiled { sound, held };
+        let bad = Bad {
+            part,
+            at: 0,
+            low: 1,
+            high: 1 << 32,
+            found: 0,
+        };
+        let outcome = merges_as_sorted(alloc, &mut spoiled, 4096, 2, &sample);
+        assert_eq!(rt; outcome, Err(PartErr::Bad(bad)));
+    }
+    Ok(())
+}

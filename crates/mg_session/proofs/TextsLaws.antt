@@ -1,0 +1,64 @@
+-- The text of a base: its reader, before and after it is loaded.
+use Rattle.std.proofs.Common.{◌≡◌, ◌+◌, ◌≤◌, ℕ, List, Some, None, Err, ◌∙◌, ap, subst, is_some}
+use Rattle.std.specs.Prelude.{IfSome}
+use Rattle.std.specs.declared.option.Option.{Option}
+use Rattle.mg_dev.specs.Files.{Files, file_at}
+use Rattle.mg_dev.specs.declared.part_err.PartErr.{PartErr}
+use Rattle.mg_dev.specs.declared.part_err.PartErr.TheVariants.{Device, Memory, Bad}
+use Rattle.mg_dev.specs.declared.show_err.ShowErr.TheVariants as show
+use Rattle.mg_defs.specs.CodedText.{TextCode, doc_range}
+use Rattle.mg_defs.specs.PagesOf.{pages}
+use Rattle.mg_defs.specs.TextBounds.{doc_pages}
+use Rattle.mg_front.specs.Reading.{IsNotBad}
+use Rattle.mg_layout.specs.declared.head.Head.{Head}
+use Rattle.mg_text.specs.Reading.{IsText, IsTextReader, SameText, ShowIsNotBad, TextFits, TextReading, TextStands}
+use Rattle.mg_text.proofs.CallerLemmas.{text_stays}
+use Rattle.mg_session.specs.Answering.{at_score}
+use Rattle.mg_session.specs.Texts.{IsLoaded, Texting, TextsFit}
+
+-- the same reader, over the same files
+pub loaded_later : (base : List ℕ) (head : Head) (files now : Option Files) (r s : TextReading) → SameText r s → TextFits s now → now ≡ files → IsLoaded base head files r → IsLoaded base head now s
+loaded_later base head files now r s same fits e o = record {
+  fits = fits;
+  reader = record {
+    text_is = same.text ∙ o.reader.text_is;
+    places_is = same.places ∙ o.reader.places_is;
+    version_is = same.version ∙ o.reader.version_is;
+    documents_are = same.documents ∙ o.reader.documents_are;
+    size_is = same.size ∙ o.reader.size_is;
+  };
+  stands = λ code collection is.
+      text_stays r s files now collection same (ap is_some e) (ap (λ (f : Option Files). file_at f r.text.name) e) (ap (λ (f : Option Files). file_at f r.places.name) e) (o.stands code collection (before code collection is));
+  code = λ code collection is. same.code ∙ o.code code collection (before code collection is);
+}
+  where
+    before : (code : TextCode) (collection : List ℕ) → IsText base now head code collection → IsText base files head code collection
+    before code collection is = subst (λ (f : Option Files). IsText base f head code collection) e is
+
+-- a reader that was loaded
+pub loaded_now : (base : List ℕ) (head : Head) (files now : Option Files) (r : TextReading) → now ≡ files → TextFits r now → IsTextReader r base head →
+    ((code : TextCode) (collection : List ℕ) → IsText base files head code collection → TextStands r now collection) → ((code : TextCode) (collection : List ℕ) → IsText base files head code collection → r.code ≡ code) → IsLoaded base head now r
+loaded_now base head files now r e fits reader stands code = record {
+  fits = fits;
+  reader = reader;
+  stands = λ c collection is. stands c collection (before c collection is);
+  code = λ c collection is. code c collection (before c collection is);
+}
+  where
+    before : (c : TextCode) (collection : List ℕ) → IsText base now head c collection → IsText base files head c collection
+    before c collection is = subst (λ (f : Option Files). IsText base f head c collection) e is
+
+-- the reader of a text that agrees with the files, where there is one
+pub texts_reader : (files : Option Files) (t : Texting) (r : TextReading) → TextsFit files t → t.reader ≡ Some r → IsLoaded t.base t.head files r
+texts_reader files t r fit is = subst (λ (o : Option TextReading). IfSome o (IsLoaded t.base t.head files)) is fit.reader
+
+-- a reader that was not loaded shows nothing, and says that no part is bad where loading does not
+pub load_sound : (refusal : PartErr) → IsNotBad refusal → ShowIsNotBad (Err (show.Part refusal))
+load_sound Device is = tt
+load_sound Memory is = tt
+load_sound (Bad bad) is = absurd is
+
+-- the pages that a reader reads are those of the collection's codes
+pub same_pages : (r : TextReading) (code : TextCode) (collection : List ℕ) (number before now : ℕ) → r.code ≡ code →
+    now ≤ before + pages (doc_range r.code collection number).from (doc_range r.code collection number).to → now ≤ before + doc_pages code collection (at_score number None)
+same_pages r code collection number before now same read = subst (λ (c : TextCode). now ≤ before + doc_pages c collection (at_score number None)) same read

@@ -1,0 +1,90 @@
+//! The text of a set, opened at the first document that is shown from it.
+//!
+//! A reader of the text keeps both models whole, and loading them takes longer than a line that
+//! names documents is worth. So a session that shows no text never loads them; one that does loads
+//! them once.
+ghost use Rattle.std.specs.Prelude.{◌≡◌, ◌+◌, ◌≤◌, ◌^◌, ℕ, List, None};
+ghost use Rattle.mg_defs.specs.CodedText.{TextCode};
+ghost use Rattle.mg_defs.specs.Terms.{document};
+ghost use Rattle.mg_defs.specs.TextBounds.{doc_pages};
+ghost use Rattle.mg_defs.specs.declared.session.Mode.TheVariants as mode;
+ghost use Rattle.mg_dev.specs.Streams.{AfterPut};
+ghost use Rattle.mg_dev.specs.declared.part.Part.TheVariants as part;
+ghost use Rattle.mg_text.specs.Reading.{ShowIsNotBad};
+ghost use Rattle.mg_session.specs.Answering.{HasShowCause, at_score};
+ghost use Rattle.mg_session.specs.Parts.{ShownIn};
+ghost use Rattle.mg_session.specs.Texts.{SameTexts, TextsFit, TextsStand};
+
+use mg_dev::{ShowErr, Sink, Store};
+use mg_layout::Head;
+use mg_text::TextReader;
+use std::alloc::Global;
+use std::marker::Model;
+
+/// Shows the documents of a set, and loads what that takes when the first is asked for.
+#[derive(Drop)]
+pub(crate) struct Texts<'a, S: Store> {
+    alloc: Global,
+    base: &'a str,
+    head: Head,
+    reader: Option<TextReader<'a, S>>,
+}
+
+impl<'a, S: Store> Model for Texts<'a, S> {
+    ghost use Rattle.mg_session.specs.Texts.{Texting};
+
+    ghost Value = { Texting };
+
+    ghost view = { λ t. record { base = t.base.now; head = t.head; reader = t.reader } };
+}
+
+impl<'a, S: Store> Texts<'a, S> {
+    /// The text under this base, which the head tells of. Nothing is read yet.
+    pub(crate) fn new(alloc: Global, base: &'a str, head: &Head) -> Self
+        ensures { result ≡ record { base = base.entry.now; head = head.now; reader = None } }
+    {
+        Texts {
+            alloc,
+            base,
+            head: *head,
+            reader: None,
+        }
+    }
+
+    /// Writes the bytes of a document, from 1 to the number of documents, to a sink. After a refusal
+    /// a prefix of them was written, where the parts stand; where loading was refused, none, and it is
+    /// tried again at the next document.
+    pub(crate) fn doc<O: Sink>(
+        &mut self,
+        store: &mut S,
+        number: u32,
+        out: &mut O,
+    ) -> Result<(), ShowErr>
+        requires fits { TextsFit (S.files store.old) self.old }
+        requires some { 1 ≤ number }
+        requires within { number ≤ self.old.head.documents }
+        ensures fits { TextsFit (S.files store.new) self.new }
+        ensures same { SameTexts self.old self.new }
+        ensures content { (code : TextCode) (collection : List ℕ) → TextsStand self.old (S.files store.old) code collection →
+            AfterPut (O.written out.old) (O.written out.new) (document collection number) result }
+        ensures pages { (code : TextCode) (collection : List ℕ) → TextsStand self.old (S.files store.old) code collection →
+            S.reads store.new part.Text ≤ S.reads store.old part.Text + doc_pages code collection (at_score number None) }
+        ensures sound { (code : TextCode) (collection : List ℕ) → TextsStand self.old (S.files store.old) code collection → ShowIsNotBad result }
+        ensures looked { ShownIn mode.Text (S.files store.old) (S.files store.new)
+            (S.reads store.old) (S.reads store.new) (S.faults store.old) (S.faults store.new) }
+        ensures cause { HasShowCause result (S.faults store.old) (S.faults store.new) (O.faults out.old) (O.faults out.new) }
+    {
+        match &mut self.reader {
+            Some(reader) => reader.doc(store, number, out),
+            None => {
+                let mut reader = match TextReader::load(self.alloc, store, self.base, &self.head) {
+                    Ok(reader) => reader,
+                    Err(refusal) => return Err(ShowErr::Part(refusal)),
+                };
+                let shown = reader.doc(store, number, out);
+                self.reader = Some(reader);
+                shown
+            }
+        }
+    }
+}

@@ -1,0 +1,5 @@
+mod PatternLaws
+mod CutLaws
+mod LoadLaws
+mod OrderLaws
+mod MatchLaws

@@ -1,0 +1,4 @@
+pub mod Patterns
+pub mod Terms
+pub mod Rotations
+pub mod Loading

@@ -1,0 +1,22 @@
+//! Patterns, and the terms of a lexicon that match them.
+//!
+//! A pattern is a word with one star. A [`Rotated`] keeps every term of a lexicon in memory together
+//! with all its rotations: a term is cut at each place from its front to its end, and rotations are
+//! ordered by the bytes behind the cut and then by those before it. The rotations with the pattern's
+//! right side behind the cut and its left side at the front of what stands before it are then a range,
+//! which is found by halving. A rotation takes 8 bytes and no mark stands between its two parts, so that
+//! no byte is barred from terms.
+//!
+//! See Witten, Moffat and Bell, *Managing Gigabytes*, chapter 4.
+#![tactic(auto)]
+
+mod numbers;
+mod pattern;
+mod reading;
+mod rotated;
+mod rotation;
+mod term_block;
+
+pub use numbers::Numbers;
+pub use pattern::{Pattern, PatternErr, read_pattern};
+pub use rotated::{RotErr, Rotated};

@@ -1,0 +1,79 @@
+//! The terms in a lexicon's entries.
+ghost use Rattle.std.specs.Prelude.{◌≡◌, ◌<◌, ◌≤◌, ◌+◌, ◌*◌, List, IfOk, IsSome, length};
+ghost use Rattle.mg_bits.specs.Pages.{Looked};
+ghost use Rattle.mg_defs.specs.Front.{Entry};
+ghost use Rattle.mg_defs.specs.Rotations.{most_rotations};
+ghost use Rattle.mg_dev.specs.Files.{bytes_at};
+ghost use Rattle.mg_dev.specs.Names.{full_name};
+ghost use Rattle.mg_dev.specs.PartCauses.{HasPartCause};
+ghost use Rattle.mg_wild.specs.Loading.{AnswersTerms, AnswersTotal, AreEntriesOf, strings_of};
+ghost use Rattle.mg_wild.specs.Terms.{AreNumbered, total};
+
+use crate::term_block::{TermBlock, string_in};
+use mg_dev::{Bad, FileRef, PartErr, Store};
+use mg_front::{FrontEntry, FrontWalk};
+use std::alloc::Global;
+
+/// The bytes of a field of the lexicon.
+const FIELD: usize = 16;
+
+/// How many bytes the strings of a lexicon have together. It reads the entries, and keeps none.
+pub(crate) fn total_size<S: Store>(
+    alloc: Global,
+    store: &mut S,
+    file: FileRef<'_>,
+    count: u32,
+) -> Result<u64, PartErr>
+    ensures answer { IsSome (S.files store.old) → AnswersTotal (bytes_at (S.files store.old) (full_name file.entry.base.now file.entry.part)) count result }
+    ensures most { IfOk result (λ size. size ≤ 255 * count) }
+    ensures looked { Looked file.entry.part (S.files store.old) (S.files store.new) (S.reads store.old) (S.reads store.new) (S.faults store.old) (S.faults store.new) }
+    ensures cause { HasPartCause (S.faults store.old) (S.faults store.new) result }
+{
+    let mut walk = match FrontWalk::load(alloc, store, file, FIELD, count) {
+        Ok(walk) => walk,
+        Err(refusal) => return Err(refusal),
+    };
+    let mut entry = FrontEntry::new();
+    let mut size = 0;
+    while walk.next(store, &mut entry)? {
+        size += string_in(&entry).len() as u64;
+    }
+    Ok(size)
+}
+
+/// The terms of a lexicon whose strings have so many bytes together. It is damaged where they have
+/// more.
+pub(crate) fn read_terms<S: Store>(
+    alloc: Global,
+    store: &mut S,
+    file: FileRef<'_>,
+    count: u32,
+    size: u32,
+) -> Result<TermBlock, PartErr>
+    requires { size + count ≤ most_rotations }
+    ensures answer { (es : List Entry) → IsSome (S.files store.old) → AreEntriesOf (bytes_at (S.files store.old) (full_name file.entry.base.now file.entry.part)) count es → total (strings_of es) ≡ size → AnswersTerms (λ terms. terms) es result }
+    ensures numbered { IfOk result (λ terms. AreNumbered 0 terms.infos) }
+    ensures looked { Looked file.entry.part (S.files store.old) (S.files store.new) (S.reads store.old) (S.reads store.new) (S.faults store.old) (S.faults store.new) }
+    ensures cause { HasPartCause (S.faults store.old) (S.faults store.new) result }
+{
+    let mut terms = TermBlock::with_room(alloc, count, size)?;
+    let mut walk = match FrontWalk::load(alloc, store, file, FIELD, count) {
+        Ok(walk) => walk,
+        Err(refusal) => return Err(refusal),
+    };
+    let mut entry = FrontEntry::new();
+    while walk.next(store, &mut entry)? {
+        let grown = terms.size() + string_in(&entry).len() as u32;
+        if grown > size {
+            return Err(PartErr::Bad(Bad {
+                part: file.part,
+                at: 0,
+                low: 0,
+                high: u64::from(size),
+                found: u64::from(grown),
+            }));
+        }
+        terms.push(&entry)?;
+    }
+    Ok(terms)
+}
