@@ -219,5 +219,19 @@ def limits(suite):
         remove(suite, "set")
 
 
-PARTS = [kinds, bytes_of_parts, refusals, stopped, trials, migrations, kept_set]
+def many_runs(suite):
+    """More runs than two rounds can merge: both working files are used, and the lists are those of one run."""
+    documents = [b"%x %x " % (number % 97, number % 89) * 300 + b"\x02" for number in range(2400)]
+    suite.file("text", b"".join(documents))
+    parts = []
+    for budget in (4096, BUDGET):
+        suite.run(["build", "text", "set", "--budget", str(budget)])
+        left = read_parts(suite.folder / "set")
+        parts.append([left[ending] for ending in SETTLED])
+    suite.check("more than 4,096 runs", parts[0] == parts[1], True)
+    suite.check("they are decoded", suite.run(["decode", "set"]), (0, b"".join(documents), b""))
+    remove(suite, "set")
+
+
+PARTS = [kinds, many_runs, bytes_of_parts, refusals, stopped, trials, migrations, kept_set]
 SLOW = [limits]

@@ -92,18 +92,15 @@ fn gives<S: Store>(
     }
 }
 
-/// Whether the postings of a sample, merged with so many runs in use, are those of a plain sort.
+/// Whether the postings of a sample, merged in a pool of so many bytes, are those of a plain sort.
 fn merges_as_sorted<S: Store>(
     alloc: Global,
     store: &mut S,
     budget: u64,
-    width: usize,
     sample: &[(u32, u16)],
 ) -> Result<bool, PartErr>
     requires least { 4096 ≤ budget }
     requires most { budget ≤ 2 ^ 30 }
-    requires some { 2 ≤ width }
-    requires room { width ≤ budget / 64 }
     requires count { length sample.now ≤ 1000000 }
 {
     let mut sorted = Vec::new(alloc);
@@ -113,7 +110,7 @@ fn merges_as_sorted<S: Store>(
         Ok(runs) => runs,
         Err(refusal) => return Err(refused(refusal)),
     };
-    match runs.merge_by(store, width) {
+    match runs.merge(store) {
         Ok(mut merge) => gives(&mut merge, store, &sorted),
         Err(refusal) => Err(refusal),
     }
@@ -196,13 +193,12 @@ fn postings_are_those_of_a_sort(rt: HostRuntime) -> Result<(), Fail> {
     let alloc = rt.alloc();
     let sample = scattered(alloc, 25000, 97)?;
     let mut store = MemStore::new(alloc);
-    assert!(rt; merges_as_sorted(alloc, &mut store, 4096, 64, &sample)?);
+    assert!(rt; merges_as_sorted(alloc, &mut store, 4096, &sample)?);
+    assert!(rt; store.reads_of(Part::MergeA) > 0);
     assert_eq!(rt; store.file("set.mergeb"), Some(b"".as_slice()));
-    assert!(rt; merges_as_sorted(alloc, &mut store, 4096, 4, &sample)?);
-    assert!(rt; store.reads_of(Part::MergeB) > 0);
-    assert!(rt; merges_as_sorted(alloc, &mut store, 5000, 78, &sample)?);
-    assert!(rt; merges_as_sorted(alloc, &mut store, 65536, 1024, &sample)?);
-    assert!(rt; merges_as_sorted(alloc, &mut store, 16777216, 262144, &sample)?);
+    assert!(rt; merges_as_sorted(alloc, &mut store, 5000, &sample)?);
+    assert!(rt; merges_as_sorted(alloc, &mut store, 65536, &sample)?);
+    assert!(rt; merges_as_sorted(alloc, &mut store, 16777216, &sample)?);
     assert_eq!(rt; store.file("set.mergea"), Some(b"".as_slice()));
     Ok(())
 }
@@ -268,14 +264,14 @@ fn postings_come_while_post_is_written(rt: HostRuntime) -> Result<(), Fail> {
 #[test]
 fn each_failing_call_is_told(rt: HostRuntime) -> Result<(), Fail> {
     let alloc = rt.alloc();
-    let sample = scattered(alloc, 1400, 2)?;
+    let sample = scattered(alloc, 22500, 2)?;
     let mut store = MemStore::new(alloc);
-    assert!(rt; merges_as_sorted(alloc, &mut store, 4096, 2, &sample)?);
+    assert!(rt; merges_as_sorted(alloc, &mut store, 4096, &sample)?);
     assert!(rt; store.calls() > 20);
     for call in 0..store.calls() {
         let mut failing = MemStore::new(alloc);
         failing.fail_at(call, 3)?;
-        let outcome = merges_as_sorted(alloc, &mut failing, 4096, 2, &sample);
+        let outcome = merges_as_sorted(alloc, &mut failing, 4096, &sample);
         assert_eq!(rt; outcome, Err(PartErr::Device), "a failure at call {call}");
     }
     Ok(())
@@ -355,21 +351,15 @@ fn counts_are_those_of_all_occurrences(rt: HostRuntime) -> Result<(), Fail> {
 #[test]
 fn the_first_damage_is_told_of_its_part(rt: HostRuntime) -> Result<(), Fail> {
     let alloc = rt.alloc();
-    let sample = scattered(alloc, 1400, 2)?;
+    let sample = scattered(alloc, 22500, 2)?;
     let mut store = Spoiled {
         sound: u64::MAX,
         held: SureStore::new(alloc),
     };
-    assert!(rt; merges_as_sorted(alloc, &mut store, 4096, 2, &sample)?);
+    assert!(rt; merges_as_sorted(alloc, &mut store, 4096, &sample)?);
     let Spoiled { held, .. } = store;
     let of_run = held.reads_of(Part::Run);
-    let of_both = of_run.saturating_add(held.reads_of(Part::MergeA));
-    let cases = [
-        (0, Part::Run),
-        (of_run, Part::MergeA),
-        (of_both, Part::MergeB),
-    ];
-    for (sound, part) in cases {
+    for (sound, part) in [(0, Part::Run), (of_run, Part::MergeA)] {
         let held = SureStore::new(alloc);
         let mut spoiled = Spoiled { sound, held };
         let bad = Bad {
@@ -379,7 +369,7 @@ fn the_first_damage_is_told_of_its_part(rt: HostRuntime) -> Result<(), Fail> {
             high: 1 << 32,
             found: 0,
         };
-        let outcome = merges_as_sorted(alloc, &mut spoiled, 4096, 2, &sample);
+        let outcome = merges_as_sorted(alloc, &mut spoiled, 4096, &sample);
         assert_eq!(rt; outcome, Err(PartErr::Bad(bad)));
     }
     Ok(())

@@ -11,3 +11,6 @@ pub mod TermLaws
 pub mod SetLaws
 pub mod StopLaws
 pub mod SessionLaws
+pub mod PhraseWalkLaws
+pub mod PhraseReplyLaws
+pub mod PhraseStepLaws

@@ -4,3 +4,6 @@ pub mod Searching
 pub mod Answering
 pub mod Serves
 pub mod SearchLaws
+pub mod PhraseAnswers
+pub mod PhraseSearching
+pub mod PhraseSearchLaws

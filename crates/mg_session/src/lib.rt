@@ -10,11 +10,16 @@
 #![tactic(auto)]
 
 mod boolean;
+mod candidates;
 mod find;
+mod held;
 mod hit;
+mod phrase;
+mod phrase_searcher;
 mod ranked;
 mod searcher;
 mod session;
 mod texts;
 
+pub use phrase::serve_phrase;
 pub use session::serve;

@@ -27,7 +27,7 @@ use mg_reply::{Hearing, ServeErr, serve_lines};
 use std::alloc::Global;
 
 /// The fault of a session that stopped.
-fn fault_of(error: ServeErr) -> Fault
+pub(crate) fn fault_of(error: ServeErr) -> Fault
     ensures { result ≡ fault_of_serve error }
 {
     match error {

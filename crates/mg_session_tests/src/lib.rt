@@ -5,4 +5,6 @@
 #![tactic(auto)]
 
 #[cfg(test)]
+mod phrase_tests;
+#[cfg(test)]
 mod tests;

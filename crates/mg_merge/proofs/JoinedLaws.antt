@@ -1,0 +1,93 @@
+-- The documents of a collection, given one after the other with the bytes that close them.
+use Rattle.std.proofs.Common.{arith, ◌≡◌, ◌≢◌, ◌+◌, ◌-◌, ◌*◌, ◌/◌, ◌^◌, ◌≤◌, ◌<◌, ◌==◌, ℕ, zero, suc, Bool, true, false, not, max, if◌then◌else◌, List, [], ◌∷◌, ◌++◌, length, drop, get_or, refl, sym, ◌∙◌, ap, subst, append-nil, append_assoc, add-one, drop-cons}
+use Rattle.std.proofs.lemmas.Bool.Decides.{nat_tests}
+use Rattle.std.proofs.lemmas.List.{length-append}
+use Rattle.mg_defs.specs.Join.{join}
+use Rattle.mg_defs.specs.Split.{documents, has_open_end, joined}
+use Rattle.mg_defs.specs.Terms.{document}
+use Rattle.mg_defs.proofs.SplitLaws.{documents_split}
+use Rattle.mg_laws.proofs.JoinLaws.{first_document, second_document}
+use Rattle.mg_merge.specs.Merging.{budget_of}
+use Rattle.mg_merge.specs.Texts.{AreFirst, close, closed_document, is_closed, numbered}
+
+-- ---- documents of both collections
+
+pub numbered_first : (a b : List ℕ) (n : ℕ) → 1 ≤ n → n ≤ length (documents a) → numbered n (join a b) ≡ numbered n a
+numbered_first a b n low high = first_document a b n low high
+
+pub numbered_second : (a b : List ℕ) (n m : ℕ) → 1 ≤ m → n ≡ length (documents a) + m → numbered n (join a b) ≡ numbered m b
+numbered_second a b n m low is = ap (λ k. numbered k (join a b)) is ∙ second_document a b m low
+
+-- ---- the next document
+
+-- a document and its byte, and then the others
+joined_next : (doc : List ℕ) (rest : List (List ℕ)) (open_end : Bool) (n all : ℕ) → n + length rest ≡ all → joined (doc ∷ rest) open_end ≡ doc ++ close (is_closed n all open_end) ++ joined rest open_end
+joined_next doc [] open_end n all is =
+    let last : (n == all) ≡ true = equal n all (omega (arith, is)) in
+    by_end open_end ∙ ap (λ b. doc ++ close (if b then not open_end else true) ++ []) (sym last)
+  where
+    equal : (a b : ℕ) → a ≡ b → (a == b) ≡ true
+    equal a b h = grind (arith, nat_tests)
+
+    by_end : (e : Bool) → doc ++ (if e then [] else 2 ∷ []) ≡ doc ++ close (not e) ++ []
+    by_end true = sym (append-nil (doc ++ []))
+    by_end false = sym (append-nil (doc ++ 2 ∷ []))
+joined_next doc (next ∷ rest) open_end n all is =
+    let more : (n == all) ≡ false = other n all (λ e. omega (arith, is, e)) in
+    sym (append_assoc doc (2 ∷ []) (joined (next ∷ rest) open_end)) ∙ ap (λ b. doc ++ close (if b then not open_end else true) ++ joined (next ∷ rest) open_end) (sym more)
+  where
+    other : (a b : ℕ) → a ≢ b → (a == b) ≡ false
+    other a b h = grind (arith, nat_tests)
+
+pub given_none : (collection : List ℕ) → AreFirst 0 [] collection
+given_none collection = (documents_split collection).whole
+
+-- one document more was given
+pub given_next : (collection bytes held : List ℕ) (i : ℕ) → i < length (documents collection) → held ≡ closed_document (i + 1) collection → AreFirst i bytes collection → AreFirst (i + 1) (bytes ++ held) collection
+given_next collection bytes held i more is whole = ap (λ h. (bytes ++ h) ++ joined (drop (i + 1) docs) e) is
+    ∙ append_assoc bytes (closed_document (i + 1) collection) (joined rest e) ∙ ap (λ n. bytes ++ ((get_or docs n [] ++ close (is_closed (i + 1) (length docs) e)) ++ joined rest e)) place
+    ∙ ap (λ t. bytes ++ t) (sym (joined_next (get_or docs i []) rest e (i + 1) (length docs) long)) ∙ ap (λ l. bytes ++ joined l e) (sym cut) ∙ whole
+  where
+    docs : List (List ℕ)
+    docs = documents collection
+
+    e : Bool
+    e = has_open_end collection
+
+    rest : List (List ℕ)
+    rest = drop (i + 1) docs
+
+    place : i + 1 - 1 ≡ i
+    place = omega arith
+
+    cut : drop i docs ≡ get_or docs i [] ∷ rest
+    cut = rw (add-one) (drop-cons docs i [] more)
+
+    drop_long : (ds : List (List ℕ)) (i : ℕ) → i < length ds → length (drop i ds) + i ≡ length ds
+    drop_long [] i h = absurd (omega arith)
+    drop_long (d ∷ ds) zero h = omega arith
+    drop_long (d ∷ ds) (suc i) h = omega (arith, drop_long ds i (omega (arith, h)))
+
+    long : i + 1 + length rest ≡ length docs
+    long = omega (arith, ap length cut, drop_long docs i more)
+
+-- all documents were given
+pub given_all : (collection bytes : List ℕ) (i : ℕ) → length (documents collection) ≤ i → AreFirst i bytes collection → bytes ≡ collection
+given_all collection bytes i all whole = sym (append-nil bytes) ∙ ap (λ l. bytes ++ joined l (has_open_end collection)) (sym (dropped (documents collection) i all)) ∙ whole
+  where
+    dropped : (ds : List (List ℕ)) (i : ℕ) → length ds ≤ i → drop i ds ≡ []
+    dropped [] zero h = refl
+    dropped [] (suc i) h = refl
+    dropped (d ∷ ds) zero h = absurd (omega arith)
+    dropped (d ∷ ds) (suc i) h = dropped ds i (omega (arith, h))
+
+-- ---- the pool
+
+pub cap_again : (cap : ℕ) → 341 ≤ cap → budget_of cap / 12 ≡ cap
+cap_again cap h = omega (arith, h)
+
+pub budget_least : (cap : ℕ) → 4096 ≤ budget_of cap
+budget_least cap = omega arith
+
+pub budget_most : (cap : ℕ) → cap ≤ 89478485 → budget_of cap ≤ 2 ^ 30
+budget_most cap h = omega (arith, h)

@@ -1,0 +1,158 @@
+-- Two texts that are read: what stands of them, and what their documents are.
+use Rattle.std.proofs.Common.{arith, ◌≡◌, ◌≢◌, ◌+◌, ◌-◌, ◌^◌, ◌≤◌, ◌<◌, ◌==◌, ℕ, Bool, true, false, not, if◌then◌else◌, List, [], ◌∷◌, ◌++◌, length, get_or, Option, None, Some, Ok, Err, IsSome, is_some, refl, sym, ◌∙◌, ap, subst, append-nil, append_assoc, inl, inr}
+use Rattle.std.specs.Prelude.{OnOk, Result}
+use Rattle.mg_dev.specs.Faults.{fault_of_part, fault_of_show}
+use Rattle.mg_dev.specs.Files.{Files, bytes_at, file_at}
+use Rattle.mg_dev.specs.Names.{full_name}
+use Rattle.mg_dev.specs.PartCauses.{HasPartCause}
+use Rattle.mg_dev.specs.Causes.{Rose}
+use Rattle.mg_dev.specs.Streams.{AfterPut, appended}
+use Rattle.mg_dev.specs.declared.fault.Fault.{Fault}
+use Rattle.mg_dev.specs.declared.fault.Fault.TheVariants as fault
+use Rattle.mg_dev.specs.declared.part.Part.{Part}
+use Rattle.mg_dev.specs.declared.part.Part.TheVariants as part
+use Rattle.mg_dev.specs.declared.part_err.PartErr.{PartErr}
+use Rattle.mg_dev.specs.declared.part_err.PartErr.TheVariants.{Bad, Device, Memory}
+use Rattle.mg_dev.specs.declared.show_err.ShowErr.{ShowErr}
+use Rattle.mg_dev.specs.declared.show_err.ShowErr.TheVariants as show
+use Rattle.mg_dev.specs.Bads.{IsNotBad}
+use Rattle.mg_defs.specs.CodedText.{TextCode}
+use Rattle.mg_defs.specs.Join.{join}
+use Rattle.mg_defs.specs.Split.{documents, has_open_end}
+use Rattle.mg_laws.proofs.JoinLaws.{count_joined, documents_joined, end_joined, size_joined}
+use Rattle.mg_layout.specs.HeadAnswers.{fields_of}
+use Rattle.mg_layout.specs.Stands.{StandsBy}
+use Rattle.mg_layout.specs.declared.head.Head.{Head}
+use Rattle.mg_layout.specs.declared.head.Head as layout
+use Rattle.mg_defs.specs.Stands.{head_of}
+use Rattle.mg_text.specs.Decoding.{IsShowCaused}
+use Rattle.mg_text.specs.Reading.{IsTextReader, SameText, ShowIsNotBad, TextFits, TextReading, TextStands}
+use Rattle.mg_text.proofs.CallerLemmas.{text_stays}
+use Rattle.mg_merge.specs.Merging.{joined_size}
+use Rattle.mg_merge.specs.Stops.{IsDecodeCaused, ReadStops}
+use Rattle.mg_merge.specs.Texts.{AreSetsBy, AreTexts, IsSetBy, SameTexts, TextsFit, TextsStand, TwoTexts, close, closed_document, is_closed, numbered}
+use Rattle.mg_merge.proofs.JoinedLaws.{numbered_first, numbered_second}
+
+-- ---- one text
+
+pub same_text : (r : TextReading) → SameText r r
+same_text r = record { text = refl; places = refl; code = refl; version = refl; documents = refl; size = refl }
+
+text_more : (a b c : TextReading) → SameText a b → SameText b c → SameText a c
+text_more a b c one two = record {
+  text = two.text ∙ one.text;
+  places = two.places ∙ one.places;
+  code = two.code ∙ one.code;
+  version = two.version ∙ one.version;
+  documents = two.documents ∙ one.documents;
+  size = two.size ∙ one.size;
+}
+
+-- what stands for a reader does so for what the reader became, while no file changes
+pub stands_on : (r now : TextReading) (files files_now : Option Files) (collection : List ℕ) → SameText r now → files_now ≡ files → TextStands r files collection → TextStands now files_now collection
+stands_on r now files files_now collection same stay stands = text_stays r now files files_now collection same (ap is_some stay) (ap (λ f. file_at f r.text.name) stay) (ap (λ f. file_at f r.places.name) stay) stands
+
+pub fits_on : (r : TextReading) (files files_now : Option Files) → files_now ≡ files → TextFits r files → TextFits r files_now
+fits_on r files files_now stay fits = subst (TextFits r) (sym stay) fits
+
+-- ---- both
+
+pub texts_none : (t : TwoTexts) → SameTexts t t
+texts_none t = record { first = same_text t.first; second = same_text t.second; ahead = refl; all = refl; open_end = refl; size = refl }
+
+pub texts_more : (s t u : TwoTexts) → SameTexts s t → SameTexts t u → SameTexts s u
+texts_more s t u one two = record {
+  first = text_more s.first t.first u.first one.first two.first;
+  second = text_more s.second t.second u.second one.second two.second;
+  ahead = two.ahead ∙ one.ahead;
+  all = two.all ∙ one.all;
+  open_end = two.open_end ∙ one.open_end;
+  size = two.size ∙ one.size;
+}
+
+-- both texts stand, and so do they later, while no file changes
+pub texts_stand_on : (t now : TwoTexts) (files files_now : Option Files) (collection : List ℕ) → SameTexts t now → files_now ≡ files → TextsStand t files collection → TextsStand now files_now collection
+texts_stand_on t now files files_now collection same stay stand = record {
+  a = stand.a;
+  b = stand.b;
+  first = stands_on t.first now.first files files_now stand.a same.first stay stand.first;
+  second = stands_on t.second now.second files files_now stand.b same.second stay stand.second;
+  open_end = same.open_end ∙ stand.open_end;
+  joins = stand.joins;
+  size = same.size ∙ stand.size;
+}
+
+-- how many documents there are
+pub documents_of_texts : (t : TwoTexts) (files : Option Files) (collection : List ℕ) → TextsFit t files → TextsStand t files collection → t.all ≡ length (documents collection)
+documents_of_texts t files collection fits stand =
+    let count = count_joined stand.a stand.b in
+    omega (arith, fits.ahead, fits.all, stand.first.documents, stand.second.documents, count, ap (λ (c : List ℕ). length (documents c)) stand.joins)
+
+pub end_of_texts : (t : TwoTexts) (files : Option Files) (collection : List ℕ) → TextsStand t files collection → t.open_end ≡ has_open_end collection
+end_of_texts t files collection stand = stand.open_end ∙ sym (ap has_open_end stand.joins ∙ end_joined stand.a stand.b)
+
+-- ---- a document
+
+-- the document of a number that is one of the first text, and of one that is behind them
+pub document_ahead : (t : TwoTexts) (files : Option Files) (collection : List ℕ) (number : ℕ) → TextsFit t files → 1 ≤ number → number ≤ t.ahead → (stand : TextsStand t files collection) → get_or (documents stand.a) (number - 1) [] ≡ numbered number collection
+document_ahead t files collection number fits low high stand =
+    let few : number ≤ length (documents stand.a) = omega (arith, high, fits.ahead, stand.first.documents) in
+    sym (ap (numbered number) stand.joins ∙ numbered_first stand.a stand.b number low few)
+
+pub document_behind : (t : TwoTexts) (files : Option Files) (collection : List ℕ) (number : ℕ) → TextsFit t files → t.ahead < number → (stand : TextsStand t files collection) → get_or (documents stand.b) (number - t.ahead - 1) [] ≡ numbered number collection
+document_behind t files collection number fits high stand =
+    let low : 1 ≤ number - t.ahead = omega (arith, high) in
+    let place : number ≡ length (documents stand.a) + (number - t.ahead) = omega (arith, high, fits.ahead, stand.first.documents) in
+    sym (ap (numbered number) stand.joins ∙ numbered_second stand.a stand.b number (number - t.ahead) low place)
+
+-- a sink that was empty holds what was put to it
+pub held_all : (r : Result (Unit {0}) ShowErr) (before now doc wanted : List ℕ) → before ≡ [] → doc ≡ wanted → AfterPut (Some before) (Some now) doc r → OnOk r (now ≡ wanted)
+unfolding appended
+held_all (Ok done) before now doc wanted empty is after = inside now (before ++ doc) after ∙ ap (λ b. b ++ doc) empty ∙ is
+  where
+    inside : (x y : List ℕ) → Some x ≡ Some y → x ≡ y
+    inside x y same = cc
+held_all (Err refusal) before now doc wanted empty is after = tt
+
+-- with the byte that closes it
+pub with_close : (closed : Bool) (doc : List ℕ) → closed ≡ true → doc ++ 2 ∷ [] ≡ doc ++ close closed
+with_close closed doc is = ap (λ c. doc ++ close c) (sym is)
+
+pub without_close : (closed : Bool) (doc : List ℕ) → closed ≡ false → doc ≡ doc ++ close closed
+without_close closed doc is = sym (append-nil doc) ∙ ap (λ c. doc ++ close c) (sym is)
+
+pub closes : (t : TwoTexts) (files : Option Files) (collection held now : List ℕ) (closed : Bool) (number : ℕ) → TextsFit t files → closed ≡ is_closed number t.all t.open_end → held ≡ numbered number collection → now ≡ held ++ close closed → TextsStand t files collection → now ≡ closed_document number collection
+closes t files collection held now closed number fits is held_is now_is stand =
+    now_is ∙ ap (λ h. h ++ close closed) held_is ∙ ap (λ c. numbered number collection ++ close c)
+    (is ∙ ap (λ n. is_closed number n t.open_end) (documents_of_texts t files collection fits stand) ∙ ap (is_closed number (length (documents collection))) (end_of_texts t files collection stand))
+
+-- ---- heads
+
+-- their heads tell the bytes of both in one
+pub size_of_sets : (files : Option Files) (first second a b : List ℕ) (one other : layout.Head) → AreSetsBy one other files first second a b → joined_size (fields_of one) (fields_of other) ≡ length (join a b)
+size_of_sets files first second a b one other sets =
+    let left : fields_of one ≡ head_of one.version one.cap sets.first_code a = sets.first_stands.head_is in
+    let right : fields_of other ≡ head_of other.version other.cap sets.second_code b = sets.second_stands.head_is in
+    ap (λ h. joined_size h (fields_of other)) left ∙ ap (joined_size (head_of one.version one.cap sets.first_code a)) right ∙ sym (size_joined a b)
+
+-- ---- causes
+
+pub decode_caused : (r : Result (Unit {0}) ShowErr) (s0 s t l m : ℕ) → s0 ≤ s → IsShowCaused r s t 0 0 l m → IsDecodeCaused r s0 t
+decode_caused (Ok done) s0 s t l m up cause = tt
+decode_caused (Err (show.Part Device)) s0 s t l m up cause = omega (arith, up, cause)
+decode_caused (Err (show.Part Memory)) s0 s t l m up cause = tt
+decode_caused (Err (show.Part (Bad bad))) s0 s t l m up cause = tt
+decode_caused (Err show.Write) s0 s t l m up cause = omega (arith, cause)
+decode_caused (Err show.Memory) s0 s t l m up cause = tt
+
+pub decode_stops : (refusal : ShowErr) (now : Type 0) (s t : ℕ) (texts : TwoTexts) (files : Option Files) → (Rose s t → now) → ((collection : List ℕ) → TextsStand texts files collection → ShowIsNotBad (Err refusal)) → IsDecodeCaused (Err refusal) s t → ReadStops now (AreTexts texts files) (fault_of_show refusal)
+decode_stops (show.Part Device) now s t texts files grows good cause = grows cause
+decode_stops (show.Part Memory) now s t texts files grows good cause = tt
+decode_stops (show.Part (Bad bad)) now s t texts files grows good cause = λ some. good some.0 some.1
+decode_stops show.Write now s t texts files grows good cause = absurd cause
+decode_stops show.Memory now s t texts files grows good cause = tt
+
+pub load_stops : {T : Type 0} (refusal : PartErr) (s t : ℕ) (head : Head) (files : Option Files) (base : List ℕ) → ((code : TextCode) (collection : List ℕ) → StandsBy head code files base collection → IsNotBad refusal) → HasPartCause {T = T} s t (Err refusal) → ReadStops (Rose s t) (IsSetBy head files base) (fault_of_part refusal)
+load_stops Device s t head files base good cause = cause.device
+load_stops Memory s t head files base good cause = tt
+load_stops (Bad bad) s t head files base good cause = λ set. good set.0 set.1 set.2

@@ -1,0 +1,218 @@
+use Rattle.std.proofs.Common.{arith, ◌≡◌, ◌<◌, ◌≤◌, ◌+◌, ◌-◌, ◌^◌, ◌∙◌, ◌++◌, [], ℕ, List, length, drop, sym, ap, subst, rules, Some, IsSome}
+use Rattle.std.proofs.lemmas.List.{append_assoc, length-append}
+use Rattle.mg_dev.specs.Causes.{Rose}
+use Rattle.mg_dev.specs.Files.{file_at}
+use Rattle.mg_dev.specs.Names.{full_name}
+use Rattle.mg_dev.specs.declared.part.Part.TheVariants.{Head}
+use Rattle.mg_defs.specs.Split.{documents, has_open_end, joined}
+use Rattle.mg_make.specs.Plans.{IsPlanOf}
+use Rattle.mg_make.specs.Putting.{HasPut, OthersSame}
+use Rattle.mg_make.specs.Written.{SecondStops}
+use Rattle.mg_merge.specs.Passes.{AreGiven}
+use Rattle.mg_merge.specs.Texts.{TextsStand, closed_document}
+use Rattle.mg_merge.proofs.GivenLaws.{first_next, given_each, given_nothing, given_one_more, too_much}
+use Rattle.mg_merge.proofs.PassLaws.{others_more, others_none, put_stops, rose_behind, second_differs, still_put, still_told}
+use Rattle.mg_merge.proofs.StayLaws.{apart_still, fits_stay, texts_stay}
+use Rattle.mg_merge.proofs.StopLaws.{read_wider}
+use Rattle.mg_merge.proofs.TextLaws.{texts_more, texts_none}
+use Rattle.mg_merge.proofs.writing.put_documents.Goals as goal
+
+pub loop-index-init : goal.loop-index-init
+loop-index-init g c = record {
+  fits = c.requires.fits;
+  same = texts_none _;
+  base = search rules;
+  plan = search rules;
+  limit = search rules;
+  head = c.requires.head;
+  others = others_none _ _ _ (search rules);
+  later = omega arith;
+  put = ([], given_nothing _ _ _ c.size-size.ensures, c.requires.nothing);
+}
+
+-- ---- a document was not read
+
+pub returns-in-Err-clause-refused : goal.returns-in-Err-clause-refused
+returns-in-Err-clause-refused g c =
+    let so_far = c.loop-index.invariant in
+    let before = g.S.Store.files c.args.store.now in
+    let middle = g.S.Store.files c.loop-index.store in
+    read_wider _ _ _ _ c.in-Err.refusal (λ rose. rose_behind _ _ _ so_far.later rose)
+    (λ some. (some.0, texts_stay c.args.writer.now.base c.args.texts.now c.loop-index.texts before middle some.0 c.requires.apart so_far.same so_far.others some.1))
+    c.in-Err.ensures.refused
+
+pub returns-in-Err-clause-others : goal.returns-in-Err-clause-others
+returns-in-Err-clause-others g c = subst (λ f. OthersSame c.args.writer.now.base (g.S.Store.files c.args.store.now) f) (sym c.in-Err.ensures.files) c.loop-index.invariant.others
+
+pub returns-in-Err-clause-head : goal.returns-in-Err-clause-head
+returns-in-Err-clause-head g c = λ told. subst (λ f. file_at f (full_name c.args.writer.now.base Head) ≡ Some []) (sym c.in-Err.ensures.files) (c.loop-index.invariant.head told)
+
+-- ---- a document is longer than what is left
+
+pub returns-then-found-left-clause-refused : goal.returns-then-found-left-clause-refused
+returns-then-found-left-clause-refused g c = λ some.
+    let so_far = c.loop-index.invariant in
+    let base = c.args.writer.now.base in
+    let texts = c.args.texts.now in
+    let before = g.S.Store.files c.args.store.now in
+    let middle = g.S.Store.files c.loop-index.store in
+    let read = g.S.Store.files c.read.new.store in
+    let fed = so_far.put.0 in
+    let given : AreGiven texts before c.loop-index.index c.loop-index.left fed = so_far.put.1 in
+    let held = c.bytes.result.now in
+    let is : ((collection : List ℕ) → TextsStand texts before collection → held ≡ closed_document (c.loop-index.index + 1) collection)
+    = λ collection stand. c.bytes.ensures ∙ c.in-Ok.ensures.held collection (texts_stay base texts c.loop-index.texts before middle collection c.requires.apart so_far.same so_far.others stand) in
+    let more : c.loop-index.index < texts.all = omega (arith, c.loop-index-test.true, c.documents-index-end.ensures) in
+    too_much texts before some.0 fed held c.loop-index.index c.loop-index.left c.requires.fits more given some.1 (is some.0 some.1) (omega (arith, c.if-found-left.true))
+
+pub returns-then-found-left-clause-others : goal.returns-then-found-left-clause-others
+returns-then-found-left-clause-others g c = subst (λ f. OthersSame c.args.writer.now.base (g.S.Store.files c.args.store.now) f) (sym c.in-Ok.ensures.files) c.loop-index.invariant.others
+
+pub returns-then-found-left-clause-head : goal.returns-then-found-left-clause-head
+returns-then-found-left-clause-head g c = λ told. subst (λ f. file_at f (full_name c.args.writer.now.base Head) ≡ Some []) (sym c.in-Ok.ensures.files) (c.loop-index.invariant.head told)
+
+-- ---- a document is written
+
+pub put_document-requires : goal.put_document-requires
+put_document-requires g c =
+    let so_far = c.loop-index.invariant in
+    let base = c.args.writer.now.base in
+    let texts = c.args.texts.now in
+    let before = g.S.Store.files c.args.store.now in
+    let middle = g.S.Store.files c.loop-index.store in
+    let read = g.S.Store.files c.read.new.store in
+    let fed = so_far.put.0 in
+    let given : AreGiven texts before c.loop-index.index c.loop-index.left fed = so_far.put.1 in
+    let held = c.bytes-in-loop-index.result.now in
+    let is : ((collection : List ℕ) → TextsStand texts before collection → held ≡ closed_document (c.loop-index.index + 1) collection)
+    = λ collection stand. c.bytes-in-loop-index.ensures ∙ c.in-Ok.ensures.held collection (texts_stay base texts c.loop-index.texts before middle collection c.requires.apart so_far.same so_far.others stand) in
+    let more : c.loop-index.index < texts.all = omega (arith, c.loop-index-test.true, c.documents-index-end.ensures) in
+    let count : length c.bytes.result.now ≡ length held = ap (λ (bytes : List ℕ). length bytes) (c.bytes.ensures ∙ sym c.bytes-in-loop-index.ensures) in
+    let within : length c.bytes.result.now ≤ c.loop-index.left = omega (arith, c.if-found-left.false) in
+    let has : HasPut c.loop-index.writer read fed = still_put c.loop-index.writer middle read fed c.in-Ok.ensures.files so_far.put.2 in
+    let read_others : OthersSame base before read = subst (λ f. OthersSame base before f) (sym c.in-Ok.ensures.files) so_far.others in
+    record {
+      put = (fed, has, omega (arith, given.size, c.requires.fits.few, count, within));
+      head = λ told. subst (λ f. file_at f (full_name c.loop-index.writer.base Head) ≡ Some []) (sym c.in-Ok.ensures.files)
+          (subst (λ b. file_at middle (full_name b Head) ≡ Some []) (sym so_far.base) (so_far.head (sym read_others.told ∙ told)));
+    }
+
+pub retold-requires : goal.retold-requires
+retold-requires g c =
+    let so_far = c.loop-index.invariant in
+    let base = c.args.writer.now.base in
+    let texts = c.args.texts.now in
+    let before = g.S.Store.files c.args.store.now in
+    let middle = g.S.Store.files c.loop-index.store in
+    let read = g.S.Store.files c.read.new.store in
+    let fed = so_far.put.0 in
+    let given : AreGiven texts before c.loop-index.index c.loop-index.left fed = so_far.put.1 in
+    let held = c.bytes-in-loop-index.result.now in
+    let is : ((collection : List ℕ) → TextsStand texts before collection → held ≡ closed_document (c.loop-index.index + 1) collection)
+    = λ collection stand. c.bytes-in-loop-index.ensures ∙ c.in-Ok.ensures.held collection (texts_stay base texts c.loop-index.texts before middle collection c.requires.apart so_far.same so_far.others stand) in
+    let more : c.loop-index.index < texts.all = omega (arith, c.loop-index-test.true, c.documents-index-end.ensures) in
+    let count : length c.bytes.result.now ≡ length held = ap (λ (bytes : List ℕ). length bytes) (c.bytes.ensures ∙ sym c.bytes-in-loop-index.ensures) in
+    let within : length c.bytes.result.now ≤ c.loop-index.left = omega (arith, c.if-found-left.false) in
+    let has : HasPut c.loop-index.writer read fed = still_put c.loop-index.writer middle read fed c.in-Ok.ensures.files so_far.put.2 in
+    let short : length (fed ++ (held ++ [])) < 2 ^ 32 = omega (arith, length-append fed (held ++ []), length-append held [], given.size, c.requires.fits.few, count, within) in
+    second_differs _ _ c.in-Err-put_document.refusal (c.in-Err-put_document.ensures.refused fed [] has short)
+
+pub returns-in-Err-put_document-clause-refused : goal.returns-in-Err-put_document-clause-refused
+returns-in-Err-put_document-clause-refused g c =
+    let so_far = c.loop-index.invariant in
+    let base = c.args.writer.now.base in
+    let texts = c.args.texts.now in
+    let before = g.S.Store.files c.args.store.now in
+    let middle = g.S.Store.files c.loop-index.store in
+    let read = g.S.Store.files c.read.new.store in
+    let fed = so_far.put.0 in
+    let given : AreGiven texts before c.loop-index.index c.loop-index.left fed = so_far.put.1 in
+    let held = c.bytes-in-loop-index.result.now in
+    let is : ((collection : List ℕ) → TextsStand texts before collection → held ≡ closed_document (c.loop-index.index + 1) collection)
+    = λ collection stand. c.bytes-in-loop-index.ensures ∙ c.in-Ok.ensures.held collection (texts_stay base texts c.loop-index.texts before middle collection c.requires.apart so_far.same so_far.others stand) in
+    let more : c.loop-index.index < texts.all = omega (arith, c.loop-index-test.true, c.documents-index-end.ensures) in
+    let count : length c.bytes.result.now ≡ length held = ap (λ (bytes : List ℕ). length bytes) (c.bytes.ensures ∙ sym c.bytes-in-loop-index.ensures) in
+    let within : length c.bytes.result.now ≤ c.loop-index.left = omega (arith, c.if-found-left.false) in
+    let has : HasPut c.loop-index.writer read fed = still_put c.loop-index.writer middle read fed c.in-Ok.ensures.files so_far.put.2 in
+    let short : length (fed ++ (held ++ [])) < 2 ^ 32 = omega (arith, length-append fed (held ++ []), length-append held [], given.size, c.requires.fits.few, count, within) in
+    let rose = Rose (g.S.Store.faults c.read.new.store) (g.S.Store.faults c.put_document.new.store) in
+    put_stops rose _ _ c.args.writer.now.plan (λ more. fed ++ (held ++ more)) c.in-Err-put_document.refusal c.retold.result (λ rises. rose_behind _ _ _ (omega (arith, so_far.later, c.in-Ok.ensures.later)) rises) short
+    (λ some.
+    let rest = joined (drop (c.loop-index.index + 1) (documents some.0)) (has_open_end some.0) in
+    let whole : fed ++ (held ++ rest) ≡ some.0
+    = sym (append_assoc fed held rest) ∙ first_next texts before some.0 fed held c.loop-index.index c.loop-index.left c.requires.fits more given some.1 (is some.0 some.1) in
+    (rest, subst (λ n. n < 2 ^ 32) (some.1.size ∙ sym (ap length whole)) c.requires.fits.few, subst (IsPlanOf c.args.writer.now.plan) (sym whole) some.2))
+    c.retold.ensures
+    (λ more few. subst (λ plan. SecondStops rose (IsPlanOf plan (fed ++ (held ++ more))) c.in-Err-put_document.refusal) so_far.plan (c.in-Err-put_document.ensures.refused fed more has few))
+
+pub returns-in-Err-put_document-clause-others : goal.returns-in-Err-put_document-clause-others
+returns-in-Err-put_document-clause-others g c =
+    let so_far = c.loop-index.invariant in
+    let base = c.args.writer.now.base in
+    let texts = c.args.texts.now in
+    let before = g.S.Store.files c.args.store.now in
+    let middle = g.S.Store.files c.loop-index.store in
+    let read = g.S.Store.files c.read.new.store in
+    let fed = so_far.put.0 in
+    let given : AreGiven texts before c.loop-index.index c.loop-index.left fed = so_far.put.1 in
+    let read_others : OthersSame base before read = subst (λ f. OthersSame base before f) (sym c.in-Ok.ensures.files) so_far.others in
+    let now = g.S.Store.files c.put_document.new.store in
+    let put_others : OthersSame base read now = subst (λ b. OthersSame b read now) so_far.base c.in-Err-put_document.ensures.others in
+    others_more base before read now read_others put_others
+
+pub returns-in-Err-put_document-clause-head : goal.returns-in-Err-put_document-clause-head
+returns-in-Err-put_document-clause-head g c = λ told.
+    let so_far = c.loop-index.invariant in
+    let base = c.args.writer.now.base in
+    let texts = c.args.texts.now in
+    let before = g.S.Store.files c.args.store.now in
+    let middle = g.S.Store.files c.loop-index.store in
+    let read = g.S.Store.files c.read.new.store in
+    let fed = so_far.put.0 in
+    let given : AreGiven texts before c.loop-index.index c.loop-index.left fed = so_far.put.1 in
+    let read_others : OthersSame base before read = subst (λ f. OthersSame base before f) (sym c.in-Ok.ensures.files) so_far.others in
+    subst (λ b. file_at (g.S.Store.files c.put_document.new.store) (full_name b Head) ≡ Some []) so_far.base (c.in-Err-put_document.ensures.head (still_told before read read_others.told told))
+
+pub loop-index-preserved : goal.loop-index-preserved
+loop-index-preserved g c =
+    let so_far = c.loop-index.invariant in
+    let base = c.args.writer.now.base in
+    let texts = c.args.texts.now in
+    let before = g.S.Store.files c.args.store.now in
+    let middle = g.S.Store.files c.loop-index.store in
+    let read = g.S.Store.files c.read.new.store in
+    let fed = so_far.put.0 in
+    let given : AreGiven texts before c.loop-index.index c.loop-index.left fed = so_far.put.1 in
+    let held = c.bytes-in-loop-index.result.now in
+    let is : ((collection : List ℕ) → TextsStand texts before collection → held ≡ closed_document (c.loop-index.index + 1) collection)
+    = λ collection stand. c.bytes-in-loop-index.ensures ∙ c.in-Ok.ensures.held collection (texts_stay base texts c.loop-index.texts before middle collection c.requires.apart so_far.same so_far.others stand) in
+    let more : c.loop-index.index < texts.all = omega (arith, c.loop-index-test.true, c.documents-index-end.ensures) in
+    let count : length c.bytes.result.now ≡ length held = ap (λ (bytes : List ℕ). length bytes) (c.bytes.ensures ∙ sym c.bytes-in-loop-index.ensures) in
+    let within : length c.bytes.result.now ≤ c.loop-index.left = omega (arith, c.if-found-left.false) in
+    let has : HasPut c.loop-index.writer read fed = still_put c.loop-index.writer middle read fed c.in-Ok.ensures.files so_far.put.2 in
+    let read_others : OthersSame base before read = subst (λ f. OthersSame base before f) (sym c.in-Ok.ensures.files) so_far.others in
+    let now = g.S.Store.files c.put_document.new.store in
+    let put_others : OthersSame base read now = subst (λ b. OthersSame b read now) so_far.base c.in-Ok-put_document.ensures.others in
+    let same = texts_more texts c.loop-index.texts c.read.new.self so_far.same c.in-Ok.ensures.same in
+    record {
+      fits = fits_stay base c.read.new.self read now (apart_still base texts c.read.new.self same c.requires.apart) put_others c.in-Ok.ensures.fits;
+      same = same;
+      base = c.in-Ok-put_document.ensures.base ∙ so_far.base;
+      plan = c.in-Ok-put_document.ensures.plan ∙ so_far.plan;
+      limit = c.in-Ok-put_document.ensures.limit ∙ so_far.limit;
+      head = λ told. subst (λ b. file_at now (full_name b Head) ≡ Some []) so_far.base (c.in-Ok-put_document.ensures.head (still_told before read read_others.told told));
+      others = others_more base before read now read_others put_others;
+      later = omega (arith, so_far.later, c.in-Ok.ensures.later, c.in-Ok-put_document.ensures.later);
+      put = (
+        fed ++ held,
+        given_one_more texts before fed held c.loop-index.index c.loop-index.left (length c.bytes.result.now) c.requires.fits more given is count within,
+        c.in-Ok-put_document.ensures.put fed has,
+      );
+    }
+
+-- ---- all documents are written
+
+pub returns-clause-put : goal.returns-clause-put
+returns-clause-put g c =
+    let so_far = c.loop-index.invariant in
+    (so_far.put.0, given_each c.args.texts.now (g.S.Store.files c.args.store.now) so_far.put.0 c.loop-index.index c.loop-index.left c.requires.fits (omega (arith, c.loop-index-test.false, c.documents-index-end.ensures)) so_far.put.1, so_far.put.2)

@@ -1,0 +1,4 @@
+pub mod Texts
+pub mod Stops
+pub mod Merging
+pub mod Passes

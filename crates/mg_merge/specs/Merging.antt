@@ -1,0 +1,86 @@
+-- What a merge makes, what it leaves, and why it stops.
+use Rattle.std.specs.Prelude.{◌≡◌, ◌⊎◌, ◌<◌, ◌+◌, ◌*◌, ℕ, List, length, max, if◌then◌else◌, Ok, Err}
+use Rattle.std.specs.Option.{IsSome}
+use Rattle.std.specs.declared.option.Option.{Option}
+use Rattle.std.specs.declared.result.Result.{Result}
+use Rattle.mg_dev.specs.Files.{Files}
+use Rattle.mg_dev.specs.declared.fault.Fault.{Fault}
+use Rattle.mg_dev.specs.declared.fault.Fault.TheVariants.{Damaged, Memory, NotBuilt, SameName, StoreFault, TooLarge, TooManyDocuments, TooManyPieces}
+use Rattle.mg_defs.specs.Heads as heads
+use Rattle.mg_defs.specs.Join.{join}
+use Rattle.mg_defs.specs.Limits.{version_2}
+use Rattle.mg_defs.specs.Marks.{PassesFirst, piece, start}
+use Rattle.mg_layout.specs.Stands.{Stands, StandsForNone}
+use Rattle.mg_merge.specs.Stops.{AreHeads, IsMissing}
+
+-- ---- what it makes
+
+-- the pool of a merge, by the cap of the first set: runs have as many occurrences again
+abbrev pub budget_of : ℕ → ℕ
+budget_of cap = max 4096 (12 * cap)
+
+-- the bytes of both collections by their heads, with the one that closes the first
+abbrev pub joined_size : heads.Head → heads.Head → ℕ
+joined_size a b = a.collection + b.collection + (if a.open_end then 1 else 0)
+
+-- the most bytes of a collection
+abbrev pub most_bytes : ℕ
+most_bytes = version_2.collection
+
+-- Both sets stand, for these collections.
+pub record BothStand (files : Option Files) (first second a b : List ℕ) : Type 0 where
+  pub first_stands : Stands files first a
+  pub second_stands : Stands files second b
+
+-- the collection that both sets make
+pub record AreOf (files : Option Files) (first second collection : List ℕ) : Type 0 where
+  pub a : List ℕ
+  pub b : List ℕ
+  pub both : BothStand files first second a b
+  pub joins : collection ≡ join a b
+
+-- the heads of both sets tell so many bytes
+pub record IsSizeByHeads (files : Option Files) (first second : List ℕ) (size : ℕ) : Type 0 where
+  pub a : heads.Head
+  pub b : heads.Head
+  pub are : AreHeads files first second a b
+  pub size_is : size ≡ joined_size a b
+
+-- ---- what it leaves
+
+-- all files as before, or a set that stands for no collection, or one that stands for this one
+abbrev pub Left : List ℕ → Option Files → Option Files → List ℕ → Type 0
+Left base before now collection = (now ≡ before) ⊎ (StandsForNone now base ⊎ Stands now base collection)
+
+-- a refusal before the first write
+abbrev pub IsEarly : Fault → Type 0
+IsEarly NotBuilt = Unit {0}
+IsEarly (TooLarge size most) = Unit {0}
+IsEarly TooManyDocuments = Unit {0}
+IsEarly (TooManyPieces stream) = Unit {0}
+IsEarly SameName = Unit {0}
+IsEarly _ = ⊥
+
+-- ---- why it stops
+
+-- the cause of each refusal, by the files as it began and the three bases
+abbrev pub MergeStops : Type 0 → Option Files → List ℕ → List ℕ → List ℕ → Fault → Type 0
+MergeStops store_rose files first second new StoreFault = store_rose
+MergeStops store_rose files first second new NotBuilt = IsSome files → IsMissing files first ⊎ IsMissing files second
+MergeStops store_rose files first second new (Damaged bad) = (a b : List ℕ) → BothStand files first second a b → ⊥
+MergeStops store_rose files first second new (TooLarge size most) = (most ≡ most_bytes) × (most < size) × (IsSome files → IsSizeByHeads files first second size)
+MergeStops store_rose files first second new TooManyDocuments = (a b : List ℕ) → BothStand files first second a b → PassesFirst version_2 (join a b) start
+MergeStops store_rose files first second new (TooManyPieces stream) = (a b : List ℕ) → BothStand files first second a b → (bytes : List ℕ) × PassesFirst version_2 (join a b) (piece stream bytes)
+MergeStops store_rose files first second new Memory = Unit {0}
+MergeStops store_rose files first second new SameName = (new ≡ first) ⊎ (new ≡ second)
+MergeStops store_rose files first second new _ = ⊥
+
+-- this refusal, unless the store fails or memory lacks
+abbrev pub RefusedFor : {T : Type 0} → Result T Fault → Fault → Type 0
+RefusedFor result fault = (result ≡ Err fault) ⊎ ((result ≡ Err StoreFault) ⊎ (result ≡ Err Memory))
+
+-- it is done, or memory lacks
+abbrev pub IsDone : {T : Type 0} → Result T Fault → Type 0
+IsDone (Ok value) = Unit {0}
+IsDone (Err Memory) = Unit {0}
+IsDone (Err _) = ⊥

@@ -1,0 +1,98 @@
+-- Why the steps of a merge stop.
+use Rattle.std.specs.Prelude.{◌≡◌, ◌≢◌, ◌⊎◌, ℕ, List, [], ◌∷◌, Ok, Err}
+use Rattle.std.specs.Option.{IsSome}
+use Rattle.std.specs.declared.option.Option.{Option}
+use Rattle.std.specs.declared.result.Result.{Result}
+use Rattle.mg_dev.specs.Causes.{Rose}
+use Rattle.mg_dev.specs.Files.{Files, bytes_at}
+use Rattle.mg_dev.specs.Names.{full_name}
+use Rattle.mg_dev.specs.declared.fault.Fault.{Fault}
+use Rattle.mg_dev.specs.declared.fault.Fault.TheVariants.{Changed, Damaged, Memory, NotBuilt, StoreFault, TooManyDocuments, TooManyPieces}
+use Rattle.mg_dev.specs.declared.part.Part.TheVariants.{Head}
+use Rattle.mg_dev.specs.declared.part_err.PartErr.{PartErr}
+use Rattle.mg_dev.specs.declared.part_err.PartErr.TheVariants as part
+use Rattle.mg_dev.specs.declared.show_err.ShowErr.{ShowErr}
+use Rattle.mg_dev.specs.declared.show_err.ShowErr.TheVariants as show
+use Rattle.mg_defs.specs.Heads.{IsHead}
+use Rattle.mg_defs.specs.Heads as heads
+use Rattle.mg_defs.specs.Limits.{version_2}
+use Rattle.mg_defs.specs.Marks.{PassesFirst, piece, start}
+
+-- ---- heads
+
+-- the head of a base is missing or empty
+abbrev pub IsMissing : Option Files → List ℕ → Type 0
+IsMissing files base = bytes_at files (full_name base Head) ≡ []
+
+-- the heads of two bases, of version 1 or 2
+pub record AreHeads (files : Option Files) (first second : List ℕ) (a b : heads.Head) : Type 0 where
+  pub first_is : IsHead 1 2 (bytes_at files (full_name first Head)) a
+  pub second_is : IsHead 1 2 (bytes_at files (full_name second Head)) b
+
+-- why two heads are not loaded
+abbrev pub HeadStops : Type 0 → Option Files → List ℕ → List ℕ → Fault → Type 0
+HeadStops store_rose files first second StoreFault = store_rose
+HeadStops store_rose files first second NotBuilt = IsSome files → IsMissing files first ⊎ IsMissing files second
+HeadStops store_rose files first second (Damaged bad) = IsSome files → (a b : heads.Head) → AreHeads files first second a b → ⊥
+HeadStops store_rose files first second Memory = Unit {0}
+HeadStops store_rose files first second _ = ⊥
+
+-- what is told in place of damage of the first head where the second one is missing
+abbrev pub IsRefusedFirst : Fault → Type 0
+IsRefusedFirst NotBuilt = Unit {0}
+IsRefusedFirst StoreFault = Unit {0}
+IsRefusedFirst Memory = Unit {0}
+IsRefusedFirst _ = ⊥
+
+-- what is told of the second head where the first one was refused so
+abbrev pub IsToldFirst : Type 0 → Option Files → List ℕ → PartErr → Fault → Type 0
+IsToldFirst store_rose files second part.Device fault = fault ≡ StoreFault
+IsToldFirst store_rose files second part.Memory fault = fault ≡ Memory
+IsToldFirst store_rose files second (part.Bad bad) StoreFault = store_rose
+IsToldFirst store_rose files second (part.Bad bad) NotBuilt = IsSome files → IsMissing files second
+IsToldFirst store_rose files second (part.Bad bad) (Damaged damage) = Unit {0}
+IsToldFirst store_rose files second (part.Bad bad) Memory = Unit {0}
+IsToldFirst store_rose files second (part.Bad bad) _ = ⊥
+
+-- ---- texts
+
+-- why reading or writing stops; as damaged only where what is read does not stand
+abbrev pub ReadStops : Type 0 → Type 0 → Fault → Type 0
+ReadStops store_rose stand StoreFault = store_rose
+ReadStops store_rose stand (Damaged bad) = stand → ⊥
+ReadStops store_rose stand Memory = Unit {0}
+ReadStops store_rose stand _ = ⊥
+
+-- the store's failure has a cause, and the sink in memory only lacks memory
+abbrev pub IsDecodeCaused : Result (Unit {0}) ShowErr → ℕ → ℕ → Type 0
+IsDecodeCaused (Ok done) before now = Unit {0}
+IsDecodeCaused (Err (show.Part part.Device)) before now = Rose before now
+IsDecodeCaused (Err (show.Part part.Memory)) before now = Unit {0}
+IsDecodeCaused (Err (show.Part (part.Bad bad))) before now = Unit {0}
+IsDecodeCaused (Err show.Write) before now = ⊥
+IsDecodeCaused (Err show.Memory) before now = Unit {0}
+
+-- ---- passes
+
+-- why the documents of texts are not counted, where the texts stand for collections so
+abbrev pub CountingStops : Type 0 → (List ℕ → Type 0) → Fault → Type 0
+CountingStops store_rose stands StoreFault = store_rose
+CountingStops store_rose stands (Damaged bad) = (collection : List ℕ) → stands collection → ⊥
+CountingStops store_rose stands TooManyDocuments = (collection : List ℕ) → stands collection → PassesFirst version_2 collection start
+CountingStops store_rose stands (TooManyPieces stream) = (collection : List ℕ) → stands collection → (bytes : List ℕ) × PassesFirst version_2 collection (piece stream bytes)
+CountingStops store_rose stands Memory = Unit {0}
+CountingStops store_rose stands _ = ⊥
+
+-- numbers that are told as changed differ
+abbrev pub Differ : Fault → Type 0
+Differ (Changed what first second) = first ≢ second
+Differ _ = Unit {0}
+
+abbrev pub IsDamaged : Fault → Type 0
+IsDamaged (Damaged bad) = Unit {0}
+IsDamaged _ = ⊥
+
+-- what was counted and is written otherwise is told as damaged, all else as it is
+abbrev pub IsRetold : Fault → Fault → Type 0
+IsRetold (Changed what first second) told = IsDamaged told
+IsRetold fault told = told ≡ fault

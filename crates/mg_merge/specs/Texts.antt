@@ -1,0 +1,96 @@
+-- The texts of two sets, whose documents are read one after the other.
+use Rattle.std.specs.Prelude.{◌≡◌, ◌==◌, ◌<◌, ◌+◌, ◌-◌, ◌^◌, ℕ, Bool, true, not, if◌then◌else◌, List, [], ◌∷◌, ◌++◌, length, drop, get_or}
+use Rattle.std.specs.declared.option.Option.{Option}
+use Rattle.mg_dev.specs.Files.{Files}
+use Rattle.mg_dev.specs.Names.{full_name}
+use Rattle.mg_dev.specs.declared.part.Part.TheVariants.{Places, Text}
+use Rattle.mg_defs.specs.Join.{join}
+use Rattle.mg_defs.specs.Split.{documents, has_open_end, joined}
+use Rattle.mg_defs.specs.CodedText.{TextCode}
+use Rattle.mg_layout.specs.Stands.{StandsBy}
+use Rattle.mg_layout.specs.declared.head.Head as layout
+use Rattle.mg_text.specs.Reading.{SameText, TextFits, TextReading, TextStands}
+
+-- the readers of both texts, how many documents the first one and both have, whether the end is open, how many bytes all documents have with those that close them, and the document that was read last, with the byte that closes it
+pub record TwoTexts : Type 0 where
+  pub first : TextReading
+  pub second : TextReading
+  pub ahead : ℕ
+  pub all : ℕ
+  pub open_end : Bool
+  pub size : ℕ
+  pub held : List ℕ
+
+-- what it keeps agrees with the files, where they are told, and its numbers are those of its texts
+pub record TextsFit (t : TwoTexts) (files : Option Files) : Type 0 where
+  pub first : TextFits t.first files
+  pub second : TextFits t.second files
+  pub ahead : t.first.documents ≡ t.ahead
+  pub all : t.ahead + t.second.documents ≡ t.all
+  pub few : t.size < 2 ^ 32
+
+-- it reads the same texts, whatever document it holds
+pub record SameTexts (old new : TwoTexts) : Type 0 where
+  pub first : SameText old.first new.first
+  pub second : SameText old.second new.second
+  pub ahead : new.ahead ≡ old.ahead
+  pub all : new.all ≡ old.all
+  pub open_end : new.open_end ≡ old.open_end
+  pub size : new.size ≡ old.size
+
+-- The texts stand for two collections, of which this one is made.
+pub record TextsStand (t : TwoTexts) (files : Option Files) (collection : List ℕ) : Type 0 where
+  pub a : List ℕ
+  pub b : List ℕ
+  pub first : TextStands t.first files a
+  pub second : TextStands t.second files b
+  pub open_end : t.open_end ≡ has_open_end b
+  pub joins : collection ≡ join a b
+  pub size : t.size ≡ length collection
+
+-- they stand for some collection
+abbrev pub AreTexts : TwoTexts → Option Files → Type 0
+AreTexts t files = (collection : List ℕ) × TextsStand t files collection
+
+-- the files of a base stand for some collection, by this head
+abbrev pub IsSetBy : layout.Head → Option Files → List ℕ → Type 0
+IsSetBy head files base = (code : TextCode) × (collection : List ℕ) × StandsBy head code files base collection
+
+-- the files of two bases stand for these collections, by these heads
+pub record AreSetsBy (one other : layout.Head) (files : Option Files) (first second a b : List ℕ) : Type 0 where
+  pub first_code : TextCode
+  pub second_code : TextCode
+  pub first_stands : StandsBy one first_code files first a
+  pub second_stands : StandsBy other second_code files second b
+
+-- and they do so for some collections
+abbrev pub AreSomeSetsBy : layout.Head → layout.Head → Option Files → List ℕ → List ℕ → Type 0
+AreSomeSetsBy one other files first second = (a : List ℕ) × (b : List ℕ) × AreSetsBy one other files first second a b
+
+-- it reads Text and Places of these bases
+pub record AreTextsOf (t : TwoTexts) (first second : List ℕ) : Type 0 where
+  pub first_text : t.first.text.name ≡ full_name first Text
+  pub first_places : t.first.places.name ≡ full_name first Places
+  pub second_text : t.second.text.name ≡ full_name second Text
+  pub second_places : t.second.places.name ≡ full_name second Places
+
+-- ---- documents
+
+-- whether a byte closes document n of so many: the last one has none where the end is open
+abbrev pub is_closed : ℕ → ℕ → Bool → Bool
+is_closed n all open_end = if n == all then not open_end else true
+
+-- the byte that closes a document
+abbrev pub close : Bool → List ℕ
+close closed = if closed then 2 ∷ [] else []
+
+abbrev pub numbered : ℕ → List ℕ → List ℕ
+numbered n collection = get_or (documents collection) (n - 1) []
+
+-- document n of a collection, from 1, with the byte that closes it
+abbrev pub closed_document : ℕ → List ℕ → List ℕ
+closed_document n collection = numbered n collection ++ close (is_closed n (length (documents collection)) (has_open_end collection))
+
+-- these bytes are the first n documents of a collection: the others follow
+abbrev pub AreFirst : ℕ → List ℕ → List ℕ → Type 0
+AreFirst n bytes collection = bytes ++ joined (drop n (documents collection)) (has_open_end collection) ≡ collection

@@ -1,0 +1,94 @@
+//! The first pass over two texts.
+ghost use Rattle.std.specs.Prelude.{◌≡◌, ◌<◌, ◌≤◌, ◌+◌, ◌^◌, ◌++◌, ℕ, List, [], length, IfErr, IfOk, OnOk};
+ghost use Rattle.mg_dev.specs.Causes.{Rose};
+ghost use Rattle.mg_make.specs.Counting.{CountStops, HasCounted};
+ghost use Rattle.mg_make.specs.Plans.{IsPlan, IsPlanOf, IsRoomFor};
+ghost use Rattle.mg_merge.specs.Stops.{CountingStops};
+ghost use Rattle.mg_merge.specs.Passes.{AreAllGiven};
+ghost use Rattle.mg_merge.specs.Texts.{SameTexts, TextsFit, TextsStand};
+
+use crate::retelling::{too_long, too_short};
+use crate::texts::Texts;
+use mg_dev::{Fault, Store};
+use mg_make::{Count, Plan, Room};
+use std::alloc::Global;
+
+// Counts the bytes of one document.
+fn count_document(count: &mut Count, bytes: &[u8]) -> Result<(), Fault>
+    requires given { (fed : List ℕ) × HasCounted count.old fed × (length fed + length bytes.now < 2 ^ 32) }
+    ensures given { OnOk result ((fed : List ℕ) → HasCounted count.old fed → HasCounted count.new (fed ++ bytes.now)) }
+    ensures refused { IfErr result (λ fault. (fed : List ℕ) → HasCounted count.old fed → CountStops (fed ++ bytes.now) fault) }
+{
+    for byte in bytes {
+        match count.take(*byte) {
+            Ok(()) => {}
+            Err(refusal) => return Err(refusal),
+        }
+    }
+    Ok(())
+}
+
+// Counts each document of the texts.
+fn count_documents<S: Store>(
+    store: &mut S,
+    texts: &mut Texts<'_, S>,
+    count: &mut Count,
+) -> Result<(), Fault>
+    requires fits { TextsFit texts.old (S.files store.old) }
+    requires nothing { HasCounted count.old [] }
+    ensures counted { OnOk result ((fed : List ℕ) × AreAllGiven texts.old (S.files store.old) fed × HasCounted count.new fed) }
+    ensures fits { TextsFit texts.new (S.files store.new) }
+    ensures same { SameTexts texts.old texts.new }
+    ensures files { S.files store.new ≡ S.files store.old }
+    ensures later { S.faults store.old ≤ S.faults store.new }
+    ensures refused { IfErr result (CountingStops (Rose (S.faults store.old) (S.faults store.new)) (TextsStand texts.old (S.files store.old))) }
+{
+    let size = texts.size();
+    let mut left = size;
+    for index in 0..texts.documents() {
+        match texts.read(store, index + 1) {
+            Ok(()) => {}
+            Err(refusal) => return Err(refusal),
+        }
+        let found = texts.bytes().len() as u64;
+        if found > left {
+            return Err(Fault::Damaged(too_long(size - left, left, found)));
+        }
+        match count_document(count, texts.bytes()) {
+            Ok(()) => {}
+            Err(refusal) => return Err(refusal),
+        }
+        left -= found;
+    }
+    if left > 0 {
+        return Err(Fault::Damaged(too_short(size - left, left)));
+    }
+    Ok(())
+}
+
+/// Counts two texts, and makes all that the second pass takes of memory, with a pool of so many bytes.
+pub(crate) fn count_all<S: Store>(
+    alloc: Global,
+    store: &mut S,
+    texts: &mut Texts<'_, S>,
+    budget: u64,
+) -> Result<(Plan, Room), Fault>
+    requires least { 4096 ≤ budget }
+    requires most { budget ≤ 2 ^ 30 }
+    requires fits { TextsFit texts.old (S.files store.old) }
+    ensures plan { IfOk result (λ made. IsPlan made.0) }
+    ensures room { IfOk result (λ made. IsRoomFor made.1 made.0 budget) }
+    ensures of { (collection : List ℕ) → TextsStand texts.old (S.files store.old) collection → IfOk result (λ made. IsPlanOf made.0 collection) }
+    ensures fits { TextsFit texts.new (S.files store.new) }
+    ensures same { SameTexts texts.old texts.new }
+    ensures files { S.files store.new ≡ S.files store.old }
+    ensures later { S.faults store.old ≤ S.faults store.new }
+    ensures refused { IfErr result (CountingStops (Rose (S.faults store.old) (S.faults store.new)) (TextsStand texts.old (S.files store.old))) }
+{
+    let mut count = Count::new(alloc);
+    match count_documents(store, texts, &mut count) {
+        Ok(()) => {}
+        Err(refusal) => return Err(refusal),
+    }
+    count.finish(alloc, budget)
+}

@@ -1,0 +1,130 @@
+//! The second pass over two texts.
+ghost use Rattle.std.specs.Prelude.{◌≡◌, ◌⊎◌, ◌<◌, ◌≤◌, ◌+◌, ◌^◌, ◌++◌, ℕ, List, [], length, IfErr, IfOk, OnOk, Some};
+ghost use Rattle.std.specs.Option.{IsSome};
+ghost use Rattle.mg_dev.specs.Causes.{Rose};
+ghost use Rattle.mg_dev.specs.Files.{file_at};
+ghost use Rattle.mg_dev.specs.Names.{full_name};
+ghost use Rattle.mg_dev.specs.declared.part.Part.TheVariants as part;
+ghost use Rattle.mg_defs.specs.Summaries.{run_cap};
+ghost use Rattle.mg_layout.specs.Stands.{StandsIn};
+ghost use Rattle.mg_make.specs.Plans.{IsPlan, IsPlanOf, IsRoomFor};
+ghost use Rattle.mg_make.specs.Putting.{HasPut, OthersSame};
+ghost use Rattle.mg_make.specs.Summaries.{summary_of};
+ghost use Rattle.mg_make.specs.Written.{SecondStops};
+ghost use Rattle.mg_merge.specs.Merging.{Left};
+ghost use Rattle.mg_merge.specs.Stops.{ReadStops};
+ghost use Rattle.mg_merge.specs.Passes.{AreAllGiven, AreApart, ArePlanned};
+ghost use Rattle.mg_merge.specs.Texts.{SameTexts, TextsFit, TextsStand};
+
+use crate::retelling::{retold, too_long};
+use crate::texts::Texts;
+use mg_dev::{Fault, Store};
+use mg_make::{Plan, Room, SetWriter, Summary, empty_heads_stand_for_none};
+use std::alloc::Global;
+
+// Writes what the bytes of one document make.
+fn put_document<S: Store>(
+    store: &mut S,
+    writer: &mut SetWriter<'_>,
+    bytes: &[u8],
+) -> Result<(), Fault>
+    requires put { (fed : List ℕ) × HasPut writer.old (S.files store.old) fed × (length fed + length bytes.now < 2 ^ 32) }
+    requires head { IsSome (S.files store.old) → file_at (S.files store.old) (full_name writer.old.base part.Head) ≡ Some [] }
+    ensures put { OnOk result ((fed : List ℕ) → HasPut writer.old (S.files store.old) fed → HasPut writer.new (S.files store.new) (fed ++ bytes.now)) }
+    ensures base { writer.new.base ≡ writer.old.base }
+    ensures plan { writer.new.plan ≡ writer.old.plan }
+    ensures limit { writer.new.limit ≡ writer.old.limit }
+    ensures head { IsSome (S.files store.old) → file_at (S.files store.new) (full_name writer.old.base part.Head) ≡ Some [] }
+    ensures others { OthersSame writer.old.base (S.files store.old) (S.files store.new) }
+    ensures later { S.faults store.old ≤ S.faults store.new }
+    ensures refused { IfErr result (λ fault. (fed more : List ℕ) → HasPut writer.old (S.files store.old) fed → length (fed ++ (bytes.now ++ more)) < 2 ^ 32 →
+        SecondStops (Rose (S.faults store.old) (S.faults store.new)) (IsPlanOf writer.old.plan (fed ++ (bytes.now ++ more))) fault) }
+{
+    for byte in bytes {
+        match writer.take(store, *byte) {
+            Ok(()) => {}
+            Err(refusal) => return Err(refusal),
+        }
+    }
+    Ok(())
+}
+
+// Gives each document of the texts to the writer of their set.
+fn put_documents<S: Store>(
+    store: &mut S,
+    texts: &mut Texts<'_, S>,
+    writer: &mut SetWriter<'_>,
+) -> Result<(), Fault>
+    requires fits { TextsFit texts.old (S.files store.old) }
+    requires apart { AreApart writer.old.base texts.old }
+    requires nothing { HasPut writer.old (S.files store.old) [] }
+    requires head { IsSome (S.files store.old) → file_at (S.files store.old) (full_name writer.old.base part.Head) ≡ Some [] }
+    ensures put { OnOk result ((fed : List ℕ) × AreAllGiven texts.old (S.files store.old) fed × HasPut writer.new (S.files store.new) fed) }
+    ensures few { texts.old.size < 2 ^ 32 }
+    ensures base { writer.new.base ≡ writer.old.base }
+    ensures plan { writer.new.plan ≡ writer.old.plan }
+    ensures limit { writer.new.limit ≡ writer.old.limit }
+    ensures head { IsSome (S.files store.old) → file_at (S.files store.new) (full_name writer.old.base part.Head) ≡ Some [] }
+    ensures others { OthersSame writer.old.base (S.files store.old) (S.files store.new) }
+    ensures later { S.faults store.old ≤ S.faults store.new }
+    ensures refused { IfErr result (ReadStops (Rose (S.faults store.old) (S.faults store.new)) (ArePlanned writer.old.plan texts.old (S.files store.old))) }
+{
+    let size = texts.size();
+    let mut left = size;
+    for index in 0..texts.documents() {
+        match texts.read(store, index + 1) {
+            Ok(()) => {}
+            Err(refusal) => return Err(refusal),
+        }
+        let found = texts.bytes().len() as u64;
+        if found > left {
+            return Err(Fault::Damaged(too_long(size - left, left, found)));
+        }
+        match put_document(store, writer, texts.bytes()) {
+            Ok(()) => {}
+            Err(refusal) => return Err(retold(refusal)),
+        }
+        left -= found;
+    }
+    Ok(())
+}
+
+/// Writes the set of two texts by a plan: the head is emptied first and appended last.
+pub(crate) fn write_set<'a, S: Store>(
+    alloc: Global,
+    store: &mut S,
+    texts: &mut Texts<'_, S>,
+    base: &'a str,
+    plan: &'a Plan,
+    room: Room,
+) -> Result<Summary, Fault>
+    requires plan { IsPlan plan.now }
+    requires room { IsRoomFor room plan.now room.pool.limit }
+    requires fits { TextsFit texts.old (S.files store.old) }
+    requires apart { AreApart base.now texts.old }
+    ensures stands { (collection : List ℕ) → TextsStand texts.old (S.files store.old) collection → IsPlanOf plan.entry.now collection →
+        OnOk result (StandsIn 2 (run_cap room.pool.limit) (S.files store.new) base.entry.now collection) }
+    ensures summary { (collection : List ℕ) → TextsStand texts.old (S.files store.old) collection → IsPlanOf plan.entry.now collection →
+        IfOk result (λ summary. summary ≡ summary_of room.pool.limit collection) }
+    ensures merge_a { ArePlanned plan.entry.now texts.old (S.files store.old) → OnOk result (file_at (S.files store.new) (full_name base.entry.now part.MergeA) ≡ Some []) }
+    ensures merge_b { ArePlanned plan.entry.now texts.old (S.files store.old) → OnOk result (file_at (S.files store.new) (full_name base.entry.now part.MergeB) ≡ Some []) }
+    ensures left { (collection : List ℕ) → TextsStand texts.old (S.files store.old) collection → IsPlanOf plan.entry.now collection →
+        Left base.entry.now (S.files store.old) (S.files store.new) collection }
+    ensures others { OthersSame base.entry.now (S.files store.old) (S.files store.new) }
+    ensures later { S.faults store.old ≤ S.faults store.new }
+    ensures refused { IfErr result (ReadStops (Rose (S.faults store.old) (S.faults store.new)) (ArePlanned plan.entry.now texts.old (S.files store.old))) }
+{
+    empty_heads_stand_for_none();
+    let mut writer = match SetWriter::start(alloc, store, base, plan, room) {
+        Ok(writer) => writer,
+        Err(refusal) => return Err(Fault::of_store(refusal)),
+    };
+    match put_documents(store, texts, &mut writer) {
+        Ok(()) => {}
+        Err(refusal) => return Err(refusal),
+    }
+    match writer.finish(alloc, store) {
+        Ok(summary) => Ok(summary),
+        Err(refusal) => Err(retold(refusal)),
+    }
+}

@@ -1,0 +1,292 @@
+// What no clause says: that merges succeed, that a merged set is the one that a build makes, and what a store that fails leaves.
+use mg_build::{build, decode};
+use mg_dev::{Bad, Fault, MemSink, MemStore, Part};
+use mg_make::Summary;
+use mg_merge::merge;
+use std::alloc::{AllocError, Global};
+use std::test::Fail;
+
+const EIGHT: &[u8] = b"a a a a ";
+
+const LETTERS: &[u8] = b"the cat sat\n\x02the dog\n\x02Cat, cat & dog!\n\x02";
+
+const BOTH: &[u8] = b"a a a a \x02the cat sat\n\x02the dog\n\x02Cat, cat & dog!\n\x02";
+
+/// Two collections, and both in one.
+#[derive(Clone, Copy)]
+struct Row {
+    first: &'static [u8],
+    second: &'static [u8],
+    both: &'static [u8],
+}
+
+const ROWS: [Row; 6] = [
+    Row {
+        first: EIGHT,
+        second: LETTERS,
+        both: BOTH,
+    },
+    Row {
+        first: LETTERS,
+        second: EIGHT,
+        both: b"the cat sat\n\x02the dog\n\x02Cat, cat & dog!\n\x02a a a a ",
+    },
+    Row {
+        first: EIGHT,
+        second: b"",
+        both: b"a a a a \x02",
+    },
+    Row {
+        first: b"",
+        second: EIGHT,
+        both: EIGHT,
+    },
+    Row {
+        first: b"",
+        second: b"",
+        both: b"",
+    },
+    Row {
+        first: b"\x02\x02b",
+        second: b"\x02b c",
+        both: b"\x02\x02b\x02\x02b c",
+    },
+];
+
+/// The names of each part of the sets under `new` and under `whole`.
+const PARTS: [(&str, &str); 13] = [
+    ("new.head", "whole.head"),
+    ("new.words", "whole.words"),
+    ("new.nonwords", "whole.nonwords"),
+    ("new.text", "whole.text"),
+    ("new.places", "whole.places"),
+    ("new.lex", "whole.lex"),
+    ("new.lexat", "whole.lexat"),
+    ("new.post", "whole.post"),
+    ("new.skip", "whole.skip"),
+    ("new.weights", "whole.weights"),
+    ("new.run", "whole.run"),
+    ("new.mergea", "whole.mergea"),
+    ("new.mergeb", "whole.mergeb"),
+];
+
+/// The set of the eight bytes in version 1, a part each.
+const NARROW: [(&str, &[u8]); 11] = [
+    (
+        "one.head",
+        b"MGROWv1\n\0\0\0\x01\0\0\0\x01\0\0\0\x01\0\0\0\x01\0\x15UU\0\0\0\x01\0\0\0\x08\0\0\0\x04\0\0\0\x01\0\0\0\x02\0\0\0\0\0\0\0\x01\0\0\0\0\0\0\0\x01",
+    ),
+    ("one.words", b"\x01a\x01"),
+    ("one.nonwords", b"\x01 \x01"),
+    ("one.text", b"\xc8\0"),
+    ("one.places", b"\0\0\0\0\0\0\0\x02"),
+    ("one.lex", b"\x01a\0\0\0\x01\0\0\0\0\0\0\0\0\0\0\0\0"),
+    ("one.lexat", b"\0\0\0\0"),
+    ("one.post", b"`"),
+    ("one.skip", b"\0\0\0\0\0\0\0\x01\0\0\0\0\0\0\0\0"),
+    ("one.weights", b"\0\0\x03\0"),
+    ("one.run", b"\x18"),
+];
+
+/// Builds a set of these bytes, with the nearest budget that is taken.
+fn make(
+    alloc: Global,
+    store: &mut MemStore,
+    bytes: &[u8],
+    base: &str,
+    budget: u64,
+) -> Result<Summary, Fault> {
+    store.put_file("bytes", bytes)?;
+    build(alloc, store, "bytes", base, budget.max(4096).min(1 << 30))
+}
+
+/// A store with the sets of two collections, under `one` and `other`.
+fn sets(alloc: Global, first: &[u8], second: &[u8], budget: u64) -> Result<MemStore, Fail> {
+    let mut store = MemStore::new(alloc);
+    if make(alloc, &mut store, first, "one", budget).is_err() {
+        return Err(Fail::from("the first is not built"));
+    }
+    if make(alloc, &mut store, second, "other", budget).is_err() {
+        return Err(Fail::from("the second is not built"));
+    }
+    Ok(store)
+}
+
+/// What decoding prints of a set, and how it ends.
+fn decoded(alloc: Global, store: &mut MemStore, base: &str) -> (MemSink, Result<(), Fault>) {
+    let mut out = MemSink::new(alloc);
+    let status = decode(alloc, store, base, &mut out);
+    (out, status)
+}
+
+/// The sets under `new` and under `whole` have the same parts.
+fn same_parts(store: &MemStore) -> bool {
+    for (one, other) in PARTS {
+        if store.file(one) != store.file(other) {
+            return false;
+        }
+    }
+    true
+}
+
+#[test]
+fn a_merged_set_is_the_one_that_is_built_of_both(rt: HostRuntime) -> Result<(), Fail> {
+    let alloc = rt.alloc();
+    for row in ROWS {
+        let mut store = sets(alloc, row.first, row.second, 4096)?;
+        let merged = merge(alloc, &mut store, "one", "other", "new");
+        assert!(rt; merged.is_ok(), "{merged:?}");
+        let whole = make(alloc, &mut store, row.both, "whole", 4096);
+        assert_eq!(rt; merged, whole);
+        assert!(rt; same_parts(&store));
+        let (out, status) = decoded(alloc, &mut store, "new");
+        assert_eq!(rt; status, Ok(()));
+        assert!(rt; out.bytes() == row.both);
+    }
+    Ok(())
+}
+
+#[test]
+fn sets_of_version_1_are_merged_with_the_cap_of_the_first(rt: HostRuntime) -> Result<(), Fail> {
+    let alloc = rt.alloc();
+    let mut store = sets(alloc, EIGHT, LETTERS, 4096)?;
+    for (name, bytes) in NARROW {
+        store.put_file(name, bytes)?;
+    }
+    assert_eq!(rt;
+        merge(alloc, &mut store, "one", "other", "new"),
+        Ok(Summary {
+            documents: 4,
+            words: 6,
+            others: 5,
+            terms: 5,
+            occurrences: 12,
+            runs: 1,
+            peak: 144,
+            budget: 16_777_212,
+        })
+    );
+    let (out, status) = decoded(alloc, &mut store, "new");
+    assert!(rt; status == Ok(()) && out.bytes() == BOTH);
+    let budget = merge(alloc, &mut store, "other", "one", "new").map(|summary| summary.budget);
+    assert_eq!(rt; budget, Ok(4096));
+    assert!(rt; merge(alloc, &mut store, "one", "one", "new").is_ok());
+    let (out, status) = decoded(alloc, &mut store, "new");
+    assert!(rt; status == Ok(()) && out.bytes() == b"a a a a \x02a a a a ".as_slice());
+    Ok(())
+}
+
+#[test]
+fn three_sets_are_merged_in_either_order(rt: HostRuntime) -> Result<(), Fail> {
+    let alloc = rt.alloc();
+    let mut store = sets(alloc, LETTERS, EIGHT, 4096)?;
+    assert!(rt; make(alloc, &mut store, b"dog\x02\x02cat", "third", 4096).is_ok());
+    assert!(rt; merge(alloc, &mut store, "one", "other", "front").is_ok());
+    assert!(rt; merge(alloc, &mut store, "front", "third", "new").is_ok());
+    assert!(rt; merge(alloc, &mut store, "other", "third", "back").is_ok());
+    assert!(rt; merge(alloc, &mut store, "one", "back", "whole").is_ok());
+    assert!(rt; same_parts(&store));
+    let (out, status) = decoded(alloc, &mut store, "new");
+    assert_eq!(rt; status, Ok(()));
+    assert!(rt;
+        out.bytes()
+            == b"the cat sat\n\x02the dog\n\x02Cat, cat & dog!\n\x02a a a a \x02dog\x02\x02cat".as_slice()
+    );
+    Ok(())
+}
+
+#[test]
+fn what_can_not_be_merged_is_refused_before_a_file_is_written(rt: HostRuntime) -> Result<(), Fail> {
+    let alloc = rt.alloc();
+    let mut store = sets(alloc, EIGHT, LETTERS, 4096)?;
+    for (first, second, new, fault) in [
+        ("one", "other", "one", Fault::SameName),
+        ("one", "other", "other", Fault::SameName),
+        ("none", "other", "none", Fault::SameName),
+        ("one", "none", "new", Fault::NotBuilt),
+        ("none", "other", "new", Fault::NotBuilt),
+    ] {
+        assert_eq!(rt; merge(alloc, &mut store, first, second, new), Err(fault));
+    }
+    // The first head is damaged: that the second one is missing comes first.
+    store.put_file("one.head", b"MGROW")?;
+    assert_eq!(rt;
+        merge(alloc, &mut store, "one", "none", "new"),
+        Err(Fault::NotBuilt)
+    );
+    let bad = Bad {
+        part: Part::Head,
+        at: 0,
+        low: 64,
+        high: 64,
+        found: 5,
+    };
+    assert_eq!(rt;
+        merge(alloc, &mut store, "one", "other", "new"),
+        Err(Fault::Damaged(bad))
+    );
+    assert!(rt; store.file("new.head").is_none());
+    Ok(())
+}
+
+/// A store with the same sets, no call of which is to fail.
+fn healed(alloc: Global, store: &MemStore) -> Result<MemStore, AllocError> {
+    let mut copy = MemStore::new(alloc);
+    for name in [
+        "one.head",
+        "one.words",
+        "one.nonwords",
+        "one.text",
+        "one.places",
+        "other.head",
+        "other.words",
+        "other.nonwords",
+        "other.text",
+        "other.places",
+        "new.head",
+        "new.words",
+        "new.nonwords",
+        "new.text",
+        "new.places",
+    ] {
+        if let Some(bytes) = store.file(name) {
+            copy.put_file(name, bytes)?;
+        }
+    }
+    Ok(copy)
+}
+
+#[test]
+fn a_call_that_fails_leaves_both_sets_and_no_half_of_the_new_one(
+    rt: HostRuntime,
+) -> Result<(), Fail> {
+    let alloc = rt.alloc();
+    let mut whole = sets(alloc, EIGHT, LETTERS, 4096)?;
+    let begin = whole.calls();
+    assert!(rt; merge(alloc, &mut whole, "one", "other", "new").is_ok());
+    let end = whole.calls();
+    assert!(rt; end.saturating_sub(begin) > 40);
+    for call in begin..end {
+        let mut store = sets(alloc, EIGHT, LETTERS, 4096)?;
+        store.fail_from(call);
+        assert_eq!(rt;
+            merge(alloc, &mut store, "one", "other", "new"),
+            Err(Fault::StoreFault),
+            "call {call}"
+        );
+        let mut copy = healed(alloc, &store)?;
+        for (base, bytes) in [("one", EIGHT), ("other", LETTERS)] {
+            let (out, status) = decoded(alloc, &mut copy, base);
+            assert!(rt; status == Ok(()) && out.bytes() == bytes, "call {call}");
+        }
+        let (out, status) = decoded(alloc, &mut copy, "new");
+        assert!(rt;
+            match status {
+                Ok(()) => out.bytes() == BOTH,
+                Err(fault) => matches!(fault, Fault::NotBuilt | Fault::Damaged(_)),
+            },
+            "call {call}"
+        );
+    }
+    Ok(())
+}

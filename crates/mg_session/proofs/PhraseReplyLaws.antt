@@ -1,0 +1,254 @@
+-- The reply to a phrase.
+use Rattle.std.proofs.Common.{arith, ◌≡◌, ℕ, ◌+◌, ◌≤◌, true, List, [], ◌∷◌, ◌++◌, length, None, Some, Ok, Err, refl, sym, ◌∙◌, ap, subst, sum_by, length-append}
+use Rattle.std.specs.Prelude.{IfSome, IfErr, OnOk, map, nat_le, nat_lt}
+use Rattle.std.specs.Option.{ForSome}
+use Rattle.std.specs.declared.option.Option.{Option}
+use Rattle.std.specs.declared.result.Result.{Result}
+use Rattle.std.proofs.lemmas.Bool.{cond_both, leb-false}
+use Rattle.std.proofs.lemmas.List.Sums.{sum_by-append, sum_by-cons}
+use Rattle.mg_dev.specs.Causes.{Rose}
+use Rattle.mg_dev.specs.Faults.{show_of_put}
+use Rattle.mg_dev.specs.Files.{Reads}
+use Rattle.mg_dev.specs.Streams.{AfterPut, GrewByPrefix, appended}
+use Rattle.mg_dev.specs.StreamLaws.{grew_nothing}
+use Rattle.mg_dev.specs.declared.device.PutErr.{PutErr}
+use Rattle.mg_dev.specs.declared.device.PutErr.TheVariants as put
+use Rattle.mg_dev.specs.declared.part.Part.TheVariants as part
+use Rattle.mg_dev.specs.declared.part_err.PartErr.TheVariants.{Device, Memory, Bad}
+use Rattle.mg_dev.specs.declared.show_err.ShowErr.{ShowErr}
+use Rattle.mg_dev.specs.declared.show_err.ShowErr.TheVariants as show
+use Rattle.mg_defs.specs.CodedText.{TextCode}
+use Rattle.mg_defs.specs.Lines.{lines}
+use Rattle.mg_defs.specs.Phrases.{phrase_from, phrase_next, phrase_of, phrase_places, phrase_token, phrase_with}
+use Rattle.mg_defs.specs.PhraseSession.{found_text, phrase_reply, phrase_session, with_places}
+use Rattle.mg_defs.specs.PlainSession.{plain_questions}
+use Rattle.mg_defs.specs.Read.{Reading, Refusal, reads, refused}
+use Rattle.mg_defs.specs.Replies.{refusal}
+use Rattle.mg_defs.specs.Session.{Question, heard_questions, heard_session}
+use Rattle.mg_defs.specs.Split.{documents}
+use Rattle.mg_defs.specs.Terms.{folded}
+use Rattle.mg_defs.specs.Texts.{count}
+use Rattle.mg_defs.specs.Tokens.{Placed, Token, amp, bang, bar, closing, opening, tokens, word}
+use Rattle.mg_defs.specs.declared.session.Hearing.TheVariants.{Questions}
+use Rattle.mg_defs.specs.declared.session.Settings.{Settings}
+use Rattle.mg_laws.proofs.PlainLaws.{plain_heard, questions_heard}
+use Rattle.mg_query.specs.AllOf.{IsAllOf}
+use Rattle.mg_query.specs.RefusalOf.{refusal_of}
+use Rattle.mg_query.specs.declared.query_err.QueryErr.{QueryErr}
+use Rattle.mg_query.specs.declared.query_err.QueryErr.TheVariants as query
+use Rattle.mg_reply.specs.Served.{EndsFor, PartStops}
+use Rattle.mg_reply.specs.declared.serve.ServeErr.{ServeErr}
+use Rattle.mg_reply.specs.declared.serve.ServeErr.TheVariants as serve
+use Rattle.mg_session.specs.Serves.{Stops, fault_of_serve}
+use Rattle.mg_defs.specs.Limit.{input_limit, is_too_much}
+use Rattle.mg_text.specs.Decoding as decoding
+use Rattle.mg_text.specs.Reading.{ShowIsNotBad}
+use Rattle.mg_session.specs.Answering.{HasShowCause}
+use Rattle.mg_session.specs.PhraseAnswers.{PhraseAnswered, PhraseReplied, ReadsPhrases, candidate_pages, joined_bound, line_lists, line_pages}
+use Rattle.mg_session.specs.PhraseSearching.{OnlyReads, PhraseMayStop, PhraseState, PhrasesAsked, PhrasesBy, PhrasesOver, SamePhraseParts}
+use Rattle.mg_session.proofs.ReplyLaws.{put_sound}
+
+-- ---- a phrase has at most 64 words
+
+abbrev IsFew : Reading (List (List ℕ)) → Type 0
+IsFew (reads phrase) = length phrase ≤ 64
+IsFew (refused why) = Unit {0}
+
+few_with : (phrase : List (List ℕ)) (at : ℕ) (w : List ℕ) → length phrase ≤ 64 → IsFew (phrase_with phrase at w)
+few_with phrase at w few =
+    cond_both (nat_lt 255 (length w)) _ _ IsFew (λ _. tt)
+    (λ _. cond_both (nat_le 64 (length phrase)) _ _ IsFew (λ _. tt)
+    (λ f. omega (arith, length-append phrase (folded w ∷ []), leb-false 64 (length phrase) f)))
+
+few_token : (phrase : List (List ℕ)) (at : ℕ) (t : Token) → length phrase ≤ 64 → IsFew (phrase_token phrase at t)
+few_token phrase at (word w) few = few_with phrase at w few
+few_token phrase at bar few = few
+few_token phrase at amp few = few
+few_token phrase at bang few = few
+few_token phrase at opening few = few
+few_token phrase at closing few = few
+
+few_next : (r : Reading (List (List ℕ))) (t : Placed) → IsFew r → IsFew (phrase_next r t)
+few_next (reads phrase) t few = few_token phrase t.at t.token few
+few_next (refused why) t few = tt
+
+few_from : (r : Reading (List (List ℕ))) (ts : List Placed) → IsFew r → IsFew (phrase_from r ts)
+few_from r [] few = few
+few_from r (t ∷ ts) few = few_from (phrase_next r t) ts (few_next r t few)
+
+pub line_words : (line : List ℕ) (phrase : List (List ℕ)) → phrase_of line ≡ reads phrase → length phrase ≤ 64
+unfolding phrase_of
+line_words line phrase e = subst IsFew e (few_from (reads []) (tokens line) (omega arith))
+
+-- ---- a line that is no phrase
+
+refused_put : (e : QueryErr) (Said : Refusal → Type 0) (text : List ℕ) (w0 w1 : Option (List ℕ)) (r : Result (Unit {0}) PutErr) → ((why : Refusal) → Said why → text ≡ refusal why) → IfSome (refusal_of e) Said → IfSome (refusal_of e) (λ why. AfterPut w0 w1 (refusal why) r) → (e ≡ query.Memory → (r ≡ Err put.Memory) × (w1 ≡ w0)) → AfterPut w0 w1 text r
+refused_put (query.Syntax at) Said text w0 w1 r says said put none = subst (λ t. AfterPut w0 w1 t r) (sym (says _ said)) put
+refused_put (query.TooDeep at) Said text w0 w1 r says said put none = subst (λ t. AfterPut w0 w1 t r) (sym (says _ said)) put
+refused_put (query.TermTooLong at) Said text w0 w1 r says said put none = subst (λ t. AfterPut w0 w1 t r) (sym (says _ said)) put
+refused_put (query.TooManyTerms at) Said text w0 w1 r says said put none = subst (λ t. AfterPut w0 w1 t r) (sym (says _ said)) put
+refused_put query.Memory Said text w0 w1 r says said put none =
+    let m = none refl in
+    subst (AfterPut w0 w1 text) (sym m.0) (subst (λ w. GrewByPrefix w0 w text) (sym m.1) (grew_nothing w0 text))
+
+abbrev done : Result (Unit {0}) PutErr
+done = Ok tt
+
+abbrev not_put : PutErr → Result (Unit {0}) PutErr
+not_put refusal = Err refusal
+
+says_refused : (collection line : List ℕ) (why : Refusal) → phrase_of line ≡ refused why → phrase_reply collection line ≡ refusal why
+unfolding phrase_reply
+says_refused collection line why e = rw e refl
+
+pub line_refused : (e : QueryErr) (code : TextCode) (collection line : List ℕ) (w0 w1 : Option (List ℕ)) (r : Reads) → IfSome (refusal_of e) (λ why. phrase_of line ≡ refused why) → IfSome (refusal_of e) (λ why. AfterPut w0 w1 (refusal why) done) → (e ≡ query.Memory → (done ≡ not_put put.Memory) × (w1 ≡ w0)) → PhraseReplied code collection line w0 w1 r r (Ok tt)
+line_refused e code collection line w0 w1 r said put none = record {
+  put = refused_put e (λ why. phrase_of line ≡ refused why) (phrase_reply collection line) w0 w1 done (says_refused collection line) said put none;
+  sound = tt;
+  post = omega arith;
+  text = omega arith;
+}
+
+pub line_unput : (e : QueryErr) (code : TextCode) (collection line : List ℕ) (w0 w1 : Option (List ℕ)) (r : Reads) (refused_for : PutErr) (error : ShowErr) → IfSome (refusal_of e) (λ why. phrase_of line ≡ refused why) → IfSome (refusal_of e) (λ why. AfterPut w0 w1 (refusal why) (not_put refused_for)) → (e ≡ query.Memory → (not_put refused_for ≡ not_put put.Memory) × (w1 ≡ w0)) → error ≡ show_of_put refused_for → PhraseReplied code collection line w0 w1 r r (Err error)
+line_unput e code collection line w0 w1 r refused_for error said put none is = record {
+  put = refused_put e (λ why. phrase_of line ≡ refused why) (phrase_reply collection line) w0 w1 (not_put refused_for) (says_refused collection line) said put none;
+  sound = put_sound refused_for error is;
+  post = omega arith;
+  text = omega arith;
+}
+
+-- ---- a phrase
+
+-- it stopped before anything was printed, and neither lists nor text were read
+pub nothing_replied : (code : TextCode) (collection line : List ℕ) (w : Option (List ℕ)) (r0 r1 : Reads) (error : ShowErr) → ShowIsNotBad (Err error) → r1 part.Post ≡ r0 part.Post → r1 part.Text ≡ r0 part.Text → PhraseReplied code collection line w w r0 r1 (Err error)
+nothing_replied code collection line w r0 r1 error sound post text = record {
+  put = grew_nothing w (phrase_reply collection line);
+  sound = sound;
+  post = omega (arith, post);
+  text = omega (arith, text);
+}
+
+pub none_answered : (code : TextCode) (collection : List ℕ) (phrase : List (List ℕ)) (w : Option (List ℕ)) (r : Reads) → PhraseAnswered code collection phrase w w r r (Err (show.Part Memory))
+none_answered code collection phrase w r = record { put = grew_nothing w (found_text (with_places phrase 1 (documents collection))); sound = tt; post = omega arith; text = omega arith }
+
+-- no document has a phrase without words
+no_places : (n : ℕ) (ds : List (List ℕ)) → with_places [] n ds ≡ []
+unfolding with_places phrase_places
+no_places n [] = refl
+no_places n (d ∷ ds) = no_places (n + 1) ds
+
+none_text : (collection line : List ℕ) → phrase_of line ≡ reads [] → phrase_reply collection line ≡ count 0
+unfolding phrase_reply found_text
+none_text collection line e = rw (e, no_places 1 (documents collection)) refl
+
+no_words : (phrase : List (List ℕ)) → IsAllOf phrase None → phrase ≡ []
+no_words [] none = refl
+no_words (t ∷ us) none = absurd none
+
+pub line_counted : (code : TextCode) (collection line : List ℕ) (phrase : List (List ℕ)) (w0 w1 : Option (List ℕ)) (r : Reads) (result : Result (Unit {0}) ShowErr) → phrase_of line ≡ reads phrase → IsAllOf phrase None → AfterPut w0 w1 (count 0) result → ShowIsNotBad result → PhraseReplied code collection line w0 w1 r r result
+line_counted code collection line phrase w0 w1 r result is none put sound = record {
+  put = subst (λ t. AfterPut w0 w1 t result) (sym (none_text collection line (is ∙ ap reads (no_words phrase none)))) put;
+  sound = sound;
+  post = omega arith;
+  text = omega arith;
+}
+
+says_found : (collection line : List ℕ) (phrase : List (List ℕ)) → phrase_of line ≡ reads phrase → phrase_reply collection line ≡ found_text (with_places phrase 1 (documents collection))
+unfolding phrase_reply
+says_found collection line phrase e = rw e refl
+
+pub line_answered : (code : TextCode) (collection line : List ℕ) (phrase : List (List ℕ)) (w0 w1 : Option (List ℕ)) (r0 r1 r2 : Reads) (result : Result (Unit {0}) ShowErr) → phrase_of line ≡ reads phrase → PhraseAnswered code collection phrase w0 w1 r1 r2 result → r1 part.Post ≡ r0 part.Post → r1 part.Text ≡ r0 part.Text → PhraseReplied code collection line w0 w1 r0 r2 result
+line_answered code collection line phrase w0 w1 r0 r1 r2 result is a post text =
+    let same_bound : line_lists collection line ≡ joined_bound collection phrase = rw is refl in
+    let same_pages : line_pages code collection line ≡ candidate_pages code collection phrase = rw is refl in
+    record {
+      put = subst (λ t. AfterPut w0 w1 t result) (sym (says_found collection line phrase is)) a.put;
+      sound = a.sound;
+      post = omega (arith, a.post, post, same_bound);
+      text = omega (arith, a.text, text, same_pages);
+    }
+
+-- ---- a document that is held
+
+-- a sink that never fails has no failure
+pub held_cause : (r : Result (Unit {0}) ShowErr) (s t l m output : ℕ) → s ≤ t → decoding.IsShowCaused r s t 0 0 l m → HasShowCause r s t output output
+held_cause (Ok value) s t l m output later caused = record { store = later; output = omega arith; caused = tt }
+held_cause (Err (show.Part Device)) s t l m output later caused = record { store = later; output = omega arith; caused = caused }
+held_cause (Err (show.Part Memory)) s t l m output later caused = absurd caused
+held_cause (Err (show.Part (Bad bad))) s t l m output later caused = record { store = later; output = omega arith; caused = tt }
+held_cause (Err show.Write) s t l m output later caused = absurd (omega (arith, caused))
+held_cause (Err show.Memory) s t l m output later caused = record { store = later; output = omega arith; caused = tt }
+
+-- ---- a session
+
+pub phrases_over : (s : PhraseState) (collection : List ℕ) → PhrasesOver s collection → PhrasesBy s (λ now. phrase_reply collection)
+phrases_over s collection over = record { collection = collection; over = over; by_is = refl }
+
+pub phrases_asked : (s t : PhraseState) (now : Settings) (line : List ℕ) (w0 w1 : Option (List ℕ)) (result : Result (Unit {0}) ShowErr) → OnlyReads s.files t.files s.reads t.reads s.faults t.faults → SamePhraseParts s.parts t.parts → ((collection : List ℕ) → PhrasesOver s collection → PhraseReplied s.parts.text.code collection line w0 w1 s.reads t.reads result) → PhrasesAsked s t (record { now = now; line = line } ∷ [])
+phrases_asked s t now line w0 w1 result step same replied = record {
+  step = step;
+  same = same;
+  post = λ collection over. omega (arith, (replied collection over).post);
+  text = λ collection over. omega (arith, (replied collection over).text);
+}
+
+sum_by-map : (f : List ℕ → ℕ) (qs : List Question) → sum_by f (map (λ (q : Question). q.line) qs) ≡ sum_by (λ (q : Question). f q.line) qs
+sum_by-map f [] = refl
+sum_by-map f (q ∷ qs) =
+    sum_by-cons f q.line (map (λ (p : Question). p.line) qs) ∙ ap (λ n. f q.line + n) (sum_by-map f qs) ∙ sym (sum_by-cons (λ (p : Question). f p.line) q qs)
+
+-- the first of the lines of an input
+pub phrases_within : (s t : PhraseState) (answered : List Question) (collection given : List ℕ) → PhrasesAsked s t answered → (more : List Question) × (heard_questions Questions given ≡ answered ++ more) → PhrasesOver s collection → ReadsPhrases s.parts.text.code collection given s.reads t.reads
+phrases_within s t answered collection given a first over =
+    let split : (f : List ℕ → ℕ) → sum_by f (plain_questions (lines given)) ≡ sum_by (λ (q : Question). f q.line) answered + sum_by (λ (q : Question). f q.line) first.0 =
+    λ f. ap (sum_by f) (questions_heard given) ∙ sum_by-map f (heard_questions Questions given) ∙ ap (sum_by (λ (q : Question). f q.line)) first.1 ∙ sum_by-append (λ (q : Question). f q.line) answered first.0 in
+    record {
+      post = omega (arith, a.post collection over, split (line_lists collection));
+      text = omega (arith, a.text collection over, split (line_pages s.parts.text.code collection));
+    }
+
+pub session_all : (collection given : List ℕ) (old new : Option (List ℕ)) → new ≡ appended old (heard_session Questions (λ now. phrase_reply collection) given) → new ≡ appended old (phrase_session collection given)
+unfolding phrase_session
+session_all collection given old new is = is ∙ ap (appended old) (sym (plain_heard (phrase_reply collection) given))
+
+pub session_prefix : (collection given : List ℕ) (old new : Option (List ℕ)) → GrewByPrefix old new (heard_session Questions (λ now. phrase_reply collection) given) → GrewByPrefix old new (phrase_session collection given)
+unfolding phrase_session
+session_prefix collection given old new grew = subst (GrewByPrefix old new) (sym (plain_heard (phrase_reply collection) given)) grew
+
+-- why a line stops the session
+line_stops : (s t : PhraseState) (f g : ℕ) (error : ShowErr) → HasShowCause (Err error) s.faults t.faults f g → ((collection : List ℕ) → PhrasesOver s collection → ShowIsNotBad (Err error)) → PartStops (PhraseMayStop s t) error
+line_stops s t f g (show.Part Device) cause sound = cause.caused
+line_stops s t f g (show.Part Memory) cause sound = tt
+line_stops s t f g (show.Part (Bad bad)) cause sound = sound
+line_stops s t f g show.Write cause sound = tt
+line_stops s t f g show.Memory cause sound = tt
+
+pub line_part : (s t : PhraseState) (f g : ℕ) (r : Result (Unit {0}) ShowErr) → HasShowCause r s.faults t.faults f g → ((collection : List ℕ) → PhrasesOver s collection → ShowIsNotBad r) → IfErr r (PartStops (PhraseMayStop s t))
+line_part s t f g (Ok value) cause sound = tt
+line_part s t f g (Err error) cause sound = line_stops s t f g error cause sound
+
+pub stops_show : (s t : PhraseState) (I O : Type 0) (input : Option (List ℕ)) (error : ServeErr) → EndsFor I O (ForSome input (λ given. is_too_much input_limit given ≡ true)) (PhraseMayStop s t) error →
+    Stops (Rose s.faults t.faults) I O ⊥ ((collection : List ℕ) → PhrasesOver s collection → ⊥) input (fault_of_serve error)
+stops_show s t I O input serve.Read e = e
+stops_show s t I O input serve.TooMuch e = e
+stops_show s t I O input (serve.Show show.Write) e = e
+stops_show s t I O input (serve.Show show.Memory) e = tt
+stops_show s t I O input (serve.Show (show.Part Device)) e = e
+stops_show s t I O input (serve.Show (show.Part Memory)) e = tt
+stops_show s t I O input (serve.Show (show.Part (Bad bad))) e = e
+
+-- ---- what is read before the first line
+
+pub pages_from : (code now_code : TextCode) (collection given : List ℕ) (r0 r1 r2 : Reads) → now_code ≡ code → r1 part.Post ≡ r0 part.Post → r1 part.Text ≡ r0 part.Text → ReadsPhrases now_code collection given r1 r2 → ReadsPhrases code collection given r0 r2
+pages_from code now_code collection given r0 r1 r2 same post text within =
+    let w = subst (λ c. ReadsPhrases c collection given r1 r2) same within in
+    record { post = omega (arith, w.post, post); text = omega (arith, w.text, text) }
+
+pub no_pages_within : (code : TextCode) (collection given : List ℕ) (r0 r1 : Reads) → r1 part.Post ≡ r0 part.Post → r1 part.Text ≡ r0 part.Text → ReadsPhrases code collection given r0 r1
+no_pages_within code collection given r0 r1 post text = record { post = omega (arith, post); text = omega (arith, text) }
+
+-- a document that was written where nothing was held is what is held
+pub held_is : (before now doc : List ℕ) (r : Result (Unit {0}) ShowErr) → before ≡ [] → AfterPut (Some before) (Some now) doc r → OnOk r (now ≡ doc)
+unfolding appended
+held_is before now doc (Ok value) none put = let all : Some now ≡ Some doc = put ∙ ap (λ b. Some (b ++ doc)) none in cc
+held_is before now doc (Err error) none put = tt

@@ -1,0 +1,323 @@
+-- An answer to a phrase that is under way.
+use Rattle.std.proofs.Common.{arith, ◌≡◌, ℕ, ◌+◌, ◌<◌, ◌≤◌, inl, inr, Bool, true, false, List, [], ◌∷◌, ◌++◌, length, drop, map, nat_lt, Some, None, Err, refl, sym, ◌∙◌, ap, subst, append_assoc, append-nil, length-append, sum_by}
+use Rattle.std.specs.Prelude.{flat_map}
+use Rattle.std.specs.List.{AllByRecursion}
+use Rattle.std.specs.declared.option.Option.{Option}
+use Rattle.std.specs.declared.result.Result.{Result}
+use Rattle.std.proofs.lemmas.Bool.{cases_Bool, false≢true, ltb-true, lt-ltb}
+use Rattle.std.proofs.lemmas.Bool.Decides.{leb_tells}
+use Rattle.std.proofs.lemmas.Grind.{flat_map-append}
+use Rattle.std.proofs.lemmas.List.Sums.{sum_by-append}
+use Rattle.std.proofs.Math.Seq.{take-length}
+use Rattle.mg_dev.specs.Files.{Reads}
+use Rattle.mg_dev.specs.Streams.{AfterPut, GrewByPrefix, appended}
+use Rattle.mg_dev.specs.StreamLaws.{grew_first}
+use Rattle.mg_dev.specs.declared.part.Part.TheVariants as part
+use Rattle.mg_dev.specs.declared.show_err.ShowErr.{ShowErr}
+use Rattle.mg_defs.specs.CodedText.{TextCode}
+use Rattle.mg_defs.specs.PageBounds.{boolean_bound}
+use Rattle.mg_defs.specs.Phrases.{all_of, phrase_places}
+use Rattle.mg_defs.specs.PhraseSession.{Found, found_text, with_places}
+use Rattle.mg_defs.specs.QueryTerms.{query_terms}
+use Rattle.mg_defs.specs.Reply.{Shown, found, plain, satisfying}
+use Rattle.mg_defs.specs.Sat.{Query, satisfies}
+use Rattle.mg_defs.specs.Split.{documents}
+use Rattle.mg_defs.specs.Terms.{document}
+use Rattle.mg_defs.specs.TextBounds.{doc_pages}
+use Rattle.mg_defs.specs.Texts.{count, row}
+use Rattle.mg_defs.proofs.ReplyLaws.{document_at}
+use Rattle.mg_laws.proofs.PhraseLaws.{candidates_are_enough}
+use Rattle.mg_bool.specs.Matches.{GoesOn, Matching, MatchesOver, left_of}
+use Rattle.mg_bool.specs.Places.{pages_read}
+use Rattle.mg_post.specs.TermLists.{PagesWithin}
+use Rattle.mg_query.specs.AllOf.{IsAllOf}
+use Rattle.mg_query.specs.QueryOf.{query_of}
+use Rattle.mg_query.specs.declared.query.Query as declared
+use Rattle.mg_reply.specs.Pending.{AfterPass, Passed}
+use Rattle.mg_reply.proofs.CallerLemmas.{pass_nothing, pass_both, pass_cut, pass_put}
+use Rattle.mg_text.specs.Reading.{ShowIsNotBad}
+use Rattle.mg_session.specs.PhraseAnswers.{PhraseAnswered, PhraseWalked, candidate_pages, found_among, found_at, found_if, joined_bound, rows_of}
+
+-- ---- the query of all terms
+
+joined-terms : (t : List ℕ) (us : List (List ℕ)) → query_terms (all_of t us) ≡ t ∷ us
+joined-terms t [] = refl
+joined-terms t (u ∷ us) = ap (λ (ts : List (List ℕ)). t ∷ ts) (joined-terms u us)
+
+pub terms_joined : (phrase : List (List ℕ)) (q : declared.Query) → IsAllOf phrase (Some q) → query_terms (query_of q) ≡ phrase
+terms_joined [] q is = absurd is
+terms_joined (t ∷ us) q is = ap query_terms is ∙ joined-terms t us
+
+-- ---- where a phrase has places
+
+none_lt : (n : ℕ) → nat_lt 0 n ≡ false → n ≡ 0
+none_lt n h = grind (arith, leb_tells)
+
+missed : (t : List ℕ) (us : List (List ℕ)) (doc : List ℕ) → satisfies (all_of t us) doc ≡ false → nat_lt 0 (phrase_places (t ∷ us) doc) ≡ false
+missed t us doc none = elim (cases_Bool (nat_lt 0 (phrase_places (t ∷ us) doc))) [
+  | inl some ↦ absurd (false≢true (sym none ∙ candidates_are_enough t us doc (ltb-true 0 (phrase_places (t ∷ us) doc) some)))
+  | inr zero_is ↦ zero_is
+]
+
+among-cons : (collection : List ℕ) (phrase : List (List ℕ)) (s : Shown) (ss : List Shown) → found_among collection phrase (s ∷ ss) ≡ found_at s.number (phrase_places phrase (document collection s.number)) ++ found_among collection phrase ss
+unfolding found_among
+among-cons collection phrase s ss = refl
+
+found-hit : (q : Query) (n : ℕ) (d : List ℕ) (ds : List (List ℕ)) → satisfies q d ≡ true → found q n (d ∷ ds) ≡ plain n ∷ found q (n + 1) ds
+unfolding found
+found-hit q n d ds is = rw is refl
+
+found-miss : (q : Query) (n : ℕ) (d : List ℕ) (ds : List (List ℕ)) → satisfies q d ≡ false → found q n (d ∷ ds) ≡ found q (n + 1) ds
+unfolding found
+found-miss q n d ds is = rw is refl
+
+places-cons : (phrase : List (List ℕ)) (n : ℕ) (d : List ℕ) (ds : List (List ℕ)) → with_places phrase n (d ∷ ds) ≡ found_at n (phrase_places phrase d) ++ with_places phrase (n + 1) ds
+unfolding with_places
+places-cons phrase n d ds = elim (cases_Bool (nat_lt 0 (phrase_places phrase d))) [
+  | inl some ↦ rw some refl
+  | inr none ↦ rw none refl
+]
+
+none_from : (collection t : List ℕ) (us : List (List ℕ)) (n : ℕ) → with_places (t ∷ us) n [] ≡ found_among collection (t ∷ us) (found (all_of t us) n [])
+unfolding with_places found_among found
+none_from collection t us n = refl
+
+found_from : (collection t : List ℕ) (us front ds : List (List ℕ)) (n : ℕ) → documents collection ≡ front ++ ds → n ≡ length front + 1 → with_places (t ∷ us) n ds ≡ found_among collection (t ∷ us) (found (all_of t us) n ds)
+found_from collection t us front [] n e at = none_from collection t us n
+found_from collection t us front (d ∷ ds) n e at =
+    let here : document collection n ≡ d = document_at collection d front ds n e at in
+    let behind : length (front ++ d ∷ []) ≡ length front + 1 = length-append front (d ∷ []) in
+    let more = found_from collection t us (front ++ d ∷ []) ds (n + 1) (e ∙ sym (append_assoc front (d ∷ []) ds)) (omega (arith, at, behind)) in
+    let now = places-cons (t ∷ us) n d ds ∙ ap (λ fs. found_at n (phrase_places (t ∷ us) d) ++ fs) more in
+    elim (cases_Bool (satisfies (all_of t us) d)) [
+      | inl is ↦ now
+          ∙ ap (λ doc. found_at n (phrase_places (t ∷ us) doc) ++ found_among collection (t ∷ us) (found (all_of t us) (n + 1) ds)) (sym here)
+          ∙ sym (among-cons collection (t ∷ us) (plain n) (found (all_of t us) (n + 1) ds))
+          ∙ ap (found_among collection (t ∷ us)) (sym (found-hit (all_of t us) n d ds is))
+      | inr none ↦ now
+          ∙ ap (λ (b : Bool). found_if b n (phrase_places (t ∷ us) d) ++ found_among collection (t ∷ us) (found (all_of t us) (n + 1) ds)) (missed t us d none)
+          ∙ ap (found_among collection (t ∷ us)) (sym (found-miss (all_of t us) n d ds none))
+    ]
+
+pub record Joined (code : TextCode) (collection : List ℕ) (phrase : List (List ℕ)) (q : Query) : Type 0 where
+  pub found_is : with_places phrase 1 (documents collection) ≡ found_among collection phrase (satisfying collection q)
+  pub pages_are : candidate_pages code collection phrase ≡ sum_by (doc_pages code collection) (satisfying collection q)
+  pub bound_is : joined_bound collection phrase ≡ boolean_bound collection q
+
+pub joined : (code : TextCode) (collection : List ℕ) (phrase : List (List ℕ)) (q : declared.Query) → IsAllOf phrase (Some q) → Joined code collection phrase (query_of q)
+unfolding candidate_pages joined_bound
+joined code collection [] q is = absurd is
+joined code collection (t ∷ us) q is = record {
+  found_is = found_from collection t us [] (documents collection) 1 refl refl ∙ ap (λ a. found_among collection (t ∷ us) (satisfying collection a)) (sym is);
+  pages_are = ap (λ a. sum_by (doc_pages code collection) (satisfying collection a)) (sym is);
+  bound_is = ap (boolean_bound collection) (sym is);
+}
+
+-- ---- the documents that are found have no score
+
+found_plain : (ds : List (ℕ × List ℕ)) → AllByRecursion (λ (s : Shown). s.score ≡ None) (map (λ (d : ℕ × List ℕ). plain d.0) ds)
+found_plain [] = tt
+found_plain (d ∷ ds) = (refl, found_plain ds)
+
+left_plain : (collection : List ℕ) (m : Matching) → AllByRecursion (λ (s : Shown). s.score ≡ None) (left_of collection m)
+unfolding found
+left_plain collection m = found_plain _
+
+goes_some : (left now : List Shown) (number : ℕ) → AllByRecursion (λ (s : Shown). s.score ≡ None) left → GoesOn left now (Some number) → left ≡ plain number ∷ now
+goes_some [] now number all goes = absurd goes
+goes_some (s ∷ more) now number all goes = λ i. record { number = sym goes.0 i; score = all.0 i } ∷ sym goes.1 i
+
+goes_none : (left now : List Shown) → GoesOn left now None → left ≡ []
+goes_none [] now goes = refl
+goes_none (s ∷ more) now goes = absurd goes
+
+-- ---- texts
+
+among-append : (collection : List ℕ) (phrase : List (List ℕ)) (xs ys : List Shown) → found_among collection phrase (xs ++ ys) ≡ found_among collection phrase xs ++ found_among collection phrase ys
+unfolding found_among
+among-append collection phrase xs ys = flat_map-append (λ (s : Shown). found_at s.number (phrase_places phrase (document collection s.number))) xs ys
+
+among-one : (collection : List ℕ) (phrase : List (List ℕ)) (number places : ℕ) → places ≡ phrase_places phrase (document collection number) → found_among collection phrase (plain number ∷ []) ≡ found_at number places
+unfolding found_among
+among-one collection phrase number places is = append-nil _ ∙ ap (found_at number) (sym is)
+
+among-none : (collection : List ℕ) (phrase : List (List ℕ)) → found_among collection phrase [] ≡ []
+unfolding found_among
+among-none collection phrase = refl
+
+among-push : (collection : List ℕ) (phrase : List (List ℕ)) (xs : List Shown) (number places : ℕ) → places ≡ phrase_places phrase (document collection number) → found_among collection phrase (xs ++ plain number ∷ []) ≡ found_among collection phrase xs ++ found_at number places
+among-push collection phrase xs number places is = among-append collection phrase xs (plain number ∷ []) ∙ ap (λ fs. found_among collection phrase xs ++ fs) (among-one collection phrase number places is)
+
+rows-append : (xs ys : List Found) → rows_of (xs ++ ys) ≡ rows_of xs ++ rows_of ys
+unfolding rows_of
+rows-append xs ys = flat_map-append (λ (f : Found). row f.number (Some f.places)) xs ys
+
+rows-none : rows_of [] ≡ []
+unfolding rows_of
+rows-none = refl
+
+text-is : (fs : List Found) → found_text fs ≡ rows_of fs ++ count (length fs)
+unfolding found_text rows_of
+text-is fs = refl
+
+text_front : (xs ys : List Found) → (rest : List ℕ) × (found_text (xs ++ ys) ≡ rows_of xs ++ rest)
+text_front xs ys = (rows_of ys ++ count (length (xs ++ ys)), text-is (xs ++ ys) ∙ ap (λ t. t ++ count (length (xs ++ ys))) (rows-append xs ys) ∙ append_assoc (rows_of xs) (rows_of ys) (count (length (xs ++ ys))))
+
+pub size_some : (number places : ℕ) → 0 < places → length (found_at number places) ≡ 1
+size_some number places some = ap (λ (b : Bool). length (found_if b number places)) (lt-ltb 0 places some)
+
+pub size_none : (number places : ℕ) → places ≤ 0 → length (found_at number places) ≡ 0
+size_none number places none = let e : places ≡ 0 = omega (arith, none) in ap (λ n. length (found_at number n)) e
+
+pub nothing_found : (w : Option (List ℕ)) (waiting : List ℕ) (number places : ℕ) → places ≡ 0 → Passed w w waiting waiting (rows_of (found_at number places))
+nothing_found w waiting number places none = subst (Passed w w waiting waiting) (sym (ap (λ n. rows_of (found_at number n)) none ∙ rows-none)) (pass_nothing w waiting)
+
+-- ---- one document after another
+
+pub walked_start : (base : List ℕ) (code : TextCode) (collection : List ℕ) (phrase : List (List ℕ)) (q : Query) (w : Option (List ℕ)) (waiting : List ℕ) (m : Matching) (r : Reads) → waiting ≡ [] → query_of m.asks ≡ q → m.decided ≡ 0 → MatchesOver base collection m → PhraseWalked base code collection phrase q w w waiting 0 m r r
+walked_start base code collection phrase q w waiting m r none asks before over = record {
+  so_far = [];
+  split = ap (λ p. satisfying collection p) (sym asks) ∙ ap (λ n. found (query_of m.asks) (n + 1) (drop n (documents collection))) (sym before);
+  total_is = ap length (among-none collection phrase);
+  passed = subst (Passed w w [] waiting) (sym (ap rows_of (among-none collection phrase) ∙ rows-none)) (subst (λ p. Passed w w [] p []) (sym none) (pass_nothing w []));
+  over = over;
+  post = omega arith;
+  text = omega arith;
+}
+
+-- a document that was searched
+pub walked_searched : (base : List ℕ) (code : TextCode) (collection : List ℕ) (phrase : List (List ℕ)) (q : Query) (w0 w1 w2 : Option (List ℕ)) (waiting waiting2 : List ℕ) (total total2 number places bound : ℕ) (m n : Matching) (r0 r1 r2 r3 : Reads) →
+    PhraseWalked base code collection phrase q w0 w1 waiting total m r0 r1 → GoesOn (left_of collection m) (left_of collection n) (Some number) → MatchesOver base collection n → PagesWithin bound (pages_read m.places) (pages_read n.places) r1 r2 → r2 part.Text ≡ r1 part.Text →
+    r3 part.Post ≡ r2 part.Post → r3 part.Text ≤ r2 part.Text + doc_pages code collection (plain number) → places ≡ phrase_places phrase (document collection number) → Passed w1 w2 waiting waiting2 (rows_of (found_at number places)) → total2 ≡ total + length (found_at number places) →
+    PhraseWalked base code collection phrase q w0 w2 waiting2 total2 n r0 r3
+walked_searched base code collection phrase q w0 w1 w2 waiting waiting2 total total2 number places bound m n r0 r1 r2 r3 w goes over pages text post doc_text is passed more =
+    let pushed = among-push collection phrase w.so_far number places is in
+    record {
+      so_far = w.so_far ++ plain number ∷ [];
+      split = w.split ∙ ap (λ l. w.so_far ++ l) (goes_some (left_of collection m) (left_of collection n) number (left_plain collection m) goes) ∙ sym (append_assoc w.so_far (plain number ∷ []) (left_of collection n));
+      total_is = omega (arith, ap length pushed, length-append (found_among collection phrase w.so_far) (found_at number places), w.total_is, more);
+      passed = subst (Passed w0 w2 [] waiting2) (sym (ap rows_of pushed ∙ rows-append (found_among collection phrase w.so_far) (found_at number places)))
+          (pass_both w0 w1 w2 [] waiting waiting2 (rows_of (found_among collection phrase w.so_far)) (rows_of (found_at number places)) w.passed passed);
+      over = over;
+      post = omega (arith, w.post, pages.post, post);
+      text = omega (arith, w.text, text, doc_text, sum_by-append (doc_pages code collection) w.so_far (plain number ∷ []));
+    }
+
+-- ---- the end, and stops before it
+
+-- what was printed, and then a front of what comes next, is a prefix of the reply
+front_grew : (code : TextCode) (collection : List ℕ) (phrase : List (List ℕ)) (q : Query) (w0 w1 : Option (List ℕ)) (xs ys : List Shown) → Joined code collection phrase q → satisfying collection q ≡ xs ++ ys → GrewByPrefix w0 w1 (rows_of (found_among collection phrase xs)) → GrewByPrefix w0 w1 (found_text (with_places phrase 1 (documents collection)))
+front_grew code collection phrase q w0 w1 xs ys j split grew =
+    let front = text_front (found_among collection phrase xs) (found_among collection phrase ys) in
+    let whole : found_text (with_places phrase 1 (documents collection)) ≡ rows_of (found_among collection phrase xs) ++ front.0 =
+    ap found_text (j.found_is ∙ ap (found_among collection phrase) split ∙ among-append collection phrase xs ys) ∙ front.1 in
+    subst (GrewByPrefix w0 w1) (sym whole) (grew_first w0 w1 _ front.0 grew)
+
+so_far_prefix : (base : List ℕ) (code : TextCode) (collection : List ℕ) (phrase : List (List ℕ)) (q : Query) (w0 w1 : Option (List ℕ)) (waiting : List ℕ) (total : ℕ) (m : Matching) (r0 r1 : Reads) → Joined code collection phrase q → PhraseWalked base code collection phrase q w0 w1 waiting total m r0 r1 → GrewByPrefix w0 w1 (found_text (with_places phrase 1 (documents collection)))
+so_far_prefix base code collection phrase q w0 w1 waiting total m r0 r1 j w =
+    let part : GrewByPrefix w0 w1 (w.passed.sent ++ waiting) = grew_first w0 w1 w.passed.sent waiting (record { count = length w.passed.sent; within = omega arith; is = w.passed.given ∙ ap (appended w0) (sym (take-length w.passed.sent)) }) in
+    front_grew code collection phrase q w0 w1 w.so_far (left_of collection m) j w.split (subst (GrewByPrefix w0 w1) w.passed.whole part)
+
+pages_so_far : (base : List ℕ) (code : TextCode) (collection : List ℕ) (phrase : List (List ℕ)) (q : Query) (w0 w1 : Option (List ℕ)) (waiting : List ℕ) (total : ℕ) (m : Matching) (r0 r1 : Reads) → Joined code collection phrase q → PhraseWalked base code collection phrase q w0 w1 waiting total m r0 r1 → r1 part.Text ≤ r0 part.Text + candidate_pages code collection phrase
+pages_so_far base code collection phrase q w0 w1 waiting total m r0 r1 j w =
+    omega (arith, w.text, j.pages_are, ap (sum_by (doc_pages code collection)) w.split, sum_by-append (doc_pages code collection) w.so_far (left_of collection m))
+
+-- with those of one more document
+pages_too : (base : List ℕ) (code : TextCode) (collection : List ℕ) (phrase : List (List ℕ)) (q : Query) (w0 w1 : Option (List ℕ)) (waiting : List ℕ) (total number : ℕ) (m n : Matching) (r0 r1 r2 : Reads) → Joined code collection phrase q → PhraseWalked base code collection phrase q w0 w1 waiting total m r0 r1 → GoesOn (left_of collection m) (left_of collection n) (Some number) → r2 part.Text ≤ r1 part.Text + doc_pages code collection (plain number) → r2 part.Text ≤ r0 part.Text + candidate_pages code collection phrase
+pages_too base code collection phrase q w0 w1 waiting total number m n r0 r1 r2 j w goes more =
+    let split : satisfying collection q ≡ w.so_far ++ (plain number ∷ left_of collection n) = w.split ∙ ap (λ l. w.so_far ++ l) (goes_some (left_of collection m) (left_of collection n) number (left_plain collection m) goes) in
+    omega (
+      arith,
+      w.text,
+      more,
+      j.pages_are,
+      ap (sum_by (doc_pages code collection)) split,
+      sum_by-append (doc_pages code collection) w.so_far (plain number ∷ left_of collection n),
+      sum_by-append (doc_pages code collection) (plain number ∷ []) (left_of collection n),
+    )
+
+-- the lists could not be read
+pub walked_stop : (base : List ℕ) (code : TextCode) (collection : List ℕ) (phrase : List (List ℕ)) (q : Query) (w0 w1 : Option (List ℕ)) (waiting : List ℕ) (total : ℕ) (m n : Matching) (r0 r1 r2 : Reads) (error : ShowErr) →
+    Joined code collection phrase q → PhraseWalked base code collection phrase q w0 w1 waiting total m r0 r1 → PagesWithin (boolean_bound collection q) (pages_read m.places) (pages_read n.places) r1 r2 → r2 part.Text ≡ r1 part.Text → ShowIsNotBad (Err error) →
+    PhraseAnswered code collection phrase w0 w1 r0 r2 (Err error)
+walked_stop base code collection phrase q w0 w1 waiting total m n r0 r1 r2 error j w pages text sound = record {
+  put = so_far_prefix base code collection phrase q w0 w1 waiting total m r0 r1 j w;
+  sound = sound;
+  post = omega (arith, w.post, pages.post, pages.within, j.bound_is);
+  text = omega (arith, pages_so_far base code collection phrase q w0 w1 waiting total m r0 r1 j w, text);
+}
+
+-- a document could not be decoded
+pub walked_unread : (base : List ℕ) (code : TextCode) (collection : List ℕ) (phrase : List (List ℕ)) (q : Query) (w0 w1 : Option (List ℕ)) (waiting : List ℕ) (total number : ℕ) (m n : Matching) (r0 r1 r2 r3 : Reads) (error : ShowErr) →
+    Joined code collection phrase q → PhraseWalked base code collection phrase q w0 w1 waiting total m r0 r1 → GoesOn (left_of collection m) (left_of collection n) (Some number) → PagesWithin (boolean_bound collection q) (pages_read m.places) (pages_read n.places) r1 r2 → r2 part.Text ≡ r1 part.Text →
+    r3 part.Post ≡ r2 part.Post → r3 part.Text ≤ r2 part.Text + doc_pages code collection (plain number) → ShowIsNotBad (Err error) →
+    PhraseAnswered code collection phrase w0 w1 r0 r3 (Err error)
+walked_unread base code collection phrase q w0 w1 waiting total number m n r0 r1 r2 r3 error j w goes pages text post doc_text sound = record {
+  put = so_far_prefix base code collection phrase q w0 w1 waiting total m r0 r1 j w;
+  sound = sound;
+  post = omega (arith, w.post, pages.post, pages.within, j.bound_is, post);
+  text = pages_too base code collection phrase q w0 w1 waiting total number m n r0 r1 r3 j w goes (omega (arith, doc_text, text));
+}
+
+-- its row could not be passed on
+pub walked_cut : (base : List ℕ) (code : TextCode) (collection : List ℕ) (phrase : List (List ℕ)) (q : Query) (w0 w1 w2 : Option (List ℕ)) (waiting : List ℕ) (total number places : ℕ) (m n : Matching) (r0 r1 r2 r3 : Reads) (error : ShowErr) →
+    Joined code collection phrase q → PhraseWalked base code collection phrase q w0 w1 waiting total m r0 r1 → GoesOn (left_of collection m) (left_of collection n) (Some number) → PagesWithin (boolean_bound collection q) (pages_read m.places) (pages_read n.places) r1 r2 → r2 part.Text ≡ r1 part.Text →
+    r3 part.Post ≡ r2 part.Post → r3 part.Text ≤ r2 part.Text + doc_pages code collection (plain number) → places ≡ phrase_places phrase (document collection number) → GrewByPrefix w1 w2 (waiting ++ rows_of (found_at number places)) → ShowIsNotBad (Err error) →
+    PhraseAnswered code collection phrase w0 w2 r0 r3 (Err error)
+walked_cut base code collection phrase q w0 w1 w2 waiting total number places m n r0 r1 r2 r3 error j w goes pages text post doc_text is grew sound =
+    let split : satisfying collection q ≡ (w.so_far ++ plain number ∷ []) ++ left_of collection n =
+    w.split ∙ ap (λ l. w.so_far ++ l) (goes_some (left_of collection m) (left_of collection n) number (left_plain collection m) goes) ∙ sym (append_assoc w.so_far (plain number ∷ []) (left_of collection n)) in
+    let rows : rows_of (found_among collection phrase (w.so_far ++ plain number ∷ [])) ≡ rows_of (found_among collection phrase w.so_far) ++ rows_of (found_at number places) =
+    ap rows_of (among-push collection phrase w.so_far number places is) ∙ rows-append (found_among collection phrase w.so_far) (found_at number places) in
+    let part : GrewByPrefix w0 w2 (rows_of (found_among collection phrase w.so_far) ++ rows_of (found_at number places)) = pass_cut w0 w1 w2 [] waiting (rows_of (found_among collection phrase w.so_far)) (rows_of (found_at number places)) w.passed grew in
+    record {
+      put = front_grew code collection phrase q w0 w2 (w.so_far ++ plain number ∷ []) (left_of collection n) j split (subst (GrewByPrefix w0 w2) (sym rows) part);
+      sound = sound;
+      post = omega (arith, w.post, pages.post, pages.within, j.bound_is, post);
+      text = pages_too base code collection phrase q w0 w1 waiting total number m n r0 r1 r3 j w goes (omega (arith, doc_text, text));
+    }
+
+-- all were searched
+ended : (base : List ℕ) (code : TextCode) (collection : List ℕ) (phrase : List (List ℕ)) (q : Query) (w0 w1 : Option (List ℕ)) (waiting : List ℕ) (total : ℕ) (m n : Matching) (r0 r1 : Reads) → Joined code collection phrase q → (w : PhraseWalked base code collection phrase q w0 w1 waiting total m r0 r1) → GoesOn (left_of collection m) (left_of collection n) None →
+    found_text (with_places phrase 1 (documents collection)) ≡ rows_of (found_among collection phrase w.so_far) ++ count total
+ended base code collection phrase q w0 w1 waiting total m n r0 r1 j w goes =
+    let all : satisfying collection q ≡ w.so_far = w.split ∙ ap (λ l. w.so_far ++ l) (goes_none (left_of collection m) (left_of collection n) goes) ∙ append-nil w.so_far in
+    ap found_text (j.found_is ∙ ap (found_among collection phrase) all) ∙ text-is (found_among collection phrase w.so_far) ∙ ap (λ k. rows_of (found_among collection phrase w.so_far) ++ count k) w.total_is
+
+-- the count was passed on, and what waited was put or refused
+pub walked_end : (base : List ℕ) (code : TextCode) (collection : List ℕ) (phrase : List (List ℕ)) (q : Query) (w0 w1 w2 w3 : Option (List ℕ)) (waiting waiting2 : List ℕ) (total : ℕ) (m n : Matching) (r0 r1 r2 : Reads) (result : Result (Unit {0}) ShowErr) →
+    Joined code collection phrase q → PhraseWalked base code collection phrase q w0 w1 waiting total m r0 r1 → GoesOn (left_of collection m) (left_of collection n) None → PagesWithin (boolean_bound collection q) (pages_read m.places) (pages_read n.places) r1 r2 → r2 part.Text ≡ r1 part.Text →
+    Passed w1 w2 waiting waiting2 (count total) → AfterPut w2 w3 waiting2 result → ShowIsNotBad result →
+    PhraseAnswered code collection phrase w0 w3 r0 r2 result
+walked_end base code collection phrase q w0 w1 w2 w3 waiting waiting2 total m n r0 r1 r2 result j w goes pages text counted put sound =
+    let rows = rows_of (found_among collection phrase w.so_far) in
+    let whole : Passed w0 w2 [] waiting2 (rows ++ count total) = pass_both w0 w1 w2 [] waiting waiting2 rows (count total) w.passed counted in
+    record {
+      put = subst (λ x. AfterPut w0 w3 x result) (sym (ended base code collection phrase q w0 w1 waiting total m n r0 r1 j w goes)) (pass_put w0 w2 w3 [] waiting2 (rows ++ count total) result refl whole put);
+      sound = sound;
+      post = omega (arith, w.post, pages.post, pages.within, j.bound_is);
+      text = omega (arith, pages_so_far base code collection phrase q w0 w1 waiting total m r0 r1 j w, text);
+    }
+
+-- the count was refused
+pub walked_uncounted : (base : List ℕ) (code : TextCode) (collection : List ℕ) (phrase : List (List ℕ)) (q : Query) (w0 w1 w2 : Option (List ℕ)) (waiting : List ℕ) (total : ℕ) (m n : Matching) (r0 r1 r2 : Reads) (error : ShowErr) →
+    Joined code collection phrase q → PhraseWalked base code collection phrase q w0 w1 waiting total m r0 r1 → GoesOn (left_of collection m) (left_of collection n) None → PagesWithin (boolean_bound collection q) (pages_read m.places) (pages_read n.places) r1 r2 → r2 part.Text ≡ r1 part.Text →
+    GrewByPrefix w1 w2 (waiting ++ count total) → ShowIsNotBad (Err error) →
+    PhraseAnswered code collection phrase w0 w2 r0 r2 (Err error)
+walked_uncounted base code collection phrase q w0 w1 w2 waiting total m n r0 r1 r2 error j w goes pages text grew sound = record {
+  put = subst (GrewByPrefix w0 w2) (sym (ended base code collection phrase q w0 w1 waiting total m n r0 r1 j w goes)) (pass_cut w0 w1 w2 [] waiting (rows_of (found_among collection phrase w.so_far)) (count total) w.passed grew);
+  sound = sound;
+  post = omega (arith, w.post, pages.post, pages.within, j.bound_is);
+  text = omega (arith, pages_so_far base code collection phrase q w0 w1 waiting total m r0 r1 j w, text);
+}
+
+-- ---- a row
+
+one-row : (number places : ℕ) → (places ≡ 0 → ⊥) → rows_of (found_at number places) ≡ row number (Some places)
+unfolding rows_of
+one-row number places some =
+    let found_one = ap (λ (b : Bool). flat_map (λ (f : Found). row f.number (Some f.places)) (found_if b number places)) (lt-ltb 0 places (omega (arith, some))) in
+    found_one ∙ append-nil (row number (Some places))
+
+pub row_found : {T E : Type 0} (w0 w1 : Option (List ℕ)) (p0 p1 : List ℕ) (number places : ℕ) (r : Result T E) → (places ≡ 0 → ⊥) → AfterPass w0 w1 p0 p1 (row number (Some places)) r → AfterPass w0 w1 p0 p1 (rows_of (found_at number places)) r
+row_found w0 w1 p0 p1 number places r some passed = subst (λ t. AfterPass w0 w1 p0 p1 t r) (sym (one-row number places some)) passed

@@ -1,0 +1,27 @@
+use Rattle.std.proofs.Common.{◌≡◌, ◌≤◌, ◌-◌, ℕ, List}
+use Rattle.mg_defs.specs.QueryTerms.{query_terms}
+use Rattle.mg_bool.specs.Matches.{MatchesFit}
+use Rattle.mg_bool.specs.Places.{AreInfos}
+use Rattle.mg_query.specs.QueryOf.{query_of}
+use Rattle.mg_text.specs.Reading.{SameText, TextFits}
+use Rattle.mg_session.specs.PhraseAnswers.{PhraseWalked}
+use Rattle.mg_session.specs.PhraseSearching.{OnlyReads, PhraseSources}
+use Rattle.mg_session.proofs.candidates.answer_phrase.Given as goal
+
+abbrev pub invariant-matches : goal.invariant-matches
+invariant-matches g l = record {
+  fits : TextFits l.text (g.S.Store.files l.store);
+  same : SameText l.fn.text l.text;
+  on : MatchesFit l.fn.base (g.S.Store.files l.store) l.matches;
+  asks : l.matches.asks ≡ l.fn.query;
+  all : l.matches.all ≡ l.fn.all;
+  few : l.total ≤ l.matches.decided;
+  within : l.matches.decided ≤ l.matches.all;
+  step : OnlyReads (g.S.Store.files l.fn.store) (g.S.Store.files l.store) (g.S.Store.reads l.fn.store) (g.S.Store.reads l.store) (g.S.Store.faults l.fn.store) (g.S.Store.faults l.store);
+  output : g.O.Sink.faults l.fn.out ≤ g.O.Sink.faults l.out;
+  walked : (collection : List ℕ) → PhraseSources l.fn.base (g.S.Store.files l.fn.store) l.fn.text l.fn.all collection → AreInfos collection (query_terms (query_of l.fn.query)) l.fn.infos →
+      PhraseWalked l.fn.base l.fn.text.code collection l.fn.phrase (query_of l.fn.query) (g.O.Sink.written l.fn.out) (g.O.Sink.written l.out) l.pending l.total l.matches (g.S.Store.reads l.fn.store) (g.S.Store.reads l.store);
+}
+
+abbrev pub decreases-matches : goal.decreases-matches
+decreases-matches g l = l.matches.all - l.matches.decided

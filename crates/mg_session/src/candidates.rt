@@ -1,0 +1,104 @@
+//! The documents that have a phrase, sought among those that have all its words.
+ghost use Rattle.std.specs.Prelude.{◌≡◌, ◌≤◌, ℕ, List, Some, length};
+ghost use Rattle.mg_dev.specs.Causes.{HasPutCause};
+ghost use Rattle.mg_defs.specs.QueryTerms.{query_terms};
+ghost use Rattle.mg_bool.specs.Places.{AreInfos};
+ghost use Rattle.mg_query.specs.AllOf.{IsAllOf};
+ghost use Rattle.mg_query.specs.QueryOf.{query_of};
+ghost use Rattle.mg_reply.specs.Pending.{AfterPass};
+ghost use Rattle.mg_text.specs.Reading.{SameText, TextFits};
+ghost use Rattle.mg_session.specs.Answering.{HasShowCause};
+ghost use Rattle.mg_session.specs.PhraseAnswers.{PhraseAnswered, found_at, rows_of};
+ghost use Rattle.mg_session.specs.PhraseSearching.{OnlyReads, PhraseSources};
+
+use crate::held::HeldDocument;
+use mg_bool::Matches;
+use mg_dev::{PartErr, PutErr, ShowErr, Sink, Store};
+use mg_layout::TermInfo;
+use mg_phrase::phrase_places;
+use mg_query::{Query, Terms};
+use mg_reply::Pending;
+use mg_text::TextReader;
+use std::alloc::Global;
+
+/// Passes on the row of a document in which a phrase has so many places, if it has any.
+#[tactic(auto, unfolding(crate::specs::PhraseAnswers::rows_of))]
+fn pass_places<O: Sink>(
+    pending: &mut Pending,
+    out: &mut O,
+    number: u32,
+    places: u64,
+) -> Result<(), PutErr>
+    ensures content { AfterPass (O.written out.old) (O.written out.new) pending.old pending.new (rows_of (found_at number places)) result }
+    ensures cause { HasPutCause (O.faults out.old) (O.faults out.new) result }
+{
+    if places == 0 {
+        return Ok(());
+    }
+    pending.row(out, number, Some(places))
+}
+
+/// Shows the documents that have a phrase, rising, each with how often, and how many they are. Only
+/// those that have all its words are decoded, one after the other into `held`.
+///
+/// `query` joins the phrase's words by `&`, and `infos` is what the lexicon tells of them; `all` is the
+/// number of documents.
+pub(crate) fn answer_phrase<S: Store, O: Sink>(
+    alloc: Global,
+    store: &mut S,
+    base: &str,
+    text: &mut TextReader<'_, S>,
+    held: &mut HeldDocument,
+    phrase: &Terms,
+    query: &Query,
+    infos: &[Option<TermInfo>],
+    all: u32,
+    out: &mut O,
+) -> Result<(), ShowErr>
+    requires size { length infos.now ≡ length (query_terms (query_of query.now)) }
+    requires few { length phrase.now ≤ 64 }
+    requires joined { IsAllOf phrase.now (Some query.now) }
+    requires fits { TextFits text.old (S.files store.old) }
+    requires all { text.old.documents ≡ all }
+    ensures fits { TextFits text.new (S.files store.new) }
+    ensures same { SameText text.old text.new }
+    ensures answer { (collection : List ℕ) → PhraseSources base.now (S.files store.old) text.old all collection →
+        AreInfos collection (query_terms (query_of query.now)) infos.now →
+        PhraseAnswered text.old.code collection phrase.now (O.written out.old) (O.written out.new) (S.reads store.old) (S.reads store.new) result }
+    ensures step { OnlyReads (S.files store.old) (S.files store.new) (S.reads store.old) (S.reads store.new) (S.faults store.old) (S.faults store.new) }
+    ensures cause { HasShowCause result (S.faults store.old) (S.faults store.new) (O.faults out.old) (O.faults out.new) }
+{
+    let mut matches = match Matches::start(alloc, base, query, infos, all) {
+        Ok(matches) => matches,
+        Err(_) => return Err(ShowErr::Part(PartErr::Memory)),
+    };
+    let mut pending = Pending::new();
+    let mut total = 0u32;
+    'matches: loop {
+        let number = match matches.next(store) {
+            Ok(Some(number)) => number,
+            Ok(None) => break,
+            Err(refusal) => return Err(ShowErr::from(refusal)),
+        };
+        match held.hold(text, store, number) {
+            Ok(()) => {}
+            Err(refusal) => return Err(refusal),
+        }
+        let places = phrase_places(phrase, held.bytes());
+        match pass_places(&mut pending, out, number, places) {
+            Ok(()) => {}
+            Err(refusal) => return Err(ShowErr::from(refusal)),
+        }
+        if places > 0 {
+            total += 1;
+        }
+    }
+    match pending.count(out, total) {
+        Ok(()) => {}
+        Err(refusal) => return Err(ShowErr::from(refusal)),
+    }
+    match pending.flush(out) {
+        Ok(()) => Ok(()),
+        Err(refusal) => Err(ShowErr::from(refusal)),
+    }
+}

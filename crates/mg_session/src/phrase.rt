@@ -1,0 +1,151 @@
+//! A session of phrases over built files, from their head to the last reply.
+ghost use Rattle.std.specs.Prelude.{◌≡◌, ℕ, ◌≤◌, ◌^◌, List, [], Err, Some, false, OnOk, IfErr, IsSome, length};
+ghost use Rattle.std.specs.Option.{ForSome};
+ghost use Rattle.mg_dev.specs.Causes.{Rose};
+ghost use Rattle.mg_dev.specs.Files.{bytes_at};
+ghost use Rattle.mg_dev.specs.Names.{full_name};
+ghost use Rattle.mg_dev.specs.Streams.{appended, GrewByPrefix};
+ghost use Rattle.mg_dev.specs.declared.part.Part.{Part};
+ghost use Rattle.mg_dev.specs.declared.part.Part.TheVariants as part;
+ghost use Rattle.mg_dev.specs.declared.fault.Fault.TheVariants.{NotBuilt};
+ghost use Rattle.mg_defs.specs.CodedText.{TextCode};
+ghost use Rattle.mg_defs.specs.Limit.{is_too_much, input_limit};
+ghost use Rattle.mg_defs.specs.PhraseSession.{phrase_session};
+ghost use Rattle.mg_layout.specs.Stands.{Stands, StandsBy};
+ghost use Rattle.mg_layout.specs.declared.head.Head.{Head};
+ghost use Rattle.mg_reply.specs.Served.{LeftEnough};
+ghost use Rattle.mg_session.specs.Parts.{NeverRead};
+ghost use Rattle.mg_session.specs.PhraseAnswers.{ReadsPhrases};
+ghost use Rattle.mg_session.specs.PhraseSearching.{PartsFit, PartsOver};
+ghost use Rattle.mg_session.specs.Serves.{IsDone, RefusedFor, Stops, StopsFor};
+
+use crate::phrase_searcher::PhraseSearcher;
+use crate::session::fault_of;
+use mg_dev::{Fault, Sink, Source, Store};
+use mg_layout::Head;
+use mg_lex::Lex;
+use mg_reply::{Hearing, serve_lines};
+use mg_text::TextReader;
+use std::alloc::Global;
+
+/// Prints the session of phrases that the input asks of the parts that a searcher reads.
+fn serve_searcher<S: Store, I: Source, O: Sink>(
+    searcher: &mut PhraseSearcher<'_, S>,
+    store: &mut S,
+    input: &mut I,
+    out: &mut O,
+) -> Result<(), Fault>
+    requires fits { PartsFit (S.files store.old) searcher.old }
+    ensures files { S.files store.new ≡ S.files store.old }
+    ensures all { (collection : List ℕ) → PartsOver (S.files store.old) searcher.old collection →
+        ForSome (I.left input.old) (λ given. OnOk result (O.written out.new ≡ appended (O.written out.old) (phrase_session collection given))) }
+    ensures prefix { (collection : List ℕ) → PartsOver (S.files store.old) searcher.old collection →
+        ForSome (I.left input.old) (λ given. GrewByPrefix (O.written out.old) (O.written out.new) (phrase_session collection given)) }
+    ensures pages { (collection : List ℕ) → PartsOver (S.files store.old) searcher.old collection →
+        ForSome (I.left input.old) (λ given. ReadsPhrases searcher.old.text.code collection given (S.reads store.old) (S.reads store.new)) }
+    ensures unread { (p : Part) → NeverRead p → S.reads store.new p ≡ S.reads store.old p }
+    ensures left { ForSome (I.left input.old) (λ given. OnOk result (LeftEnough given (I.left input.new))) }
+    ensures within { ForSome (I.left input.old) (λ given. OnOk result (is_too_much input_limit given ≡ false)) }
+    ensures cause { IfErr result (Stops
+        (Rose (S.faults store.old) (S.faults store.new)) (Rose (I.faults input.old) (I.faults input.new)) (Rose (O.faults out.old) (O.faults out.new))
+        ⊥ ((collection : List ℕ) → PartsOver (S.files store.old) searcher.old collection → ⊥) (I.left input.old)) }
+    ensures later { S.faults store.old ≤ S.faults store.new }
+{
+    match serve_lines(Hearing::Questions, searcher, store, input, out) {
+        Ok(()) => Ok(()),
+        Err(error) => Err(fault_of(error)),
+    }
+}
+
+/// Prints the session of phrases that the input asks of the parts of a set with this head.
+fn serve_set<S: Store, I: Source, O: Sink>(
+    alloc: Global,
+    store: &mut S,
+    base: &str,
+    head: &Head,
+    input: &mut I,
+    out: &mut O,
+) -> Result<(), Fault>
+    requires words { head.now.words ≤ 2 ^ 22 }
+    requires others { head.now.others ≤ 2 ^ 22 }
+    ensures files { S.files store.new ≡ S.files store.old }
+    ensures all { (code : TextCode) (collection : List ℕ) → StandsBy head.now code (S.files store.old) base.now collection →
+        ForSome (I.left input.old) (λ given. OnOk result (O.written out.new ≡ appended (O.written out.old) (phrase_session collection given))) }
+    ensures prefix { (code : TextCode) (collection : List ℕ) → StandsBy head.now code (S.files store.old) base.now collection →
+        ForSome (I.left input.old) (λ given. GrewByPrefix (O.written out.old) (O.written out.new) (phrase_session collection given)) }
+    ensures pages { (code : TextCode) (collection : List ℕ) → StandsBy head.now code (S.files store.old) base.now collection →
+        ForSome (I.left input.old) (λ given. ReadsPhrases code collection given (S.reads store.old) (S.reads store.new)) }
+    ensures unread { (p : Part) → NeverRead p → S.reads store.new p ≡ S.reads store.old p }
+    ensures left { ForSome (I.left input.old) (λ given. OnOk result (LeftEnough given (I.left input.new))) }
+    ensures within { ForSome (I.left input.old) (λ given. OnOk result (is_too_much input_limit given ≡ false)) }
+    ensures cause { IfErr result (Stops
+        (Rose (S.faults store.old) (S.faults store.new)) (Rose (I.faults input.old) (I.faults input.new)) (Rose (O.faults out.old) (O.faults out.new))
+        ⊥ ((code : TextCode) (collection : List ℕ) → StandsBy head.now code (S.files store.old) base.now collection → ⊥) (I.left input.old)) }
+    ensures later { S.faults store.old ≤ S.faults store.new }
+{
+    let lex = match Lex::load(alloc, store, base, head) {
+        Ok(lex) => lex,
+        Err(refusal) => return Err(Fault::from(refusal)),
+    };
+    let text = match TextReader::load(alloc, store, base, head) {
+        Ok(text) => text,
+        Err(refusal) => return Err(Fault::from(refusal)),
+    };
+    let mut searcher = PhraseSearcher::new(alloc, base, lex, text, head.documents);
+    serve_searcher(&mut searcher, store, input, out)
+}
+
+/// Prints the session that the input asks of the files under a base, each line a phrase.
+///
+/// The head, the lexicon's places and the models are loaded before the first line; nothing is printed
+/// where one of them is refused. A document is decoded only where it has all words of the phrase, and
+/// one document is held at a time. Where the files stand for a collection, the output is the session
+/// over its documents, and where the session stops early, a prefix of it.
+///
+/// # Errors
+///
+/// `NotBuilt` where the head is missing or empty, `Damaged` where the files stand for no collection,
+/// `InputTooLong` where the input has more than 2^32 bytes and no line `.quit` within them,
+/// `StoreFault`, `ReadFault` and `WriteFault` where a device failed, and `Memory`. The replies up to
+/// there are printed.
+pub fn serve_phrase<S: Store, I: Source, O: Sink>(
+    alloc: Global,
+    store: &mut S,
+    base: &str,
+    input: &mut I,
+    out: &mut O,
+) -> Result<(), Fault>
+    // Where the files stand for a collection: the whole session is printed, or a prefix of it.
+    ensures all { (collection : List ℕ) → Stands (S.files store.old) base.now collection →
+        ForSome (I.left input.old) (λ given. OnOk result (O.written out.new ≡ appended (O.written out.old) (phrase_session collection given))) }
+    ensures prefix { (collection : List ℕ) → Stands (S.files store.old) base.now collection →
+        ForSome (I.left input.old) (λ given. GrewByPrefix (O.written out.old) (O.written out.new) (phrase_session collection given)) }
+    // The input is read to its end, or to a line that ends the session.
+    ensures left { ForSome (I.left input.old) (λ given. OnOk result (LeftEnough given (I.left input.new))) }
+    ensures within { ForSome (I.left input.old) (λ given. OnOk result (is_too_much input_limit given ≡ false)) }
+    // What is read of the lists and of the text is bounded by the phrases; some parts are never read.
+    ensures pages { (head : Head) (code : TextCode) (collection : List ℕ) → StandsBy head code (S.files store.old) base.now collection →
+        ForSome (I.left input.old) (λ given. ReadsPhrases code collection given (S.reads store.old) (S.reads store.new)) }
+    ensures unread { (p : Part) → NeverRead p → S.reads store.new p ≡ S.reads store.old p }
+    ensures files { S.files store.new ≡ S.files store.old }
+    // The cause of each refusal.
+    ensures cause { IfErr result (StopsFor
+        (Rose (S.faults store.old) (S.faults store.new)) (Rose (I.faults input.old) (I.faults input.new)) (Rose (O.faults out.old) (O.faults out.new))
+        (S.files store.old) base.now (I.left input.old)) }
+    ensures silent { result ≡ Err NotBuilt → O.written out.new ≡ O.written out.old }
+    ensures not_built { IsSome (S.files store.old) → bytes_at (S.files store.old) (full_name base.now part.Head) ≡ [] → RefusedFor result NotBuilt }
+    ensures complete { (collection given : List ℕ) → Stands (S.files store.old) base.now collection → I.left input.old ≡ Some given →
+        length given ≤ input_limit → ¬ Rose (S.faults store.old) (S.faults store.new) →
+        ¬ Rose (I.faults input.old) (I.faults input.new) → ¬ Rose (O.faults out.old) (O.faults out.new) → IsDone result }
+    ensures later { S.faults store.old ≤ S.faults store.new }
+{
+    let loaded = match Head::load(store, base) {
+        Ok(loaded) => loaded,
+        Err(refusal) => return Err(Fault::from(refusal)),
+    };
+    let head = match loaded {
+        Some(head) => head,
+        None => return Err(Fault::NotBuilt),
+    };
+    serve_set(alloc, store, base, &head, input, out)
+}

@@ -1,0 +1,154 @@
+//! An answerer of phrases over the open parts of a set.
+ghost use Rattle.std.specs.Prelude.{◌≡◌, ◌≤◌, ℕ, List, [], ◌∷◌, IfErr, IsErrOf, length};
+ghost use Rattle.mg_dev.specs.Causes.{Rose};
+ghost use Rattle.mg_dev.specs.Streams.{AfterPut};
+ghost use Rattle.mg_dev.specs.declared.show_err.ShowErr.TheVariants.{Write};
+ghost use Rattle.mg_reply.specs.Served.{PartStops};
+ghost use Rattle.mg_session.specs.Answering.{HasShowCause};
+ghost use Rattle.mg_session.specs.PhraseAnswers.{PhraseReplied};
+ghost use Rattle.mg_session.specs.PhraseSearching.{OnlyReads, PartsFit, PartsOver, PhraseMayStop, PhraseState, PhrasesAsked, PhrasesBy, PhrasesFit, SamePhraseParts, phrase_state};
+ghost use Rattle.mg_session.specs.PhraseSearchLaws.{phrases_later, phrases_more, phrases_none, phrases_stop};
+
+use crate::candidates::answer_phrase;
+use crate::find::find_terms;
+use crate::held::HeldDocument;
+use mg_defs::Settings;
+use mg_dev::{PartErr, ShowErr, Sink, Store};
+use mg_lex::Lex;
+use mg_phrase::parse_phrase;
+use mg_query::Query;
+use mg_reply::{Answerer, put_count, put_refused};
+use mg_text::TextReader;
+use std::alloc::Global;
+use std::marker::Model;
+
+/// Answers the lines of a session of phrases from the parts of a base.
+///
+/// One document is held at a time. Contracts see the parts that are open.
+#[derive(Drop)]
+pub(crate) struct PhraseSearcher<'a, S: Store> {
+    alloc: Global,
+    base: &'a str,
+    lex: Lex<'a, S>,
+    text: TextReader<'a, S>,
+    all: u32,
+    held: HeldDocument,
+}
+
+impl<'a, S: Store> Model for PhraseSearcher<'a, S> {
+    ghost use Rattle.mg_session.specs.PhraseSearching.{PhraseParts};
+
+    ghost Value = { PhraseParts };
+
+    ghost view = { λ s. record { base = s.base.now; lex = s.lex; text = s.text; all = s.all } };
+}
+
+impl<'a, S: Store> PhraseSearcher<'a, S> {
+    /// Over these parts of a base, and so many documents.
+    pub(crate) fn new(
+        alloc: Global,
+        base: &'a str,
+        lex: Lex<'a, S>,
+        text: TextReader<'a, S>,
+        all: u32,
+    ) -> Self
+        ensures { result ≡ record { base = base.entry.now; lex = lex.entry; text = text.entry; all = all } }
+    {
+        PhraseSearcher {
+            alloc,
+            base,
+            lex,
+            text,
+            all,
+            held: HeldDocument::new(alloc),
+        }
+    }
+
+    /// Writes the reply to a phrase.
+    fn answer_question<O: Sink>(
+        &mut self,
+        store: &mut S,
+        line: &[u8],
+        out: &mut O,
+    ) -> Result<(), ShowErr>
+        requires short { length line.now ≤ 1024 }
+        requires fits { PartsFit (S.files store.old) self.old }
+        ensures fits { PartsFit (S.files store.new) self.new }
+        ensures same { SamePhraseParts self.old self.new }
+        ensures replied { (collection : List ℕ) → PartsOver (S.files store.old) self.old collection →
+            PhraseReplied self.old.text.code collection line.now
+            (O.written out.old) (O.written out.new) (S.reads store.old) (S.reads store.new) result }
+        ensures step { OnlyReads (S.files store.old) (S.files store.new) (S.reads store.old) (S.reads store.new) (S.faults store.old) (S.faults store.new) }
+        ensures cause { HasShowCause result (S.faults store.old) (S.faults store.new) (O.faults out.old) (O.faults out.new) }
+    {
+        let phrase = match parse_phrase(self.alloc, line) {
+            Ok(phrase) => phrase,
+            Err(why) => match put_refused(out, why) {
+                Ok(()) => return Ok(()),
+                Err(refusal) => return Err(ShowErr::from(refusal)),
+            },
+        };
+        let joined = match Query::all_of(self.alloc, &phrase) {
+            Ok(joined) => joined,
+            Err(_) => return Err(ShowErr::Part(PartErr::Memory)),
+        };
+        let query = match joined {
+            Some(query) => query,
+            // No document has a phrase without words.
+            None => match put_count(out, 0) {
+                Ok(()) => return Ok(()),
+                Err(refusal) => return Err(ShowErr::from(refusal)),
+            },
+        };
+        let infos = match find_terms(self.alloc, store, &mut self.lex, phrase.as_slice()) {
+            Ok(infos) => infos,
+            Err(refusal) => return Err(ShowErr::from(refusal)),
+        };
+        answer_phrase(
+            self.alloc,
+            store,
+            self.base,
+            &mut self.text,
+            &mut self.held,
+            &phrase,
+            &query,
+            &infos,
+            self.all,
+            out,
+        )
+    }
+}
+
+impl<'a, S: Store> Answerer for PhraseSearcher<'a, S> {
+    type Dev = S;
+
+    ghost State = { PhraseState };
+
+    ghost state = { λ s d. phrase_state (S.files d) (S.reads d) (S.faults d) s };
+
+    ghost fits = { λ s. PhrasesFit s };
+
+    ghost answers = { λ s by. PhrasesBy s by };
+
+    ghost after = { λ s t questions. PhrasesAsked s t questions };
+
+    ghost may_stop = { λ s t error. PhraseMayStop s t error };
+
+    fn answer_line<O: Sink>(
+        &mut self,
+        dev: &mut S,
+        line: &[u8],
+        _now: &Settings,
+        out: &mut O,
+    ) -> Result<(), ShowErr> {
+        self.answer_question(dev, line, out)
+    }
+
+    ghost after_none = { λ s. phrases_none s };
+
+    ghost after_more = { λ s t u xs ys first more. phrases_more s t u xs ys first more };
+
+    ghost same_reply = { λ s t xs by after answers. phrases_later s t xs by after answers };
+
+    ghost stops_later = { λ s t u xs error after stops. phrases_stop s t u xs error after stops };
+}
