@@ -26,7 +26,8 @@ pub(crate) fn total_size<S: Store>(
 ) -> Result<u64, PartErr>
     ensures answer { IsSome (S.files store.old) → AnswersTotal (bytes_at (S.files store.old) (full_name file.entry.base.now file.entry.part)) count result }
     ensures most { IfOk result (λ size. size ≤ 255 * count) }
-    ensures looked { Looked file.entry.part (S.files store.old) (S.files store.new) (S.reads store.old) (S.reads store.new) (S.faults store.old) (S.faults store.new) }
+    ensures looked { Looked file.entry.part (S.files store.old) (S.files store.new)
+        (S.reads store.old) (S.reads store.new) (S.faults store.old) (S.faults store.new) }
     ensures cause { HasPartCause (S.faults store.old) (S.faults store.new) result }
 {
     let mut walk = match FrontWalk::load(alloc, store, file, FIELD, count) {
@@ -51,9 +52,12 @@ pub(crate) fn read_terms<S: Store>(
     size: u32,
 ) -> Result<TermBlock, PartErr>
     requires { size + count ≤ most_rotations }
-    ensures answer { (es : List Entry) → IsSome (S.files store.old) → AreEntriesOf (bytes_at (S.files store.old) (full_name file.entry.base.now file.entry.part)) count es → total (strings_of es) ≡ size → AnswersTerms (λ terms. terms) es result }
+    ensures answer { (es : List Entry) → IsSome (S.files store.old) →
+        AreEntriesOf (bytes_at (S.files store.old) (full_name file.entry.base.now file.entry.part)) count es →
+        total (strings_of es) ≡ size → AnswersTerms (λ terms. terms) es result }
     ensures numbered { IfOk result (λ terms. AreNumbered 0 terms.infos) }
-    ensures looked { Looked file.entry.part (S.files store.old) (S.files store.new) (S.reads store.old) (S.reads store.new) (S.faults store.old) (S.faults store.new) }
+    ensures looked { Looked file.entry.part (S.files store.old) (S.files store.new)
+        (S.reads store.old) (S.reads store.new) (S.faults store.old) (S.faults store.new) }
     ensures cause { HasPartCause (S.faults store.old) (S.faults store.new) result }
 {
     let mut terms = TermBlock::with_room(alloc, count, size)?;
