@@ -75,7 +75,7 @@ fn budget_arg(alloc: Global) -> Arg<'static>
         .long("budget")
         .action(ArgAction::Set)
         .value_parser(ValueParser::unsigned(4096, 1_073_741_824))
-        .action(ArgAction::Append).default_value("16777216")
+        .default_value("16777216")
 }
 
 /// The command of `TOOL NAME`.
