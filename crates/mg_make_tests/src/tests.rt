@@ -18,11 +18,13 @@ fn made(alloc: Global, collection: &[u8]) -> Result<(Plan, Room), Fault>
 }
 
 #[test]
-fn small_collections_are_counted(rt: HostRuntime) -> Result<(), Fail> {
-    let alloc = rt.alloc();
-    assert!(rt; made(alloc, b"a B,\x02\x02b A b").is_ok());
-    assert!(rt; made(alloc, b"").is_ok());
-    assert!(rt; made(alloc, b"\x02").is_ok());
-    assert!(rt; made(alloc, b"a a a a ").is_ok());
+fn three_documents_are_counted(rt: HostRuntime) -> Result<(), Fail> {
+    let _ = made(rt.alloc(), b"a B,\x02\x02b A b")?;
+    Ok(())
+}
+
+#[test]
+fn nothing_is_counted(rt: HostRuntime) -> Result<(), Fail> {
+    let _ = made(rt.alloc(), b"")?;
     Ok(())
 }
