@@ -240,8 +240,25 @@ impl<'a> SecondPass<'a> {
         if ends { self.end(store) } else { Ok(()) }
     }
 
-    /// Writes what is met with one byte.
+    /// Writes what is met with one byte, which mostly is nothing.
+    #[inline]
     pub(crate) fn take<S: Store>(&mut self, store: &mut S, met: &Met) -> Result<(), Fault>
+        requires next { IsNext self.old (S.files store.old) (marks_of met.now) }
+        ensures written { OnOk result (WroteMarks self.old self.new (S.files store.old) (S.files store.new) (marks_of met.now)) }
+        ensures same { SamePass self.old self.new }
+        ensures wrote { WroteSecond self.old.base (S.files store.old) (S.files store.new) }
+        ensures reads { SameReads (S.reads store.old) (S.reads store.new) }
+        ensures faults { S.faults store.old ≤ S.faults store.new }
+        ensures refused { HasStopCause self.old (S.files store.old) (marks_of met.now) (Rose (S.faults store.old) (S.faults store.new)) result }
+    {
+        if met.is_nothing() {
+            return Ok(());
+        }
+        self.take_marks(store, met)
+    }
+
+    // Writes each of the four that is met.
+    fn take_marks<S: Store>(&mut self, store: &mut S, met: &Met) -> Result<(), Fault>
         requires next { IsNext self.old (S.files store.old) (marks_of met.now) }
         ensures written { OnOk result (WroteMarks self.old self.new (S.files store.old) (S.files store.new) (marks_of met.now)) }
         ensures same { SamePass self.old self.new }

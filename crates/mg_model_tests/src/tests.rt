@@ -1,7 +1,6 @@
-// What no clause says: the bytes of real parts, the damages by their numbers, that calls succeed, how
-// much is read, and what a failing store leaves.
+// What no clause says: the bytes of real parts, the damages by their numbers, that calls succeed, and
+// how much is read.
 mod damages;
-mod failures;
 mod fixtures;
 mod models;
 mod parts;

@@ -6,5 +6,3 @@
 
 #[cfg(test)]
 mod reader_tests;
-#[cfg(test)]
-mod writer_tests;

@@ -1,4 +1,5 @@
-// What no clause says: that real parts are read, how seldom, and what failing devices leave.
+// What no clause says: that real parts are read, and how seldom. The bytes of texts that are written,
+// damages and failing devices stand with the builds and the decoding.
 ghost use Rattle.std.specs.Prelude.{◌≡◌};
 
 use mg_dev::{MemSink, MemStore, Part, PartErr, ShowErr, Sink, Store};
@@ -246,101 +247,6 @@ fn pages_are_read_once(rt: HostRuntime) -> Result<(), Fail> {
         assert_eq!(rt; out.bytes().len(), 3 * 16382);
         assert_eq!(rt; store.reads_of(Part::Text), reads, "{numbers:?}");
         assert_eq!(rt; store.reads_of(Part::Places), 1);
-    }
-    Ok(())
-}
-
-// How many of the documents of a damaged set are refused as bad; None where another refusal came.
-fn bad_of(alloc: Global, name: &str, bytes: &[u8]) -> Result<Option<u32>, AllocError> {
-    let mut bad = 0u32;
-    for number in [1u32, 2, 3] {
-        let mut store = store_of(alloc, &K)?;
-        store.put_file(name, bytes)?;
-        let size = if name == "set.text" {
-            bytes.len()
-        } else {
-            K.text.len()
-        };
-        let mut out = MemSink::new(alloc);
-        match show(
-            alloc,
-            &mut store,
-            &head_of(&K, 3, size),
-            &[number],
-            &mut out,
-        ) {
-            Ok(()) => {}
-            Err(ShowErr::Part(PartErr::Bad(_))) => {
-                bad = bad.saturating_add(1);
-            }
-            Err(_) => return Ok(None),
-        }
-    }
-    Ok(Some(bad))
-}
-
-#[test]
-fn damaged_parts_end_each_document(rt: HostRuntime) -> Result<(), Fail> {
-    let alloc = rt.alloc();
-    let mut all = 0u32;
-    for (name, part) in [("set.text", K.text), ("set.places", K.places)] {
-        for at in 0..part.len() {
-            for change in [0u8, 1, 2, 16, 128, 255] {
-                let mut bytes = part.to_vec(alloc)?;
-                if change == 0 {
-                    bytes.truncate(at);
-                } else if at < bytes.len() {
-                    bytes[at] ^= change;
-                }
-                let bad = bad_of(alloc, name, &bytes)?;
-                assert!(rt; bad.is_some(), "{name} at {at}");
-                all = all.saturating_add(bad.unwrap_or(0));
-            }
-        }
-    }
-    assert!(rt; all > 100);
-    Ok(())
-}
-
-// A store with a document of 32,767 pairs: a code of 31 bits, and 65,534 zero-bits.
-fn long(alloc: Global) -> Result<MemStore, AllocError> {
-    let text = filled(alloc, b"\xff\xfe", 8194)?;
-    let mut store = store_of(alloc, &EIGHT)?;
-    store.put_file("set.text", &text)?;
-    store.put_file("set.places", b"\0\0\0\0\0\0\x20\x04")?;
-    Ok(store)
-}
-
-#[test]
-fn failing_calls_leave_a_prefix(rt: HostRuntime) -> Result<(), Fail> {
-    let alloc = rt.alloc();
-    let head = head_of(&EIGHT, 1, 8196);
-    let mut whole = Vec::new(alloc);
-    for _ in 0..32767u32 {
-        whole.extend_from_slice(b"a ")?;
-    }
-    for call in 0..6u64 {
-        let mut store = long(alloc)?;
-        let mut out = MemSink::new(alloc);
-        out.fail_at(call, 100)?;
-        let refused = show(alloc, &mut store, &head, &[1], &mut out).err();
-        let wanted = if call < 4 { Some(ShowErr::Write) } else { None };
-        assert_eq!(rt; refused, wanted, "a failure at put {call}");
-        assert!(rt; whole.starts_with(out.bytes()));
-    }
-    let mut store = long(alloc)?;
-    let mut out = MemSink::new(alloc);
-    show(alloc, &mut store, &head, &[1], &mut out)?;
-    assert_eq!(rt; out.bytes(), whole.as_slice());
-    let calls = store.calls();
-    for call in 0..calls.min(100) {
-        let mut store = long(alloc)?;
-        store.fail_at(call, 0)?;
-        let mut out = MemSink::new(alloc);
-        let refused = show(alloc, &mut store, &head, &[1], &mut out).err();
-        let device = ShowErr::Part(PartErr::Device);
-        assert_eq!(rt; refused, Some(device), "a failure at call {call}");
-        assert!(rt; whole.starts_with(out.bytes()));
     }
     Ok(())
 }

@@ -1,9 +1,9 @@
 -- A run that did what its tool is to do did what the words ask.
-use Rattle.std.proofs.Common.{◌≡◌, ℕ, List, Option, Some, sym, subst}
+use Rattle.std.proofs.Common.{◌≡◌, ℕ, List, Option, Some, None, refl, sym, subst}
 use Rattle.mg_dev.specs.declared.fault.Fault.{Fault}
 use Rattle.mg_dev.specs.declared.fault.Fault.TheVariants.{Usage}
 use Rattle.mg_dev.specs.declared.status.Status.{Status}
-use Rattle.mg_words.specs.Tasks.{Task, build, decode, migrate, merge, trial}
+use Rattle.mg_words.specs.Tasks.{Task, build, query, decode, scan, trial, migrate, check, wild, phrase, merge}
 use Rattle.mg_top.specs.Ends.{IfStopped, ToldWhy}
 use Rattle.mg_top.specs.Runs.{Run, Stops}
 use Rattle.mg_top.specs.Built.{Built}
@@ -11,7 +11,7 @@ use Rattle.mg_top.specs.Decoded.{Decoded}
 use Rattle.mg_top.specs.Merged.{Merged}
 use Rattle.mg_top.specs.Migrated.{Migrated}
 use Rattle.mg_top.specs.Tried.{Tried}
-use Rattle.mg_top.specs.Does.{Does, Ran}
+use Rattle.mg_top.specs.Does.{Does, Ran, built}
 
 no_usage : (run : Run) (P : Fault → Type 0) → IfStopped run.status P → (P Usage → ⊥) → Stops run Usage → ⊥
 no_usage run P holds never is = never (subst (λ (s : Status). IfStopped s P) is holds)
@@ -55,3 +55,17 @@ ran_merge task first second new run is merged told = record {
   does = subst (λ (t : Option Task). Does t run) (sym is) merged;
   told = told;
 }
+
+-- status 1 is no tool's
+pub only_wrong_words : (task : Option Task) (run : Run) → Does (built task) run → Stops run Usage → built task ≡ None
+only_wrong_words None run does is = refl
+only_wrong_words (Some (build c n b)) run does is = absurd (no_usage run _ does.cause (λ bad. bad) is)
+only_wrong_words (Some (query n)) run does is = absurd (no_usage run _ does.cause (λ bad. bad) is)
+only_wrong_words (Some (decode n)) run does is = absurd (no_usage run _ does.cause (λ bad. bad) is)
+only_wrong_words (Some (scan n)) run does is = absurd (no_usage run _ does.cause (λ bad. bad) is)
+only_wrong_words (Some (trial s d)) run does is = absurd (no_usage run _ does.cause (λ bad. bad) is)
+only_wrong_words (Some (migrate n m)) run does is = absurd (no_usage run _ does.cause (λ bad. bad) is)
+only_wrong_words (Some (check n)) run does is = refl
+only_wrong_words (Some (wild n)) run does is = refl
+only_wrong_words (Some (phrase n)) run does is = absurd (no_usage run _ does.cause (λ bad. bad) is)
+only_wrong_words (Some (merge a b c)) run does is = absurd (no_usage run _ does.cause (λ bad. bad) is)

@@ -196,7 +196,7 @@ module _ (run : Run) (stops : Stops run Memory) (store : run.store_now ≡ run.s
     input = input;
   }
 
-  nothing_done : (task : Option Task) → Does task run
+  pub nothing_done : (task : Option Task) → Does task run
   nothing_done None = not_understood
   nothing_done (Some (build c n b)) = made c n b
   nothing_done (Some (query n)) = queried n

@@ -4,13 +4,15 @@
 //! what its one clause says. That clause is a table: for what the words ask, a record a tool, over what
 //! the devices told and counted before the run and after it, and the status. It is generic over the
 //! store, the input and the outputs; tests run it over devices in memory, the program over files and
-//! standard streams. Built so far: `build`, `query`, `decode`, `scan`,
-//! `phrase`, `migrate`, `merge` and `trial`, of which [`trial`] is the work over any store.
+//! standard streams. Built so far: `build`, `query`, `decode`, `scan`, `phrase`, `migrate`, `merge` and
+//! `trial`, of which [`trial`] is the work over any store. Two laws speak of the whole table:
+//! [`usage_asks_nothing`] and [`lacking_runs_do_all`].
 #![tactic(auto)]
 
 mod building;
 mod comparing;
 mod decoding;
+mod laws;
 mod lines;
 mod merging;
 mod migrating;
@@ -23,5 +25,6 @@ mod trial_summary;
 mod trials;
 mod trying;
 
+pub use laws::{lacking_runs_do_all, usage_asks_nothing};
 pub use top::run;
 pub use trials::trial;

@@ -2,7 +2,7 @@ use Rattle.std.proofs.Common.{◌++◌, ◌∙◌}
 use Rattle.std.proofs.lemmas.Result.{err_from_is_err_and}
 use Rattle.mg_make.proofs.Frames.{wrote_both, wrote_for}
 use Rattle.mg_make.proofs.Taking.{begin_part, end_part, if_err, marks_both, next_first, next_then, on_ok, other_part, piece_part, stops_first, stops_then}
-use Rattle.mg_make.proofs.second.SecondPass.take.Goals as goal
+use Rattle.mg_make.proofs.second.SecondPass.take_marks.Goals as goal
 
 pub begin_if-requires : goal.begin_if-requires
 begin_if-requires g c =
