@@ -1,9 +1,9 @@
 """Random damages of sets on the disk: whatever bytes stand in a part, each tool ends soon, with a true status.
 
-Each damage is made to one part of a sound set; then `decode`, `query` and `migrate` are run over it.
-None may end by a signal, take longer than 20 seconds, or end with another status than 0, 5 or 6 and
-the line of that status; none may take 32 megabytes more than over the sound set. The seed is printed,
-and `--seed N` repeats a run.
+Each damage is made to one part of a sound set; then `decode`, `query`, `phrase`, `migrate` and `merge`
+are run over it. None may end by a signal, take longer than 20 seconds, or end with another status than
+0, 5 or 6 and the line of that status (a merge also with 8, by what a damaged head tells); none may take
+32 megabytes more than over the sound set. The seed is printed, and `--seed N` repeats a run.
 """
 
 import json
@@ -33,7 +33,9 @@ LINES = {
     5: rb"mg: nothing is built under this name\n",
     6: rb"mg: damaged: part [a-z]+ at [0-9]+: found [0-9]+, wanted [0-9]+ to [0-9]+\n",
 }
-TOOLS = [["decode", "set"], ["query", "set"], ["migrate", "set", "new"]]
+# A merge adds up what the heads of both sets tell.
+MERGE_LINES = LINES | {8: rb"mg: the collection has [0-9]+ bytes, more than 4294967295\n"}
+TOOLS = [["decode", "set"], ["query", "set"], ["phrase", "set"], ["migrate", "set", "new"], ["merge", "set", "set", "new"]]
 
 
 def kept_parts():
@@ -127,7 +129,8 @@ def random_damages(suite):
         for words, peak_before in zip(TOOLS, sound[chosen]):
             status, line, peak = measured.run(words)
             worst = max(worst, peak - peak_before)
-            fair = status in LINES and re.fullmatch(LINES[status], line) is not None
+            lines = MERGE_LINES if words[0] == "merge" else LINES
+            fair = status in lines and re.fullmatch(lines[status], line) is not None
             name = f"damage {number} of seed {suite.seed}: set {chosen}, {ending}: {what}: {words[0]}"
             suite.check(name, fair or (status, line), True)
             suite.check(f"{name}: memory", peak <= peak_before + MORE or peak, True)

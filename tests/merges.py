@@ -17,6 +17,9 @@ from texts import Collection
 A = b"a a a a "
 ROWS = b"documents 4\nwords 6\nothers 5\nterms 5\noccurrences 12\nruns 1\npool 144 of 16777212\n"
 SAME = (16, b"", b"mg: both names are the same\n")
+# Where a head has the bytes of its collection, in eight bytes, and the most that a collection may have.
+BYTES_AT = 32
+MOST = 2**32 - 1
 
 
 def joined(first, second):
@@ -64,6 +67,34 @@ def rows(suite):
         remove(suite, base)
 
 
+def told_size(suite, name, size):
+    """Has the head of a set tell so many bytes of its collection."""
+    file = suite.folder / f"{name}.head"
+    head = file.read_bytes()
+    file.write_bytes(head[:BYTES_AT] + size.to_bytes(8, "big") + head[BYTES_AT + 8 :])
+
+
+def too_large(suite):
+    """What the heads tell is added up, and refused before anything is written."""
+    put_set(suite, "b", K, 2)
+    large = (8, b"", b"mg: the collection has 4294967296 bytes, more than 4294967295\n")
+    for name, first, told, is_refused in [
+        ("as many bytes as there may be", K, MOST - len(K), False),
+        ("one byte more", K, MOST - len(K) + 1, True),
+        ("an open end, which is closed", A, MOST - len(K) - 1, False),
+        ("an open end, which is closed, and one byte more", A, MOST - len(K), True),
+    ]:
+        put_set(suite, "a", first, 2)
+        put_set(suite, "n", A, 2)
+        told_size(suite, "a", told)
+        got = suite.run(["merge", "a", "b", "n"])
+        suite.check(f"a merge of {name}", got == large, is_refused)
+        if is_refused:
+            suite.check(f"a merge of {name}: what was there is left", suite.run(["decode", "n"]), (0, A, b""))
+    for base in ("a", "b", "n"):
+        remove(suite, base)
+
+
 def kinds(suite):
     """Each kind of collection with the one before it, in both versions."""
     before = b""
@@ -74,4 +105,31 @@ def kinds(suite):
     merged(suite, "nothing behind an open end", A, b"")
 
 
-PARTS = [rows, kinds]
+def built(suite, name, collection):
+    suite.file("text", collection)
+    suite.check(f"a half is built as {name}", suite.run(["build", "text", name])[0], 0)
+
+
+def limits(suite):
+    """Halves that are within the limits, and together at them or one beyond; minutes, and gigabytes of files."""
+    half = 1 << 23
+    built(suite, "a", b"\x02" * half)
+    for count, status, line in [(half, 0, b""), (half + 1, 9, b"mg: more than 16777216 documents\n")]:
+        built(suite, "b", b"\x02" * count)
+        got = suite.run(["merge", "a", "b", "n"])
+        suite.check(f"{half} documents and {count}", (got[0], got[2]), (status, line))
+    for base in ("a", "b", "n"):
+        remove(suite, base)
+    half = 1 << 21
+    words = b"".join(b"%06x " % number for number in range(2 * half))
+    built(suite, "a", words[: 7 * half] + b"\x02")
+    for more, status, line in [(b"", 0, b""), (b"g", 10, b"mg: more than 4194304 distinct words\n")]:
+        built(suite, "b", words[7 * half :] + more)
+        got = suite.run(["merge", "a", "b", "n"])
+        suite.check(f"two million words and as many others, and {more}", (got[0], got[2]), (status, line))
+    for base in ("a", "b", "n"):
+        remove(suite, base)
+
+
+PARTS = [rows, too_large, kinds]
+SLOW = [limits]

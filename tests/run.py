@@ -25,6 +25,7 @@ import manual
 import merges
 import pages
 import phrases
+import shards
 from kinds import Draws, cases
 
 EXPECTED = pathlib.Path(__file__).parent / "expected"
@@ -196,7 +197,7 @@ def long_input(suite):
 
 PARTS = [rows, stored, words, devices, large_collection]
 SLOW = [long_input]
-for module in (files, builds, merges, phrases, damages, manual, collect, installed, pages):
+for module in (files, builds, merges, shards, phrases, damages, manual, collect, installed, pages):
     PARTS += module.PARTS
     SLOW += getattr(module, "SLOW", [])
 
