@@ -101,8 +101,27 @@ def kinds(suite):
     for number, (name, collection, _) in enumerate(cases()):
         merged(suite, f"{name} behind another", before, collection, (1 + number % 2, 2 - number % 2))
         before = collection
+    merged(suite, "both of version 1", K, A, (1, 1))
     merged(suite, "nothing with nothing", b"", b"")
     merged(suite, "nothing behind an open end", A, b"")
+
+
+def three(suite):
+    """Three sets merged from the left and from the right stand for the same."""
+    for name, collections in [
+        ("small sets", [A, K, b"x\x02\x02y"]),
+        ("larger sets", [collection for _, collection, _ in cases()[:3]]),
+    ]:
+        for base, collection in zip("abc", collections):
+            put_set(suite, base, collection, 2)
+        for words in (["a", "b", "ab"], ["ab", "c", "left"], ["b", "c", "bc"], ["a", "bc", "right"]):
+            suite.check(f"{name}: merge {words}", suite.run(["merge", *words])[0], 0)
+        parts = [read_parts(suite.folder / base) for base in ("left", "right")]
+        suite.check(f"{name}: three merged from both sides", parts[0] == parts[1], True)
+        whole = joined(joined(collections[0], collections[1]), collections[2])
+        suite.check(f"{name}: three decoded", suite.run(["decode", "right"]), (0, whole, b""))
+        for base in ("a", "b", "c", "ab", "bc", "left", "right"):
+            remove(suite, base)
 
 
 def built(suite, name, collection):
@@ -131,5 +150,5 @@ def limits(suite):
         remove(suite, base)
 
 
-PARTS = [rows, too_large, kinds]
+PARTS = [rows, too_large, kinds, three]
 SLOW = [limits]
