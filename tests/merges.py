@@ -110,7 +110,7 @@ def three(suite):
     """Three sets merged from the left and from the right stand for the same."""
     for name, collections in [
         ("small sets", [A, K, b"x\x02\x02y"]),
-        ("larger sets", [collection for _, collection, _ in cases()[:3]]),
+        ("larger sets", [collection for _, collection, _ in list(cases())[:3]]),
     ]:
         for base, collection in zip("abc", collections):
             put_set(suite, base, collection, 2)
