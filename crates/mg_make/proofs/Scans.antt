@@ -164,6 +164,23 @@ met-byte s seen reading m fed met byte ended ne stands read is h =
       marks_are = met-more s fed met (marks_of m) h (marks_of_pieces s.reading.kind ended) is ∙ ap (λ (r : List Mark). docs_marks (closed_documents fed) ++ (start ∷ r)) kinds ∙ sym (ap (λ (d : List (List ℕ)). docs_marks d ++ (start ∷ marks_of_pieces Words (h.told ++ ended))) (closed-byte fed byte ne));
     }
 
+-- it goes on the piece that is read, and nothing is met with it
+pub met-went_on : (s : Scanning) (seen : Seen) (reading : Reading) (fed : List ℕ) (met : List Mark) (byte : ℕ) → s.is_open ≡ true → byte ≢ 2 → StandsFor seen (fed ++ byte ∷ []) → HasRead s.reading reading byte [] → HasMet s fed met
+    → HasMet (record { seen = seen; reading = reading; is_open = s.is_open; met = s.met }) (fed ++ byte ∷ []) met
+met-went_on s seen reading fed met byte is_open ne stands read h =
+    let m : Meeting = restarted false s.met in
+    let none : marks_of m ≡ joined_marks (not s.is_open) s.reading.kind [] = ap (λ b. joined_marks (not b) s.reading.kind []) (sym is_open) in
+    let all = met-byte s seen reading m fed met byte [] ne stands read none h in
+    record {
+      seen = all.seen;
+      same = is_open ∙ all.same;
+      told = all.told;
+      none = λ e. let bad : true ≡ false = sym is_open ∙ e in absurd cc;
+      kind = all.kind;
+      reads = all.reads;
+      marks_are = sym (append-nil met) ∙ all.marks_are ∙ ap (λ b. docs_marks (closed_documents (fed ++ byte ∷ [])) ++ marks_of_open b all.told) (sym is_open);
+    }
+
 -- the marks of the open document at its end
 closing : (s : Scanning) (fed : List ℕ) (met : List Mark) (h : HasMet s fed met) → start ∷ (marks_of_pieces Words h.told ++ (marks_of_pieces s.reading.kind (left_at_end s.reading.kind s.reading.piece) ++ stop ∷ [])) ≡ marks_of_document (open_part fed)
 closing s fed met h =

@@ -61,6 +61,18 @@ impl Count {
         ensures given { OnOk result ((fed : List ℕ) → HasCounted self.old fed → HasCounted self.new (fed ++ byte ∷ [])) }
         ensures refused { IfErr result (λ fault. (fed : List ℕ) → HasCounted self.old fed → CountStops (fed ++ byte ∷ []) fault) }
     {
+        if self.scanner.goes_on(byte) {
+            return Ok(());
+        }
+        self.take_other(byte)
+    }
+
+    /// Takes the next byte where it may end a piece, or begin or end a document.
+    fn take_other(&mut self, byte: u8) -> Result<(), Fault>
+        requires given { (fed : List ℕ) × HasCounted self.old fed × (length fed < 2 ^ 32 - 1) }
+        ensures given { OnOk result ((fed : List ℕ) → HasCounted self.old fed → HasCounted self.new (fed ++ byte ∷ [])) }
+        ensures refused { IfErr result (λ fault. (fed : List ℕ) → HasCounted self.old fed → CountStops (fed ++ byte ∷ []) fault) }
+    {
         few_are_met();
         self.scanner.take(byte);
         self.counts.take(self.scanner.met())

@@ -1,5 +1,5 @@
 //! What is met in a collection, byte by byte.
-ghost use Rattle.std.specs.Prelude.{◌≡◌, ◌<◌, ◌++◌, ◌∷◌, ◌^◌, ℕ, List, [], false, length};
+ghost use Rattle.std.specs.Prelude.{◌≡◌, ◌<◌, ◌++◌, ◌∷◌, ◌^◌, ℕ, List, [], true, false, length};
 ghost use Rattle.mg_defs.specs.declared.Stream.TheVariants.{Words};
 ghost use Rattle.mg_defs.specs.Marks.{Mark, marks};
 ghost use Rattle.mg_defs.specs.Pieces.{left_at_end};
@@ -10,6 +10,9 @@ ghost use Rattle.mg_make.specs.Scanning.{HasMet, HasRead, closing_marks, joined_
 use crate::met::Met;
 use mg_parse::{Offer, PieceReader, SplitEvent, Splitter};
 use std::marker::Model;
+
+/// The byte that closes a document.
+const CLOSE: u8 = 2;
 
 /// Takes the bytes of a collection, and tells of each what is met with it.
 ///
@@ -91,8 +94,26 @@ impl Scanner {
         }
     }
 
-    /// Takes the next byte, of fewer than 2^32 in all before it.
+    /// Takes the next byte where it goes on the piece that is read, as most bytes do: then nothing is
+    /// met with it. Else it is not taken.
     #[inline]
+    pub(crate) fn goes_on(&mut self, byte: u8) -> bool
+        requires some { (fed : List ℕ) × (met : List Mark) × HasMet self.old fed met × (length fed < 2 ^ 32) }
+        ensures met { result ≡ true → (fed : List ℕ) (met : List Mark) → HasMet self.old fed met → HasMet self.new (fed ++ byte ∷ []) met }
+        ensures same { result ≡ false → self.new ≡ self.old }
+    {
+        if !self.is_open || byte == CLOSE {
+            return false;
+        }
+        match self.reader.offer(byte) {
+            Offer::Taken => {}
+            Offer::Ended => return false,
+        }
+        let _ = self.splitter.feed(byte);
+        true
+    }
+
+    /// Takes the next byte, of fewer than 2^32 in all before it.
     pub(crate) fn take(&mut self, byte: u8)
         requires some { (fed : List ℕ) × (met : List Mark) × HasMet self.old fed met × (length fed < 2 ^ 32) }
         ensures met { (fed : List ℕ) (met : List Mark) → HasMet self.old fed met → HasMet self.new (fed ++ byte ∷ []) (met ++ marks_of self.new.met) }

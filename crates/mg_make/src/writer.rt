@@ -102,6 +102,26 @@ impl<'a> SetWriter<'a> {
         ensures refused { IfErr result (λ fault. (fed more : List ℕ) → HasPut self.old (S.files store.old) fed → length (fed ++ byte ∷ more) < 2 ^ 32 →
             SecondStops (Rose (S.faults store.old) (S.faults store.new)) (IsPlanOf self.old.plan (fed ++ byte ∷ more)) fault) }
     {
+        if self.scanner.goes_on(byte) {
+            self.size += 1;
+            return Ok(());
+        }
+        self.take_other(store, byte)
+    }
+
+    /// Writes what a byte makes that may end a piece, or begin or end a document.
+    fn take_other<S: Store>(&mut self, store: &mut S, byte: u8) -> Result<(), Fault>
+        requires put { (fed : List ℕ) × HasPut self.old (S.files store.old) fed × (length fed < 2 ^ 32 - 1) }
+        ensures put { OnOk result ((fed : List ℕ) → HasPut self.old (S.files store.old) fed → HasPut self.new (S.files store.new) (fed ++ byte ∷ [])) }
+        ensures base { self.new.base ≡ self.old.base }
+        ensures plan { self.new.plan ≡ self.old.plan }
+        ensures limit { self.new.limit ≡ self.old.limit }
+        ensures head { IsSome (S.files store.old) → file_at (S.files store.new) (full_name self.old.base part.Head) ≡ Some [] }
+        ensures others { OthersSame self.old.base (S.files store.old) (S.files store.new) }
+        ensures later { S.faults store.old ≤ S.faults store.new }
+        ensures refused { IfErr result (λ fault. (fed more : List ℕ) → HasPut self.old (S.files store.old) fed → length (fed ++ byte ∷ more) < 2 ^ 32 →
+            SecondStops (Rose (S.faults store.old) (S.faults store.new)) (IsPlanOf self.old.plan (fed ++ byte ∷ more)) fault) }
+    {
         self.scanner.take(byte);
         match self.pass.take(store, self.scanner.met()) {
             Ok(()) => {}
