@@ -7,3 +7,4 @@ pub mod SearchLaws
 pub mod PhraseAnswers
 pub mod PhraseSearching
 pub mod PhraseSearchLaws
+pub mod WildAnswers
