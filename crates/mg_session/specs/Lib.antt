@@ -8,3 +8,6 @@ pub mod PhraseAnswers
 pub mod PhraseSearching
 pub mod PhraseSearchLaws
 pub mod WildAnswers
+pub mod WildSearching
+pub mod WildSearchLaws
+pub mod WildServes
