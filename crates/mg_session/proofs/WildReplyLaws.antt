@@ -1,5 +1,5 @@
 -- The reply to a pattern, and a session of them.
-use Rattle.std.proofs.Common.{arith, ◌≡◌, ℕ, true, List, Ok, Err, refl, sym, ◌∙◌, ap, subst}
+use Rattle.std.proofs.Common.{◌≡◌, ℕ, true, List, Ok, Err, refl, sym, ◌∙◌, ap, subst}
 use Rattle.std.specs.Prelude.{IfErr}
 use Rattle.std.specs.Option.{ForSome}
 use Rattle.std.specs.declared.option.Option.{Option}
