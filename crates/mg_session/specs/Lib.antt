@@ -7,3 +7,7 @@ pub mod SearchLaws
 pub mod PhraseAnswers
 pub mod PhraseSearching
 pub mod PhraseSearchLaws
+pub mod WildAnswers
+pub mod WildSearching
+pub mod WildSearchLaws
+pub mod WildServes

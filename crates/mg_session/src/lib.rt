@@ -11,6 +11,7 @@
 
 mod boolean;
 mod candidates;
+mod document_set;
 mod find;
 mod held;
 mod hit;
@@ -20,6 +21,10 @@ mod ranked;
 mod searcher;
 mod session;
 mod texts;
+mod wild;
+mod wild_answer;
+mod wild_searcher;
 
 pub use phrase::serve_phrase;
 pub use session::serve;
+pub use wild::serve_wild;

@@ -1,0 +1,88 @@
+-- The reply to a pattern, and a session of them.
+use Rattle.std.proofs.Common.{◌≡◌, ℕ, true, List, Ok, Err, refl, sym, ◌∙◌, ap, subst}
+use Rattle.std.specs.Prelude.{IfErr}
+use Rattle.std.specs.Option.{ForSome}
+use Rattle.std.specs.declared.option.Option.{Option}
+use Rattle.std.specs.declared.result.Result.{Result}
+use Rattle.mg_dev.specs.Causes.{Rose}
+use Rattle.mg_dev.specs.Streams.{AfterPut, GrewByPrefix, appended}
+use Rattle.mg_dev.specs.StreamLaws.{grew_nothing}
+use Rattle.mg_dev.specs.declared.part_err.PartErr.TheVariants.{Device, Memory, Bad}
+use Rattle.mg_dev.specs.declared.show_err.ShowErr.{ShowErr}
+use Rattle.mg_dev.specs.declared.show_err.ShowErr.TheVariants as show
+use Rattle.mg_defs.specs.Limit.{input_limit, is_too_much}
+use Rattle.mg_defs.specs.Patterns.{Pattern, bad, pattern_of, sides}
+use Rattle.mg_defs.specs.Session.{heard_session}
+use Rattle.mg_defs.specs.WildSession.{bad_pattern, match_text, wild_reply, wild_session}
+use Rattle.mg_defs.specs.declared.session.Hearing.TheVariants.{Questions}
+use Rattle.mg_laws.proofs.PlainLaws.{plain_heard}
+use Rattle.mg_reply.specs.Served.{EndsFor, PartStops}
+use Rattle.mg_reply.specs.declared.serve.ServeErr.{ServeErr}
+use Rattle.mg_reply.specs.declared.serve.ServeErr.TheVariants as serve
+use Rattle.mg_text.specs.Reading.{ShowIsNotBad}
+use Rattle.mg_session.specs.Answering.{HasShowCause}
+use Rattle.mg_session.specs.Serves.{Stops, fault_of_serve}
+use Rattle.mg_session.specs.WildAnswers.{WildAnswered, WildReplied}
+use Rattle.mg_session.specs.WildSearching.{WildBy, WildMayStop, WildOver, WildState}
+
+-- ---- a line
+
+says_bad : (collection line : List ℕ) (at : ℕ) → pattern_of line ≡ bad at → wild_reply collection line ≡ bad_pattern at
+unfolding wild_reply
+says_bad collection line at e = rw e refl
+
+-- a line that is no pattern
+pub line_bad : (collection line : List ℕ) (at : ℕ) (w0 w1 : Option (List ℕ)) (result : Result (Unit {0}) ShowErr) → pattern_of line ≡ bad at → AfterPut w0 w1 (bad_pattern at) result → ShowIsNotBad result → WildReplied collection line w0 w1 result
+line_bad collection line at w0 w1 result is put sound = record {
+  put = subst (λ t. AfterPut w0 w1 t result) (sym (says_bad collection line at is)) put;
+  sound = sound;
+}
+
+says_matches : (collection line : List ℕ) (p : Pattern) → pattern_of line ≡ sides p → wild_reply collection line ≡ match_text collection p
+unfolding wild_reply
+says_matches collection line p e = rw e refl
+
+pub line_matched : (collection line : List ℕ) (p : Pattern) (w0 w1 : Option (List ℕ)) (result : Result (Unit {0}) ShowErr) → pattern_of line ≡ sides p → WildAnswered collection p w0 w1 result → WildReplied collection line w0 w1 result
+line_matched collection line p w0 w1 result is a = record {
+  put = subst (λ t. AfterPut w0 w1 t result) (sym (says_matches collection line p is)) a.put;
+  sound = a.sound;
+}
+
+-- nothing was printed
+pub line_unread : (collection line : List ℕ) (w : Option (List ℕ)) (error : ShowErr) → ShowIsNotBad (Err error) → WildReplied collection line w w (Err error)
+line_unread collection line w error sound = record { put = grew_nothing w (wild_reply collection line); sound = sound }
+
+-- ---- a session
+
+pub patterns_over : (s : WildState) (collection : List ℕ) → WildOver s collection → WildBy s (λ now. wild_reply collection)
+patterns_over s collection over = record { collection = collection; over = over; by_is = refl }
+
+pub session_all : (collection given : List ℕ) (old new : Option (List ℕ)) → new ≡ appended old (heard_session Questions (λ now. wild_reply collection) given) → new ≡ appended old (wild_session collection given)
+unfolding wild_session
+session_all collection given old new is = is ∙ ap (appended old) (sym (plain_heard (wild_reply collection) given))
+
+pub session_prefix : (collection given : List ℕ) (old new : Option (List ℕ)) → GrewByPrefix old new (heard_session Questions (λ now. wild_reply collection) given) → GrewByPrefix old new (wild_session collection given)
+unfolding wild_session
+session_prefix collection given old new grew = subst (GrewByPrefix old new) (sym (plain_heard (wild_reply collection) given)) grew
+
+-- why a line stops the session
+line_stops : (s t : WildState) (f g : ℕ) (error : ShowErr) → HasShowCause (Err error) s.faults t.faults f g → ((collection : List ℕ) → WildOver s collection → ShowIsNotBad (Err error)) → PartStops (WildMayStop s t) error
+line_stops s t f g (show.Part Device) cause sound = cause.caused
+line_stops s t f g (show.Part Memory) cause sound = tt
+line_stops s t f g (show.Part (Bad b)) cause sound = sound
+line_stops s t f g show.Write cause sound = tt
+line_stops s t f g show.Memory cause sound = tt
+
+pub line_part : (s t : WildState) (f g : ℕ) (r : Result (Unit {0}) ShowErr) → HasShowCause r s.faults t.faults f g → ((collection : List ℕ) → WildOver s collection → ShowIsNotBad r) → IfErr r (PartStops (WildMayStop s t))
+line_part s t f g (Ok value) cause sound = tt
+line_part s t f g (Err error) cause sound = line_stops s t f g error cause sound
+
+pub stops_show : (s t : WildState) (I O : Type 0) (input : Option (List ℕ)) (error : ServeErr) → EndsFor I O (ForSome input (λ given. is_too_much input_limit given ≡ true)) (WildMayStop s t) error →
+    Stops (Rose s.faults t.faults) I O ⊥ ((collection : List ℕ) → WildOver s collection → ⊥) input (fault_of_serve error)
+stops_show s t I O input serve.Read e = e
+stops_show s t I O input serve.TooMuch e = e
+stops_show s t I O input (serve.Show show.Write) e = e
+stops_show s t I O input (serve.Show show.Memory) e = tt
+stops_show s t I O input (serve.Show (show.Part Device)) e = e
+stops_show s t I O input (serve.Show (show.Part Memory)) e = tt
+stops_show s t I O input (serve.Show (show.Part (Bad b))) e = e

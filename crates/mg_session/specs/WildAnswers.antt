@@ -1,0 +1,45 @@
+-- What a line of a session of patterns is answered from, and what is printed of it.
+use Rattle.std.specs.Prelude.{◌≡◌, ℕ, ◌≤◌, List, length}
+use Rattle.std.specs.declared.option.Option.{Option}
+use Rattle.std.specs.declared.result.Result.{Result}
+use Rattle.mg_dev.specs.Files.{Files, Reads}
+use Rattle.mg_dev.specs.Streams.{AfterPut}
+use Rattle.mg_dev.specs.declared.part.Part.{Part}
+use Rattle.mg_dev.specs.declared.part.Part.TheVariants as part
+use Rattle.mg_dev.specs.declared.show_err.ShowErr.{ShowErr}
+use Rattle.mg_defs.specs.Patterns.{Pattern}
+use Rattle.mg_defs.specs.Split.{documents}
+use Rattle.mg_defs.specs.WildSession.{match_text, wild_reply}
+use Rattle.mg_post.specs.TermLists.{ListsStand}
+use Rattle.mg_text.specs.Reading.{ShowIsNotBad}
+use Rattle.mg_wild.specs.Loading.{HasTermsOf, TellsOf}
+use Rattle.mg_wild.specs.Terms.{LexTerms}
+use Rattle.mg_session.specs.Parts.{NeverRead}
+
+-- a session of patterns reads no text besides
+abbrev pub NeverReadByPatterns : Part → Type 0
+NeverReadByPatterns part.Text = Unit {0}
+NeverReadByPatterns p = NeverRead p
+
+-- no file changed, no fault was forgotten, and no part was read that a session of patterns never reads
+pub record ReadsNoText (files_before files_now : Option Files) (reads_before reads_now : Reads) (faults_before faults_now : ℕ) : Type 0 where
+  pub files : files_now ≡ files_before
+  pub faults : faults_before ≤ faults_now
+  pub unread : (p : Part) → NeverReadByPatterns p → reads_now p ≡ reads_before p
+
+-- the lists are those of this collection, which has so many documents, and the terms are its terms with what stands of each
+pub record WildSources (base : List ℕ) (files : Option Files) (terms : LexTerms) (all : ℕ) (collection : List ℕ) : Type 0 where
+  pub lists : ListsStand base files collection
+  pub terms_are : HasTermsOf terms collection
+  pub infos_are : TellsOf terms collection
+  pub all_is : all ≡ length (documents collection)
+
+-- The terms that match a pattern and the documents with one of them were printed, or a part of that text; no part is bad.
+pub record WildAnswered (collection : List ℕ) (p : Pattern) (before after : Option (List ℕ)) (result : Result (Unit {0}) ShowErr) : Type 0 where
+  pub put : AfterPut before after (match_text collection p) result
+  pub sound : ShowIsNotBad result
+
+-- The same of a line.
+pub record WildReplied (collection line : List ℕ) (before after : Option (List ℕ)) (result : Result (Unit {0}) ShowErr) : Type 0 where
+  pub put : AfterPut before after (wild_reply collection line) result
+  pub sound : ShowIsNotBad result

@@ -1,0 +1,59 @@
+-- A state of a search for patterns over built files, and what a line does to it.
+use Rattle.std.specs.Prelude.{◌≡◌, ℕ, List}
+use Rattle.std.specs.declared.option.Option.{Option}
+use Rattle.mg_dev.specs.Causes.{Rose}
+use Rattle.mg_dev.specs.Files.{Files, Reads}
+use Rattle.mg_dev.specs.declared.part_err.PartErr.{PartErr}
+use Rattle.mg_dev.specs.declared.part_err.PartErr.TheVariants.{Device, Memory, Bad}
+use Rattle.mg_defs.specs.WildSession.{wild_reply}
+use Rattle.mg_defs.specs.declared.session.Settings.{Settings}
+use Rattle.mg_wild.specs.Terms.{LexTerms}
+use Rattle.mg_session.specs.WildAnswers.{ReadsNoText, WildSources}
+
+-- a base that patterns are answered from, the terms of its lexicon, how many documents there are, and how many can be marked
+pub record WildParts : Type 0 where
+  pub base : List ℕ
+  pub terms : LexTerms
+  pub all : ℕ
+  pub room : ℕ
+
+-- these, and the store that the lists are read from
+pub record WildState : Type 0 where
+  pub files : Option Files
+  pub reads : Reads
+  pub faults : ℕ
+  pub parts : WildParts
+
+abbrev pub wild_state : Option Files → Reads → ℕ → WildParts → WildState
+wild_state files reads faults parts = record { files = files; reads = reads; faults = faults; parts = parts }
+
+-- each document can be marked
+abbrev pub HasRoom : WildParts → Type 0
+HasRoom p = p.room ≡ p.all
+
+-- the lists and the terms are those of this collection
+abbrev pub PartsAreOf : Option Files → WildParts → List ℕ → Type 0
+PartsAreOf files p collection = WildSources p.base files p.terms p.all collection
+
+abbrev pub WildFits : WildState → Type 0
+WildFits s = HasRoom s.parts
+
+abbrev pub WildOver : WildState → List ℕ → Type 0
+WildOver s collection = PartsAreOf s.files s.parts collection
+
+-- it answers as a session of patterns over a collection does, whatever the settings are
+pub record WildBy (s : WildState) (by : Settings → List ℕ → List ℕ) : Type 0 where
+  pub collection : List ℕ
+  pub over : WildOver s collection
+  pub by_is : by ≡ (λ now. wild_reply collection)
+
+-- lines were answered in between
+pub record WildAsked (s t : WildState) : Type 0 where
+  pub step : ReadsNoText s.files t.files s.reads t.reads s.faults t.faults
+  pub same : t.parts ≡ s.parts
+
+-- why a part may be refused
+abbrev pub WildMayStop : WildState → WildState → PartErr → Type 0
+WildMayStop s t Device = Rose s.faults t.faults
+WildMayStop s t Memory = Unit {0}
+WildMayStop s t (Bad bad) = (collection : List ℕ) → WildOver s collection → ⊥

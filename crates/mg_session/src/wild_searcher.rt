@@ -1,0 +1,150 @@
+//! An answerer of patterns over the open parts of a set.
+ghost use Rattle.std.specs.Prelude.{◌≡◌, ◌≤◌, ℕ, List, [], ◌∷◌, IfErr, IsErrOf, length};
+ghost use Rattle.mg_defs.specs.WildSession.{bad_pattern};
+ghost use Rattle.mg_dev.specs.Causes.{HasPutCause, Rose};
+ghost use Rattle.mg_dev.specs.Streams.{AfterPut};
+ghost use Rattle.mg_dev.specs.declared.show_err.ShowErr.TheVariants.{Write};
+ghost use Rattle.mg_reply.specs.Served.{PartStops};
+ghost use Rattle.mg_session.specs.Answering.{HasShowCause};
+ghost use Rattle.mg_session.specs.WildAnswers.{ReadsNoText, WildReplied};
+ghost use Rattle.mg_session.specs.WildSearching.{HasRoom, PartsAreOf, WildAsked, WildBy, WildFits, WildMayStop, WildState, wild_state};
+ghost use Rattle.mg_session.specs.WildSearchLaws.{wild_later, wild_more, wild_none, wild_stop};
+
+use crate::document_set::DocumentSet;
+use crate::wild_answer::answer_pattern;
+use mg_defs::Settings;
+use mg_dev::{PartErr, PutErr, ShowErr, Sink, Store};
+use mg_reply::{Answerer, Pending};
+use mg_wild::{PatternErr, Rotated, read_pattern};
+use std::alloc::Global;
+use std::marker::{Model, PhantomData};
+
+/// Answers the lines of a session of patterns from the parts of a base.
+///
+/// The terms and all their rotations are held, and a bit for each document. Contracts see the base,
+/// the terms, how many documents there are and how many can be marked.
+#[derive(Drop)]
+pub(crate) struct WildSearcher<'a, S: Store> {
+    alloc: Global,
+    base: &'a str,
+    terms: Rotated,
+    all: u32,
+    marked: DocumentSet,
+    store: PhantomData<S>,
+}
+
+impl<'a, S: Store> Model for WildSearcher<'a, S> {
+    ghost use Rattle.mg_session.specs.WildSearching.{WildParts};
+
+    ghost Value = { WildParts };
+
+    ghost view = { λ s. record { base = s.base.now; terms = s.terms; all = s.all; room = s.marked.all } };
+}
+
+/// Writes that a line is no pattern, and from which place on.
+fn put_bad_pattern<O: Sink>(out: &mut O, at: u32) -> Result<(), PutErr>
+    ensures content { AfterPut (O.written out.old) (O.written out.new) (bad_pattern at) result }
+    ensures cause { HasPutCause (O.faults out.old) (O.faults out.new) result }
+{
+    let mut pending = Pending::new();
+    match pending.put(out, b"? bad pattern at ") {
+        Ok(()) => {}
+        Err(error) => return Err(error),
+    }
+    // A row without a score is a number and the line's end.
+    match pending.row(out, at, None) {
+        Ok(()) => pending.flush(out),
+        Err(error) => Err(error),
+    }
+}
+
+impl<'a, S: Store> WildSearcher<'a, S> {
+    /// Over a base with these terms and so many documents, which are marked in this set.
+    pub(crate) fn new(
+        alloc: Global,
+        base: &'a str,
+        terms: Rotated,
+        all: u32,
+        marked: DocumentSet,
+    ) -> Self
+        ensures { result ≡ record { base = base.entry.now; terms = terms.entry; all = all; room = marked.entry.all } }
+    {
+        WildSearcher {
+            alloc,
+            base,
+            terms,
+            all,
+            marked,
+            store: PhantomData,
+        }
+    }
+
+    /// Writes the reply to a pattern.
+    fn answer_question<O: Sink>(
+        &mut self,
+        store: &mut S,
+        line: &[u8],
+        out: &mut O,
+    ) -> Result<(), ShowErr>
+        requires short { length line.now ≤ 1024 }
+        requires fits { HasRoom self.old }
+        ensures same { self.new ≡ self.old }
+        ensures replied { (collection : List ℕ) → PartsAreOf (S.files store.old) self.old collection →
+            WildReplied collection line.now (O.written out.old) (O.written out.new) result }
+        ensures step { ReadsNoText (S.files store.old) (S.files store.new) (S.reads store.old) (S.reads store.new) (S.faults store.old) (S.faults store.new) }
+        ensures cause { HasShowCause result (S.faults store.old) (S.faults store.new) (O.faults out.old) (O.faults out.new) }
+    {
+        let pattern = match read_pattern(self.alloc, line) {
+            Ok(pattern) => pattern,
+            Err(PatternErr::Bad { at }) => match put_bad_pattern(out, at) {
+                Ok(()) => return Ok(()),
+                Err(refusal) => return Err(ShowErr::from(refusal)),
+            },
+            Err(PatternErr::Memory) => return Err(ShowErr::Part(PartErr::Memory)),
+        };
+        answer_pattern(
+            self.alloc,
+            store,
+            self.base,
+            &self.terms,
+            &mut self.marked,
+            &pattern,
+            self.all,
+            out,
+        )
+    }
+}
+
+impl<'a, S: Store> Answerer for WildSearcher<'a, S> {
+    type Dev = S;
+
+    ghost State = { WildState };
+
+    ghost state = { λ s d. wild_state (S.files d) (S.reads d) (S.faults d) s };
+
+    ghost fits = { λ s. WildFits s };
+
+    ghost answers = { λ s by. WildBy s by };
+
+    ghost after = { λ s t questions. WildAsked s t };
+
+    ghost may_stop = { λ s t error. WildMayStop s t error };
+
+    fn answer_line<O: Sink>(
+        &mut self,
+        dev: &mut S,
+        line: &[u8],
+        _now: &Settings,
+        out: &mut O,
+    ) -> Result<(), ShowErr> {
+        self.answer_question(dev, line, out)
+    }
+
+    ghost after_none = { λ s. wild_none s };
+
+    ghost after_more = { λ s t u xs ys first more. wild_more s t u first more };
+
+    ghost same_reply = { λ s t xs by after answers. wild_later s t by after answers };
+
+    ghost stops_later = { λ s t u xs error after stops. wild_stop s t u error after stops };
+}
