@@ -5,7 +5,7 @@ import sys
 
 sys.path.insert(0, str(pathlib.Path(__file__).parent / "reference"))
 
-from files import K, remove
+from files import K, put_set, remove
 from kinds import Draws, cases, words_of
 from sessions import wild_session
 from texts import Collection
@@ -84,4 +84,28 @@ def kinds(suite):
         remove(suite, "set")
 
 
-PARTS = [rows, kinds]
+def too_many(suite):
+    """A lexicon with more rotations than are held: it is told before the input is read and before room is taken."""
+    put_set(suite, "set", K, 2)
+    terms = 2**19 + 1
+    head = bytearray((suite.folder / "set.head").read_bytes())
+    for field in (12, 20):
+        head[field : field + 4] = terms.to_bytes(4, "big")
+    suite.file("set.head", bytes(head))
+    letters = b"a" * 252
+    numbers = [bytes([97 + n // 2**14, 97 + n // 2**7 % 128, 97 + n % 128]) for n in range(terms)]
+    lex = bytearray()
+    for number, name in enumerate(numbers):
+        if number % 4 == 0:
+            lex += bytes([255]) + letters + name
+        else:
+            shared = next(at for at in range(3) if name[at] != numbers[number - 1][at])
+            lex += bytes([252 + shared, 3 - shared]) + name[shared:]
+        lex += bytes(16)
+    suite.file("set.lex", bytes(lex))
+    got = suite.run(["wild", "set"], b"*\n")
+    suite.check("too many rotations", got, (17, b"", b"mg: the terms have 134217984 rotations, more than 134217728\n"))
+    remove(suite, "set")
+
+
+PARTS = [rows, kinds, too_many]
