@@ -1,7 +1,7 @@
 """Random damages of sets on the disk: whatever bytes stand in a part, each tool ends soon, with a true status.
 
-Each damage is made to one part of a sound set; then `decode`, `query`, `phrase`, `migrate` and `merge`
-are run over it. None may end by a signal, take longer than 20 seconds, or end with another status than
+Each damage is made to one part of a sound set; then `decode`, `query`, `phrase`, `wild`, `migrate` and
+`merge` are run over it. None may end by a signal, take longer than 20 seconds, or end with another status than
 0, 5 or 6 and the line of that status (a merge also with 8, by what a damaged head tells); none may take
 32 megabytes more than over the sound set. The seed is printed, and `--seed N` repeats a run.
 """
@@ -25,7 +25,7 @@ MORE = 32 << 20
 KEPT = pathlib.Path(__file__).parent / "data" / "version_1.zip"
 ASKED = (
     b"a\n!a\ncat & !dog | the\n.set mode text\n.set maxdocs 3\nthe\n.set query ranked\na cat the\n"
-    b".set mode docnums\n.set maxdocs all\nthe a\n"
+    b".set mode docnums\n.set maxdocs all\nthe a\nt*\n*\n"
 )
 # The fault lines of the statuses 0, 5 and 6.
 LINES = {
@@ -35,7 +35,7 @@ LINES = {
 }
 # A merge adds up what the heads of both sets tell.
 MERGE_LINES = LINES | {8: rb"mg: the collection has [0-9]+ bytes, more than 4294967295\n"}
-TOOLS = [["decode", "set"], ["query", "set"], ["phrase", "set"], ["migrate", "set", "new"], ["merge", "set", "set", "new"]]
+TOOLS = [["decode", "set"], ["query", "set"], ["phrase", "set"], ["wild", "set"], ["migrate", "set", "new"], ["merge", "set", "set", "new"]]
 
 
 def kept_parts():

@@ -99,7 +99,7 @@ def told(suite, statuses, status, run):
 def statuses(suite):
     """Each status that can be had in a short time, with the line that the manual says."""
     lines = told_statuses()
-    suite.check("the statuses of the manual", sorted(lines), [*range(15), 16, 18])
+    suite.check("the statuses of the manual", sorted(lines), [*range(15), 16, 17, 18])
     suite.file("text", K)
     suite.file("N.head", K)
     suite.file("M.head", b"MGROWv2\n\0\0")
@@ -110,7 +110,8 @@ def statuses(suite):
         (1, ["index", "text"], b""), (1, ["trial", "1", "20001"], b""), (1, ["query", ""], b""),
         (2, ["scan", "folder"], b""), (2, ["build", "text", "nowhere/set"], b""), (5, ["query", "none"], b""),
         (5, ["decode", "none"], b""), (6, ["decode", "M"], b""), (7, ["scan", "none"], b""), (7, ["build", "none", "set"], b""),
-        (13, ["build", "N.head", "N"], b""), (16, ["migrate", "set", "set"], b""), (16, ["merge", "set", "set", "set"], b""), (5, ["phrase", "none"], b""), (18, [b"scan", b"\xff"], b""),
+        (13, ["build", "N.head", "N"], b""), (16, ["migrate", "set", "set"], b""), (16, ["merge", "set", "set", "set"], b""), (5, ["phrase", "none"], b""), (5, ["wild", "none"], b""),
+        (18, [b"scan", b"\xff"], b""),
     ]:
         told(suite, lines, status, suite.run(words, given))
     folder = os.open(suite.folder, os.O_RDONLY)

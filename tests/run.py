@@ -24,6 +24,7 @@ import installed
 import manual
 import merges
 import pages
+import patterns
 import phrases
 import shards
 from kinds import Draws, cases
@@ -197,7 +198,7 @@ def long_input(suite):
 
 PARTS = [rows, stored, words, devices, large_collection]
 SLOW = [long_input]
-for module in (files, builds, merges, shards, phrases, damages, manual, collect, installed, pages):
+for module in (files, builds, merges, shards, phrases, patterns, damages, manual, collect, installed, pages):
     PARTS += module.PARTS
     SLOW += getattr(module, "SLOW", [])
 

@@ -66,6 +66,6 @@ only_wrong_words (Some (scan n)) run does is = absurd (no_usage run _ does.cause
 only_wrong_words (Some (trial s d)) run does is = absurd (no_usage run _ does.cause (λ bad. bad) is)
 only_wrong_words (Some (migrate n m)) run does is = absurd (no_usage run _ does.cause (λ bad. bad) is)
 only_wrong_words (Some (check n)) run does is = refl
-only_wrong_words (Some (wild n)) run does is = refl
+only_wrong_words (Some (wild n)) run does is = absurd (no_usage run _ does.cause (λ bad. bad) is)
 only_wrong_words (Some (phrase n)) run does is = absurd (no_usage run _ does.cause (λ bad. bad) is)
 only_wrong_words (Some (merge a b c)) run does is = absurd (no_usage run _ does.cause (λ bad. bad) is)

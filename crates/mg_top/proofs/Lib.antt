@@ -5,6 +5,7 @@ mod LineLaws
 mod BuiltLaws
 mod QueriedLaws
 mod PhrasedLaws
+mod MatchedLaws
 mod ScannedLaws
 mod DecodedLaws
 mod TrialSteps

@@ -15,9 +15,11 @@ use Rattle.mg_defs.specs.Join.{join}
 use Rattle.mg_defs.specs.PhraseSession.{phrase_session}
 use Rattle.mg_defs.specs.Replies.{session}
 use Rattle.mg_defs.specs.Summaries.{summary_text, trial_text}
+use Rattle.mg_defs.specs.WildSession.{wild_session}
 use Rattle.mg_make.specs.Putting.{OthersSame}
 use Rattle.mg_merge.specs.Merging.{budget_of}
 use Rattle.mg_session.specs.Serves as serves
+use Rattle.mg_session.specs.WildServes.{WildStops}
 use Rattle.mg_plain.specs.Scans.{StopsFor}
 use Rattle.mg_build.specs.Outcomes.{DecodeStops}
 use Rattle.mg_words.specs.Tasks.{Task, build, query, decode, scan, trial, migrate, check, wild, phrase, merge}
@@ -25,6 +27,7 @@ use Rattle.mg_top.specs.Ends.{IfStopped, ToldWhy}
 use Rattle.mg_top.specs.Runs.{Run, SaysNothing, KeepsFiles, Stops, StoreFailed, InputFailed, OutputFailed}
 use Rattle.mg_top.specs.Built.{Built, BuildStops, collection_of}
 use Rattle.mg_top.specs.Decoded.{Decoded}
+use Rattle.mg_top.specs.Matched.{Matched}
 use Rattle.mg_top.specs.Merged.{Merged, MergeStops}
 use Rattle.mg_top.specs.Migrated.{Migrated, MigrateStops, documents_line}
 use Rattle.mg_top.specs.Phrased.{Phrased}
@@ -132,6 +135,22 @@ module _ (run : Run) (stops : Stops run Memory) (store : run.store_now ≡ run.s
     unread = λ p never. same_reads p;
   }
 
+  matched : (n : List ℕ) → Matched n run
+  matched n = record {
+    done = λ c given stands some is. absurd (not_done is);
+    left = λ given some is. absurd (not_done is);
+    within = λ given some is. absurd (not_done is);
+    prefix = λ c given stands some. prefix (wild_session c given);
+    silent = λ fault first is. silent;
+    untouched = λ fault first is. ap (λ s. s.left) input;
+    cause = caused (WildStops (StoreFailed run) (InputFailed run) (OutputFailed run) run.store.files n run.input.left) tt;
+    not_built = λ told none. inr (inr stops);
+    many = λ c stands more. inr (inr stops);
+    complete = λ c given stands few some short no_store no_input no_output. inr stops;
+    files = files;
+    unread = λ p never. same_reads p;
+  }
+
   decoded : (n : List ℕ) → Decoded n run
   decoded n = record {
     done = λ c stands is. absurd (not_done is);
@@ -205,7 +224,7 @@ module _ (run : Run) (stops : Stops run Memory) (store : run.store_now ≡ run.s
   nothing_done (Some (trial s d)) = tried s d
   nothing_done (Some (migrate n m)) = migrated n m
   nothing_done (Some (check n)) = not_understood
-  nothing_done (Some (wild n)) = not_understood
+  nothing_done (Some (wild n)) = matched n
   nothing_done (Some (phrase n)) = phrased n
   nothing_done (Some (merge a b c)) = merged a b c
 

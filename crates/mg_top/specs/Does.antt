@@ -2,11 +2,12 @@
 use Rattle.std.specs.Prelude.{◌≡◌, ◌⊎◌, Some, None}
 use Rattle.std.specs.declared.option.Option.{Option}
 use Rattle.mg_dev.specs.declared.fault.Fault.TheVariants.{Usage, Memory}
-use Rattle.mg_words.specs.Tasks.{Task, build, query, decode, scan, migrate, merge, trial, phrase}
+use Rattle.mg_words.specs.Tasks.{Task, build, query, decode, scan, migrate, merge, trial, phrase, wild}
 use Rattle.mg_top.specs.Ends.{ToldWhy}
 use Rattle.mg_top.specs.Runs.{Run, Stops}
 use Rattle.mg_top.specs.Built.{Built}
 use Rattle.mg_top.specs.Decoded.{Decoded}
+use Rattle.mg_top.specs.Matched.{Matched}
 use Rattle.mg_top.specs.Merged.{Merged}
 use Rattle.mg_top.specs.Migrated.{Migrated}
 use Rattle.mg_top.specs.Phrased.{Phrased}
@@ -31,6 +32,7 @@ built (Some (migrate name new)) = Some (migrate name new)
 built (Some (merge first second new)) = Some (merge first second new)
 built (Some (trial seed docs)) = Some (trial seed docs)
 built (Some (phrase name)) = Some (phrase name)
+built (Some (wild name)) = Some (wild name)
 built other = None
 
 -- what the words ask is done
@@ -43,6 +45,7 @@ Does (Some (migrate name new)) run = Migrated name new run
 Does (Some (merge first second new)) run = Merged first second new run
 Does (Some (trial seed docs)) run = Tried seed docs run
 Does (Some (phrase name)) run = Phrased name run
+Does (Some (wild name)) run = Matched name run
 Does other run = NotUnderstood run
 
 pub record Ran (task : Option Task) (run : Run) : Type 0 where

@@ -11,3 +11,4 @@ pub mod Tried
 pub mod Does
 pub mod Migrated
 pub mod Merged
+pub mod Matched

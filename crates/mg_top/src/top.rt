@@ -6,6 +6,7 @@ ghost use Rattle.mg_top.specs.Does.{Ran, built};
 
 use crate::building::run_build;
 use crate::decoding::run_decode;
+use crate::matching::run_wild;
 use crate::merging::run_merge;
 use crate::migrating::run_migrate;
 use crate::phrasing::run_phrase;
@@ -29,6 +30,7 @@ use std::alloc::{AllocError, Global};
 /// | `scan COLLECTION` | `Scanned` | the session that the input asks of the collection's documents |
 /// | `migrate NAME NEW` | `Migrated` | how many documents the set has that it makes anew in version 2 |
 /// | `phrase NAME` | `Phrased` | the session of phrases that the input asks of the set |
+/// | `wild NAME` | `Matched` | the session of patterns that the input asks of the set |
 /// | `merge A B NEW` | `Merged` | the numbers of the set that it makes of two sets |
 /// | `trial SEED DOCS` | `Tried` | what a trial found of a collection that it makes, in a store of its own |
 ///
@@ -75,6 +77,7 @@ pub fn run<S: Store, I: Source, O: Sink, E: Sink>(
         }
         Ok(Some(Task::Trial { seed, docs })) => run_trial(alloc, seed, docs, out, err),
         Ok(Some(Task::Phrase { name })) => run_phrase(alloc, name, store, input, out, err),
+        Ok(Some(Task::Wild { name })) => run_wild(alloc, name, store, input, out, err),
         Ok(_) => stopped(Fault::Usage, err),
         Err(AllocError) => stopped(Fault::Memory, err),
     }
