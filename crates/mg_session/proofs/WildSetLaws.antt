@@ -1,5 +1,5 @@
 -- What patterns are answered from in a set that stands, and what is read of it before the first line.
-use Rattle.std.proofs.Common.{arith, ◌≡◌, ◌≢◌, ◌≤◌, ◌+◌, ℕ, false, List, [], ◌∷◌, map, Err, refl, ◌∙◌, ap, subst}
+use Rattle.std.proofs.Common.{arith, ◌≡◌, ◌≤◌, ◌+◌, ℕ, false, List, [], ◌∷◌, map, refl, ◌∙◌, ap, subst}
 use Rattle.std.specs.List.{enumerate_from}
 use Rattle.std.specs.declared.option.Option.{Option}
 use Rattle.mg_bits.specs.Pages.{Looked}
