@@ -1,5 +1,5 @@
 -- What patterns are answered from in a set that stands, and what is read of it before the first line.
-use Rattle.std.proofs.Common.{arith, ◌≡◌, ◌≢◌, ◌≤◌, ◌+◌, ℕ, false, List, [], ◌∷◌, map, Err, refl, ◌∙◌, ap, subst}
+use Rattle.std.proofs.Common.{arith, ◌≡◌, ◌≤◌, ◌+◌, ℕ, false, List, [], ◌∷◌, map, refl, sym, ◌∙◌, ap, subst}
 use Rattle.std.specs.List.{enumerate_from}
 use Rattle.std.specs.declared.option.Option.{Option}
 use Rattle.mg_bits.specs.Pages.{Looked}
@@ -10,29 +10,37 @@ use Rattle.mg_dev.specs.declared.part.Part.TheVariants as part
 use Rattle.mg_defs.specs.CodedText.{TextCode}
 use Rattle.mg_defs.specs.Heads as defs
 use Rattle.mg_defs.specs.Lexicon.{info_bytes, info_of, lexicon}
+use Rattle.mg_defs.specs.Limits.{IsWithinLimits}
 use Rattle.mg_defs.specs.Rotations.{most_rotations, rotation_count}
 use Rattle.mg_defs.specs.Terms.{dictionary}
 use Rattle.mg_defs.proofs.FrontParts.{one_front}
 use Rattle.mg_defs.proofs.LexiconLaws.{lexicon_entries}
 use Rattle.mg_layout.specs.Stands.{StandsBy}
 use Rattle.mg_layout.specs.declared.head.Head.{Head}
+use Rattle.mg_lex.specs.Reading.{IsLexicon}
 use Rattle.mg_wild.specs.Loading.{HasTermsOf, HasTooMany, IsWholeLexicon, TellsOf, strings_of}
 use Rattle.mg_wild.specs.Terms.{LexTerms}
 use Rattle.mg_session.specs.PhraseSearchLaws.{lists_stay}
 use Rattle.mg_session.specs.WildAnswers.{NeverReadByPatterns}
-use Rattle.mg_session.specs.WildSearching.{PartsAreOf}
+use Rattle.mg_session.specs.WildSearching.{PartsAreOf, WildParts}
 use Rattle.mg_session.proofs.SetLaws.{set_lexicon, set_weights}
 
 -- ---- the parts of a set
 
-pub wild_parts : (base : List ℕ) (files now : Option Files) (head : Head) (code : TextCode) (collection : List ℕ) (terms : LexTerms) (room : ℕ) → now ≡ files → StandsBy head code files base collection → HasTermsOf terms collection → TellsOf terms collection →
-    PartsAreOf now (record { base = base; terms = terms; all = head.documents; room = room }) collection
-wild_parts base files now head code collection terms room same is terms_are infos_are = record {
-  lists = lists_stay base base files now collection refl same (set_weights base files head code collection is).lists;
-  terms_are = terms_are;
-  infos_are = infos_are;
-  all_is = ap (λ (h : defs.Head). h.documents) is.head_is;
-}
+-- what a searcher was made of, by what loading its terms answers
+pub wild_parts : (base : List ℕ) (files now : Option Files) (head : Head) (code : TextCode) (collection : List ℕ) (terms : LexTerms) (room : ℕ) (parts : WildParts) → parts ≡ record { base = base; terms = terms; all = head.documents; room = room } → now ≡ files → StandsBy head code files base collection →
+    (IsLexicon base files head.terms collection → HasTermsOf terms collection) → (IsWithinLimits head.version collection → IsLexicon base files head.terms collection → TellsOf terms collection) →
+    PartsAreOf now parts collection
+wild_parts base files now head code collection terms room parts made same is has tells =
+    let lexicon = set_lexicon base files head code collection is in
+    let own : WildParts = record { base = base; terms = terms; all = head.documents; room = room } in
+    let over : PartsAreOf now own collection = record {
+      lists = lists_stay base base files now collection refl same (set_weights base files head code collection is).lists;
+      terms_are = has lexicon;
+      infos_are = tells is.are.limits lexicon;
+      all_is = ap (λ (h : defs.Head). h.documents) is.head_is;
+    } in
+    subst (λ (p : WildParts). PartsAreOf now p collection) (sym made) over
 
 -- ---- its rotations
 

@@ -17,27 +17,31 @@ use Rattle.mg_wild.specs.declared.rotated.RotErr.{RotErr}
 use Rattle.mg_wild.specs.declared.rotated.RotErr.TheVariants as rot
 use Rattle.mg_session.specs.Serves.{Stops}
 
--- the cause of each refusal, as in the other sessions; where there are too many rotations, so many are counted
+-- the cause of each refusal as in the other sessions, and of one more: there are more rotations than can be held, and as many as counted
 abbrev pub WildStopsBy : Type 0 → Type 0 → Type 0 → Type 0 → Type 0 → (ℕ → Type 0) → Option (List ℕ) → Fault → Type 0
 WildStopsBy store_rose input_rose output_rose unbuilt damaged counted input (TooManyRotations count) = (most_rotations < count) × counted count
 WildStopsBy store_rose input_rose output_rose unbuilt damaged counted input fault = Stops store_rose input_rose output_rose unbuilt damaged input fault
 
--- these are the rotations of the terms of a collection, where the files under a base stand for one
+-- the terms of a collection that the files under a base stand for have so many rotations
 abbrev pub AreRotationsAt : Option Files → List ℕ → ℕ → Type 0
 AreRotationsAt files base count = (collection : List ℕ) → Stands files base collection → count ≡ rotation_count (dictionary collection)
 
--- the causes by the files under a base
+-- the cause of each refusal by the files under a base
 abbrev pub WildStops : Type 0 → Type 0 → Type 0 → Option Files → List ℕ → Option (List ℕ) → Fault → Type 0
 WildStops store_rose input_rose output_rose files base input fault =
-    WildStopsBy store_rose input_rose output_rose (IsSome files → bytes_at files (full_name base part.Head) ≡ []) (StandsForNone files base) (AreRotationsAt files base) input fault
+    WildStopsBy store_rose input_rose output_rose
+    (IsSome files → bytes_at files (full_name base part.Head) ≡ []) (StandsForNone files base) (AreRotationsAt files base) input fault
 
--- the same by the files under a base that have a head
+-- the same of a collection for which they stand with this head
 abbrev pub AreRotationsBy : Head → Option Files → List ℕ → ℕ → Type 0
-AreRotationsBy head files base count = (code : TextCode) (collection : List ℕ) → StandsBy head code files base collection → count ≡ rotation_count (dictionary collection)
+AreRotationsBy head files base count =
+    (code : TextCode) (collection : List ℕ) → StandsBy head code files base collection → count ≡ rotation_count (dictionary collection)
 
+-- they stand for none with this head
 abbrev pub StandsByNone : Head → Option Files → List ℕ → Type 0
 StandsByNone head files base = (code : TextCode) (collection : List ℕ) → StandsBy head code files base collection → ⊥
 
+-- the cause of each refusal by the files that have this head
 abbrev pub WildSetStops : Type 0 → Type 0 → Type 0 → Head → Option Files → List ℕ → Option (List ℕ) → Fault → Type 0
 WildSetStops store_rose input_rose output_rose head files base input fault =
     WildStopsBy store_rose input_rose output_rose ⊥ (StandsByNone head files base) (AreRotationsBy head files base) input fault

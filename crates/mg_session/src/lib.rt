@@ -6,7 +6,8 @@
 //! the session that a scan of its documents prints, and the pages that are read are bounded for
 //! each line.
 //!
-//! Boolean and ranked queries are those of Witten, Moffat and Bell, *Managing Gigabytes*, chapter 4.
+//! Boolean and ranked queries and patterns are those of Witten, Moffat and Bell, *Managing Gigabytes*,
+//! chapter 4.
 #![tactic(auto)]
 
 mod boolean;

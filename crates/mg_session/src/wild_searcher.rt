@@ -67,7 +67,7 @@ impl<'a, S: Store> WildSearcher<'a, S> {
         all: u32,
         marked: DocumentSet,
     ) -> Self
-        ensures { result ≡ record { base = base.entry.now; terms = terms.entry; all = all; room = marked.entry.all } }
+        ensures { result ≡ record { base = base.entry.now; terms = terms; all = all; room = marked.all } }
     {
         WildSearcher {
             alloc,

@@ -1,6 +1,5 @@
-use Rattle.std.proofs.Common.{arith, sym, ◌∙◌, subst}
+use Rattle.std.proofs.Common.{arith, ◌∙◌}
 use Rattle.mg_dev.specs.StreamLaws.{grew_nothing}
-use Rattle.mg_session.specs.WildSearching.{PartsAreOf, WildParts}
 use Rattle.mg_session.proofs.SetLaws.{set_lexicon}
 use Rattle.mg_session.proofs.WildSetLaws.{few_rotations, lex_unread, wild_parts}
 use Rattle.mg_session.proofs.WildStopLaws.{is_later, rotated_refused, rotated_stops, set_stops}
@@ -26,15 +25,13 @@ returns-in-Err-new-clause-unread g c = λ p never. lex_unread _ _ _ _ _ _ c.in-O
 
 pub returns-clause-all : goal.returns-clause-all
 returns-clause-all g c = λ code collection stands x told.
-    let lexicon = set_lexicon _ _ _ code collection stands in
-    let over = wild_parts c.args.base.now (g.S.Store.files c.args.store.now) (g.S.Store.files c.load.new.store) c.args.head.now code collection c.in-Ok.terms c.in-Ok-new.marked.all c.in-Ok.ensures.looked.files stands (c.in-Ok.ensures.terms collection lexicon) (c.in-Ok.ensures.infos c.args.head.now.version collection stands.are.limits lexicon) in
-    c.serve_searcher.ensures.all collection (subst (λ (o : WildParts). PartsAreOf (g.S.Store.files c.load.new.store) o collection) (sym c.new-searcher.ensures) over) x told
+    let over = wild_parts c.args.base.now (g.S.Store.files c.args.store.now) (g.S.Store.files c.load.new.store) c.args.head.now code collection c.in-Ok.terms c.in-Ok-new.marked.all c.new-searcher.result c.new-searcher.ensures c.in-Ok.ensures.looked.files stands (c.in-Ok.ensures.terms collection) (c.in-Ok.ensures.infos c.args.head.now.version collection) in
+    c.serve_searcher.ensures.all collection over x told
 
 pub returns-clause-prefix : goal.returns-clause-prefix
 returns-clause-prefix g c = λ code collection stands x told.
-    let lexicon = set_lexicon _ _ _ code collection stands in
-    let over = wild_parts c.args.base.now (g.S.Store.files c.args.store.now) (g.S.Store.files c.load.new.store) c.args.head.now code collection c.in-Ok.terms c.in-Ok-new.marked.all c.in-Ok.ensures.looked.files stands (c.in-Ok.ensures.terms collection lexicon) (c.in-Ok.ensures.infos c.args.head.now.version collection stands.are.limits lexicon) in
-    c.serve_searcher.ensures.prefix collection (subst (λ (o : WildParts). PartsAreOf (g.S.Store.files c.load.new.store) o collection) (sym c.new-searcher.ensures) over) x told
+    let over = wild_parts c.args.base.now (g.S.Store.files c.args.store.now) (g.S.Store.files c.load.new.store) c.args.head.now code collection c.in-Ok.terms c.in-Ok-new.marked.all c.new-searcher.result c.new-searcher.ensures c.in-Ok.ensures.looked.files stands (c.in-Ok.ensures.terms collection) (c.in-Ok.ensures.infos c.args.head.now.version collection) in
+    c.serve_searcher.ensures.prefix collection over x told
 
 pub returns-clause-unread : goal.returns-clause-unread
 returns-clause-unread g c = λ p never. c.serve_searcher.ensures.unread p never ∙ lex_unread _ _ _ _ _ _ c.in-Ok.ensures.looked p never
@@ -42,9 +39,8 @@ returns-clause-unread g c = λ p never. c.serve_searcher.ensures.unread p never 
 pub returns-clause-cause : goal.returns-clause-cause
 returns-clause-cause g c = set_stops c.serve_searcher.result _ (g.S.Store.faults c.load.new.store) _ _ _ _ c.args.head.now _ _ _ (omega (arith, c.in-Ok.ensures.looked.faults))
     (λ bad code collection stands.
-    let lexicon = set_lexicon _ _ _ code collection stands in
-    let over = wild_parts c.args.base.now (g.S.Store.files c.args.store.now) (g.S.Store.files c.load.new.store) c.args.head.now code collection c.in-Ok.terms c.in-Ok-new.marked.all c.in-Ok.ensures.looked.files stands (c.in-Ok.ensures.terms collection lexicon) (c.in-Ok.ensures.infos c.args.head.now.version collection stands.are.limits lexicon) in
-    bad collection (subst (λ (o : WildParts). PartsAreOf (g.S.Store.files c.load.new.store) o collection) (sym c.new-searcher.ensures) over))
+    let over = wild_parts c.args.base.now (g.S.Store.files c.args.store.now) (g.S.Store.files c.load.new.store) c.args.head.now code collection c.in-Ok.terms c.in-Ok-new.marked.all c.new-searcher.result c.new-searcher.ensures c.in-Ok.ensures.looked.files stands (c.in-Ok.ensures.terms collection) (c.in-Ok.ensures.infos c.args.head.now.version collection) in
+    bad collection over)
     c.serve_searcher.ensures.cause
 
 pub returns-clause-silent : goal.returns-clause-silent

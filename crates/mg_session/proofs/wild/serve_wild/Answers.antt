@@ -1,7 +1,7 @@
 use Rattle.std.proofs.Common.{◌∙◌}
 use Rattle.mg_dev.specs.Faults.{fault_of_part}
 use Rattle.mg_dev.specs.StreamLaws.{grew_nothing}
-use Rattle.mg_session.proofs.StopLaws.{bad_head, head_read, head_there, no_empty_head, no_head, some_head, stands_loaded}
+use Rattle.mg_session.proofs.StopLaws.{bad_head, done, head_read, head_there, no_empty_head, no_head, some_head, stands_loaded}
 use Rattle.mg_session.proofs.WildSetLaws.{behind_head}
 use Rattle.mg_session.proofs.WildStopLaws.{as_others, head_refused, patterns_done, wild_stops_for}
 use Rattle.mg_session.proofs.wild.serve_wild.Goals as goal
@@ -21,8 +21,7 @@ returns-in-Err-clause-many g c = λ collection stands more.
 
 pub returns-in-Err-clause-complete : goal.returns-in-Err-clause-complete
 returns-in-Err-clause-complete g c = λ collection given stands few told short a i o.
-    patterns_done _ _ _ _ _ c.args.base.now collection given _ stands few told short a i o
-    (rw c.from.ensures (as_others (fault_of_part c.in-Err.refusal) _ _ _ _ _ _ _ (bad_head _ _ c.in-Err.refusal c.in-Err.ensures.back _ _ _ _ _ c.in-Err.ensures.cause)))
+    rw c.from.ensures (done (fault_of_part c.in-Err.refusal) _ _ _ _ _ collection given _ stands told short a i o (bad_head _ _ c.in-Err.refusal c.in-Err.ensures.back _ _ _ _ _ c.in-Err.ensures.cause))
 
 pub returns-in-None-clause-prefix : goal.returns-in-None-clause-prefix
 returns-in-None-clause-prefix g c = λ collection stands x told. grew_nothing _ _
