@@ -14,3 +14,6 @@ pub mod SessionLaws
 pub mod PhraseWalkLaws
 pub mod PhraseReplyLaws
 pub mod PhraseStepLaws
+pub mod MarkLaws
+pub mod WildListLaws
+pub mod WildTextLaws

@@ -8,3 +8,5 @@ pub mod PhraseAnswers
 pub mod PhraseSearching
 pub mod PhraseSearchLaws
 pub mod WildAnswers
+pub mod DocumentSets
+pub mod WildMarks

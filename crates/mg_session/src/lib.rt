@@ -11,6 +11,7 @@
 
 mod boolean;
 mod candidates;
+mod document_set;
 mod find;
 mod held;
 mod hit;
@@ -20,6 +21,7 @@ mod ranked;
 mod searcher;
 mod session;
 mod texts;
+mod wild_answer;
 
 pub use phrase::serve_phrase;
 pub use session::serve;
