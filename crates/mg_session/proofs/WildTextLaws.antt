@@ -1,5 +1,5 @@
 -- The answer to a pattern: its terms, their lists, and what is printed of both.
-use Rattle.std.proofs.Common.{arith, ◌≡◌, ◌≢◌, ℕ, zero, suc, ◌+◌, ◌-◌, ◌<◌, ◌≤◌, ◌∙◌, Bool, true, false, List, [], ◌∷◌, ◌++◌, length, get_or, slice_get, map, take, drop, filter, Some, None, Ok, Err, inl, inr, refl, sym, ap, subst, append_assoc, append-nil, add-one}
+use Rattle.std.proofs.Common.{arith, ◌≡◌, ◌≢◌, ℕ, zero, suc, ◌+◌, ◌-◌, ◌<◌, ◌≤◌, ◌∙◌, Bool, true, false, List, [], ◌∷◌, ◌++◌, length, get_or, slice_get, map, take, drop, filter, codes, Some, None, Ok, Err, inl, inr, refl, sym, ap, subst, append_assoc, append-nil, add-one}
 use Rattle.std.specs.Prelude.{◌||◌}
 use Rattle.std.specs.List.{flat_map, list_any}
 use Rattle.std.specs.declared.option.Option.{Option}
@@ -127,15 +127,36 @@ told_info collection r n info has tells within is number =
 pub told_docs : (collection t : List ℕ) (info : TermInfo) → IsInfoOf collection t info → info.docs ≡ docs collection t
 told_docs collection t info told = ap (λ (x : defs.TermInfo). x.docs) told.is
 
--- a bound of all numbers holds of one
-pub number_at : (ns : List ℕ) (i n bound : ℕ) → ((k d : ℕ) → k < length ns → get_or ns k d < bound) → i < length ns → n ≡ get_or ns i n → n < bound
-number_at ns i n bound all within is = omega (arith, is, all i n within)
-
 -- the terms with one number more
 pub terms_next : (collection : List ℕ) (ns : List ℕ) (i n : ℕ) → i < length ns → n ≡ get_or ns i 0 → terms_at collection (take (i + 1) ns) ≡ terms_at collection (take i ns) ++ get_or (dictionary collection) n [] ∷ []
 terms_next collection ns i n within is =
     let number : ℕ → List ℕ = λ k. get_or (dictionary collection) k [] in
     ap (map number) (take_more ns i 0 within) ∙ map-append number (take i ns) (get_or ns i 0 ∷ []) ∙ ap (λ k. terms_at collection (take i ns) ++ number k ∷ []) (sym is)
+
+-- ---- the row of a term
+
+term-is : (t : List ℕ) (n : ℕ) → codes "+ " ++ (t ++ (codes " " ++ row n None)) ≡ term_row t n
+unfolding term_row row
+term-is t n = refl
+
+pub term_cut_first : (t : List ℕ) (n : ℕ) (w0 w1 : Option (List ℕ)) (p0 : List ℕ) → GrewByPrefix w0 w1 (p0 ++ codes "+ ") → GrewByPrefix w0 w1 (p0 ++ term_row t n)
+term_cut_first t n w0 w1 p0 grew = subst (λ x. GrewByPrefix w0 w1 (p0 ++ x)) (term-is t n) (pass_part w0 w1 p0 (codes "+ ") (t ++ (codes " " ++ row n None)) grew)
+
+pub term_cut_second : (t : List ℕ) (n : ℕ) (w0 w1 w2 : Option (List ℕ)) (p0 p1 : List ℕ) → Passed w0 w1 p0 p1 (codes "+ ") → GrewByPrefix w1 w2 (p1 ++ t) → GrewByPrefix w0 w2 (p0 ++ term_row t n)
+term_cut_second t n w0 w1 w2 p0 p1 first grew =
+    subst (λ x. GrewByPrefix w0 w2 (p0 ++ x)) (term-is t n)
+    (pass_cut w0 w1 w2 p0 p1 (codes "+ ") (t ++ (codes " " ++ row n None)) first (pass_part w1 w2 p1 t (codes " " ++ row n None) grew))
+
+pub term_cut_third : (t : List ℕ) (n : ℕ) (w0 w1 w2 w3 : Option (List ℕ)) (p0 p1 p2 : List ℕ) → Passed w0 w1 p0 p1 (codes "+ ") → Passed w1 w2 p1 p2 t → GrewByPrefix w2 w3 (p2 ++ codes " ") → GrewByPrefix w0 w3 (p0 ++ term_row t n)
+term_cut_third t n w0 w1 w2 w3 p0 p1 p2 first second grew =
+    subst (λ x. GrewByPrefix w0 w3 (p0 ++ x)) (term-is t n)
+    (pass_cut w0 w1 w3 p0 p1 (codes "+ ") (t ++ (codes " " ++ row n None)) first (pass_cut w1 w2 w3 p1 p2 t (codes " " ++ row n None) second (pass_part w2 w3 p2 (codes " ") (row n None) grew)))
+
+pub term_passed : {T E : Type 0} (t : List ℕ) (n : ℕ) (w0 w1 w2 w3 w4 : Option (List ℕ)) (p0 p1 p2 p3 p4 : List ℕ) (r : Result T E) → Passed w0 w1 p0 p1 (codes "+ ") → Passed w1 w2 p1 p2 t → Passed w2 w3 p2 p3 (codes " ") → AfterPass w3 w4 p3 p4 (row n None) r → AfterPass w0 w4 p0 p4 (term_row t n) r
+term_passed t n w0 w1 w2 w3 w4 p0 p1 p2 p3 p4 r first second third last =
+    subst (λ x. AfterPass w0 w4 p0 p4 x r) (term-is t n)
+    (pass_more w0 w1 w4 p0 p1 p4 (codes "+ ") (t ++ (codes " " ++ row n None)) r first
+    (pass_more w1 w2 w4 p1 p2 p4 t (codes " " ++ row n None) r second (pass_more w2 w3 w4 p2 p3 p4 (codes " ") (row n None) r third last)))
 
 -- ---- the rows of terms
 
