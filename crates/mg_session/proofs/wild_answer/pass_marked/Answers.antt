@@ -30,5 +30,5 @@ returns-in-Err-clause-content g c =
 
 pub returns-clause-content : goal.returns-clause-content
 returns-clause-content g c =
-    let none = (rw c.in-None.is at c.next_behind.ensures) in
+    let none = (rw c.in_default.is at c.next_behind.ensures) in
     rows_counted c.args.marked.now c.rows.last c.rows.total _ _ _ _ _ _ c.count.result c.rows.invariant.most none c.rows.invariant.size c.rows.invariant.passed c.count.ensures.content
