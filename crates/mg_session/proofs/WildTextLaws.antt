@@ -1,5 +1,5 @@
 -- The answer to a pattern: its terms, their lists, and what is printed of both.
-use Rattle.std.proofs.Common.{arith, ◌≡◌, ◌≢◌, ℕ, zero, suc, ◌+◌, ◌-◌, ◌<◌, ◌≤◌, ◌∙◌, Bool, true, false, List, [], ◌∷◌, ◌++◌, length, get_or, slice_get, map, take, drop, filter, codes, Some, None, Ok, Err, inl, inr, refl, sym, ap, subst, append_assoc, append-nil, add-one}
+use Rattle.std.proofs.Common.{arith, ◌≡◌, ◌≢◌, ℕ, zero, suc, ◌+◌, ◌-◌, ◌<◌, ◌≤◌, ◌∙◌, true, false, List, [], ◌∷◌, ◌++◌, length, get_or, slice_get, map, take, drop, filter, codes, Some, None, Err, inl, inr, refl, sym, ap, subst, append_assoc, append-nil, add-one}
 use Rattle.std.specs.Prelude.{◌||◌}
 use Rattle.std.specs.List.{flat_map, list_any}
 use Rattle.std.specs.declared.option.Option.{Option}
@@ -14,9 +14,7 @@ use Rattle.mg_dev.specs.Streams.{AfterPut, GrewByPrefix}
 use Rattle.mg_dev.specs.StreamLaws.{grew_first, grew_nothing}
 use Rattle.mg_dev.specs.declared.part.Part.{Part}
 use Rattle.mg_dev.specs.declared.part.Part.TheVariants as part
-use Rattle.mg_dev.specs.declared.part_err.PartErr.TheVariants.{Memory}
 use Rattle.mg_dev.specs.declared.show_err.ShowErr.{ShowErr}
-use Rattle.mg_dev.specs.declared.show_err.ShowErr.TheVariants as show
 use Rattle.mg_defs.specs.Lexicon as defs
 use Rattle.mg_defs.specs.Patterns.{Pattern, has_match, matches, matching}
 use Rattle.mg_defs.specs.Rotations.{matching_numbers}
@@ -36,7 +34,6 @@ use Rattle.mg_text.specs.Reading.{ShowIsNotBad}
 use Rattle.mg_wild.specs.Loading.{HasTermsOf, TellsOf}
 use Rattle.mg_wild.specs.Terms.{LexTerms}
 use Rattle.mg_session.specs.DocumentSets.{DocumentMarks, IsNextBehind, has_doc, marked_to}
-use Rattle.mg_session.specs.Parts.{NeverRead}
 use Rattle.mg_session.specs.WildAnswers.{NeverReadByPatterns, ReadsNoText, WildAnswered, WildSources}
 use Rattle.mg_session.specs.WildMarks.{AddsLists, term_rows, terms_at}
 use Rattle.mg_session.proofs.MarkLaws.{marked_end, marked_hit, marked_miss, marked_next, marked_none}
@@ -75,8 +72,8 @@ numbers_from p bound n (t ∷ ts) is =
     ]
 
 -- they are numbers of terms
-pub numbers_below : (p : Pattern) (terms : List (List ℕ)) (ns : List ℕ) (bound : ℕ) → ns ≡ matching_numbers p 0 terms → bound ≡ length terms → AreBelow bound ns
-numbers_below p terms ns bound is size = subst (AreBelow bound) (sym is) (numbers_from p bound 0 terms (omega (arith, size)))
+pub numbers_below : (p : Pattern) (terms : List (List ℕ)) (ns : List ℕ) → ns ≡ matching_numbers p 0 terms → AreBelow (length terms) ns
+numbers_below p terms ns is = subst (AreBelow (length terms)) (sym is) (numbers_from p (length terms) 0 terms (omega arith))
 
 term_here : (front rest : List (List ℕ)) (t : List ℕ) (n : ℕ) → n ≡ length front → get_or (front ++ (t ∷ rest)) n [] ≡ t
 term_here front rest t n is = ap (λ k. get_or (front ++ (t ∷ rest)) k []) is ∙ at front
@@ -116,9 +113,9 @@ matching_terms collection p terms ns is same =
 
 -- ---- what is told of a term
 
-pub told_info : (collection : List ℕ) (r : LexTerms) (n : ℕ) (info : TermInfo) → HasTermsOf r collection → TellsOf r collection → n < length r.infos → slice_get r.infos n ≡ Some info → info.number ≡ n → IsInfoOf collection (get_or (dictionary collection) n []) info
+pub told_info : (collection : List ℕ) (r : LexTerms) (n : ℕ) (info : TermInfo) → HasTermsOf r collection → TellsOf r collection → n < length r.terms → slice_get r.infos n ≡ Some info → info.number ≡ n → IsInfoOf collection (get_or (dictionary collection) n []) info
 told_info collection r n info has tells within is number =
-    let there : slice_get (dictionary collection) n ≡ Some (get_or (dictionary collection) n []) = slice_get-get_or (dictionary collection) n [] (omega (arith, within, has.each)) in
+    let there : slice_get (dictionary collection) n ≡ Some (get_or (dictionary collection) n []) = slice_get-get_or (dictionary collection) n [] (omega (arith, within, ap length has.terms)) in
     record {
       number = ap (slice_get (dictionary collection)) number ∙ there;
       is = tells n info (get_or (dictionary collection) n []) is there ∙ ap (λ k. defs.info_of collection k (get_or (dictionary collection) n [])) (sym number);

@@ -92,7 +92,8 @@ fn mark_all<S: Store>(
     all: u32,
     marked: &mut DocumentSet,
 ) -> Result<(), PartErr>
-    requires infos { All (λ n. n < length terms.now.infos) numbers.now }
+    requires each { length terms.now.infos ≡ length terms.now.terms }
+    requires terms { All (λ n. n < length terms.now.terms) numbers.now }
     requires room { marked.old.all ≡ all }
     ensures room { marked.new.all ≡ all }
     ensures answer { (collection : List ℕ) → WildSources base.now (S.files store.old) terms.now all collection →
@@ -142,8 +143,8 @@ fn pass_terms<O: Sink>(
     terms: &Rotated,
     numbers: &[u32],
 ) -> Result<(), PutErr>
+    requires each { length terms.now.infos ≡ length terms.now.terms }
     requires terms { All (λ n. n < length terms.now.terms) numbers.now }
-    requires infos { All (λ n. n < length terms.now.infos) numbers.now }
     ensures content { (collection : List ℕ) → HasTermsOf terms.now collection → TellsOf terms.now collection →
         AfterPass (O.written out.old) (O.written out.new) pending.old pending.new (term_rows collection (terms_at collection numbers.now)) result }
     ensures cause { HasPutCause (O.faults out.old) (O.faults out.new) result }

@@ -1,6 +1,5 @@
-use Rattle.std.proofs.Common.{arith, ◌≡◌, ◌<◌, ◌∙◌, length, refl, ap, sym}
-use Rattle.mg_session.specs.DocumentSets.{DocumentMarks}
-use Rattle.mg_session.proofs.ReplyLaws.{memory_sound, part_sound, put_sound}
+use Rattle.std.proofs.Common.{◌∙◌}
+use Rattle.mg_session.proofs.ReplyLaws.{part_sound, put_sound}
 use Rattle.mg_session.proofs.WildTextLaws.{lists_read, matched, nothing_read, numbers_below, wild_end, wild_marked_cut, wild_stop, wild_terms_cut}
 use Rattle.mg_session.proofs.wild_answer.answer_pattern.Goals as goal
 
@@ -10,14 +9,11 @@ returns-in-Err-clause-answer g c = λ collection sources. wild_stop collection _
 pub returns-in-Err-clause-step : goal.returns-in-Err-clause-step
 returns-in-Err-clause-step g c = nothing_read _ _ _
 
-pub mark_all-requires-clause-infos : goal.mark_all-requires-clause-infos
-mark_all-requires-clause-infos g c = numbers_below _ c.args.terms.now.terms _ (length c.args.terms.now.infos) (c.as_slice-numbers.ensures ∙ c.in-Ok.ensures) c.requires.each
-
-pub pass_terms-requires-clause-infos : goal.pass_terms-requires-clause-infos
-pass_terms-requires-clause-infos g c = numbers_below _ c.args.terms.now.terms _ (length c.args.terms.now.infos) (c.as_slice-numbers.ensures ∙ c.in-Ok.ensures) c.requires.each
+pub mark_all-requires-clause-terms : goal.mark_all-requires-clause-terms
+mark_all-requires-clause-terms g c = numbers_below _ c.args.terms.now.terms _ (c.as_slice-numbers.ensures ∙ c.in-Ok.ensures)
 
 pub pass_terms-requires-clause-terms : goal.pass_terms-requires-clause-terms
-pass_terms-requires-clause-terms g c = numbers_below _ c.args.terms.now.terms _ (length c.args.terms.now.terms) (c.as_slice-numbers.ensures ∙ c.in-Ok.ensures) refl
+pass_terms-requires-clause-terms g c = numbers_below _ c.args.terms.now.terms _ (c.as_slice-numbers.ensures ∙ c.in-Ok.ensures)
 
 pub returns-in-Err-mark_all-clause-answer : goal.returns-in-Err-mark_all-clause-answer
 returns-in-Err-mark_all-clause-answer g c = λ collection sources. wild_stop collection _ _ _ (part_sound c.in-Err-mark_all.refusal _ _ c.from.ensures (c.in-Err-mark_all.ensures.answer collection sources))

@@ -1,4 +1,4 @@
-use Rattle.std.proofs.Common.{arith, ◌≡◌, ◌<◌, ◌∷◌, [], get_or, length, sym, ◌∙◌, ap, subst, refl}
+use Rattle.std.proofs.Common.{arith, ◌∷◌, [], get_or, sym, ◌∙◌, subst, refl}
 use Rattle.std.proofs.lemmas.List.{take_all}
 use Rattle.mg_defs.specs.Terms.{dictionary}
 use Rattle.mg_post.specs.TermLists.{ListsStand}
@@ -17,7 +17,7 @@ loop-number-init g c = record {
 }
 
 pub info-info-requires : goal.info-info-requires
-info-info-requires g c = c.requires.infos c.loop-number.number-index 0 c.loop-number-test.true
+info-info-requires g c = omega (arith, c.requires.terms c.loop-number.number-index 0 c.loop-number-test.true, c.requires.each)
 
 pub loop-number-preserved : goal.loop-number-preserved
 loop-number-preserved g c =
@@ -32,7 +32,7 @@ loop-number-preserved g c =
       faults = omega (arith, inv.faults, c.in-Ok.ensures.cause.later);
       added = λ collection sources.
           let stand = subst (λ fs. ListsStand c.args.base.now fs collection) (sym inv.files) sources.lists in
-          let told = told_info collection c.args.terms.now (get_or c.args.numbers.now c.loop-number.number-index 0) c.info-info.result sources.terms_are sources.infos_are (c.requires.infos c.loop-number.number-index 0 c.loop-number-test.true) c.info-info.ensures.info c.info-info.ensures.number in
+          let told = told_info collection c.args.terms.now (get_or c.args.numbers.now c.loop-number.number-index 0) c.info-info.result sources.terms_are sources.infos_are (c.requires.terms c.loop-number.number-index 0 c.loop-number-test.true) c.info-info.ensures.info c.info-info.ensures.number in
           let t = get_or (dictionary collection) (get_or c.args.numbers.now c.loop-number.number-index 0) [] in
           subst (λ ts. AddsLists collection ts c.args.marked.now c.mark_list.new.marked) (sym (terms_next collection c.args.numbers.now c.loop-number.number-index (get_or c.args.numbers.now c.loop-number.number-index 0) c.loop-number-test.true refl))
           (adds_more collection _ (t ∷ []) c.args.marked.now c.loop-number.marked c.mark_list.new.marked (inv.added collection sources) (c.in-Ok.ensures.answer collection t stand told sources.all_is));
@@ -42,7 +42,7 @@ pub returns-in-Err-clause-answer : goal.returns-in-Err-clause-answer
 returns-in-Err-clause-answer g c = λ collection sources.
     let inv = c.loop-number.invariant in
     let stand = subst (λ fs. ListsStand c.args.base.now fs collection) (sym inv.files) sources.lists in
-    let told = told_info collection c.args.terms.now (get_or c.args.numbers.now c.loop-number.number-index 0) c.info-info.result sources.terms_are sources.infos_are (c.requires.infos c.loop-number.number-index 0 c.loop-number-test.true) c.info-info.ensures.info c.info-info.ensures.number in
+    let told = told_info collection c.args.terms.now (get_or c.args.numbers.now c.loop-number.number-index 0) c.info-info.result sources.terms_are sources.infos_are (c.requires.terms c.loop-number.number-index 0 c.loop-number-test.true) c.info-info.ensures.info c.info-info.ensures.number in
     or_or c.in-Err.refusal _ _ (c.in-Err.ensures.answer collection (get_or (dictionary collection) (get_or c.args.numbers.now c.loop-number.number-index 0) []) stand told sources.all_is)
 
 pub returns-clause-answer : goal.returns-clause-answer

@@ -1,5 +1,4 @@
-use Rattle.std.proofs.Common.{arith, ◌≡◌, ◌≤◌, ◌<◌, ◌+◌, length, sym, ◌∙◌, subst, refl}
-use Rattle.mg_defs.specs.Split.{documents}
+use Rattle.std.proofs.Common.{arith, ◌≤◌, ◌<◌, ◌+◌, sym, ◌∙◌, subst, refl}
 use Rattle.mg_defs.specs.Lists.{postings}
 use Rattle.mg_defs.specs.PageBounds.{numbers_in}
 use Rattle.mg_post.specs.TermLists.{ListsStand}

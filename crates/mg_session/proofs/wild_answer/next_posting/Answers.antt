@@ -1,4 +1,3 @@
-use Rattle.std.proofs.Common.{arith}
 use Rattle.mg_defs.specs.Lists.{postings}
 use Rattle.mg_defs.specs.PageBounds.{numbers_in}
 use Rattle.mg_session.proofs.WildListLaws.{may_ask}

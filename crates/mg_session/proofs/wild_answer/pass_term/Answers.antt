@@ -1,5 +1,3 @@
-use Rattle.std.proofs.Common.{◌++◌, None, codes}
-use Rattle.mg_defs.specs.Texts.{row}
 use Rattle.mg_session.proofs.WildTextLaws.{term_cut_first, term_cut_second, term_cut_third, term_passed}
 use Rattle.mg_session.proofs.wild_answer.pass_term.Goals as goal
 
