@@ -17,3 +17,6 @@ pub mod PhraseStepLaws
 pub mod WildReplyLaws
 pub mod WildSetLaws
 pub mod WildStopLaws
+pub mod MarkLaws
+pub mod WildListLaws
+pub mod WildTextLaws

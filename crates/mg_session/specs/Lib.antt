@@ -11,3 +11,5 @@ pub mod WildAnswers
 pub mod WildSearching
 pub mod WildSearchLaws
 pub mod WildServes
+pub mod DocumentSets
+pub mod WildMarks

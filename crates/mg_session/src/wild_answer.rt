@@ -1,15 +1,191 @@
-//! The answer to a pattern.
-ghost use Rattle.std.specs.Prelude.{◌≡◌, ℕ, List};
-ghost use Rattle.mg_session.specs.Answering.{HasShowCause};
-ghost use Rattle.mg_session.specs.WildAnswers.{ReadsNoText, WildAnswered, WildSources};
+//! The answer to a pattern: the terms that match it, and the documents that have one of them.
+ghost use Rattle.std.specs.Prelude.{◌≡◌, ◌≢◌, ℕ, ◌+◌, ◌-◌, ◌^◌, ◌<◌, List, [], ◌∷◌, All, Err, IfOk, IfSome, OnOk, length};
+ghost use Rattle.mg_dev.specs.Causes.{HasPutCause};
+ghost use Rattle.mg_dev.specs.PartCauses.{HasPartCause};
+ghost use Rattle.mg_defs.specs.Lists.{postings};
+ghost use Rattle.mg_defs.specs.PageBounds.{numbers_in};
+ghost use Rattle.mg_defs.specs.Split.{documents};
+ghost use Rattle.mg_defs.specs.WildSession.{numbers_text, term_row};
+ghost use Rattle.mg_post.specs.Answers.{AnswersList};
+ghost use Rattle.mg_post.specs.Cursor.{CursorFits, IsFrom, SameList};
+ghost use Rattle.mg_post.specs.TermLists.{AnswersAsk, IsInfoOf, ListsStand, ReadsLists};
+ghost use Rattle.mg_rank.specs.Ranked.{AnswersOr, ListFor};
+ghost use Rattle.mg_reply.specs.Pending.{AfterPass};
+ghost use Rattle.mg_wild.specs.Loading.{HasTermsOf, TellsOf};
 ghost use Rattle.mg_wild.specs.Patterns.{sides_of};
+ghost use Rattle.mg_session.specs.Answering.{HasShowCause};
+ghost use Rattle.mg_session.specs.DocumentSets.{marked_to};
+ghost use Rattle.mg_session.specs.WildAnswers.{ReadsNoText, WildAnswered, WildSources};
+ghost use Rattle.mg_session.specs.WildMarks.{AddsLists, term_rows, terms_at};
 
 use crate::document_set::DocumentSet;
-use mg_dev::{PartErr, ShowErr, Sink, Store};
+use mg_defs::Posting;
+use mg_dev::{PartErr, PutErr, ShowErr, Sink, Store};
+use mg_layout::TermInfo;
+use mg_post::Cursor;
+use mg_reply::Pending;
 use mg_wild::{Pattern, Rotated};
 use std::alloc::Global;
 
-/// Shows the terms that match a pattern, and the documents that have one of them.
+/// The first posting of a list behind a document.
+fn next_posting<S: Store>(
+    cursor: &mut Cursor<'_, S>,
+    store: &mut S,
+    last: u32,
+) -> Result<Option<Posting>, PartErr>
+    requires fits { CursorFits cursor.old (S.files store.old) }
+    requires few { last < 2 ^ 32 - 1 }
+    ensures fits { OnOk result (CursorFits cursor.new (S.files store.new)) }
+    ensures same { SameList cursor.old cursor.new }
+    ensures answer { (base collection t : List ℕ) → ListsStand base (S.files store.old) collection → ListFor base collection t last cursor.old →
+        AnswersList result (λ found. AnswersAsk base collection (numbers_in (postings collection t)) t (last + 1) found cursor.new) }
+    ensures sound { IfOk result (λ found. IfSome found (IsFrom (last + 1) cursor.old.all)) }
+    ensures reads { ReadsLists (S.reads store.old) (S.reads store.new) }
+    ensures files { S.files store.new ≡ S.files store.old }
+    ensures memory { result ≢ Err PartErr.Memory }
+    ensures cause { HasPartCause (S.faults store.old) (S.faults store.new) result }
+{
+    cursor.ask(store, last + 1)
+}
+
+/// Marks the documents of a term's list.
+fn mark_list<S: Store>(
+    alloc: Global,
+    store: &mut S,
+    base: &str,
+    info: &TermInfo,
+    all: u32,
+    marked: &mut DocumentSet,
+) -> Result<(), PartErr>
+    requires room { marked.old.all ≡ all }
+    ensures room { marked.new.all ≡ all }
+    ensures answer { (collection t : List ℕ) → ListsStand base.now (S.files store.old) collection → IsInfoOf collection t info.now →
+        all ≡ length (documents collection) → AnswersOr result (λ _. AddsLists collection (t ∷ []) marked.old marked.new) }
+    ensures reads { ReadsLists (S.reads store.old) (S.reads store.new) }
+    ensures files { S.files store.new ≡ S.files store.old }
+    ensures cause { HasPartCause (S.faults store.old) (S.faults store.new) result }
+{
+    let mut cursor = match Cursor::start(alloc, base, info, all) {
+        Ok(cursor) => cursor,
+        Err(_lack) => return Err(PartErr::Memory),
+    };
+    let mut last = 0;
+    while last < all {
+        let posting = match next_posting(&mut cursor, store, last) {
+            Ok(Some(posting)) => posting,
+            Ok(None) => return Ok(()),
+            Err(refusal) => return Err(refusal),
+        };
+        marked.mark(posting.doc);
+        last = posting.doc;
+    }
+    Ok(())
+}
+
+/// Marks the documents that have one of the terms with these numbers.
+fn mark_all<S: Store>(
+    alloc: Global,
+    store: &mut S,
+    base: &str,
+    terms: &Rotated,
+    numbers: &[u32],
+    all: u32,
+    marked: &mut DocumentSet,
+) -> Result<(), PartErr>
+    requires each { length terms.now.infos ≡ length terms.now.terms }
+    requires terms { All (λ n. n < length terms.now.terms) numbers.now }
+    requires room { marked.old.all ≡ all }
+    ensures room { marked.new.all ≡ all }
+    ensures answer { (collection : List ℕ) → WildSources base.now (S.files store.old) terms.now all collection →
+        AnswersOr result (λ _. AddsLists collection (terms_at collection numbers.now) marked.old marked.new) }
+    ensures reads { ReadsLists (S.reads store.old) (S.reads store.new) }
+    ensures files { S.files store.new ≡ S.files store.old }
+    ensures cause { HasPartCause (S.faults store.old) (S.faults store.new) result }
+{
+    for number in numbers {
+        let info = terms.info(*number);
+        match mark_list(alloc, store, base, &info, all, marked) {
+            Ok(()) => {}
+            Err(refusal) => return Err(refusal),
+        }
+    }
+    Ok(())
+}
+
+/// Passes on a term that matches, and how many documents have it.
+fn pass_term<O: Sink>(
+    pending: &mut Pending,
+    out: &mut O,
+    term: &[u8],
+    docs: u32,
+) -> Result<(), PutErr>
+    ensures content { AfterPass (O.written out.old) (O.written out.new) pending.old pending.new (term_row term.now docs) result }
+    ensures cause { HasPutCause (O.faults out.old) (O.faults out.new) result }
+{
+    match pending.put(out, b"+ ") {
+        Ok(()) => {}
+        Err(refusal) => return Err(refusal),
+    }
+    match pending.put(out, term) {
+        Ok(()) => {}
+        Err(refusal) => return Err(refusal),
+    }
+    match pending.put(out, b" ") {
+        Ok(()) => pending.row(out, docs, None),
+        Err(refusal) => Err(refusal),
+    }
+}
+
+/// Passes on the terms with these numbers, each with how many documents have it.
+fn pass_terms<O: Sink>(
+    pending: &mut Pending,
+    out: &mut O,
+    terms: &Rotated,
+    numbers: &[u32],
+) -> Result<(), PutErr>
+    requires each { length terms.now.infos ≡ length terms.now.terms }
+    requires terms { All (λ n. n < length terms.now.terms) numbers.now }
+    ensures content { (collection : List ℕ) → HasTermsOf terms.now collection → TellsOf terms.now collection →
+        AfterPass (O.written out.old) (O.written out.new) pending.old pending.new (term_rows collection (terms_at collection numbers.now)) result }
+    ensures cause { HasPutCause (O.faults out.old) (O.faults out.new) result }
+{
+    for number in numbers {
+        let info = terms.info(*number);
+        match pass_term(pending, out, terms.term(*number), info.docs) {
+            Ok(()) => {}
+            Err(refusal) => return Err(refusal),
+        }
+    }
+    Ok(())
+}
+
+/// Passes on the rows of the marked documents, and how many they are.
+fn pass_marked<O: Sink>(
+    pending: &mut Pending,
+    out: &mut O,
+    marked: &DocumentSet,
+) -> Result<(), PutErr>
+    ensures content { AfterPass (O.written out.old) (O.written out.new) pending.old pending.new
+        (numbers_text (marked_to marked.now marked.now.all)) result }
+    ensures cause { HasPutCause (O.faults out.old) (O.faults out.new) result }
+{
+    let mut last = 0;
+    let mut total = 0u32;
+    'rows: while let Some(number) = marked.next_behind(last) {
+        match pending.row(out, number, None) {
+            Ok(()) => {}
+            Err(refusal) => return Err(refusal),
+        }
+        total += 1;
+        last = number;
+    }
+    pending.count(out, total)
+}
+
+/// Shows the terms that match a pattern, each with how many documents have it, and then the documents
+/// that have one of them, rising, and how many they are. All lists are read before anything is shown.
+///
+/// `all` is the number of documents; `marked` has room for them, and is cleared first.
 pub(crate) fn answer_pattern<S: Store, O: Sink>(
     alloc: Global,
     store: &mut S,
@@ -20,6 +196,7 @@ pub(crate) fn answer_pattern<S: Store, O: Sink>(
     all: u32,
     out: &mut O,
 ) -> Result<(), ShowErr>
+    requires each { length terms.now.infos ≡ length terms.now.terms }
     requires room { marked.old.all ≡ all }
     ensures room { marked.new.all ≡ all }
     ensures answer { (collection : List ℕ) → WildSources base.now (S.files store.old) terms.now all collection →
@@ -27,5 +204,27 @@ pub(crate) fn answer_pattern<S: Store, O: Sink>(
     ensures step { ReadsNoText (S.files store.old) (S.files store.new) (S.reads store.old) (S.reads store.new) (S.faults store.old) (S.faults store.new) }
     ensures cause { HasShowCause result (S.faults store.old) (S.faults store.new) (O.faults out.old) (O.faults out.new) }
 {
-    Err(ShowErr::Part(PartErr::Memory))
+    let matching = match terms.matching(alloc, pattern) {
+        Ok(matching) => matching,
+        Err(_) => return Err(ShowErr::Part(PartErr::Memory)),
+    };
+    let numbers = matching.as_slice();
+    marked.clear();
+    match mark_all(alloc, store, base, terms, numbers, all, marked) {
+        Ok(()) => {}
+        Err(refusal) => return Err(ShowErr::from(refusal)),
+    }
+    let mut pending = Pending::new();
+    match pass_terms(&mut pending, out, terms, numbers) {
+        Ok(()) => {}
+        Err(refusal) => return Err(ShowErr::from(refusal)),
+    }
+    match pass_marked(&mut pending, out, marked) {
+        Ok(()) => {}
+        Err(refusal) => return Err(ShowErr::from(refusal)),
+    }
+    match pending.flush(out) {
+        Ok(()) => Ok(()),
+        Err(refusal) => Err(ShowErr::from(refusal)),
+    }
 }

@@ -1,0 +1,140 @@
+-- A cursor that goes over the whole list of a term, and the documents that are marked meanwhile.
+use Rattle.std.proofs.Common.{arith, ◌≡◌, ℕ, ◌+◌, ◌<◌, ◌≤◌, ◌==◌, ◌∙◌, Bool, true, false, List, [], ◌∷◌, ◌++◌, length, Some, None, Err, nat_eq, inl, inr, refl, sym, ap}
+use Rattle.std.specs.Prelude.{◌||◌}
+use Rattle.std.specs.List.{list_any}
+use Rattle.std.specs.declared.option.Option.{Option}
+use Rattle.std.proofs.lemmas.Bool.{cases_eq, cases_lt, eq-eqb, ne_eqb, or_right}
+use Rattle.std.proofs.lemmas.List.Folds.{list_any-append}
+use Rattle.mg_dev.specs.Files.{Files}
+use Rattle.mg_dev.specs.declared.part_err.PartErr.{PartErr}
+use Rattle.mg_dev.specs.declared.part_err.PartErr.TheVariants.{Device, Memory, Bad}
+use Rattle.mg_defs.specs.declared.Posting.{Posting}
+use Rattle.mg_defs.specs.Split.{documents}
+use Rattle.mg_defs.specs.Terms.{document}
+use Rattle.mg_defs.specs.Weights.{has_term}
+use Rattle.mg_defs.specs.Lists.{postings, from_doc}
+use Rattle.mg_defs.specs.PageBounds.{numbers_in}
+use Rattle.mg_defs.proofs.ListLaws.{from_here, list_rises}
+use Rattle.mg_post.specs.Answers.{AnswersList}
+use Rattle.mg_post.specs.Cursor.{Cursoring, head_of}
+use Rattle.mg_post.specs.TermLists.{ListsStand, MayAsk}
+use Rattle.mg_laws.proofs.LedLists.{first_of, is_number, posting_is}
+use Rattle.mg_laws.proofs.MetBlocks.{from_from, own_met}
+use Rattle.mg_rank.specs.Ranked.{AnswersOr, ListFor}
+use Rattle.mg_session.specs.DocumentSets.{DocumentMarks, has_doc}
+use Rattle.mg_session.specs.WildMarks.{AddsLists}
+
+-- ---- a cursor over a whole list
+
+pub list_later : (base collection t : List ℕ) (m n : ℕ) (c : Cursoring) → ListFor base collection t m c → m ≤ n → ListFor base collection t n c
+list_later base collection t m n c f le = record { number = f.number; term = f.term; over = f.over; parameter = f.parameter; reached_doc = f.reached_doc; early = omega (arith, f.early, le); at = f.at; first = f.first; within = f.within }
+
+-- a list may be asked for the document after its last one
+pub may_ask : (base collection t : List ℕ) (last : ℕ) (files : Option Files) (c : Cursoring) → ListsStand base files collection → ListFor base collection t last c → MayAsk base collection (numbers_in (postings collection t)) t (last + 1) files c
+may_ask base collection t last files c stand f = record {
+  stand = stand;
+  cursor = list_later base collection t last (last + 1) c f (omega arith);
+  among = λ k range. own_met (length (documents collection)) k (last + 1) (postings collection t) (list_rises collection t stand.short) range;
+}
+
+-- ---- the head of a list from a document on
+
+first_kept : (d : ℕ) (q : List Posting) (p : Posting) → head_of q ≡ Some p → d ≤ p.doc → from_doc d q ≡ q
+first_kept d [] p is le = absurd cc
+first_kept d (h ∷ q) p is le = let same : h ≡ p = cc in from_here d h q (omega (arith, ap (λ (x : Posting). x.doc) same, le))
+
+first_head : (q : List Posting) (p : Posting) → head_of q ≡ Some p → first_of q ≡ Some p.doc
+first_head [] p is = absurd cc
+first_head (h ∷ q) p is = let same : h ≡ p = cc in ap (λ (x : Posting). Some x.doc) same
+
+no_first : (d : ℕ) (q : List Posting) → head_of q ≡ None → first_of (from_doc d q) ≡ None
+unfolding from_doc
+no_first d [] is = refl
+no_first d (h ∷ q) is = absurd cc
+
+-- the list from a later document on, up to the first one
+later : (last d : ℕ) (ps : List Posting) (p : Posting) → head_of (from_doc (last + 1) ps) ≡ Some p → last < d → d ≤ p.doc → from_doc d ps ≡ from_doc (last + 1) ps
+later last d ps p is low high = sym (from_from (last + 1) d ps (omega (arith, low))) ∙ first_kept d (from_doc (last + 1) ps) p is high
+
+has_at : (collection t : List ℕ) (last d : ℕ) (p : Posting) → head_of (from_doc (last + 1) (postings collection t)) ≡ Some p → last < d → d ≤ p.doc → d ≤ length (documents collection) → has_term (document collection d) t ≡ nat_eq p.doc d
+has_at collection t last d p is low high le =
+    sym (posting_is collection t d (omega (arith, low)) le) ∙ ap (λ l. is_number (first_of l) d) (later last d (postings collection t) p is low high) ∙ ap (λ o. is_number o d) (first_head (from_doc (last + 1) (postings collection t)) p is)
+
+pub none_at : (collection t : List ℕ) (last d : ℕ) → head_of (from_doc (last + 1) (postings collection t)) ≡ None → last < d → d ≤ length (documents collection) → has_term (document collection d) t ≡ false
+none_at collection t last d is low le =
+    sym (posting_is collection t d (omega (arith, low)) le) ∙ ap (λ o. is_number o d) (ap first_of (sym (from_from (last + 1) d (postings collection t) (omega (arith, low)))) ∙ no_first d (from_doc (last + 1) (postings collection t)) is)
+
+-- ---- while a list is gone through
+
+or_none : (b : Bool) → (b || false) ≡ b
+or_none true = refl
+or_none false = refl
+
+or_then : (a b c : Bool) → ((a || b) || c) ≡ (a || (b || c))
+or_then true b c = refl
+or_then false b c = refl
+
+-- those of its documents were marked that are no later than the last one
+pub record Marking (collection t : List ℕ) (last : ℕ) (old new : DocumentMarks) : Type 0 where
+  pub near : (doc : ℕ) → 1 ≤ doc → doc ≤ last → has_doc new doc ≡ (has_doc old doc || has_term (document collection doc) t)
+  pub far : (doc : ℕ) → 1 ≤ doc → last < doc → has_doc new doc ≡ has_doc old doc
+
+pub marking_start : (collection t : List ℕ) (marks : DocumentMarks) → Marking collection t 0 marks marks
+marking_start collection t marks = record { near = λ doc some within. absurd (omega (arith, some, within)); far = λ doc some behind. refl }
+
+pub marking_next : (collection t : List ℕ) (last : ℕ) (old mid new : DocumentMarks) (p : Posting) → Marking collection t last old mid → head_of (from_doc (last + 1) (postings collection t)) ≡ Some p → last < p.doc → p.doc ≤ length (documents collection) →
+    ((other : ℕ) → 1 ≤ other → has_doc new other ≡ (other == p.doc || has_doc mid other)) → Marking collection t p.doc old new
+marking_next collection t last old mid new p walk is low le marked = record {
+  near = λ doc some high. elim (cases_eq doc p.doc) [
+    | inl same ↦ (
+        let hit : has_term (document collection doc) t ≡ true = has_at collection t last doc p is (omega (arith, same, low)) high (omega (arith, same, le)) ∙ eq-eqb p.doc doc (sym same) in
+        marked doc some ∙ ap (λ b. b || has_doc mid doc) (eq-eqb doc p.doc same) ∙ sym (or_right (has_doc old doc) (has_term (document collection doc) t) hit))
+    | inr other ↦ (
+        let kept : has_doc new doc ≡ has_doc mid doc = marked doc some ∙ ap (λ b. b || has_doc mid doc) (ne_eqb doc p.doc other) in
+        elim (cases_lt last doc) [
+          | inl behind ↦ (
+              let miss : has_term (document collection doc) t ≡ false = has_at collection t last doc p is behind high (omega (arith, high, le)) ∙ ne_eqb p.doc doc (λ e. other (sym e)) in
+              kept ∙ walk.far doc some behind ∙ sym (ap (λ b. has_doc old doc || b) miss ∙ or_none (has_doc old doc)))
+          | inr before ↦ kept ∙ walk.near doc some before
+        ])
+  ];
+  far = λ doc some above. marked doc some ∙ ap (λ b. b || has_doc mid doc) (ne_eqb doc p.doc (λ e. omega (arith, e, above))) ∙ walk.far doc some (omega (arith, low, above));
+}
+
+one_list : (doc t : List ℕ) → list_any (has_term doc) (t ∷ []) ≡ has_term doc t
+one_list doc t = or_none (has_term doc t)
+
+-- where no document is left
+pub marking_end : (collection t : List ℕ) (last : ℕ) (old new : DocumentMarks) → Marking collection t last old new → ((doc : ℕ) → last < doc → doc ≤ length (documents collection) → has_term (document collection doc) t ≡ false) → AddsLists collection (t ∷ []) old new
+marking_end collection t last old new walk none = record {
+  each = λ doc some le. elim (cases_lt last doc) [
+    | inl behind ↦ walk.far doc some behind ∙ sym (ap (λ b. has_doc old doc || b) (one_list (document collection doc) t ∙ none doc behind le) ∙ or_none (has_doc old doc))
+    | inr before ↦ walk.near doc some before ∙ ap (λ b. has_doc old doc || b) (sym (one_list (document collection doc) t))
+  ];
+}
+
+-- ---- one list after another
+
+pub adds_none : (collection : List ℕ) (marks : DocumentMarks) → AddsLists collection [] marks marks
+adds_none collection marks = record { each = λ doc some le. sym (or_none (has_doc marks doc)) }
+
+pub adds_more : (collection : List ℕ) (ts us : List (List ℕ)) (old mid new : DocumentMarks) → AddsLists collection ts old mid → AddsLists collection us mid new → AddsLists collection (ts ++ us) old new
+adds_more collection ts us old mid new first then = record {
+  each = λ doc some le.
+      then.each doc some le
+      ∙ ap (λ b. b || list_any (has_term (document collection doc)) us) (first.each doc some le)
+      ∙ or_then (has_doc old doc) (list_any (has_term (document collection doc)) ts) (list_any (has_term (document collection doc)) us)
+      ∙ ap (λ b. has_doc old doc || b) (sym (list_any-append (has_term (document collection doc)) ts us));
+}
+
+-- ---- refusals
+
+pub or_list : {A B : Type 0} (e : PartErr) (f : A → Type 0) (h : B → Type 0) → AnswersList {T = A} (Err e) f → AnswersOr {T = B} (Err e) h
+or_list Device f h got = tt
+or_list Memory f h got = tt
+or_list (Bad bad) f h got = absurd got
+
+pub or_or : {A B : Type 0} (e : PartErr) (f : A → Type 0) (h : B → Type 0) → AnswersOr {T = A} (Err e) f → AnswersOr {T = B} (Err e) h
+or_or Device f h got = tt
+or_or Memory f h got = tt
+or_or (Bad bad) f h got = absurd got

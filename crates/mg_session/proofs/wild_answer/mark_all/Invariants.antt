@@ -1,0 +1,14 @@
+use Rattle.std.proofs.Common.{◌≡◌, ◌≤◌, ℕ, List, take}
+use Rattle.mg_post.specs.TermLists.{ReadsLists}
+use Rattle.mg_session.specs.WildAnswers.{WildSources}
+use Rattle.mg_session.specs.WildMarks.{AddsLists, terms_at}
+use Rattle.mg_session.proofs.wild_answer.mark_all.Given as goal
+
+abbrev pub invariant-loop-number : goal.invariant-loop-number
+invariant-loop-number g l = record {
+  room : l.marked.all ≡ l.all;
+  files : g.S.Store.files l.store ≡ g.S.Store.files l.fn.store;
+  reads : ReadsLists (g.S.Store.reads l.fn.store) (g.S.Store.reads l.store);
+  faults : g.S.Store.faults l.fn.store ≤ g.S.Store.faults l.store;
+  added : (collection : List ℕ) → WildSources l.base (g.S.Store.files l.fn.store) l.terms l.all collection → AddsLists collection (terms_at collection (take l.number-index l.numbers)) l.fn.marked l.marked;
+}

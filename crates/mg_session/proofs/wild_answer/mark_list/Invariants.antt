@@ -1,0 +1,23 @@
+use Rattle.std.proofs.Common.{◌-◌, ◌≡◌, ◌≤◌, ℕ, List, length}
+use Rattle.mg_defs.specs.Split.{documents}
+use Rattle.mg_post.specs.Cursor.{CursorFits}
+use Rattle.mg_post.specs.TermLists.{IsInfoOf, ListsStand, ReadsLists}
+use Rattle.mg_rank.specs.Ranked.{ListFor}
+use Rattle.mg_session.proofs.WildListLaws.{Marking}
+use Rattle.mg_session.proofs.wild_answer.mark_list.Given as goal
+
+abbrev pub invariant-loop-last : goal.invariant-loop-last
+invariant-loop-last g l = record {
+  most : l.last ≤ l.all;
+  room : l.marked.all ≡ l.all;
+  fits : CursorFits l.cursor (g.S.Store.files l.store);
+  all : l.cursor.all ≡ l.all;
+  files : g.S.Store.files l.store ≡ g.S.Store.files l.fn.store;
+  reads : ReadsLists (g.S.Store.reads l.fn.store) (g.S.Store.reads l.store);
+  faults : g.S.Store.faults l.fn.store ≤ g.S.Store.faults l.store;
+  walk : (collection t : List ℕ) → ListsStand l.base (g.S.Store.files l.fn.store) collection → IsInfoOf collection t l.info → l.all ≡ length (documents collection) → Marking collection t l.last l.fn.marked l.marked;
+  list : (collection t : List ℕ) → ListsStand l.base (g.S.Store.files l.fn.store) collection → IsInfoOf collection t l.info → l.all ≡ length (documents collection) → ListFor l.base collection t l.last l.cursor;
+}
+
+abbrev pub decreases-loop-last : goal.decreases-loop-last
+decreases-loop-last g l = l.all - l.last
