@@ -196,7 +196,6 @@ pub(crate) fn answer_pattern<S: Store, O: Sink>(
     all: u32,
     out: &mut O,
 ) -> Result<(), ShowErr>
-    requires each { length terms.now.infos ≡ length terms.now.terms }
     requires room { marked.old.all ≡ all }
     ensures room { marked.new.all ≡ all }
     ensures answer { (collection : List ℕ) → WildSources base.now (S.files store.old) terms.now all collection →
@@ -204,6 +203,8 @@ pub(crate) fn answer_pattern<S: Store, O: Sink>(
     ensures step { ReadsNoText (S.files store.old) (S.files store.new) (S.reads store.old) (S.reads store.new) (S.faults store.old) (S.faults store.new) }
     ensures cause { HasShowCause result (S.faults store.old) (S.faults store.new) (O.faults out.old) (O.faults out.new) }
 {
+    // For the proof: something is told of each term.
+    let _ = terms.len();
     let matching = match terms.matching(alloc, pattern) {
         Ok(matching) => matching,
         Err(_) => return Err(ShowErr::Part(PartErr::Memory)),
