@@ -50,8 +50,7 @@ impl DocumentSet {
         ensures marked { (other : ℕ) → 1 ≤ other → has_doc self.new other ≡ (other == doc || has_doc self.old other) }
     {
         let place = doc as usize - 1;
-        let word = self.words[place / 64];
-        self.words[place / 64] = word | 1u64 << (place % 64);
+        self.words[place / 64] |= 1 << (place % 64);
     }
 
     /// The first document behind one, or from the first document on behind 0.
