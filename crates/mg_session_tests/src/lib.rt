@@ -8,3 +8,5 @@
 mod phrase_tests;
 #[cfg(test)]
 mod tests;
+#[cfg(test)]
+mod wild_tests;

@@ -5,7 +5,7 @@ use std::alloc::{AllocError, Global};
 use std::test::Fail;
 
 // The parts of "the cat sat", "the dog" and "Cat, cat & dog!", each document with its line's end.
-const THREE: [(&str, &[u8]); 10] = [
+pub(crate) const THREE: [(&str, &[u8]); 10] = [
     (
         "set.head",
         b"MGROWv2\n\0\0\0\x03\0\0\0\x05\0\0\0\x05\0\0\0\x04\0\x15UU\0\0\0\0\0\0\0\0\0\0\0'\0\0\0\0\0\0\0\x08\0\0\0\x01\0\0\0\0\0\0\0\0\0\0\0\x08\0\0\0\0\0\0\0\x04\0\0\0\0\0\0\0\x04",
@@ -53,7 +53,7 @@ const ONE: [(&str, &[u8]); 10] = [
     ("set.weights", b"\0\0\x03\0"),
 ];
 
-fn store_of(alloc: Global, parts: &[(&str, &[u8])]) -> Result<MemStore, AllocError> {
+pub(crate) fn store_of(alloc: Global, parts: &[(&str, &[u8])]) -> Result<MemStore, AllocError> {
     let mut store = MemStore::new(alloc);
     for (name, bytes) in parts {
         store.put_file(name, bytes)?;
