@@ -1,12 +1,12 @@
 -- Bits of words as a set of documents.
 use Rattle.std.proofs.Common.{arith, ◌≡◌, ℕ, zero, suc, ◌+◌, ◌-◌, ◌*◌, ◌/◌, ◌%◌, ◌^◌, ◌<◌, ◌≤◌, ◌==◌, true, false, eqb, List, [], ◌∷◌, ◌++◌, length, get_or, set, replicate, Some, None, inl, inr, refl, sym, ◌∙◌, ap, subst, w64, eq-eqb, ne_eqb, length-set, get_or-set_same, get_or-set_other}
-use Rattle.std.specs.Prelude.{◌||◌, bit_or}
+use Rattle.std.specs.Prelude.{◌||◌, bit_and, bit_or}
 use Rattle.std.specs.Int.{bit_at, trailing_zeros}
 use Rattle.std.specs.declared.option.Option.{Option}
 use Rattle.std.proofs.lemmas.Bool.{cases_eq, cases_lt, cond-true, cond-false, true≢false}
 use Rattle.std.proofs.lemmas.List.{get_or-replicate, get_or_past, length-replicate}
 use Rattle.std.proofs.lemmas.Nat.{shr-shr, shr_le}
-use Rattle.std.proofs.lemmas.Nat.Bits.{bit_at-zero, bit_at_above, bit_at_set_same, bit_at_set_other, bit_at-trailing_zeros}
+use Rattle.std.proofs.lemmas.Nat.Bits.{bit_at-zero, bit_at_above, bit_at_set_same, bit_at_set_other, bit_at-trailing_zeros, shr_and_one}
 use Rattle.mg_session.specs.DocumentSets.{AnswersNext, AreMarksOf, DocumentMarks, IsNextBehind, has_doc, is_marked, marked_to}
 
 -- ---- a document that is added
@@ -45,6 +45,11 @@ marks_more all words doc word are some within read = record {
       ∙ ap (λ b. b || is_marked words other) (ne_eqb other doc (λ e. omega (arith, e, far, within)))
       ∙ are.beyond other far;
 }
+
+-- the test of its bit
+pub marked_test : (words : List ℕ) (doc word : ℕ) → word ≡ get_or words ((doc - 1) / 64) 0 → eqb (bit_and (word / 2 ^ ((doc - 1) % 64)) 1) 1 ≡ is_marked words doc
+unfolding is_marked
+marked_test words doc word read = ap (λ x. eqb x 1) (shr_and_one word ((doc - 1) % 64)) ∙ ap (λ x. eqb (bit_at x ((doc - 1) % 64)) 1) read
 
 -- ---- no documents
 
