@@ -53,17 +53,6 @@ impl DocumentSet {
         self.words[place / 64] |= 1 << (place % 64);
     }
 
-    /// Whether it has a document.
-    pub(crate) fn has(&self, doc: u32) -> bool
-        requires some { 1 ≤ doc }
-        requires within { doc ≤ self.now.all }
-        ensures { result ≡ has_doc self.now doc }
-    {
-        let place = doc as usize - 1;
-        let word = self.words[place / 64];
-        word >> (place % 64) & 1 == 1
-    }
-
     /// The first document behind one, or from the first document on behind 0.
     pub(crate) fn next_behind(&self, last: u32) -> Option<u32>
         ensures { AnswersNext last self.now result }

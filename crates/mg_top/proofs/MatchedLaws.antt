@@ -78,7 +78,7 @@ module _ (base : List ℕ) (run : Run) (r : Result (Unit {0}) Fault) (is : run.s
     (untouched : IfErr r (λ fault. IsFirst fault → run.input_now.left ≡ run.input.left))
     (not_built : IsSome run.store.files → bytes_at run.store.files (full_name base part.Head) ≡ [] → RefusedFor r NotBuilt)
     (many : (collection : List ℕ) → Stands run.store.files base collection → most_rotations < rotation_count (dictionary collection)
-        → RefusedFor r (TooManyRotations (rotation_count (dictionary collection)))) where
+    → RefusedFor r (TooManyRotations (rotation_count (dictionary collection)))) where
   pub matched_by : Matched base run
   matched_by = record {
     done = λ collection given stands some end. when_ok _ r (sym is ∙ end) (all collection stands given some);
