@@ -48,7 +48,7 @@ only_memory s i o files base collection given left Memory cause stands few is sh
 only_memory s i o files base collection given left (NameClash p) cause stands few is short no_store no_input no_output = absurd cause
 only_memory s i o files base collection given left InputTooLong cause stands few is short no_store no_input no_output = absurd (true_is_not_false (sym (cause given is) ∙ short))
 only_memory s i o files base collection given left SameName cause stands few is short no_store no_input no_output = absurd cause
-only_memory s i o files base collection given left (TooManyRotations count) cause stands few is short no_store no_input no_output = let told : count ≡ rotation_count (dictionary collection) = cause.2 collection stands in absurd (omega (arith, cause.1, told, few))
+only_memory s i o files base collection given left (TooManyRotations count) cause stands few is short no_store no_input no_output = let told : count ≡ rotation_count (dictionary collection) = cause.1 collection stands in absurd (omega (arith, cause.0, told, few))
 
 done_or : (base collection given : List ℕ) (run : Run) (r : Result (Unit {0}) Fault) → run.status ≡ status_of r
     → IfErr r (WildStops (StoreFailed run) (InputFailed run) (OutputFailed run) run.store.files base run.input.left)
