@@ -50,7 +50,7 @@ def phrases(mg, folder, runs):
         asked, _ = compare.medians(runs, lambda: compare.run([mg, "phrase", place("whole")], phrase + b"\n"))
         words = [mg, "phrase", place("whole")]
         many, _ = compare.medians(runs, lambda: compare.run(words, (phrase + b"\n") * 11))
-        grep, _ = compare.medians(runs, lambda: compare.run(["grep", "-c", "-a", "-i", "-w", "-F", phrase.decode(), place("text")]))
+        grep, _ = compare.medians(runs, lambda: compare.run(["sh", "-c", f"grep -c -a -i -w -F '{phrase.decode()}' {place('text')} | cat"]))
         print(f"the phrase `{phrase.decode()}`: {1000 * asked:.0f} ms from start to end, {100 * (many - asked):.2f} ms "
               f"each further time in the session; grep {1000 * grep:.0f} ms")
 
