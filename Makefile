@@ -26,9 +26,11 @@ try: bin/mg
 	bin/mg decode bin/letters | cmp - examples/letters.mail
 	bin/mg query bin/letters < examples/questions.txt
 
+# The gate leaves the program that it proved.
 check:
 	rt ci
-	$(MAKE) bin/mg
+	mkdir -p bin
+	cp crates/mg/out/mg bin/mg
 	python3 tests/run.py bin/mg
 
 install: $(PROGRAM)
