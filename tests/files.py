@@ -9,7 +9,7 @@ import sys
 
 sys.path.insert(0, str(pathlib.Path(__file__).parent / "reference"))
 
-from kinds import cases
+from kinds import Draws, cases
 from parts import ENDINGS, build
 from standing import write_parts
 from texts import Collection
@@ -26,6 +26,27 @@ def put_set(suite, name, collection, version):
 def remove(suite, name):
     for ending in ENDINGS:
         (suite.folder / f"{name}.{ending}").unlink(missing_ok=True)
+
+
+def answered(suite, tool, rows):
+    """Sessions of a tool over sets that the program builds: a collection, lines, and what is printed."""
+    for collection, lines, wanted in rows:
+        suite.file("text", collection)
+        suite.run(["build", "text", "set"])
+        suite.check(f"{tool} of {lines[:30]!r}", suite.run([tool, "set"], lines + b"\n"), (0, wanted, b""))
+        remove(suite, "set")
+    suite.check(f"{tool} of no set", suite.run([tool, "none"], b"cat\n"), (5, b"", b"mg: nothing is built under this name\n"))
+
+
+def compared(suite, tool, lines_of, session):
+    """Drawn lines over each kind of collection, against what the reference prints."""
+    for seed, (name, collection, _) in enumerate(cases(), 1):
+        suite.file("text", collection)
+        suite.run(["build", "text", "set", "--budget", "4096"])
+        lines = lines_of(Draws(seed), collection)
+        wanted = session(Collection(collection), lines)
+        suite.check(f"{name}: {tool}", suite.run([tool, "set"], lines), (0, wanted, b""))
+        remove(suite, "set")
 
 
 def decoded(suite):

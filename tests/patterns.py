@@ -5,10 +5,9 @@ import sys
 
 sys.path.insert(0, str(pathlib.Path(__file__).parent / "reference"))
 
-from files import K, put_set, remove
-from kinds import Draws, cases, words_of
+from files import K, answered, compared, put_set, remove
+from kinds import words_of
 from sessions import wild_session
-from texts import Collection
 
 CAT = b"+ cat 2\n1\n3\n= 2\n"
 # Terms at the ends of which both sides of a pattern may stand, and bytes beyond ASCII.
@@ -45,12 +44,7 @@ ROWS = [
 
 def rows(suite):
     """Patterns over small sets, worked by hand."""
-    for collection, lines, wanted in ROWS:
-        suite.file("text", collection)
-        suite.run(["build", "text", "set"])
-        suite.check(f"the pattern {lines[:30]!r}", suite.run(["wild", "set"], lines + b"\n"), (0, wanted, b""))
-        remove(suite, "set")
-    suite.check("patterns of no set", suite.run(["wild", "none"], b"*\n"), (5, b"", b"mg: nothing is built under this name\n"))
+    answered(suite, "wild", ROWS)
 
 
 def drawn(draws, collection, count=60):
@@ -75,13 +69,7 @@ def drawn(draws, collection, count=60):
 
 def kinds(suite):
     """Patterns over each kind of collection."""
-    for seed, (name, collection, _) in enumerate(cases(), 1):
-        suite.file("text", collection)
-        suite.run(["build", "text", "set", "--budget", "4096"])
-        lines = drawn(Draws(seed), collection)
-        wanted = wild_session(Collection(collection), lines)
-        suite.check(f"{name}: patterns", suite.run(["wild", "set"], lines), (0, wanted, b""))
-        remove(suite, "set")
+    compared(suite, "wild", drawn, wild_session)
 
 
 def too_many(suite):

@@ -5,10 +5,9 @@ import sys
 
 sys.path.insert(0, str(pathlib.Path(__file__).parent / "reference"))
 
-from files import K, remove
-from kinds import Draws, cases, words_of
+from files import K, answered, compared
+from kinds import words_of
 from sessions import phrase_session
-from texts import Collection
 
 ROWS = [
     (K, b"the cat", b"1 1\n= 1\n"),
@@ -38,13 +37,8 @@ ROWS = [
 
 
 def rows(suite):
-    """Phrases over two small sets, worked by hand."""
-    for collection, line, wanted in ROWS:
-        suite.file("text", collection)
-        suite.run(["build", "text", "set"])
-        suite.check(f"the phrase {line[:30]!r}", suite.run(["phrase", "set"], line + b"\n"), (0, wanted, b""))
-        remove(suite, "set")
-    suite.check("phrases of no set", suite.run(["phrase", "none"], b"cat\n"), (5, b"", b"mg: nothing is built under this name\n"))
+    """Phrases over small sets, worked by hand."""
+    answered(suite, "phrase", ROWS)
 
 
 def spoken(draws, collection, count=60):
@@ -65,13 +59,7 @@ def spoken(draws, collection, count=60):
 
 def kinds(suite):
     """Phrases over each kind of collection."""
-    for seed, (name, collection, _) in enumerate(cases(), 1):
-        suite.file("text", collection)
-        suite.run(["build", "text", "set", "--budget", "4096"])
-        lines = spoken(Draws(seed), collection)
-        wanted = phrase_session(Collection(collection), lines)
-        suite.check(f"{name}: phrases", suite.run(["phrase", "set"], lines), (0, wanted, b""))
-        remove(suite, "set")
+    compared(suite, "phrase", spoken, phrase_session)
 
 
 PARTS = [rows, kinds]
