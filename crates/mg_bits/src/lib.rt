@@ -29,6 +29,3 @@ pub use page_feed::PageFeed;
 pub use page_writer::PageWriter;
 pub use slice_feed::{NoDev, SliceFeed};
 pub use small_feed::SmallFeed;
-
-#[cfg(test)]
-mod tests;

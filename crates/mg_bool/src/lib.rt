@@ -17,8 +17,3 @@ mod places;
 
 pub use laws::{all_are_to_come, matches_still_fit};
 pub use matches::Matches;
-
-#[cfg(test)]
-mod random_tests;
-#[cfg(test)]
-mod tests;

@@ -17,6 +17,3 @@ mod tables;
 
 pub use canon::Canon;
 pub use canon_err::CanonErr;
-
-#[cfg(test)]
-mod tests;

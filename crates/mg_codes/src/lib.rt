@@ -21,6 +21,3 @@ pub use golomb::{get_golomb, put_golomb};
 pub use round_trip::what_was_put_is_got;
 pub use short::{get_short, put_short};
 pub use unary::{get_unary, put_unary};
-
-#[cfg(test)]
-mod tests;

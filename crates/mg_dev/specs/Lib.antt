@@ -12,3 +12,4 @@ pub mod Faults
 pub mod FaultLines
 pub mod PartCauses
 pub mod Bads
+pub mod Moments

@@ -65,10 +65,3 @@ pub use sure_sink::SureSink;
 pub use sure_source::SureSource;
 pub use sure_store::SureStore;
 pub use what::What;
-
-#[cfg(test)]
-mod callers;
-#[cfg(test)]
-mod host_tests;
-#[cfg(test)]
-mod tests;

@@ -22,6 +22,3 @@ pub use put::shared;
 pub use reader::FrontReader;
 pub use walk::FrontWalk;
 pub use writer::FrontWriter;
-
-#[cfg(test)]
-mod tests;

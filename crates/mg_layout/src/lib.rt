@@ -23,6 +23,3 @@ pub use sets::{heads_tell_sets, sets_stand};
 pub use size::expect_size;
 pub use term_info::TermInfo;
 pub use version::BUILT;
-
-#[cfg(test)]
-mod tests;

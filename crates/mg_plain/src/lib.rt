@@ -17,8 +17,6 @@ mod ranked;
 mod rows;
 mod scanner;
 mod score;
-#[cfg(test)]
-mod tests;
 mod weigh;
 
 pub use plain::PlainText;

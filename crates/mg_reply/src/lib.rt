@@ -19,8 +19,6 @@ mod line;
 mod pending;
 mod reader;
 mod serve;
-#[cfg(test)]
-mod tests;
 mod text;
 
 pub use command::read_command;

@@ -1,29 +1,11 @@
 -- What the devices told and counted before a run and after it, and its status.
-use Rattle.std.specs.Prelude.{◌≡◌, ◌⊎◌, ℕ, List}
-use Rattle.std.specs.declared.option.Option.{Option}
-use Rattle.mg_dev.specs.Causes.{Rose}
-use Rattle.mg_dev.specs.Files.{Files, Reads}
+use Rattle.std.specs.Prelude.{◌≡◌, ◌⊎◌}
+pub use Rattle.mg_dev.specs.Moments.{StoreAt, SourceAt, SinkAt}
+use Rattle.mg_dev.specs.Moments.{StoreRose, SourceRose, SinkRose, KeptFiles, NothingWritten}
 use Rattle.mg_dev.specs.declared.fault.Fault.{Fault}
 use Rattle.mg_dev.specs.declared.fault.Fault.TheVariants.{StoreFault, Memory}
 use Rattle.mg_dev.specs.declared.status.Status.{Status}
 use Rattle.mg_dev.specs.declared.status.Status.TheVariants.{Stopped}
-
--- a store at one moment
-pub record StoreAt : Type 0 where
-  pub files : Option Files
-  pub reads : Reads
-  pub faults : ℕ
-
--- a source at one moment
-pub record SourceAt : Type 0 where
-  pub left : Option (List ℕ)
-  pub faults : ℕ
-
--- a sink at one moment
-pub record SinkAt : Type 0 where
-  pub written : Option (List ℕ)
-  pub faults : ℕ
-  pub lacks : ℕ
 
 -- a run: its devices before it and after it, and the status
 pub record Run : Type 0 where
@@ -38,19 +20,19 @@ pub record Run : Type 0 where
   pub status : Status
 
 abbrev pub StoreFailed : Run → Type 0
-StoreFailed run = Rose run.store.faults run.store_now.faults
+StoreFailed run = StoreRose run.store run.store_now
 
 abbrev pub InputFailed : Run → Type 0
-InputFailed run = Rose run.input.faults run.input_now.faults
+InputFailed run = SourceRose run.input run.input_now
 
 abbrev pub OutputFailed : Run → Type 0
-OutputFailed run = Rose run.out.faults run.out_now.faults
+OutputFailed run = SinkRose run.out run.out_now
 
 abbrev pub SaysNothing : Run → Type 0
-SaysNothing run = run.out_now.written ≡ run.out.written
+SaysNothing run = NothingWritten run.out run.out_now
 
 abbrev pub KeepsFiles : Run → Type 0
-KeepsFiles run = run.store_now.files ≡ run.store.files
+KeepsFiles run = KeptFiles run.store run.store_now
 
 -- the run stopped for this fault
 abbrev pub Stops : Run → Fault → Type 0

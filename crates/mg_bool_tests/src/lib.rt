@@ -1,0 +1,10 @@
+//! Tests of `mg_bool`, through its public calls.
+//!
+//! They stand in a crate of their own, as integration tests do: a crate that holds tests is proved once
+//! as a library and once more as the program that runs them.
+#![tactic(auto)]
+
+#[cfg(test)]
+mod random_tests;
+#[cfg(test)]
+mod tests;

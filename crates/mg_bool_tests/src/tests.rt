@@ -1,0 +1,238 @@
+// What no clause says: answers over real parts, and that calls succeed.
+ghost use Rattle.std.specs.Prelude.{◌≡◌, IfOk, IfSome, length};
+
+use mg_bool::Matches;
+use mg_dev::{MemStore, Part, PartErr, Store};
+use mg_layout::TermInfo;
+use mg_query::{Terms, parse_boolean};
+use std::alloc::{AllocError, Global};
+use std::test::Fail;
+
+// Post and Skip of the documents `the cat sat`, `the dog` and `Cat, cat & dog!`.
+const CAT_POST: [u8; 4] = [0x28, 0x80, 0x00, 0x00];
+
+const CAT_SKIP: [u64; 8] = [3, 0, 3, 0, 1, 0, 2, 0];
+
+const CAT_TERMS: [(&[u8], u32, u64, u32); 4] = [
+    (b"cat", 2, 0, 0),
+    (b"dog", 2, 1, 1),
+    (b"sat", 1, 2, 2),
+    (b"the", 2, 3, 3),
+];
+
+// Post and Skip of 300 documents with words from `a` to `e`: `d` stands in document 290 alone,
+// and `e` in each document from 201 on.
+#[rattlefmt::skip]
+const POST: [u8; 191] = [
+    0x44, 0x3c, 0x54, 0xcd, 0x35, 0x11, 0x50, 0xe9, 0x3d, 0x14, 0x48, 0x0b, 0x58, 0x2a, 0x22, 0xfe,
+    0xb1, 0x41, 0x04, 0x81, 0xaa, 0x01, 0x20, 0x28, 0xa2, 0xa9, 0x15, 0x15, 0x52, 0x25, 0x3a, 0xaa,
+    0xf5, 0x5a, 0x05, 0x6b, 0xc5, 0xf5, 0x54, 0xac, 0xa7, 0xe9, 0x41, 0x57, 0x22, 0x21, 0x33, 0xd5,
+    0x3a, 0x8a, 0x94, 0x5e, 0xb1, 0x3e, 0x15, 0xd1, 0x34, 0x41, 0x16, 0xb0, 0xa2, 0x80, 0x45, 0xe8,
+    0x0a, 0xb1, 0x15, 0x20, 0xba, 0x15, 0xaa, 0x26, 0x82, 0x41, 0x11, 0x53, 0x89, 0x3a, 0x09, 0xea,
+    0x27, 0x41, 0x65, 0x0d, 0x10, 0x55, 0x5c, 0x50, 0x08, 0x63, 0x09, 0x61, 0x61, 0x68, 0x08, 0xe0,
+    0x60, 0x2a, 0xe3, 0x50, 0x82, 0x01, 0x56, 0x14, 0x44, 0x0c, 0x0f, 0x8f, 0xd6, 0x30, 0x16, 0x20,
+    0x00, 0x82, 0x03, 0xa8, 0xe3, 0xa5, 0x08, 0x04, 0x02, 0xaa, 0x49, 0x01, 0x4b, 0xa8, 0xa1, 0xa0,
+    0xb4, 0x90, 0x41, 0x08, 0xd0, 0xe9, 0x93, 0x1a, 0xe3, 0x17, 0x0a, 0xa0, 0xc0, 0xff, 0xff, 0xff,
+    0xff, 0xff, 0xff, 0xff, 0xff, 0xff, 0xff, 0xff, 0xff, 0xf0, 0x00, 0x00, 0x00, 0x00, 0x00, 0x00,
+    0x00, 0x00, 0x00, 0x00, 0x00, 0x00, 0x00, 0x00, 0x00, 0x00, 0x00, 0x00, 0x00, 0x00, 0x00, 0x00,
+    0x00, 0x00, 0x00, 0x00, 0x00, 0x00, 0x00, 0x00, 0x00, 0x00, 0x00, 0x00, 0x00, 0x00, 0x00,
+];
+
+const SKIP: [u64; 18] = [
+    98, 0, 222, 230, 300, 500, 213, 0, 299, 255, 295, 0, 290, 0, 264, 0, 300, 292,
+];
+
+const TERMS: [(&[u8], u32, u64, u32); 5] = [
+    (b"a", 176, 0, 0),
+    (b"b", 98, 86, 3),
+    (b"c", 6, 133, 5),
+    (b"d", 1, 139, 6),
+    (b"e", 100, 141, 7),
+];
+
+// A store with these parts; the numbers of Skip have 8 bytes each.
+fn store_of(alloc: Global, post: &[u8], skip: &[u64]) -> Result<MemStore, AllocError> {
+    let mut store = MemStore::new(alloc);
+    let mut bytes = Vec::new(alloc);
+    for number in skip {
+        bytes.extend_from_slice(&number.to_be_bytes())?;
+    }
+    store.put_file("set.post", post)?;
+    store.put_file("set.skip", bytes.as_slice())?;
+    Ok(store)
+}
+
+// What the lexicon tells of a word.
+fn info_of(terms: &[(&[u8], u32, u64, u32)], word: &[u8]) -> Option<TermInfo> {
+    if terms.len() > 16 {
+        return None;
+    }
+    for number in 0..terms.len() {
+        let (term, docs, post_at, skip_at) = terms[number];
+        if term == word {
+            return Some(TermInfo {
+                number: number as u32,
+                docs,
+                post_at,
+                skip_at,
+            });
+        }
+    }
+    None
+}
+
+// What it tells of each word.
+fn infos_of(
+    alloc: Global,
+    terms: &[(&[u8], u32, u64, u32)],
+    words: &Terms,
+) -> Result<Option<Vec<Option<TermInfo>>>, AllocError>
+    ensures { IfOk result (λ infos. IfSome infos (λ i. length i.items ≡ length words.now)) }
+{
+    let mut infos = Vec::new(alloc);
+    for word in words.as_slice() {
+        infos.push(info_of(terms, word.as_bytes()))?;
+    }
+    if infos.len() != words.len() {
+        return Ok(None);
+    }
+    Ok(Some(infos))
+}
+
+// The documents that satisfy a line; None where it is no query.
+pub fn answers<S: Store>(
+    alloc: Global,
+    store: &mut S,
+    line: &[u8],
+    terms: &[(&[u8], u32, u64, u32)],
+    all: u32,
+) -> Result<Option<Vec<u32>>, PartErr> {
+    if line.len() > 1024 {
+        return Ok(None);
+    }
+    let Ok(query) = parse_boolean(alloc, line) else {
+        return Ok(None);
+    };
+    let words = query.terms(alloc)?;
+    let Some(infos) = infos_of(alloc, terms, &words)? else {
+        return Ok(None);
+    };
+    let mut matches = Matches::start(alloc, "set", &query, &infos, all)?;
+    let mut found = Vec::new(alloc);
+    for _call in 0..=all {
+        match matches.next(store)? {
+            Some(doc) => found.push(doc)?,
+            None => break,
+        }
+    }
+    Ok(Some(found))
+}
+
+// Whether these documents are answered.
+fn gives<S: Store>(
+    alloc: Global,
+    store: &mut S,
+    line: &[u8],
+    terms: &[(&[u8], u32, u64, u32)],
+    all: u32,
+    wanted: &[u32],
+) -> Result<bool, PartErr> {
+    match answers(alloc, store, line, terms, all)? {
+        Some(found) => Ok(found.as_slice() == wanted),
+        None => Ok(false),
+    }
+}
+
+#[test]
+fn lines_are_answered(rt: HostRuntime) -> Result<(), Fail> {
+    let alloc = rt.alloc();
+    let mut store = store_of(alloc, &CAT_POST, &CAT_SKIP)?;
+    let terms = &CAT_TERMS;
+    assert!(rt; gives(alloc, &mut store, b"cat & !the", terms, 3, &[3])?);
+    assert!(rt; gives(alloc, &mut store, b"cat dog | sat", terms, 3, &[1, 3])?);
+    assert!(rt; gives(alloc, &mut store, b"cat", terms, 3, &[1, 3])?);
+    assert!(rt; gives(alloc, &mut store, b"cat\r", terms, 3, &[1, 3])?);
+    assert!(rt; gives(alloc, &mut store, b"zebra", terms, 3, &[])?);
+    assert!(rt; gives(alloc, &mut store, b"!zebra", terms, 3, &[1, 2, 3])?);
+    // Two empty documents, and none.
+    let mut empty = MemStore::new(alloc);
+    assert!(rt; gives(alloc, &mut empty, b"!x", &[], 2, &[1, 2])?);
+    assert!(rt; gives(alloc, &mut empty, b"!x", &[], 0, &[])?);
+    Ok(())
+}
+
+#[test]
+fn lists_of_several_blocks_are_joined(rt: HostRuntime) -> Result<(), Fail> {
+    let alloc = rt.alloc();
+    let mut store = store_of(alloc, &POST, &SKIP)?;
+    // How many documents, and the sum of their numbers.
+    let rows: [(&[u8], usize, u64); 16] = [
+        (b"a", 176, 26559),
+        (b"a & b", 55, 8735),
+        (b"a & c", 1, 122),
+        (b"c & b & !a", 1, 289),
+        (b"c | d", 7, 1559),
+        (b"!a", 124, 18591),
+        (b"!a & !b", 81, 11993),
+        (b"a & (b | c) & e", 22, 5471),
+        (b"d & a", 1, 290),
+        (b"c & !c", 0, 0),
+        (b"(a | b) & (c | e)", 80, 19836),
+        (b"z & a", 0, 0),
+        (b"c | z & a", 6, 1269),
+        (b"!(a | b | e)", 60, 6657),
+        (b"c c", 6, 1269),
+        (b"!d", 299, 44860),
+    ];
+    for (line, count, sum) in rows {
+        let found = answers(alloc, &mut store, line, &TERMS, 300)?.unwrap_or(Vec::new(alloc));
+        assert_eq!(rt; found.len(), count);
+        let mut total = 0u64;
+        for doc in &found {
+            total = total.saturating_add(u64::from(*doc));
+        }
+        assert_eq!(rt; total, sum);
+    }
+    Ok(())
+}
+
+#[test]
+fn a_rare_word_reads_two_pages(rt: HostRuntime) -> Result<(), Fail> {
+    let alloc = rt.alloc();
+    // `y x` and then 199,999 times `x`: every posting is of zeros, two bits each in the list of `x`.
+    let post = vec![in alloc; 0u8; 50_003]?;
+    let mut skip = Vec::new(alloc);
+    for block in 0..3_125u64 {
+        skip.push(64 * block + 64)?;
+        skip.push(128 * block)?;
+    }
+    skip.push(1)?;
+    skip.push(0)?;
+    let terms: [(&[u8], u32, u64, u32); 2] = [(b"x", 200_000, 0, 0), (b"y", 1, 50_000, 3_125)];
+    let mut store = store_of(alloc, post.as_slice(), skip.as_slice())?;
+    assert!(rt; gives(alloc, &mut store, b"y & !x", &terms, 200_000, &[])?);
+    assert!(rt; store.reads_of(Part::Post) <= 2);
+    let mut store = store_of(alloc, post.as_slice(), skip.as_slice())?;
+    assert!(rt; gives(alloc, &mut store, b"y & (x | z)", &terms, 200_000, &[1])?);
+    assert!(rt; store.reads_of(Part::Post) <= 2);
+    Ok(())
+}
+
+#[test]
+fn a_failing_store_is_told_at_each_call(rt: HostRuntime) -> Result<(), Fail> {
+    let alloc = rt.alloc();
+    // Each of the four places reads a page of Skip and a page of Post; nothing else is called.
+    for call in 0..10u64 {
+        let mut store = store_of(alloc, &POST, &SKIP)?;
+        store.fail_at(call, 0)?;
+        let found = answers(alloc, &mut store, b"(a | b) & !e | c", &TERMS, 300);
+        if call < 8 {
+            assert_eq!(rt; found.err(), Some(PartErr::Device));
+            // It is the last call: nothing more is read after a refusal.
+            assert_eq!(rt; store.calls(), call + 1);
+        } else {
+            assert_eq!(rt; found?.map(|docs| docs.len()), Some(145));
+        }
+    }
+    Ok(())
+}

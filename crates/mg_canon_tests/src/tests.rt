@@ -1,0 +1,209 @@
+ghost use Rattle.std.specs.Prelude.{◌≡◌, ◌<◌, ◌≤◌, length, IfOk, OnOk};
+ghost use Rattle.mg_bits.specs.BitWriting.{Holds};
+
+use mg_bits::{BitReader, BitWriter, CodeErr, Feed, NoDev, PageFeed, SliceFeed};
+use mg_canon::*;
+use mg_dev::{FileRef, Part, PutErr, Store, SureStore};
+use std::alloc::{AllocError, Global};
+use std::test::Fail;
+
+const TEXT: FileRef<'static> = FileRef {
+    base: "x",
+    part: Part::Text,
+};
+
+/// Writes so many symbols in their order, and tells whether all were written.
+fn put_each<S: Store>(
+    code: &Canon,
+    writer: &mut BitWriter,
+    store: &mut S,
+    symbols: u32,
+) -> Result<bool, PutErr>
+    requires symbols { symbols ≤ length code.now }
+    requires holds { Holds writer.old (S.files store.old) }
+    ensures { OnOk result (Holds writer.new (S.files store.new)) }
+{
+    for symbol in 0..symbols {
+        if writer.place() > 1 << 40 {
+            return Ok(false);
+        }
+        code.put(writer, store, symbol)?;
+    }
+    Ok(true)
+}
+
+/// Whether so many symbols stand from the reader's place on in their order.
+fn reads_each<F: Feed>(
+    code: &Canon,
+    reader: &mut BitReader<F>,
+    dev: &mut F::Dev,
+    symbols: u32,
+) -> bool
+    requires some { 0 < length code.now }
+    requires fits { F.fits reader.old.feed (F.device dev.old).files }
+{
+    for symbol in 0..symbols {
+        if reader.place() > 1 << 40 || code.get(reader, dev) != Ok(symbol) {
+            return false;
+        }
+    }
+    true
+}
+
+#[test]
+fn codewords_are_written_and_read(rt: HostRuntime) -> Result<(), Fail> {
+    let alloc = rt.alloc();
+    let code = Canon::new(alloc, &[3, 2, 2, 3, 2])?;
+    assert_eq!(rt; code.count(), 5);
+    assert_eq!(rt; [code.length(0), code.length(1), code.length(4)], [3, 2, 2]);
+    let mut store = SureStore::new(alloc);
+    let mut writer = BitWriter::start(alloc, &mut store, TEXT)?;
+    assert!(rt; put_each(&code, &mut writer, &mut store, 5)?);
+    assert_eq!(rt; writer.place(), 12);
+    writer.finish(&mut store)?;
+    // 000 01 10 001 11
+    let bytes: &[u8] = &[0x0c, 0x70];
+    assert_eq!(rt; store.file("x.text"), Some(bytes));
+    let mut reader = BitReader::new(PageFeed::new(alloc, TEXT)?, 0);
+    assert!(rt; reads_each(&code, &mut reader, &mut store, 5));
+    assert_eq!(rt; reader.place(), 12);
+    assert_eq!(rt; store.reads_of(Part::Text), 1);
+    Ok(())
+}
+
+#[test]
+fn codewords_up_to_eleven_bits_are_read(rt: HostRuntime) -> Result<(), Fail> {
+    let alloc = rt.alloc();
+    let code = Canon::new(alloc, &[1, 2, 3, 4, 5, 6, 7, 8, 9, 10, 11, 11])?;
+    let mut store = SureStore::new(alloc);
+    let mut writer = BitWriter::start(alloc, &mut store, TEXT)?;
+    assert!(rt; put_each(&code, &mut writer, &mut store, 12)?);
+    assert_eq!(rt; writer.place(), 77);
+    writer.finish(&mut store)?;
+    // 1, 01, 001 and so on up to 0000000001, then 00000000000 and 00000000001
+    let bytes: &[u8] = &[0xa4, 0x42, 0x08, 0x10, 0x10, 0x08, 0x02, 0x00, 0x00, 0x08];
+    assert_eq!(rt; store.file("x.text"), Some(bytes));
+    let mut reader = BitReader::new(PageFeed::new(alloc, TEXT)?, 0);
+    assert!(rt; reads_each(&code, &mut reader, &mut store, 12));
+    assert_eq!(rt; reader.place(), 77);
+    Ok(())
+}
+
+/// What is read where so many bits, the last of a byte, stand before the end of the file, and the
+/// place afterwards.
+fn answer(code: &Canon, byte: u8, bits: u64) -> (Result<u32, CodeErr>, u64)
+    requires { 0 < length code.now }
+{
+    let bytes = [byte];
+    let mut reader = BitReader::new(SliceFeed::new(&bytes), 8 - bits.min(8));
+    let answer = code.get(&mut reader, &mut NoDev);
+    (answer, reader.place())
+}
+
+#[test]
+fn a_codeword_cut_at_any_bit_ends(rt: HostRuntime) -> Result<(), Fail> {
+    let code = Canon::new(rt.alloc(), &[3, 2, 2, 3, 2])?;
+    for (byte, bits, symbol, place) in [
+        (0b000, 3, 0, 8),
+        (0b01, 2, 1, 8),
+        (0b10, 2, 2, 8),
+        (0b001, 3, 3, 8),
+        (0b11, 2, 4, 8),
+        (0b0111_1111, 8, 1, 2),
+    ] {
+        assert_eq!(rt;
+            answer(&code, byte, bits),
+            (Ok(symbol), place),
+            "{bits} bits of {byte}"
+        );
+    }
+    for (byte, bits, at) in [(0, 0, 8), (0b0, 1, 7), (0b1, 1, 7), (0b00, 2, 6)] {
+        let end = Err(CodeErr::End { at });
+        assert_eq!(rt;
+            answer(&code, byte, bits),
+            (end, at),
+            "{bits} bits of {byte}"
+        );
+    }
+    Ok(())
+}
+
+#[test]
+fn a_single_symbol_is_a_zero_bit(rt: HostRuntime) -> Result<(), Fail> {
+    let code = Canon::new(rt.alloc(), &[1])?;
+    assert_eq!(rt; code.count(), 1);
+    assert_eq!(rt; answer(&code, 0b01, 2), (Ok(0), 7));
+    assert_eq!(rt;
+        answer(&code, 0b01, 1),
+        (Err(CodeErr::Over { at: 7, limit: 1 }), 7)
+    );
+    assert_eq!(rt; answer(&code, 0b01, 0), (Err(CodeErr::End { at: 8 }), 8));
+    Ok(())
+}
+
+/// Why these lengths have no code, if they have none.
+fn refusal(alloc: Global, lengths: &[u8]) -> Option<CanonErr> {
+    if lengths.len() > 100 {
+        return None;
+    }
+    Canon::new(alloc, lengths).err()
+}
+
+#[test]
+fn lengths_of_no_code_are_refused(rt: HostRuntime) -> Result<(), Fail> {
+    let alloc = rt.alloc();
+    assert_eq!(rt; refusal(alloc, &[]), None);
+    let cases: [(&[u8], u32, u8); 5] = [
+        (&[0], 0, 0),
+        (&[2], 0, 2),
+        (&[1, 49], 1, 49),
+        (&[1, 0, 49], 1, 0),
+        (&[255, 1, 1, 0], 0, 255),
+    ];
+    for (lengths, symbol, length) in cases {
+        assert_eq!(rt;
+            refusal(alloc, lengths),
+            Some(CanonErr::BadLength { symbol, length }),
+            "{lengths:?}"
+        );
+    }
+    let half = 1u128 << 47;
+    assert_eq!(rt;
+        refusal(alloc, &[2, 2]),
+        Some(CanonErr::Kraft { sum: half })
+    );
+    assert_eq!(rt;
+        refusal(alloc, &[1, 1, 1]),
+        Some(CanonErr::Kraft { sum: 3 * half })
+    );
+    assert_eq!(rt;
+        refusal(alloc, &[1, 48]),
+        Some(CanonErr::Kraft { sum: half + 1 })
+    );
+    Ok(())
+}
+
+/// So many lengths of 22 bits.
+fn equal_lengths(alloc: Global, many: usize) -> Result<Vec<u8>, AllocError>
+    ensures { IfOk result (λ lengths. length lengths.items ≡ many) }
+{
+    vec![in alloc; 22; many]
+}
+
+#[test]
+fn four_million_symbols_have_a_code(rt: HostRuntime) -> Result<(), Fail> {
+    let alloc = rt.alloc();
+    let lengths = equal_lengths(alloc, 4_194_304)?;
+    let code = Canon::new(alloc, &lengths)?;
+    assert_eq!(rt; code.count(), 4_194_304);
+    let mut store = SureStore::new(alloc);
+    let mut writer = BitWriter::start(alloc, &mut store, TEXT)?;
+    code.put(&mut writer, &mut store, 4_194_303)?;
+    assert_eq!(rt; writer.place(), 22);
+    writer.finish(&mut store)?;
+    let bytes: &[u8] = &[0xff, 0xff, 0xfc];
+    assert_eq!(rt; store.file("x.text"), Some(bytes));
+    let mut reader = BitReader::new(PageFeed::new(alloc, TEXT)?, 0);
+    assert_eq!(rt; code.get(&mut reader, &mut store), Ok(4_194_303));
+    Ok(())
+}

@@ -1,0 +1,12 @@
+//! Tests of `mg_dev`, through its public calls.
+//!
+//! They stand in a crate of their own, as integration tests do: a crate that holds tests is proved once
+//! as a library and once more as the program that runs them.
+#![tactic(auto)]
+
+#[cfg(test)]
+mod callers;
+#[cfg(test)]
+mod host_tests;
+#[cfg(test)]
+mod tests;
