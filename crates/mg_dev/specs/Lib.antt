@@ -13,3 +13,4 @@ pub mod FaultLines
 pub mod PartCauses
 pub mod Bads
 pub mod Moments
+pub mod Runs

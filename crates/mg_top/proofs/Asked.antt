@@ -4,8 +4,8 @@ use Rattle.mg_dev.specs.declared.fault.Fault.{Fault}
 use Rattle.mg_dev.specs.declared.fault.Fault.TheVariants.{Usage}
 use Rattle.mg_dev.specs.declared.status.Status.{Status}
 use Rattle.mg_words.specs.Tasks.{Task, build, query, decode, scan, trial, migrate, check, wild, phrase, merge}
-use Rattle.mg_top.specs.Ends.{IfStopped, ToldWhy}
-use Rattle.mg_top.specs.Runs.{Run, Stops}
+use Rattle.mg_top.specs.Ends.{ToldWhy}
+use Rattle.mg_dev.specs.Runs.{IfStopped, Run, Stops}
 use Rattle.mg_top.specs.Built.{Built}
 use Rattle.mg_top.specs.Decoded.{Decoded}
 use Rattle.mg_top.specs.Merged.{Merged}

@@ -29,11 +29,10 @@ use Rattle.mg_build.specs.Building as building
 use Rattle.mg_build.specs.Building.{IsEarly, Left}
 use Rattle.mg_build.specs.Outcomes.{IsDone, RefusedFor}
 use Rattle.mg_build.specs.Sources.{most_bytes}
-use Rattle.mg_top.specs.Ends.{IfStopped}
-use Rattle.mg_top.specs.Runs.{Run, StoreFailed, OutputFailed, SaysNothing, Stops}
+use Rattle.mg_dev.specs.Runs.{IfStopped, Run, StoreFailed, OutputFailed, SaysNothing, Stops, status_of}
 use Rattle.mg_top.specs.Built.{AreMade, Built, BuildStops, collection_of}
 use Rattle.mg_top.specs.Lines.{pool_line, summary_lines}
-use Rattle.mg_top.proofs.Endings.{status_of, unless_by, only_lacks}
+use Rattle.mg_top.proofs.Endings.{unless_by, only_lacks}
 use Rattle.mg_top.proofs.Grown.{put_grew}
 
 pub text_of_summary : (budget : ℕ) (collection : List ℕ) → summary_lines (summary_of budget collection) ≡ summary_text collection budget

@@ -12,10 +12,9 @@ use Rattle.mg_dev.specs.declared.status.Status.{Status}
 use Rattle.mg_dev.specs.declared.status.Status.TheVariants.{Done, Stopped}
 use Rattle.mg_layout.specs.Stands.{Stands}
 use Rattle.mg_build.specs.Outcomes.{DecodeStops, IsDone}
-use Rattle.mg_top.specs.Ends.{IfStopped}
-use Rattle.mg_top.specs.Runs.{Run, StoreFailed, OutputFailed, Stops}
+use Rattle.mg_dev.specs.Runs.{IfStopped, Run, StoreFailed, OutputFailed, Stops, status_of}
 use Rattle.mg_top.specs.Decoded.{Decoded}
-use Rattle.mg_top.proofs.Endings.{status_of, err_by, stopped_by, unless_by, only_lacks}
+use Rattle.mg_top.proofs.Endings.{err_by, stopped_by, unless_by, only_lacks}
 use Rattle.mg_top.proofs.Grown.{put_grew}
 
 put_when_done : (r : Result (Unit {0}) Fault) (old new : Option (List ℕ)) (bytes : List ℕ) → status_of r ≡ Done → AfterPut old new bytes r → new ≡ appended old bytes

@@ -6,12 +6,7 @@ use Rattle.mg_dev.specs.declared.fault.Fault.TheVariants.{Usage, StoreFault, Rea
 use Rattle.mg_dev.specs.declared.status.Status.{Status}
 use Rattle.mg_dev.specs.declared.status.Status.TheVariants.{Done, Stopped}
 use Rattle.mg_build.specs.Outcomes.{IsDone}
-use Rattle.mg_top.specs.Ends.{IfStopped}
-use Rattle.mg_top.specs.Runs.{Run, StopsUnless}
-
-abbrev pub status_of : {T : Type 0} → Result T Fault → Status
-status_of (Ok value) = Done
-status_of (Err fault) = Stopped fault
+use Rattle.mg_dev.specs.Runs.{IfStopped, Run, StopsUnless, status_of}
 
 pub when_ok : (P : Type 0) (r : Result (Unit {0}) Fault) → status_of r ≡ Done → OnOk r P → P
 when_ok P (Ok u) is holds = holds

@@ -25,13 +25,12 @@ use Rattle.mg_make.specs.declared.summary.Summary.{Summary}
 use Rattle.mg_merge.specs.Merging as merging
 use Rattle.mg_merge.specs.Merging.{BothStand, IsDone, IsEarly, IsSizeByHeads, Left, RefusedFor, budget_of, most_bytes}
 use Rattle.mg_merge.specs.Stops.{IsMissing}
-use Rattle.mg_top.specs.Ends.{IfStopped}
 use Rattle.mg_top.specs.Lines.{summary_lines}
 use Rattle.mg_top.specs.Merged.{MergeStops, Merged}
 use Rattle.mg_top.specs.Migrated.{IsMadeAnew}
-use Rattle.mg_top.specs.Runs.{Run, OutputFailed, SaysNothing, Stops, StoreFailed, StopsUnless}
+use Rattle.mg_dev.specs.Runs.{IfStopped, Run, OutputFailed, SaysNothing, Stops, StoreFailed, StopsUnless, status_of}
 use Rattle.mg_top.proofs.BuiltLaws.{not_done, put_done_or, put_when_done, same_fault, status_of_put, text_of_summary}
-use Rattle.mg_top.proofs.Endings.{status_of, unless_by}
+use Rattle.mg_top.proofs.Endings.{unless_by}
 use Rattle.mg_top.proofs.Grown.{put_grew}
 use Rattle.mg_top.proofs.MigratedLaws.{in_stands}
 

@@ -21,11 +21,10 @@ use Rattle.mg_build.specs.Building.{Left}
 use Rattle.mg_build.specs.Migrating as migrating
 use Rattle.mg_build.specs.Migrating.{ComesFirst}
 use Rattle.mg_build.specs.Outcomes.{IsDone, RefusedFor}
-use Rattle.mg_top.specs.Ends.{IfStopped}
 use Rattle.mg_top.specs.Migrated.{IsMadeAnew, MigrateStops, Migrated, documents_line}
-use Rattle.mg_top.specs.Runs.{Run, OutputFailed, SaysNothing, Stops, StoreFailed}
+use Rattle.mg_dev.specs.Runs.{IfStopped, Run, OutputFailed, SaysNothing, Stops, StoreFailed, status_of}
 use Rattle.mg_top.proofs.BuiltLaws.{not_done, put_done_or, put_when_done, same_fault, status_of_put}
-use Rattle.mg_top.proofs.Endings.{only_lacks, status_of, unless_by}
+use Rattle.mg_top.proofs.Endings.{only_lacks, unless_by}
 use Rattle.mg_top.proofs.Grown.{put_grew}
 
 -- ---- the migration was refused

@@ -23,8 +23,8 @@ use Rattle.mg_session.specs.WildServes.{WildStops}
 use Rattle.mg_plain.specs.Scans.{StopsFor}
 use Rattle.mg_build.specs.Outcomes.{DecodeStops}
 use Rattle.mg_words.specs.Tasks.{Task, build, query, decode, scan, trial, migrate, check, wild, phrase, merge}
-use Rattle.mg_top.specs.Ends.{IfStopped, ToldWhy}
-use Rattle.mg_top.specs.Runs.{Run, SaysNothing, KeepsFiles, Stops, StoreFailed, InputFailed, OutputFailed}
+use Rattle.mg_top.specs.Ends.{ToldWhy}
+use Rattle.mg_dev.specs.Runs.{IfStopped, Run, SaysNothing, KeepsFiles, Stops, StoreFailed, InputFailed, OutputFailed}
 use Rattle.mg_top.specs.Built.{Built, BuildStops, collection_of}
 use Rattle.mg_top.specs.Decoded.{Decoded}
 use Rattle.mg_top.specs.Matched.{Matched}

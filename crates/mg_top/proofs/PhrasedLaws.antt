@@ -19,10 +19,9 @@ use Rattle.mg_reply.specs.Served.{LeftEnough}
 use Rattle.mg_session.specs.Parts.{NeverRead}
 use Rattle.mg_session.specs.PhraseAnswers.{ReadsPhrases}
 use Rattle.mg_session.specs.Serves.{RefusedFor, StopsFor}
-use Rattle.mg_top.specs.Ends.{IfStopped}
-use Rattle.mg_top.specs.Runs.{Run, StoreFailed, InputFailed, OutputFailed}
+use Rattle.mg_dev.specs.Runs.{IfStopped, Run, StoreFailed, InputFailed, OutputFailed, status_of}
 use Rattle.mg_top.specs.Phrased.{Phrased}
-use Rattle.mg_top.proofs.Endings.{status_of, when_ok, err_by, stopped_by, unless_by}
+use Rattle.mg_top.proofs.Endings.{when_ok, err_by, stopped_by, unless_by}
 use Rattle.mg_top.proofs.QueriedLaws.{done_or}
 
 module _ (base : List ℕ) (run : Run) (r : Result (Unit {0}) Fault) (is : run.status ≡ status_of r)

@@ -24,10 +24,9 @@ use Rattle.mg_reply.specs.Served.{LeftEnough}
 use Rattle.mg_session.specs.Parts.{NeverRead, is_of_text}
 use Rattle.mg_session.specs.Searching.{AskForNoText}
 use Rattle.mg_session.specs.Serves.{ReadsWithin, RefusedFor, StopsFor}
-use Rattle.mg_top.specs.Ends.{IfStopped}
-use Rattle.mg_top.specs.Runs.{Run, StoreFailed, InputFailed, OutputFailed, Stops}
+use Rattle.mg_dev.specs.Runs.{IfStopped, Run, StoreFailed, InputFailed, OutputFailed, Stops, status_of}
 use Rattle.mg_top.specs.Queried.{Queried}
-use Rattle.mg_top.proofs.Endings.{status_of, when_ok, err_by, stopped_by, unless_by}
+use Rattle.mg_top.proofs.Endings.{when_ok, err_by, stopped_by, unless_by}
 
 -- the head of files that stand is not empty
 pub head_there : (files : Option Files) (base collection : List ℕ) → Stands files base collection → bytes_at files (full_name base part.Head) ≢ []

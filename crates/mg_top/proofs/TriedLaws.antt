@@ -16,13 +16,12 @@ use Rattle.mg_defs.specs.Limits.{IsWithinLimits, held_bytes, version_2}
 use Rattle.mg_defs.specs.Marks.{PassesFirst, start, piece}
 use Rattle.mg_defs.specs.Summaries.{trial_lines, trial_text}
 use Rattle.mg_build.specs.Outcomes.{IsDone, RefusedFor}
-use Rattle.mg_top.specs.Ends.{IfStopped}
 use Rattle.mg_top.specs.Lines.{bytes_line, compared_line, trial_summary_lines}
-use Rattle.mg_top.specs.Runs.{Run, OutputFailed, Stops}
+use Rattle.mg_dev.specs.Runs.{IfStopped, Run, OutputFailed, Stops, status_of}
 use Rattle.mg_top.specs.Trials.{SilentAfter, TrialStops, trial_summary}
 use Rattle.mg_top.specs.Tried.{Tried}
 use Rattle.mg_top.specs.declared.trial_summary.TrialSummary.{TrialSummary}
-use Rattle.mg_top.proofs.Endings.{only_lacks, status_of, stopped_by}
+use Rattle.mg_top.proofs.Endings.{only_lacks, stopped_by}
 use Rattle.mg_top.proofs.Grown.{put_grew}
 use Rattle.mg_top.proofs.TrialLaws.{no_refusal}
 

@@ -20,8 +20,7 @@ use Rattle.mg_make.specs.Putting.{IsApart, OthersSame}
 use Rattle.mg_build.specs.Building as building
 use Rattle.mg_build.specs.Building.{IsEarly, Left}
 use Rattle.mg_build.specs.Sources.{most_bytes}
-use Rattle.mg_top.specs.Ends.{IfStopped}
-use Rattle.mg_top.specs.Runs.{Run, StoreFailed, OutputFailed, SaysNothing, KeepsFiles, Stops, StopsUnless}
+use Rattle.mg_dev.specs.Runs.{IfStopped, Run, StoreFailed, OutputFailed, SaysNothing, KeepsFiles, Stops, StopsUnless}
 
 -- the bytes of the collection of this name, as the run begins
 abbrev pub collection_of : List ℕ → Run → List ℕ

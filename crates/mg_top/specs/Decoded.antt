@@ -9,8 +9,7 @@ use Rattle.mg_dev.specs.declared.fault.Fault.TheVariants.{NotBuilt, Memory}
 use Rattle.mg_dev.specs.declared.status.Status.TheVariants.{Done}
 use Rattle.mg_layout.specs.Stands.{Stands}
 use Rattle.mg_build.specs.Outcomes.{DecodeStops}
-use Rattle.mg_top.specs.Ends.{IfStopped}
-use Rattle.mg_top.specs.Runs.{Run, StoreFailed, OutputFailed, SaysNothing, KeepsFiles, Stops, StopsUnless}
+use Rattle.mg_dev.specs.Runs.{IfStopped, Run, StoreFailed, OutputFailed, SaysNothing, KeepsFiles, Stops, StopsUnless}
 
 -- of each collection that the files of this name stand for
 pub record Decoded (base : List ℕ) (run : Run) : Type 0 where

@@ -4,7 +4,7 @@ use Rattle.std.specs.declared.option.Option.{Option}
 use Rattle.mg_dev.specs.declared.fault.Fault.TheVariants.{Usage, Memory}
 use Rattle.mg_words.specs.Tasks.{Task, build, query, decode, scan, migrate, merge, trial, phrase, wild}
 use Rattle.mg_top.specs.Ends.{ToldWhy}
-use Rattle.mg_top.specs.Runs.{Run, Stops}
+use Rattle.mg_dev.specs.Runs.{Run, Stops}
 use Rattle.mg_top.specs.Built.{Built}
 use Rattle.mg_top.specs.Decoded.{Decoded}
 use Rattle.mg_top.specs.Matched.{Matched}

@@ -1,5 +1,4 @@
 pub mod Ends
-pub mod Runs
 pub mod Lines
 pub mod Built
 pub mod Queried

@@ -16,8 +16,7 @@ use Rattle.mg_layout.specs.Stands.{Stands}
 use Rattle.mg_reply.specs.Served.{LeftEnough}
 use Rattle.mg_session.specs.WildAnswers.{NeverReadByPatterns}
 use Rattle.mg_session.specs.WildServes.{IsFirst, WildStops}
-use Rattle.mg_top.specs.Ends.{IfStopped}
-use Rattle.mg_top.specs.Runs.{Run, StoreFailed, InputFailed, OutputFailed, SaysNothing, KeepsFiles, Stops, StopsUnless}
+use Rattle.mg_dev.specs.Runs.{IfStopped, Run, StoreFailed, InputFailed, OutputFailed, SaysNothing, KeepsFiles, Stops, StopsUnless}
 
 -- of each collection that the files of this name stand for, and for each input that the source tells
 pub record Matched (base : List ℕ) (run : Run) : Type 0 where

@@ -16,9 +16,8 @@ use Rattle.mg_make.specs.Putting.{OthersSame}
 use Rattle.mg_merge.specs.Merging as merging
 use Rattle.mg_merge.specs.Merging.{BothStand, IsEarly, IsSizeByHeads, Left, budget_of, most_bytes}
 use Rattle.mg_merge.specs.Stops.{IsMissing}
-use Rattle.mg_top.specs.Ends.{IfStopped}
 use Rattle.mg_top.specs.Migrated.{IsMadeAnew}
-use Rattle.mg_top.specs.Runs.{Run, StoreFailed, OutputFailed, SaysNothing, KeepsFiles, Stops, StopsUnless}
+use Rattle.mg_dev.specs.Runs.{IfStopped, Run, StoreFailed, OutputFailed, SaysNothing, KeepsFiles, Stops, StopsUnless}
 
 -- the cause of each refusal: that of the call, or the output failed
 abbrev pub MergeStops : Type 0 → Type 0 → Option Files → List ℕ → List ℕ → List ℕ → Fault → Type 0

@@ -15,8 +15,7 @@ use Rattle.mg_make.specs.Putting.{OthersSame}
 use Rattle.mg_build.specs.Building.{Left}
 use Rattle.mg_build.specs.Migrating as migrating
 use Rattle.mg_build.specs.Migrating.{ComesFirst}
-use Rattle.mg_top.specs.Ends.{IfStopped}
-use Rattle.mg_top.specs.Runs.{Run, StoreFailed, OutputFailed, SaysNothing, KeepsFiles, Stops, StopsUnless}
+use Rattle.mg_dev.specs.Runs.{IfStopped, Run, StoreFailed, OutputFailed, SaysNothing, KeepsFiles, Stops, StopsUnless}
 
 -- the line that is printed: how many documents the collection has
 abbrev pub documents_line : List ℕ → List ℕ

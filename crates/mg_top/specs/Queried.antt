@@ -17,8 +17,7 @@ use Rattle.mg_reply.specs.Served.{LeftEnough}
 use Rattle.mg_session.specs.Parts.{NeverRead, is_of_text}
 use Rattle.mg_session.specs.Searching.{AskForNoText}
 use Rattle.mg_session.specs.Serves.{ReadsWithin, StopsFor}
-use Rattle.mg_top.specs.Ends.{IfStopped}
-use Rattle.mg_top.specs.Runs.{Run, StoreFailed, InputFailed, OutputFailed, SaysNothing, KeepsFiles, Stops, StopsUnless}
+use Rattle.mg_dev.specs.Runs.{IfStopped, Run, StoreFailed, InputFailed, OutputFailed, SaysNothing, KeepsFiles, Stops, StopsUnless}
 
 -- of each collection that the files of this name stand for, and for each input that the source tells
 pub record Queried (base : List ℕ) (run : Run) : Type 0 where

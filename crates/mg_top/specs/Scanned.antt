@@ -9,8 +9,7 @@ use Rattle.mg_dev.specs.declared.status.Status.TheVariants.{Done}
 use Rattle.mg_defs.specs.Replies.{session}
 use Rattle.mg_defs.specs.Limit.{is_too_much, input_limit}
 use Rattle.mg_plain.specs.Scans.{StopsFor, LeftEnough}
-use Rattle.mg_top.specs.Ends.{IfStopped}
-use Rattle.mg_top.specs.Runs.{Run, StoreFailed, InputFailed, OutputFailed, SaysNothing, KeepsFiles, Stops, StopsUnless}
+use Rattle.mg_dev.specs.Runs.{IfStopped, Run, StoreFailed, InputFailed, OutputFailed, SaysNothing, KeepsFiles, Stops, StopsUnless}
 
 -- of the collection of this name, where the store tells its files, and for each input that the source tells
 pub record Scanned (name : List ℕ) (run : Run) : Type 0 where

@@ -8,8 +8,7 @@ use Rattle.mg_defs.specs.Generator.{made_collection}
 use Rattle.mg_defs.specs.Limits.{IsWithinLimits, held_bytes, version_2}
 use Rattle.mg_defs.specs.Marks.{PassesFirst, start, piece}
 use Rattle.mg_defs.specs.Summaries.{trial_text}
-use Rattle.mg_top.specs.Ends.{IfStopped}
-use Rattle.mg_top.specs.Runs.{Run, OutputFailed, Stops}
+use Rattle.mg_dev.specs.Runs.{IfStopped, Run, OutputFailed, Stops}
 use Rattle.mg_top.specs.Trials.{SilentAfter, TrialStops}
 
 -- of the collection that is made from the seed

@@ -1,6 +1,7 @@
 // The tool `build`.
 ghost use Rattle.std.specs.Prelude.{◌≡◌, ◌≤◌, ◌⊎◌, ◌^◌};
-ghost use Rattle.mg_top.specs.Runs.{Run, SourceAt};
+ghost use Rattle.mg_dev.specs.Moments.{SourceAt};
+ghost use Rattle.mg_dev.specs.Runs.{Run};
 ghost use Rattle.mg_top.specs.Built.{Built};
 ghost use Rattle.mg_top.specs.Ends.{ToldWhy};
 

@@ -3,7 +3,7 @@ ghost use Rattle.std.specs.Prelude.{◌≡◌, Option, None};
 ghost use Rattle.mg_dev.specs.declared.fault.Fault.TheVariants.{Usage, Memory};
 ghost use Rattle.mg_words.specs.Tasks.{Task};
 ghost use Rattle.mg_top.specs.Does.{Does, built};
-ghost use Rattle.mg_top.specs.Runs.{Run, Stops};
+ghost use Rattle.mg_dev.specs.Runs.{Run, Stops};
 
 /// Status 1 comes only where the words ask nothing of a tool that is built.
 pub fn usage_asks_nothing()

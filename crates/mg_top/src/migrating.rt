@@ -1,6 +1,7 @@
 // The tool `migrate`.
 ghost use Rattle.std.specs.Prelude.{◌≡◌, ◌⊎◌};
-ghost use Rattle.mg_top.specs.Runs.{Run, SourceAt};
+ghost use Rattle.mg_dev.specs.Moments.{SourceAt};
+ghost use Rattle.mg_dev.specs.Runs.{Run};
 ghost use Rattle.mg_top.specs.Migrated.{Migrated};
 ghost use Rattle.mg_top.specs.Ends.{ToldWhy};
 

@@ -1,6 +1,6 @@
 // The tool `phrase`.
 ghost use Rattle.std.specs.Prelude.{◌≡◌, ◌⊎◌};
-ghost use Rattle.mg_top.specs.Runs.{Run};
+ghost use Rattle.mg_dev.specs.Runs.{Run};
 ghost use Rattle.mg_top.specs.Phrased.{Phrased};
 ghost use Rattle.mg_top.specs.Ends.{ToldWhy};
 

@@ -1,7 +1,7 @@
 // The words of a command line are carried out.
 ghost use Rattle.std.specs.Prelude.{◌≡◌, ◌⊎◌, map, string_bytes, Some, None};
 ghost use Rattle.mg_words.specs.Tasks.{task_of};
-ghost use Rattle.mg_top.specs.Runs.{Run};
+ghost use Rattle.mg_dev.specs.Runs.{Run};
 ghost use Rattle.mg_top.specs.Does.{Ran, built};
 
 use crate::building::run_build;

@@ -1,6 +1,7 @@
 // The tool `trial`.
 ghost use Rattle.std.specs.Prelude.{◌≡◌, ◌≤◌, ◌⊎◌};
-ghost use Rattle.mg_top.specs.Runs.{Run, SourceAt, StoreAt};
+ghost use Rattle.mg_dev.specs.Moments.{SourceAt, StoreAt};
+ghost use Rattle.mg_dev.specs.Runs.{Run};
 ghost use Rattle.mg_top.specs.Tried.{Tried};
 ghost use Rattle.mg_top.specs.Ends.{ToldWhy};
 

@@ -1,11 +1,21 @@
 -- What the devices told and counted before a run and after it, and its status.
-use Rattle.std.specs.Prelude.{◌≡◌, ◌⊎◌}
-pub use Rattle.mg_dev.specs.Moments.{StoreAt, SourceAt, SinkAt}
-use Rattle.mg_dev.specs.Moments.{StoreRose, SourceRose, SinkRose, KeptFiles, NothingWritten}
+use Rattle.std.specs.Prelude.{◌≡◌, ◌⊎◌, Ok, Err}
+use Rattle.std.specs.declared.result.Result.{Result}
+use Rattle.mg_dev.specs.Moments.{StoreAt, SourceAt, SinkAt, StoreRose, SourceRose, SinkRose, KeptFiles, NothingWritten}
 use Rattle.mg_dev.specs.declared.fault.Fault.{Fault}
 use Rattle.mg_dev.specs.declared.fault.Fault.TheVariants.{StoreFault, Memory}
 use Rattle.mg_dev.specs.declared.status.Status.{Status}
-use Rattle.mg_dev.specs.declared.status.Status.TheVariants.{Stopped}
+use Rattle.mg_dev.specs.declared.status.Status.TheVariants.{Done, Stopped}
+
+-- the status of a run that ends with this answer
+abbrev pub status_of : {T : Type 0} → Result T Fault → Status
+status_of (Ok value) = Done
+status_of (Err fault) = Stopped fault
+
+-- this holds of the fault, if the run stopped
+abbrev pub IfStopped : Status → (Fault → Type 0) → Type 0
+IfStopped Done holds = Unit {0}
+IfStopped (Stopped fault) holds = holds fault
 
 -- a run: its devices before it and after it, and the status
 pub record Run : Type 0 where
