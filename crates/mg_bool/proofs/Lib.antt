@@ -1,4 +1,5 @@
 mod LeadLaws
 mod AskLaws
 mod NextLaws
+mod WordLaws
 mod StayLaws

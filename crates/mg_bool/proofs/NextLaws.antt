@@ -58,7 +58,7 @@ pub none_left : (collection : List ℕ) (q : Query) (d : ℕ) → length (docume
 unfolding found
 none_left collection q d le = ap (found q (d + 1)) (drop_all d (documents collection) le)
 
-lead_from : (collection r : List ℕ) (d : ℕ) → d ≤ length (documents collection) → from_doc (d + 1) (postings collection r) ≡ list_from r (d + 1) (drop d (documents collection))
+pub lead_from : (collection r : List ℕ) (d : ℕ) → d ≤ length (documents collection) → from_doc (d + 1) (postings collection r) ≡ list_from r (d + 1) (drop d (documents collection))
 lead_from collection r d le =
     let ds = documents collection in
     let split : ds ≡ take d ds ++ drop d ds = sym (take-append-drop d ds) in

@@ -14,6 +14,7 @@ mod matches;
 mod next;
 mod place;
 mod places;
+mod word;
 
 pub use laws::{all_are_to_come, matches_still_fit};
 pub use matches::Matches;

@@ -13,6 +13,7 @@ ghost use Rattle.mg_bool.specs.Matches.{GoesOn, GoesOver, IsNext, IsWithin, Plac
 
 use crate::place::Place;
 use crate::places::{ask_all, ask_at};
+use crate::word::next_of_word;
 use mg_dev::{PartErr, Store};
 use mg_post::cursor_pages_are_within;
 use mg_query::Query;
@@ -49,8 +50,8 @@ fn candidate<S: Store>(
     ask_at(places, store, place, decided + 1)
 }
 
-/// The next document from 1 to all that satisfies the query.
-pub(crate) fn next_match<S: Store>(
+/// The next document that satisfies a query, each candidate asked of every place.
+fn next_asked<S: Store>(
     query: &Query,
     places: &mut Vec<Place<'_, S>>,
     there: &mut Vec<bool>,
@@ -102,4 +103,50 @@ pub(crate) fn next_match<S: Store>(
         }
     }
     Ok(None)
+}
+
+/// The next document from 1 to all that satisfies the query.
+pub(crate) fn next_match<S: Store>(
+    query: &Query,
+    places: &mut Vec<Place<'_, S>>,
+    there: &mut Vec<bool>,
+    store: &mut S,
+    lead: Option<usize>,
+    all: u32,
+    decided: &mut u32,
+) -> Result<Option<u32>, PartErr>
+    requires fits { PlacesFit (S.files store.old) places.old.items }
+    requires on { (base : List ℕ) × PlacesOn base all places.old.items }
+    requires lead { IsWithin lead (length places.old.items) }
+    requires there { length there.old.items ≡ length places.old.items }
+    requires most { decided.old ≤ all }
+    ensures fits { OnOk result (PlacesFit (S.files store.new) places.new.items) }
+    ensures same { SamePlaces places.old.items places.new.items }
+    ensures there { length there.new.items ≡ length there.old.items }
+    ensures most { decided.new ≤ all }
+    ensures later { decided.old ≤ decided.new }
+    ensures range { IfOk result (λ found. IfSome found (λ doc. (decided.old < doc) × (doc ≤ all) × (decided.new ≡ doc))) }
+    ensures last { result ≡ Ok None → decided.new ≡ all }
+    ensures answer { (base collection : List ℕ) → GoesOver base collection (query_of query.now) (S.files store.old) places.old.items lead all decided.old →
+        AnswersList result (λ found. GoesOn (left_in collection (query_of query.now) decided.old) (left_in collection (query_of query.now) decided.new) found ×
+        PlacesOver base collection (query_of query.now) places.new.items lead all decided.new) }
+    ensures pages { (base collection : List ℕ) → GoesOver base collection (query_of query.now) (S.files store.old) places.old.items lead all decided.old →
+        PagesWithin (boolean_bound collection (query_of query.now)) (pages_read places.old.items) (pages_read places.new.items) (S.reads store.old) (S.reads store.new) }
+    ensures part { IfErr result NamesItsPart }
+    ensures reads { ReadsLists (S.reads store.old) (S.reads store.new) }
+    ensures files { S.files store.new ≡ S.files store.old }
+    ensures memory { result ≢ Err PartErr.Memory }
+    ensures cause { HasPartCause (S.faults store.old) (S.faults store.new) result }
+{
+    if let (Query::Term(_), Some(place)) = (query, lead) {
+        if *decided < all {
+            let found = match next_of_word(places, store, place, all, *decided) {
+                Ok(found) => found,
+                Err(refusal) => return Err(refusal),
+            };
+            *decided = found.unwrap_or(all);
+            return Ok(found);
+        }
+    }
+    next_asked(query, places, there, store, lead, all, decided)
 }

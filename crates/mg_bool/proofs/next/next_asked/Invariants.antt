@@ -4,7 +4,7 @@ use Rattle.mg_post.specs.TermLists.{ReadsLists}
 use Rattle.mg_bool.specs.Places.{PlacesFit, SamePlaces}
 use Rattle.mg_bool.specs.Matches.{GoesOver}
 use Rattle.mg_bool.proofs.NextLaws.{Going}
-use Rattle.mg_bool.proofs.next.next_match.Given as goal
+use Rattle.mg_bool.proofs.next.next_asked.Given as goal
 
 abbrev pub invariant-loop-decided : goal.invariant-loop-decided
 invariant-loop-decided g l = record {
