@@ -100,6 +100,59 @@ fn scans_answer(rt: HostRuntime) -> Result<(), Fail> {
     Ok(())
 }
 
+/// The two letters of a word: each number has its own.
+fn two_letters(number: u8) -> [u8; 2] {
+    [b'a' + number / 26, b'a' + number % 26]
+}
+
+/// A line of so many words of two letters each, and what comes behind them.
+fn line_of_words(alloc: Global, count: u8, behind: &[u8]) -> Result<Vec<u8>, AllocError> {
+    let mut line = Vec::new(alloc);
+    for number in 0..count {
+        line.extend_from_slice(&two_letters(number))?;
+        line.push(b' ')?;
+    }
+    line.extend_from_slice(behind)?;
+    Ok(line)
+}
+
+#[test]
+fn lines_at_their_limits_are_answered(rt: HostRuntime) -> Result<(), Fail> {
+    let alloc = rt.alloc();
+    let letters = [b'a'; 1026];
+    let mut words = Vec::new(alloc);
+    for count in [1usize, 255, 256, 1025] {
+        words.extend_from_slice(&letters[..count])?;
+        words.push(b'\n')?;
+    }
+    let mut ranked = Vec::new(alloc);
+    ranked.extend_from_slice(b".set  query   ranked\n")?;
+    ranked.extend_from_slice(line_of_words(alloc, 63, b"cat\n")?.as_slice())?;
+    ranked.extend_from_slice(line_of_words(alloc, 65, b"\n")?.as_slice())?;
+    let open = [b'('; 33];
+    let rows: [(&[u8], &[u8], &[u8]); 4] = [
+        // A document of 256 letters has a term of 255 and one of 1.
+        (
+            &letters[..256],
+            words.as_slice(),
+            b"1\n= 1\n1\n= 1\n? word too long at 0\n? line too long\n",
+        ),
+        (
+            LETTERS,
+            ranked.as_slice(),
+            b"3 77451\n1 50002\n= 2\n? too many words at 192\n",
+        ),
+        (LETTERS, b"cat & | dog\n", b"? syntax at 6\n"),
+        (LETTERS, &open, b"? too deep at 32\n"),
+    ];
+    for (text, lines, wanted) in rows {
+        let left = ran(alloc, &["scan", "text"], text, lines)?;
+        assert!(rt; left.status == Status::Done);
+        assert_eq!(rt; left.out.bytes(), wanted);
+    }
+    Ok(())
+}
+
 #[test]
 fn other_words_are_not_understood(rt: HostRuntime) -> Result<(), Fail> {
     let rows: [&[&str]; 9] = [
