@@ -1,11 +1,11 @@
 -- Terms one after another in one list of bytes.
-use Rattle.std.proofs.Common.{◌≡◌, ℕ, zero, suc, ◌+◌, ◌-◌, ◌<◌, ◌≤◌, ◌==◌, false, cond, List, [], ◌∷◌, ◌++◌, length, take, drop, get_or, slice_get, Some, refl, sym, ap, subst, ◌∙◌, arith, length-append, length-take, length-drop}
+use Rattle.std.proofs.Common.{◌≡◌, ℕ, zero, suc, ◌+◌, ◌-◌, ◌<◌, ◌≤◌, ◌==◌, false, cond, List, [], ◌∷◌, ◌++◌, length, take, drop, get_or, slice_get, Some, refl, sym, ap, subst, ◌∙◌, arith, length-append, length-take}
 use Rattle.std.proofs.lemmas.Bool.Decides.{nat_tests}
 use Rattle.std.proofs.lemmas.Grind.{common_steps}
 use Rattle.std.proofs.lemmas.List.Sums.{sum_by-cons}
 use Rattle.mg_defs.specs.Rotations.{most_rotations}
 use Rattle.mg_layout.specs.declared.term_info.TermInfo.{TermInfo}
-use Rattle.mg_wild.specs.Terms.{cut, total, AreEnds, AreNumbered, IsNumbered, IsTermBlock, start_of}
+use Rattle.mg_wild.specs.Terms.{cut, total, AreEnds, AreNumbered, AreShort, IsNumbered, IsTermBlock, start_of}
 
 part-same : (n from : ℕ) (bytes more : List ℕ) → from + n ≤ length bytes → take n (drop from (bytes ++ more)) ≡ take n (drop from bytes)
 part-same n from bytes more h = grind (arith, common_steps)
@@ -41,6 +41,15 @@ ends-more : (from : ℕ) (ends : List ℕ) (to n : ℕ) → AreEnds from ends to
 ends-more from [] to n h = (omega (arith, h), refl)
 ends-more from (end ∷ ends) to n h = (h.0, ends-more end ends to n h.1)
 
+short-more : (from : ℕ) (ends : List ℕ) (to n : ℕ) → AreEnds from ends to → AreShort from ends → n ≤ 255 → AreShort from (ends ++ (to + n) ∷ [])
+short-more from [] to n h s le = (omega (arith, h, le), tt)
+short-more from (end ∷ ends) to n h s le = (s.0, short-more end ends to n h.1 s.1 le)
+
+pub short-at : (from : ℕ) (ends bytes : List ℕ) (number : ℕ) → AreShort from ends → length (get_or (cut from ends bytes) number []) ≤ 255
+short-at from [] bytes number s = omega arith
+short-at from (end ∷ ends) bytes zero s = omega (arith, s.0, length-take (end - from) (drop from bytes))
+short-at from (end ∷ ends) bytes (suc number) s = short-at end ends bytes number s.1
+
 pub numbered-more : (number : ℕ) (infos : List TermInfo) (info : TermInfo) → AreNumbered number infos → IsNumbered (number + length infos) info → AreNumbered number (infos ++ info ∷ [])
 numbered-more number [] info h is = let n : number + 0 ≡ number = omega arith in (subst (λ k. IsNumbered k info) n is, tt)
 numbered-more number (i ∷ infos) info h is =
@@ -57,13 +66,14 @@ numbered-at number (i ∷ infos) (suc k) info h e =
     let n : suc number + k ≡ number + suc k = omega arith in
     subst (λ m. IsNumbered m info) n (numbered-at (suc number) infos k info h.1 e)
 
-pub block-push : (ends bytes : List ℕ) (infos : List TermInfo) (term new now : List ℕ) (info : TermInfo) (more : List TermInfo) → IsTermBlock ends bytes infos → length bytes + length term + length ends < most_rotations → IsNumbered (length ends) info →
+pub block-push : (ends bytes : List ℕ) (infos : List TermInfo) (term new now : List ℕ) (info : TermInfo) (more : List TermInfo) → IsTermBlock ends bytes infos → length bytes + length term + length ends < most_rotations → length term ≤ 255 → IsNumbered (length ends) info →
     new ≡ ends ++ (length bytes + length term) ∷ [] → now ≡ bytes ++ term → more ≡ infos ++ info ∷ [] → IsTermBlock new now more
-block-push ends bytes infos term new now info more is few at e f g =
+block-push ends bytes infos term new now info more is few low at e f g =
     let long : length now ≡ length bytes + length term = ap length f ∙ length-append bytes term in
     record {
       few = omega (arith, long, ap length e, length-append ends ((length bytes + length term) ∷ []), few);
       ends_are = subst (λ n. AreEnds 0 new n) (sym long) (subst (λ t. AreEnds 0 t (length bytes + length term)) (sym e) (ends-more 0 ends (length bytes) (length term) is.ends_are));
+      short = subst (AreShort 0) (sym e) (short-more 0 ends (length bytes) (length term) is.ends_are is.short low);
       each = omega (arith, is.each, ap length e, ap length g, length-append ends ((length bytes + length term) ∷ []), length-append infos (info ∷ []));
       numbered =
           let n : length ends ≡ 0 + length infos = omega (arith, is.each) in
@@ -123,6 +133,3 @@ pub there : (infos : List TermInfo) (number : ℕ) (info : TermInfo) → number 
 there [] number info l e = absurd (omega arith)
 there (i ∷ infos) zero info l e = ap Some (sym e)
 there (i ∷ infos) (suc number) info l e = there infos number info (omega arith) e
-
-pub short-part : (n start : ℕ) (bytes part : List ℕ) → part ≡ take n (drop start bytes) → length part ≤ length bytes
-short-part n start bytes part e = omega (arith, ap length e, length-take n (drop start bytes), length-drop start bytes)

@@ -2,4 +2,6 @@ mod PatternLaws
 mod CutLaws
 mod LoadLaws
 mod OrderLaws
+mod FrontLaws
+mod RangeLaws
 mod MatchLaws

@@ -1,4 +1,5 @@
 pub mod Patterns
 pub mod Terms
 pub mod Rotations
+pub mod Fronts
 pub mod Loading

@@ -24,6 +24,11 @@ abbrev pub AreEnds : ℕ → List ℕ → ℕ → Type 0
 AreEnds from [] to = from ≡ to
 AreEnds from (end ∷ ends) to = (from ≤ end) × AreEnds end ends to
 
+-- each string has at most 255 bytes
+abbrev pub AreShort : ℕ → List ℕ → Type 0
+AreShort from [] = Unit {0}
+AreShort from (end ∷ ends) = (end ≤ from + 255) × AreShort end ends
+
 -- where the string of a number begins
 abbrev pub start_of : List ℕ → ℕ → ℕ
 start_of ends number = if number == 0 then 0 else slice_index ends (number - 1)
@@ -41,5 +46,6 @@ AreNumbered number (info ∷ infos) = IsNumbered number info × AreNumbered (suc
 pub record IsTermBlock (ends bytes : List ℕ) (infos : List TermInfo) : Type 0 where
   pub few : length bytes + length ends ≤ most_rotations
   pub ends_are : AreEnds 0 ends (length bytes)
+  pub short : AreShort 0 ends
   pub each : length infos ≡ length ends
   pub numbered : AreNumbered 0 infos

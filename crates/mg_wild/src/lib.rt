@@ -10,7 +10,9 @@
 //! See Witten, Moffat and Bell, *Managing Gigabytes*, chapter 4.
 #![tactic(auto)]
 
+mod fronts;
 mod numbers;
+mod packed;
 mod pattern;
 mod reading;
 mod rotated;

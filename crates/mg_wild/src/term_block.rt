@@ -94,6 +94,7 @@ impl TermBlock {
     pub(crate) fn len(&self) -> u32
         ensures terms { result ≡ length self.now.terms }
         ensures infos { result ≡ length self.now.infos }
+        ensures few { result ≤ most_rotations }
     {
         self.ends.len() as u32
     }
@@ -126,7 +127,7 @@ impl TermBlock {
     /// The term with a number, empty where there is none.
     pub(crate) fn term(&self, number: u32) -> &[u8]
         ensures term { result.now ≡ get_or self.now.terms number [] }
-        ensures short { length result.now ≤ most_rotations }
+        ensures short { length result.now ≤ 255 }
     {
         let number = number as usize;
         if number >= self.ends.len() {

@@ -1,6 +1,6 @@
-use Rattle.std.proofs.Common.{arith, ◌∙◌, ◌<◌, ◌-◌, [], sym, ap, length, get_or}
+use Rattle.std.proofs.Common.{arith, ◌∙◌, ◌<◌, [], sym, ap, length, get_or}
 use Rattle.mg_wild.specs.Terms.{LexTerms}
-use Rattle.mg_wild.proofs.CutLaws.{at-lent, length-cut, past, short-part}
+use Rattle.mg_wild.proofs.CutLaws.{at-lent, length-cut, past, short-at}
 use Rattle.mg_wild.proofs.term_block.TermBlock.term.Goals as goal
 
 pub returns-then-number-len-clause-term : goal.returns-then-number-len-clause-term
@@ -24,4 +24,7 @@ returns-clause-term c =
     c.part.ensures ∙ sym here ∙ ap (λ (v : LexTerms). get_or v.terms c.args.number []) c.self.view_is
 
 pub returns-clause-short : goal.returns-clause-short
-returns-clause-short c = omega (arith, short-part (c.end_of-end.result - c.start_of-start.result) c.start_of-start.result c.deref-3.result.now c.part.result.now c.part.ensures, ap length c.deref-3.ensures.value, c.self.invariant.few)
+returns-clause-short c =
+    let within : c.args.number < length c.self.inside.ends.items = omega (arith, c.len.ensures, c.if-number-len.false) in
+    let here = (at-lent c.self.inside.ends.items c.self.inside.bytes.items c.deref.result.now c.deref-3.result.now c.args.number c.start_of-start.result c.end_of-end.result c.self.invariant.ends_are within c.deref.ensures.value c.deref-3.ensures.value c.start_of-start.ensures (c.end_of-end.ensures ∙ ap (λ e. get_or e c.args.number 0) (c.deref-2.ensures.value ∙ sym c.deref.ensures.value))).2 in
+    omega (arith, ap length (c.part.ensures ∙ sym here), short-at 0 c.self.inside.ends.items c.self.inside.bytes.items c.args.number c.self.invariant.short)
