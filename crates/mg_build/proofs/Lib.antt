@@ -1,3 +1,4 @@
+pub mod CallerLemmas
 mod DocumentLaws
 mod StopLaws
 mod PassLaws
@@ -10,3 +11,6 @@ mod MigrateLaws
 mod PlaceLaws
 mod WideLaws
 mod MigrateStopLaws
+mod MadeLaws
+mod MadeAnewLaws
+mod DecodedLaws

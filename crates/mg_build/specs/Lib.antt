@@ -4,3 +4,6 @@ pub mod Sources
 pub mod Building
 pub mod Copying
 pub mod Migrating
+pub mod Made
+pub mod MadeAnew
+pub mod Decoded

@@ -4,6 +4,7 @@ ghost use Rattle.std.specs.Option.{IsSome};
 ghost use Rattle.mg_dev.specs.Causes.{Rose};
 ghost use Rattle.mg_dev.specs.Files.{bytes_at, file_at};
 ghost use Rattle.mg_dev.specs.Names.{full_name};
+ghost use Rattle.mg_dev.specs.Runs.{status_of};
 ghost use Rattle.mg_dev.specs.declared.part.Part.{Part as AnyPart};
 ghost use Rattle.mg_dev.specs.declared.part.Part.TheVariants as part;
 ghost use Rattle.mg_dev.specs.declared.fault.Fault.TheVariants as fault;
@@ -17,6 +18,7 @@ ghost use Rattle.mg_layout.specs.Stands.{StandsIn};
 ghost use Rattle.mg_make.specs.Putting.{IsApart, OthersSame};
 ghost use Rattle.mg_make.specs.Summaries.{summary_of};
 ghost use Rattle.mg_build.specs.Building.{BuildStops, IsEarly, Left};
+ghost use Rattle.mg_build.specs.Made.{Made};
 ghost use Rattle.mg_build.specs.Outcomes.{IsDone, RefusedFor};
 ghost use Rattle.mg_build.specs.Sources.{most_bytes};
 
@@ -27,12 +29,8 @@ use mg_dev::{Fault, Store};
 use mg_make::Summary;
 use std::alloc::Global;
 
-/// Makes the set of a collection under a base, by a pool of so many bytes, from 4,096 to 2^30.
-///
-/// The first pass counts; nothing is written before it is done. Then the head is emptied, the other
-/// parts are written, and last the head, so that a set without a head is no set: what a build that
-/// stops leaves stands for no collection.
-pub fn build<S: Store>(
+// Makes the set of a collection under a base, and tells how the store stands then.
+fn build_files<S: Store>(
     alloc: Global,
     store: &mut S,
     collection: &str,
@@ -81,4 +79,29 @@ pub fn build<S: Store>(
         Err(fault) => return Err(fault),
     };
     write_set(alloc, store, &mut source, base, &plan, room)
+}
+
+/// Makes the set of a collection under a base, by a pool of so many bytes, from 4,096 to 2^30.
+///
+/// The first pass counts; nothing is written before it is done. Then the head is emptied, the other
+/// parts are written, and last the head, so that a set without a head is no set: what a build that
+/// stops leaves stands for no collection.
+pub fn build<S: Store>(
+    alloc: Global,
+    store: &mut S,
+    collection: &str,
+    base: &str,
+    budget: u64,
+) -> Result<Summary, Fault>
+    requires least { 4096 ≤ budget }
+    requires most { budget ≤ 2 ^ 30 }
+    ensures made { Made collection.now base.now budget
+        (record { files = S.files store.old; reads = S.reads store.old; faults = S.faults store.old })
+        (record { files = S.files store.new; reads = S.reads store.new; faults = S.faults store.new })
+        (status_of result) }
+    // At `Ok` the summary has the numbers of the collection.
+    ensures summary { IsSome (S.files store.old) → IfOk result (λ summary. summary ≡ summary_of budget (bytes_at (S.files store.old) collection.now)) }
+    ensures later { S.faults store.old ≤ S.faults store.new }
+{
+    build_files(alloc, store, collection, base, budget)
 }

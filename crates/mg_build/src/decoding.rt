@@ -2,7 +2,9 @@
 ghost use Rattle.std.specs.Prelude.{◌≡◌, ◌⊎◌, ◌≤◌, ◌^◌, ℕ, List, [], IfErr, IsSome, Err};
 ghost use Rattle.mg_dev.specs.Causes.{Rose};
 ghost use Rattle.mg_dev.specs.Files.{bytes_at};
+ghost use Rattle.mg_dev.specs.Moments.{SinkAt, SourceAt};
 ghost use Rattle.mg_dev.specs.Names.{full_name, number};
+ghost use Rattle.mg_dev.specs.Runs.{status_of};
 ghost use Rattle.mg_dev.specs.Streams.{AfterPut};
 ghost use Rattle.mg_dev.specs.declared.fault.Fault.TheVariants as fault;
 ghost use Rattle.mg_dev.specs.declared.part.Part.{Part as AnyPart};
@@ -11,6 +13,7 @@ ghost use Rattle.mg_defs.specs.CodedText.{TextCode};
 ghost use Rattle.mg_layout.specs.Stands.{Stands, StandsBy};
 ghost use Rattle.mg_text.specs.Decoding.{Added};
 ghost use Rattle.mg_text.specs.Reading.{ShowIsNotBad};
+ghost use Rattle.mg_build.specs.Decoded.{Decoded};
 ghost use Rattle.mg_build.specs.Outcomes.{DecodeStops, IsDone, RefusedFor, ShowStops};
 
 use crate::documents::show_documents;
@@ -25,6 +28,34 @@ use std::alloc::Global;
 /// text is loaded no memory of its own is taken. After a refusal a prefix of the collection was
 /// written.
 pub fn decode<S: Store, O: Sink>(
+    alloc: Global,
+    store: &mut S,
+    base: &str,
+    out: &mut O,
+) -> Result<(), Fault>
+    // What a run does that decodes, whatever its input is, which is not read, and its error output.
+    ensures decoded { (input : SourceAt) (err err_now : SinkAt) → Decoded base.now (record {
+      store = record { files = S.files store.old; reads = S.reads store.old; faults = S.faults store.old };
+      store_now = record { files = S.files store.new; reads = S.reads store.new; faults = S.faults store.new };
+      input = input;
+      input_now = input;
+      out = record { written = O.written out.old; faults = O.faults out.old; lacks = O.lacks out.old };
+      out_now = record { written = O.written out.new; faults = O.faults out.new; lacks = O.lacks out.new };
+      err = err;
+      err_now = err_now;
+      status = status_of result;
+    }) }
+    // Whatever the files hold, bytes are only added.
+    ensures added { Added (O.written out.old) (O.written out.new) (O.faults out.old) (O.faults out.new) (O.lacks out.old) (O.lacks out.new) }
+    // At want of memory nothing was written, unless it was the sink that lacked it.
+    ensures memory { result ≡ Err fault.Memory → (O.written out.new ≡ O.written out.old) ⊎ Rose (O.lacks out.old) (O.lacks out.new) }
+    ensures later { S.faults store.old ≤ S.faults store.new }
+{
+    decode_files(alloc, store, base, out)
+}
+
+// Writes the collection of the set under a base, and tells how each device stands then.
+fn decode_files<S: Store, O: Sink>(
     alloc: Global,
     store: &mut S,
     base: &str,

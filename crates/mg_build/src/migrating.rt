@@ -6,6 +6,7 @@ ghost use Rattle.std.specs.Prelude.{◌≡◌, ◌≢◌, ◌≤◌, ◌+◌, �
 ghost use Rattle.mg_dev.specs.Causes.{Rose};
 ghost use Rattle.mg_dev.specs.Files.{bytes_at, file_at};
 ghost use Rattle.mg_dev.specs.Names.{full_name};
+ghost use Rattle.mg_dev.specs.Runs.{status_of};
 ghost use Rattle.mg_dev.specs.declared.fault.Fault.TheVariants as fault;
 ghost use Rattle.mg_dev.specs.declared.part.Part.{Part as AnyPart};
 ghost use Rattle.mg_dev.specs.declared.part.Part.TheVariants as part;
@@ -17,6 +18,7 @@ ghost use Rattle.mg_layout.specs.Stands.{Stands, StandsBy, StandsIn};
 ghost use Rattle.mg_make.specs.Putting.{IsUnbuilt, LacksOnlyHead, OthersSame};
 ghost use Rattle.mg_build.specs.Building.{Left};
 ghost use Rattle.mg_build.specs.Copying.{ChangedAlone, CopyStops};
+ghost use Rattle.mg_build.specs.MadeAnew.{MadeAnew};
 ghost use Rattle.mg_build.specs.Migrating.{AreCopied, AreEmptied, ComesFirst, IsMadeAnew, IsSetOf, MigrateStops};
 ghost use Rattle.mg_build.specs.Outcomes.{IsDone, RefusedFor};
 
@@ -51,6 +53,24 @@ const COPIED: [Part; 9] = [
 /// `SameName` where both bases are the same, `NotBuilt` where the set has no head; then nothing was written. `Damaged`
 /// only where the set stands for no collection; the store's faults, and want of memory.
 pub fn migrate<S: Store>(alloc: Global, store: &mut S, name: &str, new: &str) -> Result<u32, Fault>
+    ensures made_anew { MadeAnew name.now new.now
+        (record { files = S.files store.old; reads = S.reads store.old; faults = S.faults store.old })
+        (record { files = S.files store.new; reads = S.reads store.new; faults = S.faults store.new })
+        (status_of result) }
+    // At `Ok` it answers how many documents the collection has.
+    ensures documents { (collection : List ℕ) → Stands (S.files store.old) name.now collection → IfOk result (λ count. count ≡ length (documents collection)) }
+    ensures later { S.faults store.old ≤ S.faults store.new }
+{
+    migrate_files(alloc, store, name, new)
+}
+
+// Makes a set of version 2 under one base from the set under another, and tells how the store stands then.
+fn migrate_files<S: Store>(
+    alloc: Global,
+    store: &mut S,
+    name: &str,
+    new: &str,
+) -> Result<u32, Fault>
     // At `Ok` the new set stands for the same collection, with as many occurrences to a run.
     ensures stands { (version cap : ℕ) (collection : List ℕ) → StandsIn version cap (S.files store.old) name.now collection → OnOk result (StandsIn 2 cap (S.files store.new) new.now collection) }
     ensures documents { (collection : List ℕ) → Stands (S.files store.old) name.now collection → IfOk result (λ count. count ≡ length (documents collection)) }

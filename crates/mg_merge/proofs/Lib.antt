@@ -6,3 +6,5 @@ mod HeadLaws
 mod GivenLaws
 mod PassLaws
 mod MergeLaws
+mod Endings
+mod AnswerLaws

@@ -6,6 +6,8 @@ use Rattle.std.specs.declared.result.Result.{Result}
 use Rattle.mg_dev.specs.Files.{Files}
 use Rattle.mg_dev.specs.declared.fault.Fault.{Fault}
 use Rattle.mg_dev.specs.declared.fault.Fault.TheVariants.{Damaged, Memory, NotBuilt, SameName, StoreFault, TooLarge, TooManyDocuments, TooManyPieces}
+use Rattle.mg_dev.specs.declared.status.Status.{Status}
+use Rattle.mg_dev.specs.declared.status.Status.TheVariants.{Stopped}
 use Rattle.mg_defs.specs.Heads as heads
 use Rattle.mg_defs.specs.Join.{join}
 use Rattle.mg_defs.specs.Limits.{version_2}
@@ -84,3 +86,7 @@ abbrev pub IsDone : {T : Type 0} → Result T Fault → Type 0
 IsDone (Ok value) = Unit {0}
 IsDone (Err Memory) = Unit {0}
 IsDone (Err _) = ⊥
+
+-- it stopped for this fault, unless the store failed or memory was wanting
+abbrev pub StoppedFor : Status → Fault → Type 0
+StoppedFor status fault = (status ≡ Stopped fault) ⊎ (status ≡ Stopped StoreFault) ⊎ (status ≡ Stopped Memory)

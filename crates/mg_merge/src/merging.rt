@@ -4,6 +4,7 @@ ghost use Rattle.std.specs.Option.{IsSome};
 ghost use Rattle.mg_dev.specs.Causes.{Rose};
 ghost use Rattle.mg_dev.specs.Files.{file_at};
 ghost use Rattle.mg_dev.specs.Names.{full_name};
+ghost use Rattle.mg_dev.specs.Runs.{status_of};
 ghost use Rattle.mg_dev.specs.declared.part.Part.TheVariants as part;
 ghost use Rattle.mg_dev.specs.declared.fault.Fault.TheVariants as fault;
 ghost use Rattle.mg_defs.specs.declared.Stream.{Stream as Kind};
@@ -14,6 +15,7 @@ ghost use Rattle.mg_defs.specs.Summaries.{run_cap};
 ghost use Rattle.mg_layout.specs.Stands.{Stands, StandsIn};
 ghost use Rattle.mg_make.specs.Putting.{OthersSame};
 ghost use Rattle.mg_make.specs.Summaries.{summary_of};
+ghost use Rattle.mg_merge.specs.Joined.{Joined};
 ghost use Rattle.mg_merge.specs.Merging.{BothStand, IsDone, IsEarly, IsSizeByHeads, Left, MergeStops, RefusedFor, budget_of, most_bytes};
 ghost use Rattle.mg_merge.specs.Stops.{CountingStops, IsMissing};
 ghost use Rattle.mg_merge.specs.Passes.{AreApart};
@@ -44,6 +46,26 @@ const MOST: u64 = 0xffff_ffff;
 /// is met first. `Damaged` only where one of the sets stands for no collection, also where it changes while it is read.
 /// The store's faults, and want of memory.
 pub fn merge<S: Store>(
+    alloc: Global,
+    store: &mut S,
+    first: &str,
+    second: &str,
+    new: &str,
+) -> Result<Summary, Fault>
+    ensures joined { Joined first.now second.now new.now
+        (record { files = S.files store.old; reads = S.reads store.old; faults = S.faults store.old })
+        (record { files = S.files store.new; reads = S.reads store.new; faults = S.faults store.new })
+        (status_of result) }
+    // At `Ok` the summary has the numbers of both collections in one.
+    ensures summary { (version cap : ℕ) (a b : List ℕ) → StandsIn version cap (S.files store.old) first.now a → Stands (S.files store.old) second.now b →
+        IfOk result (λ summary. summary ≡ summary_of (budget_of cap) (join a b)) }
+    ensures later { S.faults store.old ≤ S.faults store.new }
+{
+    merge_files(alloc, store, first, second, new)
+}
+
+// Makes the set of the documents of two sets under a third base, and tells how the store stands then.
+fn merge_files<S: Store>(
     alloc: Global,
     store: &mut S,
     first: &str,

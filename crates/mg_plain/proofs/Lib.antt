@@ -9,3 +9,6 @@ mod ScoreLaws
 mod RankedLaws
 mod RankingLaws
 mod ScannerLaws
+mod Endings
+mod Complete
+mod ScannedLaws

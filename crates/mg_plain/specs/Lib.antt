@@ -1,6 +1,6 @@
 pub mod Inside
 pub mod Counts
-pub mod Scanned
+pub mod Scanning
 pub mod Loaded
 pub mod Runs
 pub mod Rows
@@ -8,3 +8,4 @@ pub mod Ranked
 pub mod Products
 pub mod Ranking
 pub mod Scans
+pub mod Scanned

@@ -1,19 +1,38 @@
--- A scan that is under way.
-use Rattle.std.specs.Prelude.{◌≡◌, ℕ, ◌+◌, List, [], ◌++◌, length, flat_map}
-use Rattle.std.specs.declared.option.Option.{Option}
-use Rattle.mg_defs.specs.Split.{documents}
-use Rattle.mg_defs.specs.Sat.{Query}
-use Rattle.mg_defs.specs.declared.session.Settings.{Settings}
-use Rattle.mg_defs.specs.Weights.{first}
-use Rattle.mg_defs.specs.Reply.{Shown, found, shown}
-use Rattle.mg_reply.specs.Pending.{Passed}
+-- What a run of `scan COLLECTION` does.
+use Rattle.std.specs.Prelude.{◌≡◌, ◌≢◌, ◌⊎◌, ◌<◌, ◌≤◌, ◌^◌, ℕ, false, List, length, Some, None, IsSome}
+use Rattle.mg_dev.specs.Files.{file_at, bytes_at}
+use Rattle.mg_dev.specs.Streams.{appended, GrewByPrefix}
+use Rattle.mg_dev.specs.declared.part.Part.{Part}
+use Rattle.mg_dev.specs.declared.part.Part.TheVariants.{Plain}
+use Rattle.mg_dev.specs.declared.fault.Fault.TheVariants.{NoCollection, TooLarge, Memory}
+use Rattle.mg_dev.specs.declared.status.Status.TheVariants.{Done}
+use Rattle.mg_defs.specs.Replies.{session}
+use Rattle.mg_defs.specs.Limit.{is_too_much, input_limit}
+use Rattle.mg_plain.specs.Scans.{StopsFor, LeftEnough}
+use Rattle.mg_dev.specs.Runs.{IfStopped, Run, StoreFailed, InputFailed, OutputFailed, SaysNothing, KeepsFiles, Stops, StopsUnless}
 
--- So many documents were read, and those of them that satisfy the query were shown.
-pub record Scanned (collection : List ℕ) (q : Query) (now : Settings) (before after : Option (List ℕ)) (waiting : List ℕ) (number total : ℕ) (rest : List (List ℕ)) : Type 0 where
-  pub front : List (List ℕ)
-  pub docs_is : documents collection ≡ front ++ rest
-  pub count : length front ≡ number
-  pub so_far : List Shown
-  pub split : found q 1 (documents collection) ≡ so_far ++ found q (number + 1) rest
-  pub total_is : length so_far ≡ total
-  pub passed : Passed before after [] waiting (flat_map (shown collection now.mode) (first now.most so_far))
+-- of the collection of this name, where the store tells its files, and for each input that the source tells
+pub record Scanned (name : List ℕ) (run : Run) : Type 0 where
+  -- status 0: the whole session is printed, and the input was read to its end or a line `.quit`
+  pub done : IsSome run.store.files → (given : List ℕ) → run.input.left ≡ Some given → run.status ≡ Done
+      → run.out_now.written ≡ appended run.out.written (session (bytes_at run.store.files name) given)
+  pub left : (given : List ℕ) → run.input.left ≡ Some given → run.status ≡ Done → LeftEnough given run.input_now.left
+  pub within : (given : List ℕ) → run.input.left ≡ Some given → run.status ≡ Done → is_too_much input_limit given ≡ false
+  -- every status: a prefix of the session is printed, and nothing after the statuses 7 and 8
+  pub prefix : IsSome run.store.files → (given : List ℕ) → run.input.left ≡ Some given
+      → GrewByPrefix run.out.written run.out_now.written (session (bytes_at run.store.files name) given)
+  pub silent : Stops run NoCollection → SaysNothing run
+  pub silent_large : (size most : ℕ) → Stops run (TooLarge size most) → SaysNothing run
+  -- the cause of every other status; 7 and 8 come exactly where they have it, unless the store fails or memory is wanting
+  pub cause : IfStopped run.status (StopsFor (StoreFailed run) (InputFailed run) (OutputFailed run) run.store.files name run.input.left)
+  pub missing : IsSome run.store.files → file_at run.store.files name ≡ None
+      → StopsUnless run NoCollection
+  pub large : IsSome run.store.files → 2 ^ 28 < length (bytes_at run.store.files name)
+      → StopsUnless run (TooLarge (length (bytes_at run.store.files name)) (2 ^ 28))
+  -- where nothing stands in its way and no device fails, it is done, or memory is wanting
+  pub complete : (bytes given : List ℕ) → file_at run.store.files name ≡ Some bytes → length bytes ≤ 2 ^ 28
+      → run.input.left ≡ Some given → is_too_much input_limit given ≡ false
+      → ¬ StoreFailed run → ¬ InputFailed run → ¬ OutputFailed run → (run.status ≡ Done) ⊎ Stops run Memory
+  -- no file changes, and no part is read but the collection
+  pub files : KeepsFiles run
+  pub reads : (p : Part) → p ≢ Plain → run.store_now.reads p ≡ run.store.reads p

@@ -10,6 +10,9 @@ ghost use Rattle.mg_dev.specs.declared.part.Part.TheVariants.{Plain};
 ghost use Rattle.mg_dev.specs.declared.fault.Fault.TheVariants.{NoCollection, TooLarge, StoreFault, Memory};
 ghost use Rattle.mg_defs.specs.Replies.{session, reply as reply_spec};
 ghost use Rattle.mg_defs.specs.Limit.{is_too_much, input_limit};
+ghost use Rattle.mg_dev.specs.Moments.{SinkAt};
+ghost use Rattle.mg_dev.specs.Runs.{status_of};
+ghost use Rattle.mg_plain.specs.Scanned.{Scanned};
 ghost use Rattle.mg_plain.specs.Scans.{StopsFor, LeftEnough, fault_of_serve};
 
 use crate::PlainText;
@@ -78,17 +81,8 @@ fn fault_of(error: ServeErr) -> Fault
     }
 }
 
-/// Prints the session that the input asks of the collection of this name.
-///
-/// The collection is read once, before the first line; nothing is printed where that is refused.
-///
-/// # Errors
-///
-/// `NoCollection` where the file is missing, `TooLarge` where it has more than 2^28 bytes,
-/// `Changed` where it gave fewer bytes than its size, `InputTooLong` where the input has more than
-/// 2^32 bytes and no line `.quit` within them, `StoreFault`, `ReadFault` and `WriteFault` where a
-/// device failed, and `Memory`. The replies up to there are printed.
-pub fn scan<S: Store, I: Source, O: Sink>(
+// Prints the session that the input asks of the collection of this name, and tells how each device stands then.
+fn scan_text<S: Store, I: Source, O: Sink>(
     alloc: Global,
     store: &mut S,
     name: &str,
@@ -117,6 +111,40 @@ pub fn scan<S: Store, I: Source, O: Sink>(
         Ok(()) => Ok(()),
         Err(error) => Err(fault_of(error)),
     }
+}
+
+/// Prints the session that the input asks of the collection of this name.
+///
+/// The collection is read once, before the first line; nothing is printed where that is refused.
+///
+/// # Errors
+///
+/// `NoCollection` where the file is missing, `TooLarge` where it has more than 2^28 bytes,
+/// `Changed` where it gave fewer bytes than its size, `InputTooLong` where the input has more than
+/// 2^32 bytes and no line `.quit` within them, `StoreFault`, `ReadFault` and `WriteFault` where a
+/// device failed, and `Memory`. The replies up to there are printed.
+pub fn scan<S: Store, I: Source, O: Sink>(
+    alloc: Global,
+    store: &mut S,
+    name: &str,
+    input: &mut I,
+    out: &mut O,
+) -> Result<(), Fault>
+    // What a run does that scans, whatever its error output is.
+    ensures scanned { (err err_now : SinkAt) → Scanned name.now (record {
+      store = record { files = S.files store.old; reads = S.reads store.old; faults = S.faults store.old };
+      store_now = record { files = S.files store.new; reads = S.reads store.new; faults = S.faults store.new };
+      input = record { left = I.left input.old; faults = I.faults input.old };
+      input_now = record { left = I.left input.new; faults = I.faults input.new };
+      out = record { written = O.written out.old; faults = O.faults out.old; lacks = O.lacks out.old };
+      out_now = record { written = O.written out.new; faults = O.faults out.new; lacks = O.lacks out.new };
+      err = err;
+      err_now = err_now;
+      status = status_of result;
+    }) }
+    ensures store_later { S.faults store.old ≤ S.faults store.new }
+{
+    scan_text(alloc, store, name, input, out)
 }
 
 #[cfg(test)]

@@ -1,8 +1,7 @@
 -- Why a session stops, by what the calls that it makes answer.
-use Rattle.std.proofs.Common.{arith, ◌+◌, ◌-◌, ◌^◌, min, max, ◌≡◌, ◌≢◌, ◌≤◌, ◌==◌, ◌⊎◌, inl, inr, ℕ, true, false, not, cond, List, [], length, take, Option, Some, None, Ok, Err, IsSome, sym, ◌∙◌, ap, subst}
-use Rattle.std.specs.Prelude.{IfErr, nat_lt}
+use Rattle.std.proofs.Common.{arith, ◌+◌, ◌-◌, ◌^◌, min, max, ◌≡◌, ◌≢◌, ◌≤◌, ◌==◌, ◌⊎◌, inl, inr, ℕ, true, false, cond, List, [], Option, Some, None, Ok, Err, IsSome, sym, ◌∙◌, ap, subst}
+use Rattle.std.specs.Prelude.{IfErr}
 use Rattle.std.proofs.lemmas.Bool.Decides.{nat_tests}
-use Rattle.std.proofs.lemmas.Bool.{and_parts, ltb-true}
 use Rattle.std.specs.declared.result.Result.{Result}
 use Rattle.mg_dev.specs.Causes.{Rose}
 use Rattle.mg_dev.specs.Faults.{fault_of_part}
@@ -18,7 +17,6 @@ use Rattle.mg_dev.specs.declared.part_err.PartErr.TheVariants.{Device, Memory, B
 use Rattle.mg_defs.specs.CodedText.{TextCode}
 use Rattle.mg_defs.specs.Heads as defs
 use Rattle.mg_defs.specs.Heads.{IsHead, first_damage}
-use Rattle.mg_defs.specs.Limit.{has_quit, input_limit, is_too_much}
 use Rattle.mg_defs.specs.Stands.{head_of}
 use Rattle.mg_defs.proofs.HeadLaws.{no_damage}
 use Rattle.mg_defs.proofs.StandLaws.{stand-tells}
@@ -28,7 +26,7 @@ use Rattle.mg_layout.specs.Stands.{Stands, StandsBy, StandsForNone, parts_at}
 use Rattle.mg_layout.specs.declared.head.Head.{Head}
 use Rattle.mg_layout.proofs.CallerLemmas.{loaded_set}
 use Rattle.mg_session.specs.Parts.{NeverRead, is_of_text}
-use Rattle.mg_session.specs.Serves.{IsDone, ReadsWithin, Stops, StopsFor}
+use Rattle.mg_session.specs.Serves.{ReadsWithin, Stops, StopsFor}
 use Rattle.mg_session.proofs.StepLaws.{never_early, text_behind}
 
 -- ---- heads
@@ -149,32 +147,3 @@ stops_for (Err f) s0 s1 t I O D files base input le bad stops = from_built f (Ro
 -- what stops once the head is there is no missing head
 pub is_built : (r : Result (Unit {0}) Fault) (A I O D : Type 0) (input : Option (List ℕ)) → IfErr r (Stops A I O ⊥ D input) → r ≡ Err fault.NotBuilt → ⊥
 is_built r A I O D input stops is = subst (λ (x : Result (Unit {0}) Fault). IfErr x (Stops A I O ⊥ D input)) is stops
-
--- ---- completeness
-
-not_much : (given : List ℕ) → length given ≤ input_limit → is_too_much input_limit given ≡ true → ⊥
-unfolding is_too_much
-not_much given short much = omega (arith, short, ltb-true input_limit (length given) (and_parts (nat_lt input_limit (length given)) (not (has_quit (take input_limit given))) much).0)
-
-pub done : (f : Fault) (A I O : Type 0) (files : Option Files) (base collection given : List ℕ) (input : Option (List ℕ)) → Stands files base collection → input ≡ Some given → length given ≤ input_limit → (A → ⊥) → (I → ⊥) → (O → ⊥) → StopsFor A I O files base input f → IsDone {T = Unit {0}} (Err f)
-done fault.Usage A I O files base collection given input stands told short a i o stops = stops
-done fault.StoreFault A I O files base collection given input stands told short a i o stops = a stops
-done fault.ReadFault A I O files base collection given input stands told short a i o stops = i stops
-done fault.WriteFault A I O files base collection given input stands told short a i o stops = o stops
-done fault.NotBuilt A I O files base collection given input stands told short a i o stops = head_there files base collection stands (stops stands.told)
-done (fault.Damaged bad) A I O files base collection given input stands told short a i o stops = stops collection stands
-done fault.NoCollection A I O files base collection given input stands told short a i o stops = stops
-done (fault.TooLarge size most) A I O files base collection given input stands told short a i o stops = stops
-done fault.TooManyDocuments A I O files base collection given input stands told short a i o stops = stops
-done (fault.TooManyPieces stream) A I O files base collection given input stands told short a i o stops = stops
-done (fault.Changed what first second) A I O files base collection given input stands told short a i o stops = stops
-done fault.Memory A I O files base collection given input stands told short a i o stops = tt
-done (fault.NameClash p) A I O files base collection given input stands told short a i o stops = stops
-done fault.InputTooLong A I O files base collection given input stands told short a i o stops = not_much given short (stops given told)
-done fault.SameName A I O files base collection given input stands told short a i o stops = stops
-done (fault.TooManyRotations count) A I O files base collection given input stands told short a i o stops = stops
-
--- a session over a set that stands is done, where its input is short, no device fails and memory does not lack
-pub session_done : (r : Result (Unit {0}) Fault) (A I O : Type 0) (files : Option Files) (base collection given : List ℕ) (input : Option (List ℕ)) → Stands files base collection → input ≡ Some given → length given ≤ input_limit → (A → ⊥) → (I → ⊥) → (O → ⊥) → IfErr r (StopsFor A I O files base input) → IsDone r
-session_done (Ok value) A I O files base collection given input stands told short a i o stops = tt
-session_done (Err f) A I O files base collection given input stands told short a i o stops = done f A I O files base collection given input stands told short a i o stops

@@ -1,5 +1,5 @@
 -- Why a session of patterns stops, by what the calls that it makes answer.
-use Rattle.std.proofs.Common.{arith, ◌≡◌, ◌≢◌, ◌≤◌, inl, inr, ℕ, List, length, Some, Ok, Err, IsSome, refl, ap}
+use Rattle.std.proofs.Common.{arith, ◌≡◌, ◌≢◌, ◌≤◌, inl, inr, ℕ, List, Ok, Err, IsSome, refl, ap}
 use Rattle.std.specs.Prelude.{IfErr}
 use Rattle.std.specs.declared.option.Option.{Option}
 use Rattle.std.specs.declared.result.Result.{Result}
@@ -14,8 +14,7 @@ use Rattle.mg_dev.specs.declared.part.Part.TheVariants as part
 use Rattle.mg_dev.specs.declared.part_err.PartErr.{PartErr}
 use Rattle.mg_dev.specs.declared.part_err.PartErr.TheVariants.{Device, Memory, Bad}
 use Rattle.mg_defs.specs.CodedText.{TextCode}
-use Rattle.mg_defs.specs.Limit.{input_limit}
-use Rattle.mg_defs.specs.Rotations.{most_rotations, rotation_count}
+use Rattle.mg_defs.specs.Rotations.{rotation_count}
 use Rattle.mg_defs.specs.Terms.{dictionary}
 use Rattle.mg_layout.specs.Stands.{Stands, StandsBy}
 use Rattle.mg_layout.specs.declared.head.Head.{Head}
@@ -24,10 +23,10 @@ use Rattle.mg_wild.specs.Loading.{AnswersRotated, IsBeyond}
 use Rattle.mg_wild.specs.Terms.{LexTerms}
 use Rattle.mg_wild.specs.declared.rotated.RotErr.{RotErr}
 use Rattle.mg_wild.specs.declared.rotated.RotErr.TheVariants as rot
-use Rattle.mg_session.specs.Serves.{IsDone, RefusedFor, Stops, StopsFor}
+use Rattle.mg_session.specs.Serves.{RefusedFor, Stops, StopsFor}
 use Rattle.mg_session.specs.WildServes.{AreRotationsBy, IsFirst, StandsByNone, WildSetStops, WildStops, WildStopsBy, fault_of_rotated}
 use Rattle.mg_session.proofs.SetLaws.{set_lexicon}
-use Rattle.mg_session.proofs.StopLaws.{done, stops_wider}
+use Rattle.mg_session.proofs.StopLaws.{stops_wider}
 use Rattle.mg_session.proofs.WildSetLaws.{counted_set}
 
 -- ---- a lexicon whose terms are not held
@@ -137,28 +136,3 @@ pub head_refused : (refusal : PartErr) (A I O : Type 0) (files : Option Files) (
 head_refused Device A I O files base collection input f is stops = inr (inl refl)
 head_refused Memory A I O files base collection input f is stops = inr (inr refl)
 head_refused (Bad bad) A I O files base collection input f is stops = absurd (stops collection is)
-
--- ---- completeness
-
-wild_done : (f : Fault) (A I O : Type 0) (files : Option Files) (base collection given : List ℕ) (input : Option (List ℕ)) → Stands files base collection → rotation_count (dictionary collection) ≤ most_rotations → input ≡ Some given → length given ≤ input_limit → (A → ⊥) → (I → ⊥) → (O → ⊥) → WildStops A I O files base input f → IsDone {T = Unit {0}} (Err f)
-wild_done fault.Usage A I O files base collection given input is few told short a i o stops = stops
-wild_done fault.StoreFault A I O files base collection given input is few told short a i o stops = a stops
-wild_done fault.ReadFault A I O files base collection given input is few told short a i o stops = i stops
-wild_done fault.WriteFault A I O files base collection given input is few told short a i o stops = o stops
-wild_done fault.NotBuilt A I O files base collection given input is few told short a i o stops = done fault.NotBuilt A I O files base collection given input is told short a i o stops
-wild_done (fault.Damaged bad) A I O files base collection given input is few told short a i o stops = stops collection is
-wild_done fault.NoCollection A I O files base collection given input is few told short a i o stops = stops
-wild_done (fault.TooLarge size most) A I O files base collection given input is few told short a i o stops = stops
-wild_done fault.TooManyDocuments A I O files base collection given input is few told short a i o stops = stops
-wild_done (fault.TooManyPieces stream) A I O files base collection given input is few told short a i o stops = stops
-wild_done (fault.Changed what first second) A I O files base collection given input is few told short a i o stops = stops
-wild_done fault.Memory A I O files base collection given input is few told short a i o stops = tt
-wild_done (fault.NameClash p) A I O files base collection given input is few told short a i o stops = stops
-wild_done fault.InputTooLong A I O files base collection given input is few told short a i o stops = done fault.InputTooLong A I O files base collection given input is told short a i o stops
-wild_done fault.SameName A I O files base collection given input is few told short a i o stops = stops
-wild_done (fault.TooManyRotations count) A I O files base collection given input is few told short a i o stops = omega (arith, stops.0, stops.1 collection is, few)
-
--- a session over a set that stands and whose rotations can be held is done, where its input is short, no device fails and memory does not lack
-pub patterns_done : (r : Result (Unit {0}) Fault) (A I O : Type 0) (files : Option Files) (base collection given : List ℕ) (input : Option (List ℕ)) → Stands files base collection → rotation_count (dictionary collection) ≤ most_rotations → input ≡ Some given → length given ≤ input_limit → (A → ⊥) → (I → ⊥) → (O → ⊥) → IfErr r (WildStops A I O files base input) → IsDone r
-patterns_done (Ok value) A I O files base collection given input is few told short a i o stops = tt
-patterns_done (Err f) A I O files base collection given input is few told short a i o stops = wild_done f A I O files base collection given input is few told short a i o stops

@@ -13,3 +13,6 @@ pub mod WildSearchLaws
 pub mod WildServes
 pub mod DocumentSets
 pub mod WildMarks
+pub mod Queried
+pub mod Phrased
+pub mod Matched

@@ -1,5 +1,5 @@
 -- Why a session over files stops, and what it reads.
-use Rattle.std.specs.Prelude.{◌≡◌, ◌⊎◌, ℕ, ◌+◌, ◌≤◌, true, List, [], IsSome, Ok, Err}
+use Rattle.std.specs.Prelude.{◌≡◌, ◌⊎◌, ℕ, ◌+◌, ◌≤◌, true, List, [], IsSome, Err}
 use Rattle.std.specs.Option.{ForSome}
 use Rattle.std.specs.declared.option.Option.{Option}
 use Rattle.std.specs.declared.result.Result.{Result}
@@ -35,12 +35,6 @@ StopsFor store_rose input_rose output_rose files base input fault = Stops store_
 -- this refusal, unless the store fails or memory lacks
 abbrev pub RefusedFor : {T : Type 0} → Result T Fault → Fault → Type 0
 RefusedFor result fault = (result ≡ Err fault) ⊎ ((result ≡ Err StoreFault) ⊎ (result ≡ Err Memory))
-
--- it is done, or memory lacks
-abbrev pub IsDone : {T : Type 0} → Result T Fault → Type 0
-IsDone (Ok value) = Unit {0}
-IsDone (Err Memory) = Unit {0}
-IsDone (Err _) = ⊥
 
 -- no more pages are read than the bounds of the query lines add up to
 pub record ReadsWithin (code : TextCode) (collection given : List ℕ) (before now : Reads) : Type 0 where

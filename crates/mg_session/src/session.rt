@@ -1,9 +1,11 @@
 //! A session over built files, from their head to the last reply.
-ghost use Rattle.std.specs.Prelude.{◌≡◌, ℕ, ◌≤◌, ◌^◌, List, [], Err, Some, false, true, OnOk, IfErr, IsSome, length};
+ghost use Rattle.std.specs.Prelude.{◌≡◌, ℕ, ◌≤◌, ◌^◌, List, [], Err, Some, false, true, OnOk, IfErr, IsSome};
 ghost use Rattle.std.specs.Option.{ForSome};
 ghost use Rattle.mg_dev.specs.Causes.{Rose};
 ghost use Rattle.mg_dev.specs.Files.{bytes_at};
+ghost use Rattle.mg_dev.specs.Moments.{SinkAt};
 ghost use Rattle.mg_dev.specs.Names.{full_name};
+ghost use Rattle.mg_dev.specs.Runs.{status_of};
 ghost use Rattle.mg_dev.specs.Streams.{appended, GrewByPrefix};
 ghost use Rattle.mg_dev.specs.declared.part.Part.{Part};
 ghost use Rattle.mg_dev.specs.declared.part.Part.TheVariants as part;
@@ -16,8 +18,9 @@ ghost use Rattle.mg_layout.specs.Stands.{Stands, StandsBy};
 ghost use Rattle.mg_layout.specs.declared.head.Head.{Head};
 ghost use Rattle.mg_reply.specs.Served.{LeftEnough};
 ghost use Rattle.mg_session.specs.Parts.{NeverRead, is_of_text};
+ghost use Rattle.mg_session.specs.Queried.{Queried};
 ghost use Rattle.mg_session.specs.Searching.{AskForNoText, OpenedOver, SearchFits};
-ghost use Rattle.mg_session.specs.Serves.{IsDone, ReadsWithin, RefusedFor, Stops, StopsFor, fault_of_serve};
+ghost use Rattle.mg_session.specs.Serves.{ReadsWithin, RefusedFor, Stops, StopsFor, fault_of_serve};
 
 use crate::searcher::Searcher;
 use mg_dev::{Fault, Sink, Source, Store};
@@ -104,20 +107,8 @@ fn serve_set<S: Store, I: Source, O: Sink>(
     serve_searcher(&mut searcher, store, input, out)
 }
 
-/// Prints the session that the input asks of the files under a base.
-///
-/// The head and the lexicon's places are loaded before the first line; nothing is printed where one of
-/// them is refused. The models are loaded when a document is first shown with its text. Where the files
-/// stand for a collection, the output is the session over its documents, and where the session stops
-/// early, a prefix of it.
-///
-/// # Errors
-///
-/// `NotBuilt` where the head is missing or empty, `Damaged` where the files stand for no collection,
-/// `InputTooLong` where the input has more than 2^32 bytes and no line `.quit` within them,
-/// `StoreFault`, `ReadFault` and `WriteFault` where a device failed, and `Memory`. The replies up to
-/// there are printed.
-pub fn serve<S: Store, I: Source, O: Sink>(
+/// Prints the session that the input asks of the files under a base, and tells how each device stands then.
+fn serve_files<S: Store, I: Source, O: Sink>(
     alloc: Global,
     store: &mut S,
     base: &str,
@@ -146,9 +137,6 @@ pub fn serve<S: Store, I: Source, O: Sink>(
         (S.files store.old) base.now (I.left input.old)) }
     ensures silent { result ≡ Err NotBuilt → O.written out.new ≡ O.written out.old }
     ensures not_built { IsSome (S.files store.old) → bytes_at (S.files store.old) (full_name base.now part.Head) ≡ [] → RefusedFor result NotBuilt }
-    ensures complete { (collection given : List ℕ) → Stands (S.files store.old) base.now collection → I.left input.old ≡ Some given →
-        length given ≤ input_limit → ¬ Rose (S.faults store.old) (S.faults store.new) →
-        ¬ Rose (I.faults input.old) (I.faults input.new) → ¬ Rose (O.faults out.old) (O.faults out.new) → IsDone result }
     ensures later { S.faults store.old ≤ S.faults store.new }
 {
     let loaded = match Head::load(store, base) {
@@ -160,4 +148,41 @@ pub fn serve<S: Store, I: Source, O: Sink>(
         None => return Err(Fault::NotBuilt),
     };
     serve_set(alloc, store, base, &head, input, out)
+}
+
+/// Prints the session that the input asks of the files under a base.
+///
+/// The head and the lexicon's places are loaded before the first line; nothing is printed where one of
+/// them is refused. The models are loaded when a document is first shown with its text. Where the files
+/// stand for a collection, the output is the session over its documents, and where the session stops
+/// early, a prefix of it.
+///
+/// # Errors
+///
+/// `NotBuilt` where the head is missing or empty, `Damaged` where the files stand for no collection,
+/// `InputTooLong` where the input has more than 2^32 bytes and no line `.quit` within them,
+/// `StoreFault`, `ReadFault` and `WriteFault` where a device failed, and `Memory`. The replies up to
+/// there are printed.
+pub fn serve<S: Store, I: Source, O: Sink>(
+    alloc: Global,
+    store: &mut S,
+    base: &str,
+    input: &mut I,
+    out: &mut O,
+) -> Result<(), Fault>
+    // What a run does that asks a session, whatever its error output is.
+    ensures queried { (err err_now : SinkAt) → Queried base.now (record {
+      store = record { files = S.files store.old; reads = S.reads store.old; faults = S.faults store.old };
+      store_now = record { files = S.files store.new; reads = S.reads store.new; faults = S.faults store.new };
+      input = record { left = I.left input.old; faults = I.faults input.old };
+      input_now = record { left = I.left input.new; faults = I.faults input.new };
+      out = record { written = O.written out.old; faults = O.faults out.old; lacks = O.lacks out.old };
+      out_now = record { written = O.written out.new; faults = O.faults out.new; lacks = O.lacks out.new };
+      err = err;
+      err_now = err_now;
+      status = status_of result;
+    }) }
+    ensures later { S.faults store.old ≤ S.faults store.new }
+{
+    serve_files(alloc, store, base, input, out)
 }

@@ -1,9 +1,11 @@
 //! A session of patterns over built files, from their head to the last reply.
-ghost use Rattle.std.specs.Prelude.{◌≡◌, ℕ, ◌≤◌, ◌<◌, List, [], Some, false, OnOk, IfErr, IsSome, length};
+ghost use Rattle.std.specs.Prelude.{◌≡◌, ℕ, ◌≤◌, ◌<◌, List, [], Some, false, OnOk, IfErr, IsSome};
 ghost use Rattle.std.specs.Option.{ForSome};
 ghost use Rattle.mg_dev.specs.Causes.{Rose};
 ghost use Rattle.mg_dev.specs.Files.{bytes_at};
+ghost use Rattle.mg_dev.specs.Moments.{SinkAt};
 ghost use Rattle.mg_dev.specs.Names.{full_name};
+ghost use Rattle.mg_dev.specs.Runs.{status_of};
 ghost use Rattle.mg_dev.specs.Streams.{appended, GrewByPrefix};
 ghost use Rattle.mg_dev.specs.declared.part.Part.{Part};
 ghost use Rattle.mg_dev.specs.declared.part.Part.TheVariants as part;
@@ -15,7 +17,8 @@ ghost use Rattle.mg_defs.specs.Terms.{dictionary};
 ghost use Rattle.mg_defs.specs.WildSession.{wild_session};
 ghost use Rattle.mg_layout.specs.Stands.{Stands, StandsBy};
 ghost use Rattle.mg_reply.specs.Served.{LeftEnough};
-ghost use Rattle.mg_session.specs.Serves.{IsDone, RefusedFor, Stops};
+ghost use Rattle.mg_session.specs.Matched.{Matched};
+ghost use Rattle.mg_session.specs.Serves.{RefusedFor, Stops};
 ghost use Rattle.mg_session.specs.WildAnswers.{NeverReadByPatterns};
 ghost use Rattle.mg_session.specs.WildSearching.{HasRoom, PartsAreOf};
 ghost use Rattle.mg_session.specs.WildServes.{IsFirst, WildSetStops, WildStops, fault_of_rotated as fault_of_rotated_spec};
@@ -104,20 +107,8 @@ fn serve_set<S: Store, I: Source, O: Sink>(
     serve_searcher(&mut searcher, store, input, out)
 }
 
-/// Prints the session that the input asks of the files under a base, each line a pattern.
-///
-/// The head, the terms and all their rotations are loaded before the first line, and room is taken for
-/// a bit for each document; nothing is printed and no input is taken where the head is missing or the
-/// rotations are too many. No text is read. Where the files stand for a collection, the output is the
-/// session over its terms and documents, and where the session stops early, a prefix of it.
-///
-/// # Errors
-///
-/// `NotBuilt` where the head is missing or empty, `Damaged` where the files stand for no collection,
-/// `TooManyRotations` where the terms have more than 2^27 rotations, `InputTooLong` where the input has
-/// more than 2^32 bytes and no line `.quit` within them, `StoreFault`, `ReadFault` and `WriteFault`
-/// where a device failed, and `Memory`. The replies up to there are printed.
-pub fn serve_wild<S: Store, I: Source, O: Sink>(
+/// Prints the session of patterns that the input asks of the files under a base, and tells how each device stands then.
+fn serve_files<S: Store, I: Source, O: Sink>(
     alloc: Global,
     store: &mut S,
     base: &str,
@@ -143,9 +134,6 @@ pub fn serve_wild<S: Store, I: Source, O: Sink>(
     ensures not_built { IsSome (S.files store.old) → bytes_at (S.files store.old) (full_name base.now part.Head) ≡ [] → RefusedFor result NotBuilt }
     ensures many { (collection : List ℕ) → Stands (S.files store.old) base.now collection → most_rotations < rotation_count (dictionary collection) →
         RefusedFor result (TooManyRotations (rotation_count (dictionary collection))) }
-    ensures complete { (collection given : List ℕ) → Stands (S.files store.old) base.now collection → rotation_count (dictionary collection) ≤ most_rotations →
-        I.left input.old ≡ Some given → length given ≤ input_limit → ¬ Rose (S.faults store.old) (S.faults store.new) →
-        ¬ Rose (I.faults input.old) (I.faults input.new) → ¬ Rose (O.faults out.old) (O.faults out.new) → IsDone result }
     ensures later { S.faults store.old ≤ S.faults store.new }
 {
     let loaded = match Head::load(store, base) {
@@ -157,4 +145,41 @@ pub fn serve_wild<S: Store, I: Source, O: Sink>(
         None => return Err(Fault::NotBuilt),
     };
     serve_set(alloc, store, base, &head, input, out)
+}
+
+/// Prints the session that the input asks of the files under a base, each line a pattern.
+///
+/// The head, the terms and all their rotations are loaded before the first line, and room is taken for
+/// a bit for each document; nothing is printed and no input is taken where the head is missing or the
+/// rotations are too many. No text is read. Where the files stand for a collection, the output is the
+/// session over its terms and documents, and where the session stops early, a prefix of it.
+///
+/// # Errors
+///
+/// `NotBuilt` where the head is missing or empty, `Damaged` where the files stand for no collection,
+/// `TooManyRotations` where the terms have more than 2^27 rotations, `InputTooLong` where the input has
+/// more than 2^32 bytes and no line `.quit` within them, `StoreFault`, `ReadFault` and `WriteFault`
+/// where a device failed, and `Memory`. The replies up to there are printed.
+pub fn serve_wild<S: Store, I: Source, O: Sink>(
+    alloc: Global,
+    store: &mut S,
+    base: &str,
+    input: &mut I,
+    out: &mut O,
+) -> Result<(), Fault>
+    // What a run does that asks a session of patterns, whatever its error output is.
+    ensures matched { (err err_now : SinkAt) → Matched base.now (record {
+      store = record { files = S.files store.old; reads = S.reads store.old; faults = S.faults store.old };
+      store_now = record { files = S.files store.new; reads = S.reads store.new; faults = S.faults store.new };
+      input = record { left = I.left input.old; faults = I.faults input.old };
+      input_now = record { left = I.left input.new; faults = I.faults input.new };
+      out = record { written = O.written out.old; faults = O.faults out.old; lacks = O.lacks out.old };
+      out_now = record { written = O.written out.new; faults = O.faults out.new; lacks = O.lacks out.new };
+      err = err;
+      err_now = err_now;
+      status = status_of result;
+    }) }
+    ensures later { S.faults store.old ≤ S.faults store.new }
+{
+    serve_files(alloc, store, base, input, out)
 }

@@ -7,7 +7,7 @@ use Rattle.mg_words.specs.Tasks.{Task, build, query, decode, scan, trial, migrat
 use Rattle.mg_top.specs.Ends.{ToldWhy}
 use Rattle.mg_dev.specs.Runs.{IfStopped, Run, Stops}
 use Rattle.mg_top.specs.Built.{Built}
-use Rattle.mg_top.specs.Decoded.{Decoded}
+use Rattle.mg_build.specs.Decoded.{Decoded}
 use Rattle.mg_top.specs.Merged.{Merged}
 use Rattle.mg_top.specs.Migrated.{Migrated}
 use Rattle.mg_top.specs.Tried.{Tried}

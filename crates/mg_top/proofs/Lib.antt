@@ -1,13 +1,5 @@
-mod Complete
-mod Endings
-mod Grown
 mod LineLaws
 mod BuiltLaws
-mod QueriedLaws
-mod PhrasedLaws
-mod MatchedLaws
-mod ScannedLaws
-mod DecodedLaws
 mod TrialSteps
 mod TrialLaws
 mod TriedLaws

@@ -26,13 +26,13 @@ use Rattle.mg_words.specs.Tasks.{Task, build, query, decode, scan, trial, migrat
 use Rattle.mg_top.specs.Ends.{ToldWhy}
 use Rattle.mg_dev.specs.Runs.{IfStopped, Run, SaysNothing, KeepsFiles, Stops, StoreFailed, InputFailed, OutputFailed}
 use Rattle.mg_top.specs.Built.{Built, BuildStops, collection_of}
-use Rattle.mg_top.specs.Decoded.{Decoded}
-use Rattle.mg_top.specs.Matched.{Matched}
+use Rattle.mg_build.specs.Decoded.{Decoded}
+use Rattle.mg_session.specs.Matched.{Matched}
 use Rattle.mg_top.specs.Merged.{Merged, MergeStops}
 use Rattle.mg_top.specs.Migrated.{Migrated, MigrateStops, documents_line}
-use Rattle.mg_top.specs.Phrased.{Phrased}
-use Rattle.mg_top.specs.Queried.{Queried}
-use Rattle.mg_top.specs.Scanned.{Scanned}
+use Rattle.mg_session.specs.Phrased.{Phrased}
+use Rattle.mg_session.specs.Queried.{Queried}
+use Rattle.mg_plain.specs.Scanned.{Scanned}
 use Rattle.mg_top.specs.Trials.{SilentAfter, TrialStops}
 use Rattle.mg_top.specs.Tried.{Tried}
 use Rattle.mg_top.specs.Does.{Does, NotUnderstood, Ran}

@@ -7,23 +7,25 @@ use Rattle.mg_dev.specs.Laws.{file_at-written}
 use Rattle.std.specs.Cmp.Lexicographic.{slice_cmp}
 use Rattle.std.specs.FinMap.{get-empty}
 use Rattle.std.specs.Ordering.{nat_cmp}
+use Rattle.mg_dev.specs.Moments.{StoreAt, StoreRose}
 use Rattle.mg_dev.specs.Names.{full_name}
 use Rattle.mg_dev.specs.declared.part.Part.TheVariants as part
 use Rattle.mg_dev.specs.declared.fault.Fault.{Fault}
 use Rattle.mg_dev.specs.declared.fault.Fault.TheVariants.{Usage, StoreFault, ReadFault, WriteFault, NotBuilt, Damaged, NoCollection, TooLarge, TooManyDocuments, TooManyPieces, Changed, Memory, NameClash, InputTooLong, SameName, TooManyRotations}
-use Rattle.mg_defs.specs.declared.Stream.{Stream}
-use Rattle.mg_defs.specs.Limits.{IsWithinLimits, held_bytes, version_2}
+use Rattle.mg_dev.specs.declared.status.Status.TheVariants.{Done, Stopped}
+use Rattle.mg_defs.specs.Limits.{held_bytes, version_2}
 use Rattle.mg_defs.specs.Marks.{PassesFirst, start, piece}
 use Rattle.mg_layout.specs.Stands.{Stands, StandsIn}
 use Rattle.mg_make.specs.Putting.{IsApart, OthersSame}
 use Rattle.mg_make.specs.Summaries.{summary_of}
 use Rattle.mg_make.specs.declared.summary.Summary.{Summary}
 use Rattle.mg_build.specs.Building as building
-use Rattle.mg_build.specs.Outcomes.{IsDone, RefusedFor}
+use Rattle.mg_build.specs.Made.{Made}
+use Rattle.mg_build.specs.Outcomes.{IsDone, RefusedFor, StoppedFor}
 use Rattle.mg_build.specs.Sources.{most_bytes}
 use Rattle.mg_top.specs.Trials.{IsBuilt, Lacks, TrialStops, WorkEnds, replies_of, set_name, text_name, trial_summary}
 use Rattle.mg_top.specs.declared.comparing.Replies.{Replies}
-use Rattle.mg_top.proofs.Endings.{only_lacks}
+use Rattle.mg_top.proofs.BuiltLaws.{never_refused, never_stopped}
 use Rattle.mg_top.proofs.TrialSteps.{bytes_there}
 use Rattle.mg_top.specs.declared.trial_summary.TrialSummary.{TrialSummary}
 
@@ -183,11 +185,11 @@ stops_wider s t o p collection InputTooLong store output cause = cause
 stops_wider s t o p collection SameName store output cause = cause
 stops_wider s t o p collection (TooManyRotations count) store output cause = cause
 
-module _ (s : Type 0) (files : Option Files) (collection : List ℕ) (there : file_at files text_name ≡ Some collection) (told : IsSome files) (few : length collection ≤ held_bytes) where
-  bytes_are : bytes_at files text_name ≡ collection
-  bytes_are = bytes_there files collection there
+module _ (budget : ℕ) (store store_now : StoreAt) (collection : List ℕ) (there : file_at store.files text_name ≡ Some collection) (told : IsSome store.files) (few : length collection ≤ held_bytes) where
+  bytes_are : bytes_at store.files text_name ≡ collection
+  bytes_are = bytes_there store.files collection there
 
-  build_stops : (f : Fault) → building.BuildStops s files text_name set_name f → TrialStops s ⊥ collection f
+  build_stops : (f : Fault) → building.BuildStops (StoreRose store store_now) store.files text_name set_name f → TrialStops (StoreRose store store_now) ⊥ collection f
   build_stops StoreFault cause = cause
   build_stops Memory cause = tt
   build_stops Usage cause = cause
@@ -205,42 +207,34 @@ module _ (s : Type 0) (files : Option Files) (collection : List ℕ) (there : fi
   build_stops SameName cause = cause
   build_stops (TooManyRotations count) cause = cause
 
-  other_type : (f g : Fault) → RefusedFor {T = Summary} (Err f) g → RefusedFor {T = TrialSummary} (Err f) g
-  other_type f g (inl e) = inl cc
-  other_type f g (inr (inl e)) = inr (inl cc)
-  other_type f g (inr (inr e)) = inr (inr cc)
+  refused_too : (f g : Fault) → StoppedFor (Stopped f) g → RefusedFor {T = TrialSummary} (Err f) g
+  refused_too f g (inl e) = inl cc
+  refused_too f g (inr (inl e)) = inr (inl cc)
+  refused_too f g (inr (inr e)) = inr (inr cc)
 
-  done_too : (f : Fault) → IsDone {T = Summary} (Err f) → IsDone {T = TrialSummary} (Err f)
-  done_too f done = subst (λ (g : Fault). IsDone {T = TrialSummary} (Err g)) (sym (only_lacks Summary f done)) tt
+  done_too : (f : Fault) → (Stopped f ≡ Done) ⊎ (Stopped f ≡ Stopped Memory) → IsDone {T = TrialSummary} (Err f)
+  done_too f (inl e) = absurd (never_stopped f (sym e))
+  done_too f (inr e) = let is : Memory ≡ f = cc in subst (λ (g : Fault). IsDone {T = TrialSummary} (Err g)) is tt
 
   fits : length collection ≤ most_bytes
   fits = omega (arith, few)
 
-  pub refused_ends : (wider : Type 0) (docs : ℕ) (input : List ℕ) (f : Fault) → (s → wider)
-      → building.BuildStops s files text_name set_name f
-      → ((bytes : List ℕ) → file_at files text_name ≡ Some bytes → IsApart set_name text_name → length bytes ≤ most_bytes → PassesFirst version_2 bytes start → RefusedFor {T = Summary} (Err f) TooManyDocuments)
-      → ((bytes : List ℕ) (stream : Stream) (word : List ℕ) → file_at files text_name ≡ Some bytes → IsApart set_name text_name → length bytes ≤ most_bytes → PassesFirst version_2 bytes (piece stream word) → RefusedFor {T = Summary} (Err f) (TooManyPieces stream))
-      → ((bytes : List ℕ) → file_at files text_name ≡ Some bytes → IsApart set_name text_name → IsWithinLimits 2 bytes → (s → ⊥) → IsDone {T = Summary} (Err f))
-      → WorkEnds wider docs collection input (Err f)
-  refused_ends wider docs input f widen cause documents pieces complete = record {
+  pub refused_ends : (wider : Type 0) (docs : ℕ) (input : List ℕ) (f : Fault) → (StoreRose store store_now → wider) → Made text_name set_name budget store store_now (Stopped f) → WorkEnds wider docs collection input (Err f)
+  refused_ends wider docs input f widen made = record {
     done = tt;
-    cause = stops_wider s wider ⊥ ⊥ collection f widen (λ bad. bad) (build_stops f cause);
+    cause = stops_wider (StoreRose store store_now) wider ⊥ ⊥ collection f widen (λ bad. bad) (build_stops f made.cause);
     large = λ more. absurd (omega (arith, few, more));
-    documents = λ small passes. other_type f _ (documents collection there text_is_apart fits passes);
-    pieces = λ stream bytes small passes. other_type f _ (pieces collection stream bytes there text_is_apart fits passes);
-    complete = λ small within never. done_too f (complete collection there text_is_apart within (λ rose. never (widen rose)));
+    documents = λ small passes. refused_too f _ (made.documents collection there text_is_apart fits passes);
+    pieces = λ stream bytes small passes. refused_too f _ (made.pieces collection stream bytes there text_is_apart fits passes);
+    complete = λ small within never. done_too f (made.complete collection there text_is_apart within (λ rose. never (widen rose)));
   }
 
-  pub done_ends : (wider : Type 0) (docs : ℕ) (input : List ℕ) (s : Summary) (found : TrialSummary)
-      → ((bytes : List ℕ) → file_at files text_name ≡ Some bytes → IsApart set_name text_name → length bytes ≤ most_bytes → PassesFirst version_2 bytes start → RefusedFor (Ok s) TooManyDocuments)
-      → ((bytes : List ℕ) (stream : Stream) (word : List ℕ) → file_at files text_name ≡ Some bytes → IsApart set_name text_name → length bytes ≤ most_bytes → PassesFirst version_2 bytes (piece stream word) → RefusedFor (Ok s) (TooManyPieces stream))
-      → found ≡ trial_summary docs collection input
-      → WorkEnds wider docs collection input (Ok found)
-  done_ends wider docs input s found documents pieces is = record {
+  pub done_ends : (wider : Type 0) (docs : ℕ) (input : List ℕ) (found : TrialSummary) → Made text_name set_name budget store store_now Done → found ≡ trial_summary docs collection input → WorkEnds wider docs collection input (Ok found)
+  done_ends wider docs input found made is = record {
     done = is;
     cause = tt;
     large = λ more. absurd (omega (arith, few, more));
-    documents = λ small passes. absurd (no_refusal s _ (documents collection there text_is_apart fits passes));
-    pieces = λ stream bytes small passes. absurd (no_refusal s _ (pieces collection stream bytes there text_is_apart fits passes));
+    documents = λ small passes. absurd (never_refused _ (made.documents collection there text_is_apart fits passes));
+    pieces = λ stream bytes small passes. absurd (never_refused _ (made.pieces collection stream bytes there text_is_apart fits passes));
     complete = λ small within never. tt;
   }

@@ -1,28 +1,55 @@
 -- Where the set stands and the text is there, its callees refuse only where the store fails or memory is wanting.
-use Rattle.std.proofs.Common.{◌≡◌, ◌∙◌, ◌≤◌, ℕ, true, List, [], length, Some, None, IsSome, Option, sym, ap, unwrap_or, arith}
+use Rattle.std.proofs.Common.{◌≡◌, ◌≢◌, ◌∙◌, ◌≤◌, ℕ, true, List, [], length, Some, None, IsSome, Option, refl, sym, ap, unwrap_or, arith}
 use Rattle.std.proofs.lemmas.Bool.{and_parts, ltb-true}
 use Rattle.std.specs.Prelude.{nat_lt, not, take}
 use Rattle.std.specs.Str.{bytes_eq}
 use Rattle.std.proofs.lemmas.Slice.Eq.{bytes_eq-Decides}
 use Rattle.mg_dev.specs.Causes.{Rose}
 use Rattle.mg_dev.specs.Files.{Files, bytes_at, file_at}
+use Rattle.mg_dev.specs.Moments.{SinkAt, SourceAt}
 use Rattle.mg_dev.specs.Streams.{appended}
 use Rattle.mg_dev.specs.declared.fault.Fault.{Fault}
 use Rattle.mg_dev.specs.declared.fault.Fault.TheVariants.{Usage, StoreFault, ReadFault, WriteFault, NotBuilt, Damaged, NoCollection, TooLarge, TooManyDocuments, TooManyPieces, Changed, Memory, NameClash, InputTooLong, SameName, TooManyRotations}
+use Rattle.mg_defs.specs.Heads.{first_damage}
 use Rattle.mg_defs.specs.Replies.{session}
 use Rattle.mg_defs.specs.Limit.{has_quit, input_limit, is_too_much}
-use Rattle.mg_layout.specs.Stands.{Stands}
+use Rattle.mg_defs.proofs.HeadLaws.{no_damage}
+use Rattle.mg_defs.proofs.StandLaws.{stand-tells}
+use Rattle.mg_dev.specs.Names.{full_name}
+use Rattle.mg_dev.specs.declared.part.Part.TheVariants as part
+use Rattle.mg_layout.specs.Stands.{Stands, parts_at}
 use Rattle.mg_build.specs.Outcomes.{DecodeStops}
 use Rattle.mg_session.specs.Serves as serves
 use Rattle.mg_plain.specs.Scans as scans
 use Rattle.mg_top.specs.Trials.{IsBuilt, Lacks, set_name, text_name}
-use Rattle.mg_top.proofs.QueriedLaws.{head_there}
 
 pub bytes_there : (files : Option Files) (collection : List ℕ) → file_at files text_name ≡ Some collection → bytes_at files text_name ≡ collection
 bytes_there files collection there = ap (λ (o : Option (List ℕ)). unwrap_or o []) there
 
+-- a store of which a file is known tells its files
+pub told : (files : Option Files) (name bytes : List ℕ) → file_at files name ≡ Some bytes → IsSome files
+unfolding file_at
+told None name bytes there = cc
+told (Some f) name bytes there = refl
+
+-- the head of files that stand is not empty
+head_there : (files : Option Files) (base collection : List ℕ) → Stands files base collection → bytes_at files (full_name base part.Head) ≢ []
+unfolding first_damage
+head_there files base collection stands empty =
+    let tells = stand-tells stands.stand.version stands.stand.cap stands.stand.code (parts_at files base) collection stands.stand.are in
+    let some : None ≡ first_damage 1 2 [] = sym (no_damage 1 2 (bytes_at files (full_name base part.Head)) _ tells.head) ∙ ap (first_damage 1 2) empty in
+    cc
+
 pub never_rose : Rose 0 0 → ⊥
 never_rose rose = omega (arith, rose)
+
+-- ---- moments of devices that a call does not take
+
+pub no_source : SourceAt
+no_source = record { left = None; faults = 0 }
+
+pub no_sink : SinkAt
+no_sink = record { written = None; faults = 0; lacks = 0 }
 
 -- ---- comparisons
 
@@ -68,8 +95,8 @@ decode_lacks s o files base collection (TooManyRotations count) never stands cau
 
 module _ (s i o : Type 0) (files : Option Files) (collection given : List ℕ) (built : IsBuilt files collection)
     (left : Option (List ℕ)) (is : left ≡ Some given) (no_input : i → ⊥) (no_output : o → ⊥) (short : length given ≤ 1670) where
-  told : IsSome files
-  told = built.stands.told
+  are_told : IsSome files
+  are_told = built.stands.told
 
   bytes_are : bytes_at files text_name ≡ collection
   bytes_are = bytes_there files collection built.text
@@ -78,7 +105,7 @@ module _ (s i o : Type 0) (files : Option Files) (collection given : List ℕ) (
   serve_lacks StoreFault cause = cause
   serve_lacks ReadFault cause = no_input cause
   serve_lacks WriteFault cause = no_output cause
-  serve_lacks NotBuilt cause = head_there files set_name collection built.stands (cause told)
+  serve_lacks NotBuilt cause = head_there files set_name collection built.stands (cause are_told)
   serve_lacks (Damaged bad) cause = cause collection built.stands
   serve_lacks Memory cause = tt
   serve_lacks InputTooLong cause = too_much given short (cause given is)
@@ -96,9 +123,9 @@ module _ (s i o : Type 0) (files : Option Files) (collection given : List ℕ) (
   scan_lacks StoreFault cause = cause
   scan_lacks ReadFault cause = no_input cause
   scan_lacks WriteFault cause = no_output cause
-  scan_lacks NoCollection cause = absurd (let none : None ≡ Some collection = sym (cause told) ∙ built.text in cc)
-  scan_lacks (TooLarge size most) cause = absurd (let size_is : length collection ≡ size = ap length (sym bytes_are) ∙ cause.2 told in omega (arith, built.few, size_is, cause.1))
-  scan_lacks (Changed what first second) cause = cause.2 told
+  scan_lacks NoCollection cause = absurd (let none : None ≡ Some collection = sym (cause are_told) ∙ built.text in cc)
+  scan_lacks (TooLarge size most) cause = absurd (let size_is : length collection ≡ size = ap length (sym bytes_are) ∙ cause.2 are_told in omega (arith, built.few, size_is, cause.1))
+  scan_lacks (Changed what first second) cause = cause.2 are_told
   scan_lacks Memory cause = tt
   scan_lacks InputTooLong cause = too_much given short (cause given is)
   scan_lacks Usage cause = cause

@@ -21,8 +21,7 @@ use Rattle.mg_dev.specs.Runs.{IfStopped, Run, OutputFailed, Stops, status_of}
 use Rattle.mg_top.specs.Trials.{SilentAfter, TrialStops, trial_summary}
 use Rattle.mg_top.specs.Tried.{Tried}
 use Rattle.mg_top.specs.declared.trial_summary.TrialSummary.{TrialSummary}
-use Rattle.mg_top.proofs.Endings.{only_lacks, stopped_by}
-use Rattle.mg_top.proofs.Grown.{put_grew}
+use Rattle.mg_build.proofs.CallerLemmas.{only_lacks, put_grew, stopped_by}
 use Rattle.mg_top.proofs.TrialLaws.{no_refusal}
 
 text_of_trial : (docs : ℕ) (collection input : List ℕ) → trial_summary_lines (trial_summary docs collection input) ≡ trial_lines docs collection input

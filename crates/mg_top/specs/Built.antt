@@ -1,5 +1,5 @@
 -- What a run of `build COLLECTION NAME [--budget BYTES]` does.
-use Rattle.std.specs.Prelude.{◌≡◌, ◌≢◌, ◌⊎◌, ◌<◌, ◌≤◌, ◌+◌, ◌/◌, ℕ, List, [], length, Some, None, IsSome}
+use Rattle.std.specs.Prelude.{◌≡◌, ◌≢◌, ◌⊎◌, ◌<◌, ◌≤◌, ℕ, List, length, Some, None, IsSome}
 use Rattle.std.specs.declared.option.Option.{Option}
 use Rattle.mg_dev.specs.Files.{Files, file_at, bytes_at}
 use Rattle.mg_dev.specs.Names.{full_name}
@@ -12,26 +12,17 @@ use Rattle.mg_dev.specs.declared.status.Status.TheVariants.{Done}
 use Rattle.mg_defs.specs.declared.Stream.{Stream}
 use Rattle.mg_defs.specs.Limits.{IsWithinLimits, version_2}
 use Rattle.mg_defs.specs.Marks.{PassesFirst, start, piece}
-use Rattle.mg_defs.specs.Split as split
-use Rattle.mg_defs.specs.Summaries.{run_cap, summary_text}
-use Rattle.mg_defs.specs.TextBits.{text_bits}
-use Rattle.mg_layout.specs.Stands.{StandsIn}
+use Rattle.mg_defs.specs.Summaries.{summary_text}
 use Rattle.mg_make.specs.Putting.{IsApart, OthersSame}
 use Rattle.mg_build.specs.Building as building
 use Rattle.mg_build.specs.Building.{IsEarly, Left}
+use Rattle.mg_build.specs.Made.{AreMade}
 use Rattle.mg_build.specs.Sources.{most_bytes}
 use Rattle.mg_dev.specs.Runs.{IfStopped, Run, StoreFailed, OutputFailed, SaysNothing, KeepsFiles, Stops, StopsUnless}
 
 -- the bytes of the collection of this name, as the run begins
 abbrev pub collection_of : List ℕ → Run → List ℕ
 collection_of name run = bytes_at run.store.files name
-
--- The files of this base are what a build of the collection with this budget makes.
-pub record AreMade (files : Option Files) (base collection : List ℕ) (budget : ℕ) : Type 0 where
-  pub stands : StandsIn 2 (run_cap budget) files base collection
-  pub merge_a : file_at files (full_name base part.MergeA) ≡ Some []
-  pub merge_b : file_at files (full_name base part.MergeB) ≡ Some []
-  pub text : length (bytes_at files (full_name base part.Text)) ≤ text_bits collection / 8 + length (split.documents collection)
 
 -- the cause of each refusal: that of the build, or the output failed
 abbrev pub BuildStops : Type 0 → Type 0 → Option Files → List ℕ → List ℕ → Fault → Type 0

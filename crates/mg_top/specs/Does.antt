@@ -6,13 +6,13 @@ use Rattle.mg_words.specs.Tasks.{Task, build, query, decode, scan, migrate, merg
 use Rattle.mg_top.specs.Ends.{ToldWhy}
 use Rattle.mg_dev.specs.Runs.{Run, Stops}
 use Rattle.mg_top.specs.Built.{Built}
-use Rattle.mg_top.specs.Decoded.{Decoded}
-use Rattle.mg_top.specs.Matched.{Matched}
+use Rattle.mg_build.specs.Decoded.{Decoded}
+use Rattle.mg_session.specs.Matched.{Matched}
 use Rattle.mg_top.specs.Merged.{Merged}
 use Rattle.mg_top.specs.Migrated.{Migrated}
-use Rattle.mg_top.specs.Phrased.{Phrased}
-use Rattle.mg_top.specs.Queried.{Queried}
-use Rattle.mg_top.specs.Scanned.{Scanned}
+use Rattle.mg_session.specs.Phrased.{Phrased}
+use Rattle.mg_session.specs.Queried.{Queried}
+use Rattle.mg_plain.specs.Scanned.{Scanned}
 use Rattle.mg_top.specs.Tried.{Tried}
 
 -- The words are not understood: the store, the input and the output are as they were.

@@ -1,13 +1,8 @@
 pub mod Ends
 pub mod Lines
 pub mod Built
-pub mod Queried
-pub mod Phrased
-pub mod Scanned
-pub mod Decoded
 pub mod Trials
 pub mod Tried
 pub mod Does
 pub mod Migrated
 pub mod Merged
-pub mod Matched

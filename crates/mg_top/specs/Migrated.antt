@@ -1,7 +1,7 @@
 -- What a run of `migrate NAME NEW` does.
-use Rattle.std.specs.Prelude.{◌≡◌, ◌≢◌, ◌⊎◌, ℕ, List, [], length, codes, Some, IsSome}
+use Rattle.std.specs.Prelude.{◌≡◌, ◌≢◌, ◌⊎◌, ℕ, List, [], length, codes, IsSome}
 use Rattle.std.specs.declared.option.Option.{Option}
-use Rattle.mg_dev.specs.Files.{Files, bytes_at, file_at}
+use Rattle.mg_dev.specs.Files.{Files, bytes_at}
 use Rattle.mg_dev.specs.Names.{full_name}
 use Rattle.mg_dev.specs.Streams.{appended, GrewByPrefix}
 use Rattle.mg_dev.specs.declared.part.Part.TheVariants as part
@@ -13,6 +13,7 @@ use Rattle.mg_defs.specs.Summaries.{number_line}
 use Rattle.mg_layout.specs.Stands.{Stands, StandsIn}
 use Rattle.mg_make.specs.Putting.{OthersSame}
 use Rattle.mg_build.specs.Building.{Left}
+use Rattle.mg_build.specs.MadeAnew.{AreMadeAnew}
 use Rattle.mg_build.specs.Migrating as migrating
 use Rattle.mg_build.specs.Migrating.{ComesFirst}
 use Rattle.mg_dev.specs.Runs.{IfStopped, Run, StoreFailed, OutputFailed, SaysNothing, KeepsFiles, Stops, StopsUnless}
@@ -20,12 +21,6 @@ use Rattle.mg_dev.specs.Runs.{IfStopped, Run, StoreFailed, OutputFailed, SaysNot
 -- the line that is printed: how many documents the collection has
 abbrev pub documents_line : List ℕ → List ℕ
 documents_line collection = number_line (codes "documents") (length (documents collection))
-
--- The set of this base stands for the collection in version 2, with so many occurrences to a run.
-pub record IsMadeAnew (files : Option Files) (base collection : List ℕ) (cap : ℕ) : Type 0 where
-  pub stands : StandsIn 2 cap files base collection
-  pub merge_a : file_at files (full_name base part.MergeA) ≡ Some []
-  pub merge_b : file_at files (full_name base part.MergeB) ≡ Some []
 
 -- the cause of each refusal: that of the call, or the output failed
 abbrev pub MigrateStops : Type 0 → Type 0 → Option Files → List ℕ → List ℕ → Fault → Type 0
@@ -36,7 +31,7 @@ MigrateStops store_rose output_rose files name new fault = migrating.MigrateStop
 pub record Migrated (name new : List ℕ) (run : Run) : Type 0 where
   -- status 0: the new set is made, and the line is printed
   pub done : (version cap : ℕ) (collection : List ℕ) → StandsIn version cap run.store.files name collection → run.status ≡ Done
-      → IsMadeAnew run.store_now.files new collection cap
+      → AreMadeAnew run.store_now.files new collection cap
   pub printed : (collection : List ℕ) → Stands run.store.files name collection → run.status ≡ Done
       → run.out_now.written ≡ appended run.out.written (documents_line collection)
   -- every status: a prefix of the line is printed; after the statuses 16 and 5 nothing, and no file changes
@@ -45,7 +40,7 @@ pub record Migrated (name new : List ℕ) (run : Run) : Type 0 where
   pub unchanged : (fault : Fault) → ComesFirst fault → Stops run fault → KeepsFiles run
   -- where the line could not be written the new set is made
   pub kept : (version cap : ℕ) (collection : List ℕ) → StandsIn version cap run.store.files name collection → Stops run WriteFault
-      → IsMadeAnew run.store_now.files new collection cap
+      → AreMadeAnew run.store_now.files new collection cap
   -- every status: all files are as before, or the new set stands for none, or for this collection; no file but its own changes
   pub left : (collection : List ℕ) → Stands run.store.files name collection → Left new run.store.files run.store_now.files collection
   pub others : OthersSame new run.store.files run.store_now.files

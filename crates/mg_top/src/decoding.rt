@@ -2,7 +2,7 @@
 ghost use Rattle.std.specs.Prelude.{◌≡◌, ◌⊎◌};
 ghost use Rattle.mg_dev.specs.Moments.{SourceAt};
 ghost use Rattle.mg_dev.specs.Runs.{Run};
-ghost use Rattle.mg_top.specs.Decoded.{Decoded};
+ghost use Rattle.mg_build.specs.Decoded.{Decoded};
 ghost use Rattle.mg_top.specs.Ends.{ToldWhy};
 
 use crate::stopping::stopped;

@@ -1,7 +1,7 @@
 // The tool `wild`.
 ghost use Rattle.std.specs.Prelude.{◌≡◌, ◌⊎◌};
 ghost use Rattle.mg_dev.specs.Runs.{Run};
-ghost use Rattle.mg_top.specs.Matched.{Matched};
+ghost use Rattle.mg_session.specs.Matched.{Matched};
 ghost use Rattle.mg_top.specs.Ends.{ToldWhy};
 
 use crate::stopping::stopped;

@@ -1,7 +1,7 @@
 // The tool `phrase`.
 ghost use Rattle.std.specs.Prelude.{◌≡◌, ◌⊎◌};
 ghost use Rattle.mg_dev.specs.Runs.{Run};
-ghost use Rattle.mg_top.specs.Phrased.{Phrased};
+ghost use Rattle.mg_session.specs.Phrased.{Phrased};
 ghost use Rattle.mg_top.specs.Ends.{ToldWhy};
 
 use crate::stopping::stopped;

@@ -1,7 +1,7 @@
 // The tool `query`.
 ghost use Rattle.std.specs.Prelude.{◌≡◌, ◌⊎◌};
 ghost use Rattle.mg_dev.specs.Runs.{Run};
-ghost use Rattle.mg_top.specs.Queried.{Queried};
+ghost use Rattle.mg_session.specs.Queried.{Queried};
 ghost use Rattle.mg_top.specs.Ends.{ToldWhy};
 
 use crate::stopping::stopped;

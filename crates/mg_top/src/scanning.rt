@@ -1,7 +1,7 @@
 // The tool `scan`.
 ghost use Rattle.std.specs.Prelude.{◌≡◌, ◌⊎◌};
 ghost use Rattle.mg_dev.specs.Runs.{Run};
-ghost use Rattle.mg_top.specs.Scanned.{Scanned};
+ghost use Rattle.mg_plain.specs.Scanned.{Scanned};
 ghost use Rattle.mg_top.specs.Ends.{ToldWhy};
 
 use crate::stopping::stopped;

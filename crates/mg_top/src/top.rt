@@ -20,7 +20,8 @@ use std::alloc::{AllocError, Global};
 
 /// Carries out the words after the program's name, and answers the status.
 ///
-/// What a run does is a record a tool, in `specs/`:
+/// What a run does is a record a tool. `Queried`, `Decoded`, `Scanned`, `Phrased` and `Matched` are what
+/// the tool's call promises; the others stand in `specs/`.
 ///
 /// | Words | Record | What is printed |
 /// |---|---|---|

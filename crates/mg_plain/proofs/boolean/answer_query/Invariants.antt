@@ -1,12 +1,12 @@
 use Rattle.std.proofs.Common.{◌≡◌, ◌≤◌, length, vec_len}
 use Rattle.mg_defs.specs.QueryTerms.{query_terms}
 use Rattle.mg_query.specs.QueryOf.{query_of}
-use Rattle.mg_plain.specs.Scanned.{Scanned}
+use Rattle.mg_plain.specs.Scanning.{Scanning}
 use Rattle.mg_plain.proofs.boolean.answer_query.Given as goal
 
 abbrev pub invariant-docs : goal.invariant-docs
 invariant-docs g l = record {
-  scanned : Scanned l.fn.bytes (query_of l.fn.query) l.fn.now (g.O.Sink.written l.fn.out) (g.O.Sink.written l.out) l.pending l.number l.total l.docs;
+  scanned : Scanning l.fn.bytes (query_of l.fn.query) l.fn.now (g.O.Sink.written l.fn.out) (g.O.Sink.written l.out) l.pending l.number l.total l.docs;
   few : l.total ≤ l.number;
   size : vec_len l.counts ≡ length (query_terms (query_of l.fn.query));
   there : vec_len l.there ≡ length (query_terms (query_of l.fn.query));

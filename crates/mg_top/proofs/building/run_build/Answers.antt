@@ -5,17 +5,12 @@ use Rattle.mg_top.proofs.building.run_build.Goals as goal
 
 pub returns-in-Ok-put_summary-clause-does : goal.returns-in-Ok-put_summary-clause-does
 returns-in-Ok-put_summary-clause-does g c = λ input. made_by _ _ _ _ c.in-Ok.summary (Ok c.in-Ok-put_summary.field-0) refl refl
-    c.in-Ok.ensures.stands c.in-Ok.ensures.summary c.in-Ok.ensures.text c.in-Ok.ensures.merge_a c.in-Ok.ensures.merge_b c.in-Ok.ensures.others c.in-Ok.ensures.left
-    c.in-Ok.ensures.clash c.in-Ok.ensures.missing c.in-Ok.ensures.large c.in-Ok.ensures.documents c.in-Ok.ensures.pieces
-    c.in-Ok-put_summary.ensures.content c.in-Ok-put_summary.ensures.cause
+    c.in-Ok.ensures.made c.in-Ok.ensures.summary c.in-Ok-put_summary.ensures.content c.in-Ok-put_summary.ensures.cause
 
 pub returns-in-Err-put_summary-clause-does : goal.returns-in-Err-put_summary-clause-does
 returns-in-Err-put_summary-clause-does g c = λ input. made_by _ _ _ _ c.in-Ok.summary (Err c.in-Err-put_summary.refusal) (c.stopped.ensures.status ∙ ap Stopped c.of_output.ensures) refl
-    c.in-Ok.ensures.stands c.in-Ok.ensures.summary c.in-Ok.ensures.text c.in-Ok.ensures.merge_a c.in-Ok.ensures.merge_b c.in-Ok.ensures.others c.in-Ok.ensures.left
-    c.in-Ok.ensures.clash c.in-Ok.ensures.missing c.in-Ok.ensures.large c.in-Ok.ensures.documents c.in-Ok.ensures.pieces
-    c.in-Err-put_summary.ensures.content c.in-Err-put_summary.ensures.cause
+    c.in-Ok.ensures.made c.in-Ok.ensures.summary c.in-Err-put_summary.ensures.content c.in-Err-put_summary.ensures.cause
 
 pub returns-in-Err-clause-does : goal.returns-in-Err-clause-does
 returns-in-Err-clause-does g c = λ input. refused_by _ _ _ _ c.in-Err.fault c.stopped-in-Err.ensures.status refl refl
-    c.in-Err.ensures.others c.in-Err.ensures.left c.in-Err.ensures.early c.in-Err.ensures.cause
-    c.in-Err.ensures.clash c.in-Err.ensures.missing c.in-Err.ensures.large c.in-Err.ensures.documents c.in-Err.ensures.pieces c.in-Err.ensures.complete
+    (rw c.stopped-in-Err.ensures.status c.in-Err.ensures.made)

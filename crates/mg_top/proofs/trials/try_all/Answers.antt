@@ -6,9 +6,8 @@ use Rattle.mg_defs.specs.Generator.{made_collection, made_session}
 use Rattle.mg_defs.specs.Limits.{held_bytes}
 use Rattle.mg_top.specs.Trials.{IsBuilt, WorkEnds}
 use Rattle.mg_top.specs.declared.trial_summary.TrialSummary.{TrialSummary}
-use Rattle.mg_top.proofs.Complete.{told}
 use Rattle.mg_top.proofs.TrialLaws.{built_by, done_ends, found, found_is, lacking_ends, refused_ends, rose_within, stands_by}
-use Rattle.mg_top.proofs.TrialSteps.{told_same}
+use Rattle.mg_top.proofs.TrialSteps.{told, told_same}
 use Rattle.mg_top.proofs.trials.try_all.Goals as goal
 
 pub returns-in-Err-build-clause-ends : goal.returns-in-Err-build-clause-ends
@@ -16,14 +15,12 @@ returns-in-Err-build-clause-ends g c =
     let same : c.bytes-text.result.now ≡ made_collection c.args.seed c.args.docs = told_same _ _ _ c.bytes-text.ensures c.in-Ok.ensures.text in
     let few : length c.bytes-text.result.now ≤ held_bytes = omega arith in
     subst (λ (b : List ℕ). WorkEnds (Rose (g.S.Store.faults c.args.store.now) (g.S.Store.faults c.build.new.store)) c.args.docs b (made_session c.args.seed) (Err c.in-Err-build.fault)) same
-    (refused_ends (Rose (g.S.Store.faults c.put_text.new.store) (g.S.Store.faults c.build.new.store)) (g.S.Store.files c.put_text.new.store) c.bytes-text.result.now
-    c.in-Ok-put_text.ensures.there (told _ _ _ c.in-Ok-put_text.ensures.there) few
-    _ c.args.docs (made_session c.args.seed) c.in-Err-build.fault (λ rose. rose_within _ _ _ _ c.in-Ok-put_text.ensures.later (omega arith) rose)
-    c.in-Err-build.ensures.cause c.in-Err-build.ensures.documents c.in-Err-build.ensures.pieces c.in-Err-build.ensures.complete)
+    (refused_ends _ _ _ c.bytes-text.result.now c.in-Ok-put_text.ensures.there (told _ _ _ c.in-Ok-put_text.ensures.there) few
+    _ c.args.docs (made_session c.args.seed) c.in-Err-build.fault (λ rose. rose_within _ _ _ _ c.in-Ok-put_text.ensures.later (omega arith) rose) c.in-Err-build.ensures.made)
 
 pub is_decoded-requires : goal.is_decoded-requires
 is_decoded-requires g c = record {
-  stands = stands_by _ _ _ 2 _ (inr refl) (c.in-Ok-build.ensures.stands (told _ _ _ c.in-Ok-put_text.ensures.there)) c.in-Ok-put_text.ensures.there;
+  stands = stands_by _ _ _ 2 _ (inr refl) ((c.in-Ok-build.ensures.made.done (told _ _ _ c.in-Ok-put_text.ensures.there) refl).stands) c.in-Ok-put_text.ensures.there;
 }
 
 pub returns-in-Err-ask_both-clause-ends : goal.returns-in-Err-ask_both-clause-ends
@@ -31,7 +28,7 @@ returns-in-Err-ask_both-clause-ends g c =
     let same : c.bytes-text.result.now ≡ made_collection c.args.seed c.args.docs = told_same _ _ _ c.bytes-text.ensures c.in-Ok.ensures.text in
     let few : length c.bytes-text.result.now ≤ held_bytes = omega arith in
     let built : IsBuilt (g.S.Store.files c.is_decoded.new.store) c.bytes-text.result.now =
-    built_by _ _ _ _ _ c.in-Ok-put_text.ensures.there (c.in-Ok-build.ensures.stands (told _ _ _ c.in-Ok-put_text.ensures.there)) c.in-Ok-build.ensures.others c.in-Ok-is_decoded.ensures.files few in
+    built_by _ _ _ _ _ c.in-Ok-put_text.ensures.there ((c.in-Ok-build.ensures.made.done (told _ _ _ c.in-Ok-put_text.ensures.there) refl).stands) c.in-Ok-build.ensures.made.others c.in-Ok-is_decoded.ensures.files few in
     lacking_ends _ _ _ _ _ c.in-Err-ask_both.fault
     (λ rose. rose_within _ _ _ _ (omega (arith, c.in-Ok-put_text.ensures.later, c.in-Ok-build.ensures.later, c.in-Ok-is_decoded.ensures.later)) (omega arith) rose)
     (c.in-Err-ask_both.ensures.cause c.bytes-text.result.now built)
@@ -43,10 +40,9 @@ returns-clause-ends g c =
     let there = c.in-Ok-put_text.ensures.there in
     let are_told = told _ _ _ there in
     let built : IsBuilt (g.S.Store.files c.is_decoded.new.store) c.bytes-text.result.now =
-    built_by _ _ _ _ _ there (c.in-Ok-build.ensures.stands are_told) c.in-Ok-build.ensures.others c.in-Ok-is_decoded.ensures.files few in
+    built_by _ _ _ _ _ there (c.in-Ok-build.ensures.made.done are_told refl).stands c.in-Ok-build.ensures.made.others c.in-Ok-is_decoded.ensures.files few in
     let is = found_is c.args.docs _ c.bytes-text.result.now (made_session c.args.seed) _ c.in-Ok-build.summary c.in-Ok-is_decoded.same c.in-Ok-ask_both.replies there
     (c.in-Ok-build.ensures.summary are_told) c.in-Ok-is_decoded.ensures.same (c.in-Ok-ask_both.ensures.replies c.bytes-text.result.now built) in
     let result : Result TrialSummary Fault = Ok (found c.args.docs (length c.bytes-text.result.now) c.in-Ok-build.summary c.in-Ok-is_decoded.same c.in-Ok-ask_both.replies) in
     subst (λ (b : List ℕ). WorkEnds (Rose (g.S.Store.faults c.args.store.now) (g.S.Store.faults c.ask_both.new.store)) c.args.docs b (made_session c.args.seed) result) same
-    (done_ends (Rose (g.S.Store.faults c.put_text.new.store) (g.S.Store.faults c.build.new.store)) (g.S.Store.files c.put_text.new.store) c.bytes-text.result.now there are_told few
-    _ c.args.docs (made_session c.args.seed) c.in-Ok-build.summary _ c.in-Ok-build.ensures.documents c.in-Ok-build.ensures.pieces is)
+    (done_ends _ _ _ c.bytes-text.result.now there are_told few _ c.args.docs (made_session c.args.seed) _ c.in-Ok-build.ensures.made is)

@@ -21,9 +21,9 @@ use Rattle.mg_session.specs.Serves.{RefusedFor}
 use Rattle.mg_session.specs.WildAnswers.{NeverReadByPatterns}
 use Rattle.mg_session.specs.WildServes.{IsFirst, WildStops}
 use Rattle.mg_dev.specs.Runs.{IfStopped, Run, StoreFailed, InputFailed, OutputFailed, Stops, status_of}
-use Rattle.mg_top.specs.Matched.{Matched}
-use Rattle.mg_top.proofs.Endings.{when_ok, err_by, stopped_by, unless_by}
-use Rattle.mg_top.proofs.QueriedLaws.{head_there}
+use Rattle.mg_session.specs.Matched.{Matched}
+use Rattle.mg_session.proofs.Endings.{when_ok, err_by, stopped_by, unless_by}
+use Rattle.mg_session.proofs.StopLaws.{head_there}
 
 true_is_not_false : true ≡ false → ⊥
 true_is_not_false e = cc

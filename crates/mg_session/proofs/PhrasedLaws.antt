@@ -1,5 +1,5 @@
 -- What a session of phrases answered is what the run did.
-use Rattle.std.proofs.Common.{◌≡◌, ◌∙◌, ℕ, false, List, [], Ok, Err, IsSome, sym, subst}
+use Rattle.std.proofs.Common.{◌≡◌, ◌∙◌, ℕ, false, List, [], Err, IsSome, sym, subst}
 use Rattle.std.specs.Prelude.{Result, OnOk, IfErr}
 use Rattle.std.specs.Option.{ForSome}
 use Rattle.mg_dev.specs.Files.{bytes_at}
@@ -20,9 +20,9 @@ use Rattle.mg_session.specs.Parts.{NeverRead}
 use Rattle.mg_session.specs.PhraseAnswers.{ReadsPhrases}
 use Rattle.mg_session.specs.Serves.{RefusedFor, StopsFor}
 use Rattle.mg_dev.specs.Runs.{IfStopped, Run, StoreFailed, InputFailed, OutputFailed, status_of}
-use Rattle.mg_top.specs.Phrased.{Phrased}
-use Rattle.mg_top.proofs.Endings.{when_ok, err_by, stopped_by, unless_by}
-use Rattle.mg_top.proofs.QueriedLaws.{done_or}
+use Rattle.mg_session.specs.Phrased.{Phrased}
+use Rattle.mg_session.proofs.Endings.{when_ok, err_by, stopped_by, unless_by}
+use Rattle.mg_session.proofs.QueriedLaws.{done_or}
 
 module _ (base : List ℕ) (run : Run) (r : Result (Unit {0}) Fault) (is : run.status ≡ status_of r)
     (all : (collection : List ℕ) → Stands run.store.files base collection → ForSome run.input.left (λ given. OnOk r (run.out_now.written ≡ appended run.out.written (phrase_session collection given))))

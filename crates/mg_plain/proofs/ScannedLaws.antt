@@ -14,9 +14,9 @@ use Rattle.mg_defs.specs.Replies.{session}
 use Rattle.mg_defs.specs.Limit.{is_too_much, input_limit}
 use Rattle.mg_plain.specs.Scans.{StopsFor, LeftEnough}
 use Rattle.mg_dev.specs.Runs.{IfStopped, Run, StoreFailed, InputFailed, OutputFailed, Stops, status_of}
-use Rattle.mg_top.specs.Scanned.{Scanned}
-use Rattle.mg_top.proofs.Complete.{only_memory}
-use Rattle.mg_top.proofs.Endings.{when_ok, err_by, stopped_by, unless_by}
+use Rattle.mg_plain.specs.Scanned.{Scanned}
+use Rattle.mg_plain.proofs.Complete.{only_memory}
+use Rattle.mg_plain.proofs.Endings.{when_ok, err_by, stopped_by, unless_by}
 
 done_or : (name bytes given : List ℕ) (run : Run) (r : Result (Unit {0}) Fault) → run.status ≡ status_of r
     → IfErr r (StopsFor (StoreFailed run) (InputFailed run) (OutputFailed run) run.store.files name run.input.left)

@@ -1,5 +1,5 @@
 -- What a session answered is what the run did.
-use Rattle.std.proofs.Common.{◌≡◌, ◌≢◌, ◌∙◌, ◌⊎◌, ℕ, true, false, List, [], None, Some, Ok, Err, IsSome, Option, refl, sym, ap, subst, inl, inr}
+use Rattle.std.proofs.Common.{◌≡◌, ◌∙◌, ◌⊎◌, ℕ, true, false, List, [], Some, Ok, Err, IsSome, Option, refl, sym, ap, subst, inl, inr}
 use Rattle.std.specs.Prelude.{Result, OnOk, IfErr}
 use Rattle.std.specs.Option.{ForSome}
 use Rattle.mg_dev.specs.Files.{Files, bytes_at}
@@ -12,29 +12,19 @@ use Rattle.mg_dev.specs.declared.fault.Fault.TheVariants.{Usage, StoreFault, Rea
 use Rattle.mg_dev.specs.declared.status.Status.{Status}
 use Rattle.mg_dev.specs.declared.status.Status.TheVariants.{Done, Stopped}
 use Rattle.mg_defs.specs.CodedText.{TextCode}
-use Rattle.mg_defs.specs.Heads.{first_damage}
 use Rattle.mg_defs.specs.Limit.{is_too_much, input_limit}
 use Rattle.mg_defs.specs.Replies.{session}
 use Rattle.mg_defs.specs.Session.{questions_of}
-use Rattle.mg_defs.proofs.HeadLaws.{no_damage}
-use Rattle.mg_defs.proofs.StandLaws.{stand-tells}
-use Rattle.mg_layout.specs.Stands.{Stands, StandsBy, parts_at}
+use Rattle.mg_layout.specs.Stands.{Stands, StandsBy}
 use Rattle.mg_layout.specs.declared.head.Head.{Head}
 use Rattle.mg_reply.specs.Served.{LeftEnough}
 use Rattle.mg_session.specs.Parts.{NeverRead, is_of_text}
 use Rattle.mg_session.specs.Searching.{AskForNoText}
 use Rattle.mg_session.specs.Serves.{ReadsWithin, RefusedFor, StopsFor}
 use Rattle.mg_dev.specs.Runs.{IfStopped, Run, StoreFailed, InputFailed, OutputFailed, Stops, status_of}
-use Rattle.mg_top.specs.Queried.{Queried}
-use Rattle.mg_top.proofs.Endings.{when_ok, err_by, stopped_by, unless_by}
-
--- the head of files that stand is not empty
-pub head_there : (files : Option Files) (base collection : List ℕ) → Stands files base collection → bytes_at files (full_name base part.Head) ≢ []
-unfolding first_damage
-head_there files base collection stands empty =
-    let tells = stand-tells stands.stand.version stands.stand.cap stands.stand.code (parts_at files base) collection stands.stand.are in
-    let some : None ≡ first_damage 1 2 [] = sym (no_damage 1 2 (bytes_at files (full_name base part.Head)) _ tells.head) ∙ ap (first_damage 1 2) empty in
-    cc
+use Rattle.mg_session.specs.Queried.{Queried}
+use Rattle.mg_session.proofs.StopLaws.{head_there}
+use Rattle.mg_session.proofs.Endings.{when_ok, err_by, stopped_by, unless_by}
 
 true_is_not_false : true ≡ false → ⊥
 true_is_not_false e = cc

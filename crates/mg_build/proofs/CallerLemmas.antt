@@ -1,14 +1,15 @@
--- The status of a run by what a call answered.
-use Rattle.std.proofs.Common.{◌≡◌, ◌∙◌, ◌⊎◌, Ok, Err, ap, inl, inr, refl}
+-- For callers: how a run ends by what a call answered.
+use Rattle.std.proofs.Common.{◌≡◌, ◌∙◌, ◌⊎◌, ℕ, List, [], Option, Ok, Err, ap, inl, inr, refl, subst, append-nil}
 use Rattle.std.specs.Prelude.{Result, OnOk, IfErr}
+use Rattle.mg_dev.specs.StreamLaws.{grew_nothing, grew_second}
+use Rattle.mg_dev.specs.Streams.{appended, AfterPut, GrewByPrefix}
 use Rattle.mg_dev.specs.declared.fault.Fault.{Fault}
 use Rattle.mg_dev.specs.declared.fault.Fault.TheVariants.{Usage, StoreFault, ReadFault, WriteFault, NotBuilt, Damaged, NoCollection, TooLarge, TooManyDocuments, TooManyPieces, Changed, Memory, NameClash, InputTooLong, SameName, TooManyRotations}
-use Rattle.mg_dev.specs.declared.status.Status.{Status}
 use Rattle.mg_dev.specs.declared.status.Status.TheVariants.{Done, Stopped}
-use Rattle.mg_build.specs.Outcomes.{IsDone}
+use Rattle.mg_build.specs.Outcomes.{IsDone, RefusedFor, StoppedFor}
 use Rattle.mg_dev.specs.Runs.{IfStopped, Run, StopsUnless, status_of}
 
-pub when_ok : (P : Type 0) (r : Result (Unit {0}) Fault) → status_of r ≡ Done → OnOk r P → P
+pub when_ok : {T : Type 0} (P : Type 0) (r : Result T Fault) → status_of r ≡ Done → OnOk r P → P
 when_ok P (Ok u) is holds = holds
 when_ok P (Err fault) is holds = cc
 
@@ -16,11 +17,20 @@ pub err_by : {T : Type 0} (r : Result T Fault) (fault : Fault) → status_of r �
 err_by (Ok u) fault is = cc
 err_by (Err f) fault is = cc
 
-pub stopped_by : (P : Fault → Type 0) (r : Result (Unit {0}) Fault) → IfErr r P → IfStopped (status_of r) P
+pub stopped_by : {T : Type 0} (P : Fault → Type 0) (r : Result T Fault) → IfErr r P → IfStopped (status_of r) P
 stopped_by P (Ok u) holds = tt
 stopped_by P (Err f) holds = holds
 
+-- what holds of every refusal holds of this one
+pub at_fault : {T : Type 0} (P : Fault → Type 0) (r : Result T Fault) (fault : Fault) → status_of r ≡ Stopped fault → IfErr r P → P fault
+at_fault {T} P r fault is holds = subst (λ (x : Result T Fault). IfErr x P) (err_by r fault is) holds
+
 -- it is refused, unless the store fails or memory is wanting
+pub stopped_for : {T : Type 0} (r : Result T Fault) (fault : Fault) → RefusedFor r fault → StoppedFor (status_of r) fault
+stopped_for r fault (inl e) = inl (ap status_of e)
+stopped_for r fault (inr (inl e)) = inr (inl (ap status_of e))
+stopped_for r fault (inr (inr e)) = inr (inr (ap status_of e))
+
 pub unless_by : {T : Type 0} (run : Run) (r : Result T Fault) (fault : Fault) → run.status ≡ status_of r
     → (r ≡ Err fault) ⊎ (r ≡ Err StoreFault) ⊎ (r ≡ Err Memory) → StopsUnless run fault
 unless_by run r fault is (inl e) = inl (is ∙ ap status_of e)
@@ -45,3 +55,16 @@ only_lacks T (NameClash p) done = absurd done
 only_lacks T InputTooLong done = absurd done
 only_lacks T SameName done = absurd done
 only_lacks T (TooManyRotations count) done = absurd done
+
+-- it is done, or memory is wanting
+pub done_or_lacks : {T : Type 0} (r : Result T Fault) → IsDone r → (status_of r ≡ Done) ⊎ (status_of r ≡ Stopped Memory)
+done_or_lacks (Ok value) done = inl refl
+done_or_lacks {T} (Err fault) done = inr (ap Stopped (only_lacks T fault done))
+
+-- after a put, whatever it answered, a prefix was added
+grew_all : (old new : Option (List ℕ)) (bytes : List ℕ) → new ≡ appended old bytes → GrewByPrefix old new bytes
+grew_all old new bytes is = subst (λ (b : List ℕ). GrewByPrefix old new b) (append-nil bytes) (grew_second old new new bytes [] is (grew_nothing new []))
+
+pub put_grew : {T E : Type 0} (r : Result T E) (old new : Option (List ℕ)) (bytes : List ℕ) → AfterPut old new bytes r → GrewByPrefix old new bytes
+put_grew (Ok value) old new bytes put = grew_all old new bytes put
+put_grew (Err e) old new bytes put = put

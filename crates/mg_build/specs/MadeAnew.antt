@@ -1,0 +1,42 @@
+-- What making a set anew does to its store, and why it stops.
+use Rattle.std.specs.Prelude.{◌≡◌, ◌≢◌, ◌⊎◌, ℕ, List, [], Some, IsSome}
+use Rattle.std.specs.declared.option.Option.{Option}
+use Rattle.mg_dev.specs.Files.{Files, bytes_at, file_at}
+use Rattle.mg_dev.specs.Moments.{StoreAt, StoreRose, KeptFiles}
+use Rattle.mg_dev.specs.Names.{full_name}
+use Rattle.mg_dev.specs.Runs.{IfStopped}
+use Rattle.mg_dev.specs.declared.part.Part.TheVariants as part
+use Rattle.mg_dev.specs.declared.fault.Fault.{Fault}
+use Rattle.mg_dev.specs.declared.fault.Fault.TheVariants.{NotBuilt, Memory, SameName}
+use Rattle.mg_dev.specs.declared.status.Status.{Status}
+use Rattle.mg_dev.specs.declared.status.Status.TheVariants.{Done, Stopped}
+use Rattle.mg_layout.specs.Stands.{Stands, StandsIn}
+use Rattle.mg_make.specs.Putting.{OthersSame}
+use Rattle.mg_build.specs.Building.{Left}
+use Rattle.mg_build.specs.Migrating.{ComesFirst, MigrateStops}
+use Rattle.mg_build.specs.Outcomes.{StoppedFor}
+
+-- The set of this base stands for the collection in version 2, with so many occurrences to a run, and its working parts are empty.
+pub record AreMadeAnew (files : Option Files) (base collection : List ℕ) (cap : ℕ) : Type 0 where
+  pub stands : StandsIn 2 cap files base collection
+  pub merge_a : file_at files (full_name base part.MergeA) ≡ Some []
+  pub merge_b : file_at files (full_name base part.MergeB) ≡ Some []
+
+-- of each collection that the set of this name stands for, in either version, by the store before the call and after it, and its status
+pub record MadeAnew (name new : List ℕ) (store store_now : StoreAt) (status : Status) : Type 0 where
+  -- status 0: the new set is made
+  pub done : (version cap : ℕ) (collection : List ℕ) → StandsIn version cap store.files name collection → status ≡ Done
+      → AreMadeAnew store_now.files new collection cap
+  -- after the statuses 16 and 5 no file has changed
+  pub unchanged : (fault : Fault) → ComesFirst fault → status ≡ Stopped fault → KeptFiles store store_now
+  -- every status: all files are as before, or the new set stands for none, or for this collection; no file but its own changes
+  pub left : (collection : List ℕ) → Stands store.files name collection → Left new store.files store_now.files collection
+  pub others : OthersSame new store.files store_now.files
+  -- the cause of every other status
+  pub cause : IfStopped status (MigrateStops (StoreRose store store_now) store.files name new)
+  -- 16 comes exactly where it has it, and behind it 5, unless the store fails or memory is wanting
+  pub same : new ≡ name → status ≡ Stopped SameName
+  pub not_built : IsSome store.files → new ≢ name → bytes_at store.files (full_name name part.Head) ≡ [] → StoppedFor status NotBuilt
+  -- where the set stands, the names differ and the store does not fail, it is done, or memory is wanting
+  pub complete : (collection : List ℕ) → Stands store.files name collection → new ≢ name → ¬ StoreRose store store_now
+      → (status ≡ Done) ⊎ (status ≡ Stopped Memory)

@@ -1,0 +1,58 @@
+-- What a merge answered is what it did.
+use Rattle.std.proofs.Common.{◌≡◌, ◌≢◌, ◌⊎◌, ◌<◌, ◌≤◌, ℕ, List, [], length, Some, IsSome, Err, Option, ap}
+use Rattle.std.specs.Prelude.{Result, OnOk, IfErr}
+use Rattle.mg_dev.specs.Files.{Files, file_at}
+use Rattle.mg_dev.specs.Moments.{StoreAt, StoreRose, KeptFiles}
+use Rattle.mg_dev.specs.Names.{full_name}
+use Rattle.mg_dev.specs.Runs.{status_of}
+use Rattle.mg_dev.specs.declared.part.Part.TheVariants as part
+use Rattle.mg_dev.specs.declared.fault.Fault.{Fault}
+use Rattle.mg_dev.specs.declared.fault.Fault.TheVariants.{NotBuilt, TooLarge, TooManyDocuments, TooManyPieces, SameName}
+use Rattle.mg_defs.specs.declared.Stream.{Stream}
+use Rattle.mg_defs.specs.Join.{join}
+use Rattle.mg_defs.specs.Limits.{IsWithinLimits, version_2}
+use Rattle.mg_defs.specs.Marks.{PassesFirst, start, piece}
+use Rattle.mg_layout.specs.Stands.{Stands, StandsIn}
+use Rattle.mg_make.specs.Putting.{OthersSame}
+use Rattle.mg_merge.specs.Joined.{Joined}
+use Rattle.mg_merge.specs.Merging.{BothStand, IsDone, IsEarly, IsSizeByHeads, Left, MergeStops, RefusedFor, most_bytes}
+use Rattle.mg_merge.specs.Stops.{IsMissing}
+use Rattle.mg_merge.proofs.Endings.{at_fault, done_or_lacks, stopped_by, stopped_for, when_ok}
+
+-- both sets stand
+both : (version cap : ℕ) (files : Option Files) (first second a b : List ℕ) → StandsIn version cap files first a → Stands files second b → BothStand files first second a b
+both version cap files first second a b one two = record {
+  first_stands = record { told = one.told; stand = record { version = version; cap = cap; code = one.code; are = one.are } };
+  second_stands = two;
+}
+
+module _ {T : Type 0} (first second new : List ℕ) (store store_now : StoreAt) (r : Result T Fault)
+    (stands : (version cap : ℕ) (a b : List ℕ) → StandsIn version cap store.files first a → Stands store.files second b → OnOk r (StandsIn 2 cap store_now.files new (join a b)))
+    (merge_a : (a b : List ℕ) → BothStand store.files first second a b → OnOk r (file_at store_now.files (full_name new part.MergeA) ≡ Some []))
+    (merge_b : (a b : List ℕ) → BothStand store.files first second a b → OnOk r (file_at store_now.files (full_name new part.MergeB) ≡ Some []))
+    (others : OthersSame new store.files store_now.files)
+    (left : (a b : List ℕ) → BothStand store.files first second a b → Left new store.files store_now.files (join a b))
+    (early : IfErr r (λ fault. IsEarly fault → KeptFiles store store_now))
+    (cause : IfErr r (MergeStops (StoreRose store store_now) store.files first second new))
+    (same : (new ≡ first) ⊎ (new ≡ second) → r ≡ Err SameName)
+    (missing : IsSome store.files → new ≢ first → new ≢ second → IsMissing store.files first ⊎ IsMissing store.files second → RefusedFor r NotBuilt)
+    (large : (size : ℕ) → IsSome store.files → new ≢ first → new ≢ second → IsSizeByHeads store.files first second size → most_bytes < size → RefusedFor r (TooLarge size most_bytes))
+    (documents : (a b : List ℕ) → BothStand store.files first second a b → new ≢ first → new ≢ second → length (join a b) ≤ most_bytes → PassesFirst version_2 (join a b) start → RefusedFor r TooManyDocuments)
+    (pieces : (a b : List ℕ) (stream : Stream) (word : List ℕ) → BothStand store.files first second a b → new ≢ first → new ≢ second → length (join a b) ≤ most_bytes → PassesFirst version_2 (join a b) (piece stream word) → RefusedFor r (TooManyPieces stream))
+    (complete : (a b : List ℕ) → BothStand store.files first second a b → new ≢ first → new ≢ second → IsWithinLimits 2 (join a b) → ¬ StoreRose store store_now → IsDone r) where
+  pub joined_by : Joined first second new store store_now (status_of r)
+  joined_by = record {
+    done = λ version cap a b one two end.
+        let stand = both version cap store.files first second a b one two in
+        record { stands = when_ok _ r end (stands version cap a b one two); merge_a = when_ok _ r end (merge_a a b stand); merge_b = when_ok _ r end (merge_b a b stand) };
+    unchanged = λ fault soon end. at_fault (λ (f : Fault). IsEarly f → KeptFiles store store_now) r fault end early soon;
+    left = left;
+    others = others;
+    cause = stopped_by _ r cause;
+    same = λ e. ap status_of (same e);
+    missing = λ told one two none. stopped_for r _ (missing told one two none);
+    large = λ size told one two by more. stopped_for r _ (large size told one two by more);
+    documents = λ a b stand one two few passes. stopped_for r _ (documents a b stand one two few passes);
+    pieces = λ a b stream word stand one two few passes. stopped_for r _ (pieces a b stream word stand one two few passes);
+    complete = λ a b stand one two within never. done_or_lacks r (complete a b stand one two within never);
+  }

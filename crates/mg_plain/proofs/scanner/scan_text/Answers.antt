@@ -1,0 +1,19 @@
+use Rattle.std.proofs.Common.{refl}
+use Rattle.mg_dev.specs.StreamLaws.{grew_nothing}
+use Rattle.mg_plain.proofs.ScannerLaws.{session_over}
+use Rattle.mg_plain.proofs.scanner.scan_text.Goals as goal
+
+pub returns-in-Err-clause-prefix : goal.returns-in-Err-clause-prefix
+returns-in-Err-clause-prefix g c = λ told given left. grew_nothing _ _
+
+pub returns-in-Ok-serve_lines-clause-all : goal.returns-in-Ok-serve_lines-clause-all
+returns-in-Ok-serve_lines-clause-all g c = λ told given left.
+    rw (session_over _ _ _ given (c.in-Ok.ensures.content told)) (c.in-Ok-serve_lines.ensures.all _ refl given left)
+
+pub returns-in-Ok-serve_lines-clause-prefix : goal.returns-in-Ok-serve_lines-clause-prefix
+returns-in-Ok-serve_lines-clause-prefix g c = λ told given left.
+    rw (session_over _ _ _ given (c.in-Ok.ensures.content told)) (c.in-Ok-serve_lines.ensures.prefix _ refl given left)
+
+pub returns-clause-prefix : goal.returns-clause-prefix
+returns-clause-prefix g c = λ told given left.
+    rw (session_over _ _ _ given (c.in-Ok.ensures.content told)) (c.in-Err-serve_lines.ensures.prefix _ refl given left)
