@@ -7,7 +7,6 @@ use Rattle.mg_dev.specs.StreamLaws.{grew_nothing}
 use Rattle.mg_dev.specs.Streams.{AfterPut, GrewByPrefix}
 use Rattle.mg_dev.specs.declared.device.PutErr.{PutErr}
 use Rattle.mg_dev.specs.declared.device.PutErr.TheVariants as put
-use Rattle.mg_dev.specs.declared.part.Part.TheVariants as part
 use Rattle.mg_dev.specs.declared.fault.Fault.{Fault}
 use Rattle.mg_dev.specs.declared.fault.Fault.TheVariants.{Usage, StoreFault, ReadFault, WriteFault, NotBuilt, Damaged, NoCollection, TooLarge, TooManyDocuments, TooManyPieces, Changed, Memory, NameClash, InputTooLong, SameName, TooManyRotations}
 use Rattle.mg_dev.specs.declared.status.Status.{Status}
