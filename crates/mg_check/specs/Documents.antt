@@ -1,5 +1,5 @@
 -- The terms of a document, by their numbers among those of a collection.
-use Rattle.std.specs.Prelude.{◌≡◌, ℕ, ◌×◌, nat_lt, List, map, filter}
+use Rattle.std.specs.Prelude.{◌≡◌, ℕ, nat_lt, List, map, filter}
 use Rattle.std.specs.List.{enumerate_from}
 use Rattle.mg_defs.specs.Sorted.{number_of}
 use Rattle.mg_defs.specs.Terms.{freq_in, terms}

@@ -1,1 +1,5 @@
 pub mod Documents
+pub mod Decoding
+pub mod Checking
+pub mod Counting
+pub mod Listing

@@ -3,3 +3,18 @@
 //! Nothing is trusted: the text is decoded, each document is coded anew and compared with its bytes, and every
 //! other part is compared with what the definitions say of the collection that was found.
 #![tactic(auto)]
+
+mod code_doc;
+mod comparison;
+mod doc_terms;
+mod held;
+mod lexicon;
+mod lists;
+mod load;
+mod postings;
+mod progress;
+mod ranges;
+mod read_doc;
+mod uses;
+mod wanted;
+mod weights;

@@ -1,0 +1,13 @@
+mod ReadLaws
+mod UseLaws
+mod CodeLaws
+mod LoadLaws
+mod TermNumbers
+mod Counts
+mod WeightSums
+mod CountedTerms
+mod Comparing
+mod LexiconLaws
+mod RangedLaws
+mod DocumentLaws
+mod WrittenLaws

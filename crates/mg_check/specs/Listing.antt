@@ -1,0 +1,187 @@
+-- The lists of a range of terms in one vector, and lists, skip entries and lexicon as far as the terms below a number.
+use Rattle.std.specs.Prelude.{◌≡◌, ◌<◌, ◌≤◌, ◌+◌, ◌-◌, ◌^◌, ℕ, List, [], ◌++◌, length, map, filter, flat_map, take, drop, get_or, slice_get, slice_index, nat_eq, Some}
+use Rattle.std.specs.Option.{IsSome}
+use Rattle.std.specs.declared.option.Option.{Option}
+use Rattle.mg_dev.specs.Files.{Files, bytes_at}
+use Rattle.mg_dev.specs.Names.{full_name}
+use Rattle.mg_dev.specs.declared.part.Part.TheVariants.{Lex, LexAt, Post, Skip}
+use Rattle.mg_dev.specs.declared.part_err.PartErr.{PartErr}
+use Rattle.mg_dev.specs.declared.part_err.PartErr.TheVariants.{Device, Memory, Bad}
+use Rattle.mg_defs.specs.declared.Posting.{Posting}
+use Rattle.mg_defs.specs.CodedText.{as_bytes}
+use Rattle.mg_defs.specs.Lexicon.{lex_at_bytes, lex_bytes}
+use Rattle.mg_defs.specs.Lists.{entry_bits, inverted, lists_bits, lists_entries, postings, skip_bits}
+use Rattle.mg_defs.specs.PostingLists.{postings_upto}
+use Rattle.mg_defs.specs.Split.{documents}
+use Rattle.mg_defs.specs.Stands.{post_part}
+use Rattle.mg_defs.specs.Terms.{dictionary, docs}
+use Rattle.mg_lex.specs.Terms.{Term, terms_of}
+use Rattle.mg_lex.specs.Writing.{LexWriting, TookTerms}
+use Rattle.mg_post.specs.Writing.{Listing, Took}
+use Rattle.mg_text.specs.Reading.{TextReading, TextStands}
+
+-- ---- sizes
+
+-- there is a number of documents for each of so many terms, at least 1 and at most that of all
+pub record AreSizes (docs : List ℕ) (terms all : ℕ) : Type 0 where
+  pub each : length docs ≡ terms
+  pub some : (k : ℕ) → k < length docs → 1 ≤ slice_index docs k
+  pub within : (k : ℕ) → k < length docs → slice_index docs k ≤ all
+
+-- ---- the lists of a range of terms
+
+-- the number of the first term, where each list begins and the last one ends, where the next posting of each goes, and all postings
+pub record Ranged : Type 0 where
+  pub first : ℕ
+  pub starts : List ℕ
+  pub next : List ℕ
+  pub postings : List Posting
+
+-- the lists follow one another, and each is within its room
+pub record IsLaidOut (w : Ranged) : Type 0 where
+  pub count : length w.starts ≡ length w.next + 1
+  pub begun : (k : ℕ) → k < length w.next → slice_index w.starts k ≤ slice_index w.next k
+  pub within : (k : ℕ) → k < length w.next → slice_index w.next k ≤ slice_index w.starts (k + 1)
+  pub rise : (j k : ℕ) → j ≤ k → k < length w.starts → slice_index w.starts j ≤ slice_index w.starts k
+  pub whole : (k : ℕ) → k < length w.starts → slice_index w.starts k ≤ length w.postings
+
+-- the room of list k
+abbrev pub room_at : Ranged → ℕ → ℕ
+room_at w k = slice_index w.starts (k + 1) - slice_index w.starts k
+
+-- what list k holds
+abbrev pub list_at : Ranged → ℕ → List Posting
+list_at w k = take (slice_index w.next k - slice_index w.starts k) (drop (slice_index w.starts k) w.postings)
+
+-- the lists of the terms from one on to before another, with room for so many postings each
+pub record HasRooms (w : Ranged) (docs : List ℕ) (first end : ℕ) : Type 0 where
+  pub first_is : w.first ≡ first
+  pub count : length w.next ≡ end - first
+  pub rooms : (k : ℕ) → k < length w.next → room_at w k ≡ slice_index docs (first + k)
+
+-- the lists hold those that a term's number tells
+pub record HoldsLists (w : Ranged) (lists : ℕ → List Posting) : Type 0 where
+  pub each : (k : ℕ) → k < length w.next → list_at w k ≡ lists (w.first + k)
+
+-- there is room for these lists
+pub record HasRoomFor (w : Ranged) (lists : ℕ → List Posting) : Type 0 where
+  pub each : (k : ℕ) → k < length w.next → length (lists (w.first + k)) ≤ room_at w k
+
+-- the same lists, of which each may hold others
+pub record SameRooms (old new : Ranged) : Type 0 where
+  pub first : new.first ≡ old.first
+  pub starts : new.starts ≡ old.starts
+  pub count : length new.next ≡ length old.next
+
+-- the postings of a document, by the terms that it has and how often each comes, in the list of one of them
+abbrev pub postings_in : ℕ → List (ℕ × ℕ) → ℕ → List Posting
+postings_in doc counted number = map (λ (e : ℕ × ℕ). record { doc = doc; freq = e.1 }) (filter (λ (e : ℕ × ℕ). nat_eq e.0 number) counted)
+
+-- these lists, each with what a document adds
+abbrev pub with_document : (ℕ → List Posting) → ℕ → List (ℕ × ℕ) → ℕ → List Posting
+with_document lists doc counted number = lists number ++ postings_in doc counted number
+
+-- the list of the term with this number, as far as the first n documents go
+abbrev pub lists_upto : ℕ → List ℕ → ℕ → List Posting
+lists_upto n collection number = postings_upto n collection (get_or (dictionary collection) number [])
+
+-- the whole list of that term
+abbrev pub lists_of : List ℕ → ℕ → List Posting
+lists_of collection number = postings collection (get_or (dictionary collection) number [])
+
+-- each list has room for as many postings as documents have its term
+pub record HasRoomForAll (w : Ranged) (collection : List ℕ) : Type 0 where
+  pub each : (k : ℕ) → k < length w.next → room_at w k ≡ docs collection (get_or (dictionary collection) (w.first + k) [])
+
+-- the rooms are those of lists of some of so many documents
+pub record AreRooms (w : Ranged) (all : ℕ) : Type 0 where
+  pub some : (k : ℕ) → k < length w.next → 1 ≤ room_at w k
+  pub within : (k : ℕ) → k < length w.next → room_at w k ≤ all
+
+-- ---- refusals
+
+-- where a part is told as bad, this does not hold
+abbrev pub Refutes : Type 0 → PartErr → Type 0
+Refutes P Device = Unit {0}
+Refutes P Memory = Unit {0}
+Refutes P (Bad bad) = P → ⊥
+
+-- ---- what is written anew
+
+-- so many postings more of the list that was begun were pushed
+pub record PushedMore (old new : Listing) (count : ℕ) : Type 0 where
+  pub docs : new.docs ≡ old.docs
+  pub pushed : new.pushed ≡ old.pushed + count
+  pub total : new.total ≡ old.total + count
+
+-- The store in memory tells its files; the lexicon has the terms below a number.
+pub record CanPush (terms : List (List ℕ)) (number : ℕ) (lex : LexWriting) (files : Option Files) : Type 0 where
+  pub told : IsSome files
+  pub before : List Term
+  pub took : TookTerms lex files before
+  pub count : lex.front.count ≡ number
+  pub last : (k : ℕ) → k + 1 ≡ number → slice_get terms k ≡ Some lex.front.last
+
+-- The store in memory tells its files; the first lists of a range were written.
+pub record CanList (w : Ranged) (index : ℕ) (lists : Listing) (files : Option Files) : Type 0 where
+  pub told : IsSome files
+  pub done : List (List Posting)
+  pub took : Took lists files done []
+  pub between : lists.pushed ≡ 0
+  pub total : lists.total + slice_index w.starts 0 ≡ slice_index w.starts index
+  pub rooms : AreRooms w lists.all
+
+-- the terms of a range, their lists and the sizes of those before them are those of a collection
+pub record IsRangeOf (w : Ranged) (terms : List (List ℕ)) (all post skip : ℕ) (collection : List ℕ) : Type 0 where
+  pub terms_are : terms ≡ dictionary collection
+  pub all_are : all ≡ length (documents collection)
+  pub few : length collection < 2 ^ 32
+  pub documents_few : length (documents collection) ≤ 2 ^ 24
+  pub lists : HoldsLists w (lists_of collection)
+  pub rooms : HasRoomForAll w collection
+  pub post_is : post ≡ length (as_bytes (lists_bits (length (documents collection)) (take w.first (inverted collection))))
+  pub skip_is : skip ≡ length (as_bytes (flat_map entry_bits (lists_entries (length (documents collection)) (take w.first (inverted collection)))))
+
+-- the lists of the first terms of the range were written, and the lexicon as far as they go
+pub record HasListed (w : Ranged) (index : ℕ) (collection : List ℕ) (lists : Listing) (files : Option Files) (lex : LexWriting) (lex_files : Option Files) : Type 0 where
+  pub took : Took lists files (take index (drop w.first (inverted collection))) []
+  pub terms : TookTerms lex lex_files (take (w.first + index) (terms_of collection))
+
+-- ---- what was compared
+
+-- bytes begin with these, and a place is behind them
+pub record BeginsAt (bytes : List ℕ) (place : ℕ) (front : List ℕ) : Type 0 where
+  pub place_is : place ≡ length front
+  pub bytes_are : take place bytes ≡ front
+
+abbrev pub post_upto : ℕ → List ℕ → List ℕ
+post_upto number collection = as_bytes (lists_bits (length (documents collection)) (take number (inverted collection)))
+
+abbrev pub skip_upto : ℕ → List ℕ → List ℕ
+skip_upto number collection = as_bytes (flat_map entry_bits (lists_entries (length (documents collection)) (take number (inverted collection))))
+
+-- Post and Skip begin with the lists of the terms below a number
+pub record ListsAgree (files : Option Files) (base collection : List ℕ) (number post skip : ℕ) : Type 0 where
+  pub post_is : BeginsAt (bytes_at files (full_name base Post)) post (post_upto number collection)
+  pub skip_is : BeginsAt (bytes_at files (full_name base Skip)) skip (skip_upto number collection)
+
+-- Post and Skip are the lists of a collection
+pub record ListsStand (files : Option Files) (base collection : List ℕ) : Type 0 where
+  pub post : bytes_at files (full_name base Post) ≡ post_part collection
+  pub skip : bytes_at files (full_name base Skip) ≡ as_bytes (skip_bits collection)
+
+-- Lex and LexAt are its lexicon
+pub record LexiconStands (files : Option Files) (base collection : List ℕ) : Type 0 where
+  pub lex : bytes_at files (full_name base Lex) ≡ lex_bytes collection
+  pub lex_at : bytes_at files (full_name base LexAt) ≡ lex_at_bytes collection
+
+pub record IndexStands (files : Option Files) (base collection : List ℕ) : Type 0 where
+  pub lists : ListsStand files base collection
+  pub lexicon : LexiconStands files base collection
+
+-- The reader reads the text of this collection, and these are its terms and how many documents have each.
+pub record IsIndexOf (r : TextReading) (files : Option Files) (terms : List (List ℕ)) (docs_of : List ℕ) (collection : List ℕ) : Type 0 where
+  pub stands : TextStands r files collection
+  pub terms_are : terms ≡ dictionary collection
+  pub docs_are : docs_of ≡ map (docs collection) (dictionary collection)
+  pub few : length (documents collection) ≤ 2 ^ 24

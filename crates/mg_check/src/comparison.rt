@@ -1,0 +1,75 @@
+//! A part that is compared with the bytes that it is to have, as they come.
+ghost use Rattle.std.specs.Prelude.{◌≡◌, ◌≢◌, ◌+◌, ◌≤◌, ◌^◌, ◌++◌, ℕ, List, [], length, Err, IsSome, OnOk};
+ghost use Rattle.mg_dev.specs.Files.{bytes_at};
+ghost use Rattle.mg_dev.specs.Names.{full_name};
+ghost use Rattle.mg_dev.specs.PartCauses.{HasPartCause};
+ghost use Rattle.mg_check.specs.Counting.{HasBegun, WhereBad};
+
+use mg_dev::{FileRef, Part, PartErr, Store};
+use mg_layout::{expect_bytes, expect_size};
+use std::marker::Model;
+
+/// A part of a base, and how many of its bytes were compared.
+#[derive(Drop)]
+pub(crate) struct Comparison<'a> {
+    base: &'a str,
+    part: Part,
+    at: u64,
+}
+
+impl<'a> Model for Comparison<'a> {
+    ghost use Rattle.mg_dev.specs.Names.{full_name};
+    ghost use Rattle.mg_check.specs.Counting.{Comparing};
+
+    ghost Value = { Comparing };
+
+    ghost view = { λ c. record { name = full_name c.base.now c.part; at = c.at } };
+}
+
+impl<'a> Comparison<'a> {
+    /// No byte of a part was compared.
+    pub(crate) fn new(base: &'a str, part: Part) -> Self
+        ensures name { result.name ≡ full_name base.entry.now part }
+        ensures at { result.at ≡ 0 }
+    {
+        Comparison { base, part, at: 0 }
+    }
+
+    /// Compares the next bytes of the part with these.
+    pub(crate) fn expect<S: Store>(&mut self, store: &mut S, wanted: &[u8]) -> Result<(), PartErr>
+        requires place { self.old.at + length wanted.now ≤ 2 ^ 63 }
+        ensures begun { OnOk result ((done : List ℕ) → HasBegun self.old (S.files store.old) done → HasBegun self.new (S.files store.new) (done ++ wanted.now)) }
+        ensures bad { IsSome (S.files store.old) → WhereBad ((done rest : List ℕ) → HasBegun self.old (S.files store.old) done → bytes_at (S.files store.old) self.old.name ≢ done ++ (wanted.now ++ rest)) result }
+        ensures at { OnOk result (self.new.at ≡ self.old.at + length wanted.now) }
+        ensures name { self.new.name ≡ self.old.name }
+        ensures memory { result ≢ Err PartErr.Memory }
+        ensures files { S.files store.new ≡ S.files store.old }
+        ensures cause { HasPartCause (S.faults store.old) (S.faults store.new) result }
+    {
+        let file = FileRef {
+            base: self.base,
+            part: self.part,
+        };
+        match expect_bytes(store, file, self.at, wanted) {
+            Ok(()) => {}
+            Err(refusal) => return Err(refusal),
+        }
+        self.at += wanted.len() as u64;
+        Ok(())
+    }
+
+    /// Refuses a part that has more bytes than were compared.
+    pub(crate) fn finish<S: Store>(&self, store: &mut S) -> Result<(), PartErr>
+        ensures done { IsSome (S.files store.old) → OnOk result ((done : List ℕ) → HasBegun self.now (S.files store.old) done → bytes_at (S.files store.old) self.now.name ≡ done) }
+        ensures bad { IsSome (S.files store.old) → WhereBad ((done : List ℕ) → HasBegun self.now (S.files store.old) done → bytes_at (S.files store.old) self.now.name ≢ done) result }
+        ensures memory { result ≢ Err PartErr.Memory }
+        ensures files { S.files store.new ≡ S.files store.old }
+        ensures cause { HasPartCause (S.faults store.old) (S.faults store.new) result }
+    {
+        let file = FileRef {
+            base: self.base,
+            part: self.part,
+        };
+        expect_size(store, file, self.at)
+    }
+}
