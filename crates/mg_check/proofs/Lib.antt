@@ -11,3 +11,8 @@ mod LexiconLaws
 mod RangedLaws
 mod DocumentLaws
 mod WrittenLaws
+mod TextLaws
+mod DocumentSums
+mod RunWriting
+mod RunSteps
+mod TallySteps
