@@ -13,6 +13,5 @@ mod DocumentLaws
 mod WrittenLaws
 mod TextLaws
 mod DocumentSums
-mod RunWriting
 mod RunSteps
 mod TallySteps

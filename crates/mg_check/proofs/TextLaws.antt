@@ -49,13 +49,13 @@ all-get P [] k d each within = absurd (omega arith)
 all-get P (x ∷ xs) zero d each within = each.0
 all-get P (x ∷ xs) (suc k) d each within = all-get P xs k d each.1 (omega (arith, within))
 
+drop-none : (k : ℕ) → drop {A = ℕ} k [] ≡ []
+drop-none zero = refl
+drop-none (suc k) = refl
+
 drop-drop : (n m : ℕ) (xs : List ℕ) → drop m (drop n xs) ≡ drop (n + m) xs
 drop-drop zero m xs = ap (λ (k : ℕ). drop k xs) (omega arith)
-drop-drop (suc n) m [] = none m ∙ sym (none (suc n + m))
-  where
-    none : (k : ℕ) → drop k [] ≡ []
-    none zero = refl
-    none (suc k) = refl
+drop-drop (suc n) m [] = drop-none m ∙ sym (drop-none (suc n + m))
 drop-drop (suc n) m (x ∷ xs) =
     let next : suc n + m ≡ suc (n + m) = omega arith in
     drop-drop n m xs ∙ ap (λ (k : ℕ). drop k (x ∷ xs)) (sym next)
