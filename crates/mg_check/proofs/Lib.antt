@@ -11,3 +11,7 @@ mod LexiconLaws
 mod RangedLaws
 mod DocumentLaws
 mod WrittenLaws
+mod TextLaws
+mod DocumentSums
+mod RunSteps
+mod TallySteps

@@ -1,5 +1,5 @@
 -- Reading the text of a set: what is known of it after some documents, and what its parts mean at the end.
-use Rattle.std.specs.Prelude.{◌≡◌, ◌≤◌, ◌<◌, ◌+◌, ◌*◌, ℕ, List, [], ◌∷◌, ◌++◌, length, map, take, drop, sum, sum_by, Ok, Err}
+use Rattle.std.specs.Prelude.{◌≡◌, ◌≤◌, ◌<◌, ◌+◌, ◌*◌, ℕ, List, [], ◌∷◌, ◌++◌, length, map, take, drop, sum, sum_by, IsTrue, Ok, Err}
 use Rattle.std.specs.List.{AllByRecursion, flat_map}
 use Rattle.std.specs.Option.{IsSome}
 use Rattle.std.specs.declared.option.Option.{Option}
@@ -8,28 +8,32 @@ use Rattle.mg_dev.specs.Files.{Files}
 use Rattle.mg_dev.specs.declared.part_err.PartErr.{PartErr}
 use Rattle.mg_dev.specs.declared.part_err.PartErr.TheVariants.{Device, Memory, Bad}
 use Rattle.mg_defs.specs.declared.Stream.TheVariants.{Words, Others}
-use Rattle.mg_defs.specs.CodedText.{TextCode, coded_size, place_bytes, places_of}
+use Rattle.mg_defs.specs.CodedText.{TextCode, as_bytes, coded_doc, coded_size, place_bytes, places_of}
 use Rattle.mg_defs.specs.Heads as defs
 use Rattle.mg_defs.specs.Limits.{IsWithinLimits}
-use Rattle.mg_defs.specs.Means.{BeginsWith, IsUsedWell, Mean, Tell, docs_bytes}
+use Rattle.mg_defs.specs.Means.{BeginsWith, IsCodable, IsUsedWell, Mean, Tell, docs_bytes}
 use Rattle.mg_defs.specs.Split.{IsDocument, IsSplit, joined}
 use Rattle.mg_defs.specs.Stands.{Parts}
 use Rattle.mg_defs.specs.Vocabulary.{pieces_in}
+use Rattle.mg_layout.specs.Contents.{StandAt}
 use Rattle.mg_layout.specs.HeadAnswers.{fields_of}
 use Rattle.mg_layout.specs.Stands.{parts_at}
 use Rattle.mg_layout.specs.declared.head.Head.{Head}
 use Rattle.mg_text.specs.Places.{place_width}
 use Rattle.mg_text.specs.Reading.{IsTextReader, TextReading}
 use Rattle.mg_text.specs.Writing.{starts}
-use Rattle.mg_check.specs.Decoding.{AreCounts}
+use Rattle.mg_check.specs.Decoding.{AreCounts, Counted, IsUsed}
 use Rattle.mg_check.specs.declared.progress.Progress.{Progress}
 
--- where a part is bad
+-- where a refusal says that a part is bad
+abbrev pub IfBad : PartErr → Type 0 → Type 0
+IfBad Device then = Unit {0}
+IfBad Memory then = Unit {0}
+IfBad (Bad bad) then = then
+
 abbrev pub OnBad : {T : Type 0} → Result T PartErr → Type 0 → Type 0
 OnBad (Ok value) then = Unit {0}
-OnBad (Err Device) then = Unit {0}
-OnBad (Err Memory) then = Unit {0}
-OnBad (Err (Bad bad)) then = then
+OnBad (Err refusal) then = IfBad refusal then
 
 -- ---- the head and the codes
 
@@ -88,3 +92,32 @@ pub record IsMeant (parts : Parts) (h : defs.Head) (code : TextCode) (docs : Lis
   pub places : parts.places ≡ places_of h.version code (joined docs h.open_end)
   pub bytes : h.collection ≡ length (joined docs h.open_end)
   pub limits : IsWithinLimits h.version (joined docs h.open_end)
+
+-- ---- a document more
+
+-- The document can stand next: its code stands in Text at this place, and the place stands in Places.
+pub record IsNextDoc (parts : Parts) (version : ℕ) (code : TextCode) (doc : List ℕ) (p : Progress) : Type 0 where
+  pub is_document : IsDocument doc
+  pub codable : IsCodable code doc
+  pub stands : StandAt p.place (as_bytes (coded_doc code doc)) parts.text
+  pub place : StandAt (place_width version * p.documents) (place_bytes version p.place) parts.places
+
+-- The numbers after one document more.
+pub record HasAdded (code : TextCode) (doc : List ℕ) (old new : Progress) : Type 0 where
+  pub documents : new.documents ≡ old.documents + 1
+  pub bytes : new.bytes ≡ old.bytes + length doc
+  pub last : new.last ≡ length doc
+  pub place : new.place ≡ old.place + coded_size code doc
+  pub words : Counted code.words (pieces_in Words doc) old.uses.words.items new.uses.words.items
+  pub others : Counted code.others (pieces_in Others doc) old.uses.others.items new.uses.others.items
+
+-- ---- behind the last document
+
+-- Nothing is left of Text, the last place stands in Places, the numbers are those of the head, and both codes are used.
+pub record IsAtEnd (parts : Parts) (head : Head) (code : TextCode) (p : Progress) : Type 0 where
+  pub place : p.place ≡ head.text_bytes
+  pub last_place : StandAt (place_width head.version * p.documents) (place_bytes head.version p.place) parts.places
+  pub open_end : IsTrue head.open_end → 0 < p.last
+  pub bytes : p.bytes + p.documents ≡ head.collection + defs.as_number head.open_end
+  pub words : IsUsed p.uses.words.items code.words.lengths
+  pub others : IsUsed p.uses.others.items code.others.lengths

@@ -1,18 +1,28 @@
 -- What contracts see of terms that are counted, and of weights and runs that are compared with their parts.
-use Rattle.std.specs.Prelude.{◌≡◌, ℕ, ◌+◌, ◌*◌, ◌<◌, ◌≤◌, ◌^◌, ◌==◌, nat_eq, nat_lt, if◌then◌else◌, List, [], ◌∷◌, ◌++◌, length, take, drop, map, filter, sum_by, count_by, Ok, Err}
+use Rattle.std.specs.Prelude.{◌≡◌, ℕ, ◌+◌, ◌-◌, ◌*◌, ◌<◌, ◌≤◌, ◌^◌, ◌==◌, nat_eq, nat_lt, if◌then◌else◌, List, [], ◌∷◌, ◌++◌, length, take, drop, flat_map, min, slice_index, slice_set, map, filter, sum_by, count_by, Ok, Err}
 use Rattle.std.specs.Option.{IsSome}
 use Rattle.std.specs.declared.option.Option.{Option}
 use Rattle.std.specs.declared.result.Result.{Result}
-use Rattle.std.specs.List.{enumerate_from}
+use Rattle.std.specs.List.{enumerate_from, list_any}
 use Rattle.mg_dev.specs.Files.{Files, bytes_at}
+use Rattle.mg_dev.specs.Names.{full_name}
+use Rattle.mg_dev.specs.declared.part.Part.TheVariants as part
 use Rattle.mg_dev.specs.declared.part_err.PartErr.{PartErr}
 use Rattle.mg_dev.specs.declared.part_err.PartErr.TheVariants.{Device, Memory, Bad}
-use Rattle.mg_defs.specs.CodedText.{as_bytes}
+use Rattle.mg_defs.specs.CodedText.{TextCode, as_bytes}
 use Rattle.mg_defs.specs.Fixed.{isqrt}
+use Rattle.mg_defs.specs.Means.{IsCodable}
+use Rattle.mg_defs.specs.Numbers.{four}
+use Rattle.mg_defs.specs.Occurrences.{occurrences}
 use Rattle.mg_defs.specs.Postings.{once}
-use Rattle.mg_defs.specs.RunBits.{runs_bits}
+use Rattle.mg_defs.specs.RunBits.{run_part_bits, runs_bits}
 use Rattle.mg_defs.specs.Runs.{first_runs, finished}
-use Rattle.mg_defs.specs.Weights.{weight_in_doc}
+use Rattle.mg_defs.specs.Split.{documents}
+use Rattle.mg_defs.specs.Stands.{weights_part}
+use Rattle.mg_defs.specs.Terms.{dictionary, same_term, terms}
+use Rattle.mg_defs.specs.Weights.{weight, weight_in_doc}
+use Rattle.mg_text.specs.Reading.{TextReading, TextStands}
+use Rattle.mg_check.specs.Documents.{numbers_in}
 use Rattle.mg_runs.specs.Fed.{AreOccurrences, cap_of}
 use Rattle.mg_runs.specs.Pooled.{Pooled}
 
@@ -93,3 +103,69 @@ pub record HasTaken (r : RunReading) (files : Option Files) (fed : List (ℕ × 
   pub below : r.part.at ≤ 64 * (finished (cap_of r.pool) (length fed) * cap_of r.pool)
   pub occurrences : AreOccurrences fed
   pub few : length fed < 2 ^ 32
+
+-- ---- all of a collection's documents
+
+-- the occurrences of the terms of documents, the first of them with this number
+abbrev pub occurrences_from : List (List ℕ) → ℕ → List (List ℕ) → List (ℕ × ℕ)
+occurrences_from dictionary first docs = flat_map (λ (d : ℕ × List ℕ). map (λ n. (n, d.0)) (numbers_in dictionary d.1)) (enumerate_from first docs)
+
+-- how many of these documents have a term
+abbrev pub docs_among : List (List ℕ) → List ℕ → ℕ
+docs_among docs t = count_by (λ doc. list_any (same_term t) (terms doc)) docs
+
+-- counts of documents after one more document with these terms; none rises above what 32 bits hold
+abbrev pub one_more_each : List (ℕ × ℕ) → List ℕ → List ℕ
+one_more_each [] docs = docs
+one_more_each (e ∷ counted) docs = one_more_each counted (slice_set docs e.0 (min (slice_index docs e.0 + 1) (2 ^ 32 - 1)))
+
+-- how many documents have each term, the weights, the runs, and how many occurrences there were
+pub record Tallying : Type 0 where
+  pub docs : List ℕ
+  pub weights : Weighing
+  pub runs : RunReading
+  pub occurrences : ℕ
+
+-- These documents were taken, with the terms of this dictionary.
+pub record HasTallied (t : Tallying) (files : Option Files) (dictionary docs : List (List ℕ)) : Type 0 where
+  pub weighed : HasWeighed t.weights files (flat_map four (map weight docs))
+  pub size : t.weights.part.at + length t.weights.held ≡ 4 * length docs
+  pub taken : HasTaken t.runs files (occurrences_from dictionary 1 docs)
+  pub count : t.occurrences ≡ length (occurrences_from dictionary 1 docs)
+  pub counts : t.docs ≡ map (docs_among docs) dictionary
+
+-- the same parts are compared, by runs of the same number of occurrences
+pub record SameParts (old new : Tallying) : Type 0 where
+  pub weights : new.weights.part.name ≡ old.weights.part.name
+  pub run : new.runs.part.name ≡ old.runs.part.name
+  pub limit : new.runs.pool.limit ≡ old.runs.pool.limit
+
+-- Weights and Run are those of a collection.
+pub record AreOwn (t : Tallying) (files : Option Files) (collection : List ℕ) : Type 0 where
+  pub weights : bytes_at files t.weights.part.name ≡ weights_part collection
+  pub run : bytes_at files t.runs.part.name ≡ as_bytes (run_part_bits (cap_of t.runs.pool) (occurrences collection))
+
+-- The documents of a collection begin with these and then this one, which a model can code; it has this dictionary.
+pub record GoesOn (code : TextCode) (words : List (List ℕ)) (collection : List ℕ) (docs : List (List ℕ)) (doc : List ℕ) : Type 0 where
+  pub more : List (List ℕ)
+  pub documents_are : documents collection ≡ docs ++ doc ∷ more
+  pub codable : IsCodable code doc
+  pub few : length collection < 2 ^ 32
+  pub dictionary_is : words ≡ dictionary collection
+
+-- Weights and Run are those of these documents.
+pub record HaveTallied (t : Tallying) (files : Option Files) (dictionary docs : List (List ℕ)) : Type 0 where
+  pub weights : bytes_at files t.weights.part.name ≡ flat_map four (map weight docs)
+  pub run : bytes_at files t.runs.part.name ≡ as_bytes (run_part_bits (cap_of t.runs.pool) (occurrences_from dictionary 1 docs))
+
+-- So many documents of the text were taken; where it stands for a collection, they are all of the collection's.
+pub record TalliedText (t : Tallying) (files : Option Files) (words : List (List ℕ)) (documents_read : ℕ) (r : TextReading) : Type 0 where
+  pub docs : List (List ℕ)
+  pub tallied : HasTallied t files words docs
+  pub count : length docs ≡ documents_read
+  pub own : (collection : List ℕ) → TextStands r files collection → docs ≡ take documents_read (documents collection)
+
+-- Weights and Run of a base are those of a collection, in runs of so many occurrences.
+pub record TermsStand (base : List ℕ) (files : Option Files) (cap : ℕ) (collection : List ℕ) : Type 0 where
+  pub weights : bytes_at files (full_name base part.Weights) ≡ weights_part collection
+  pub run : bytes_at files (full_name base part.Run) ≡ as_bytes (run_part_bits cap (occurrences collection))
