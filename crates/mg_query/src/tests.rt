@@ -169,8 +169,14 @@ fn ranked_lines(rt: HostRuntime) -> Result<(), Fail> {
     }
     let long = repeated(alloc, b'a', 256, b"")?;
     assert_eq!(rt; ranked_of(alloc, &long)?.as_str(), "word too long at 0");
-    let many = many_words(alloc)?;
+    let mut many = many_words(alloc)?;
     assert_eq!(rt; ranked_of(alloc, &many)?.as_str(), "too many words at 192");
+    many.truncate(191);
+    assert_eq!(rt;
+        ranked_of(alloc, &many)?.len(),
+        64 * 3,
+        "64 words are not too many"
+    );
     Ok(())
 }
 

@@ -28,4 +28,4 @@ mod walk;
 pub use laws::runs_stay;
 pub use merge::Merge;
 pub use pool::Pool;
-pub use runs::Runs;
+pub use runs::{Runs, spill};
