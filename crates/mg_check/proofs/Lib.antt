@@ -12,6 +12,7 @@ mod RangedLaws
 mod DocumentLaws
 mod WrittenLaws
 mod TextLaws
+mod NextLaws
 mod DocumentSums
 mod RunSteps
 mod TallySteps

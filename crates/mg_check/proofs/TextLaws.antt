@@ -44,7 +44,7 @@ all-join : {X : Type 0} (P : X → Type 0) (xs ys : List X) → AllByRecursion P
 all-join P [] ys x y = y
 all-join P (a ∷ xs) ys x y = (x.0, all-join P xs ys x.1 y)
 
-all-get : {X : Type 0} (P : X → Type 0) (xs : List X) (k : ℕ) (d : X) → AllByRecursion P xs → k < length xs → P (get_or xs k d)
+pub all-get : {X : Type 0} (P : X → Type 0) (xs : List X) (k : ℕ) (d : X) → AllByRecursion P xs → k < length xs → P (get_or xs k d)
 all-get P [] k d each within = absurd (omega arith)
 all-get P (x ∷ xs) zero d each within = each.0
 all-get P (x ∷ xs) (suc k) d each within = all-get P xs k d each.1 (omega (arith, within))
@@ -297,11 +297,11 @@ known-others : (code : TextCode) (ps : List Pair) → AllByRecursion (HasCodewor
 known-others code [] each = tt
 known-others code (p ∷ ps) each = (each.0.other, known-others code ps each.1)
 
-all-words : (code : TextCode) (docs : List (List ℕ)) → AllByRecursion (IsCodable code) docs → AllByRecursion (Contains code.words.pieces) (flat_map (pieces_in Words) docs)
+pub all-words : (code : TextCode) (docs : List (List ℕ)) → AllByRecursion (IsCodable code) docs → AllByRecursion (Contains code.words.pieces) (flat_map (pieces_in Words) docs)
 all-words code [] each = tt
 all-words code (doc ∷ docs) each = all-join (Contains code.words.pieces) (pieces_in Words doc) (flat_map (pieces_in Words) docs) (known-words code (parse doc) each.0.each) (all-words code docs each.1)
 
-all-others : (code : TextCode) (docs : List (List ℕ)) → AllByRecursion (IsCodable code) docs → AllByRecursion (Contains code.others.pieces) (flat_map (pieces_in Others) docs)
+pub all-others : (code : TextCode) (docs : List (List ℕ)) → AllByRecursion (IsCodable code) docs → AllByRecursion (Contains code.others.pieces) (flat_map (pieces_in Others) docs)
 all-others code [] each = tt
 all-others code (doc ∷ docs) each = all-join (Contains code.others.pieces) (pieces_in Others doc) (flat_map (pieces_in Others) docs) (known-others code (parse doc) each.0.each) (all-others code docs each.1)
 

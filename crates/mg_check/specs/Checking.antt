@@ -75,6 +75,7 @@ pub record HasRead (parts : Parts) (version : ℕ) (code : TextCode) (docs : Lis
 pub record IsInRange (code : TextCode) (head : Head) (p : Progress) : Type 0 where
   pub documents : p.documents ≤ head.documents
   pub bytes : p.bytes ≤ head.collection
+  pub last : p.last ≤ p.bytes
   pub place : p.place ≤ 12 * p.bytes + 13 * p.documents
   pub word_places : length p.uses.words.items ≡ length code.words.pieces
   pub other_places : length p.uses.others.items ≡ length code.others.pieces
@@ -113,6 +114,12 @@ pub record HasAdded (code : TextCode) (doc : List ℕ) (old new : Progress) : Ty
 
 -- ---- behind the last document
 
+-- The documents take all of Text, and the flag of an open end and the size of the collection are those of what was read.
+pub record EndNumbers (head : Head) (p : Progress) : Type 0 where
+  pub place : p.place ≡ head.text_bytes
+  pub open_end : IsTrue head.open_end → 0 < p.last
+  pub bytes : p.bytes + p.documents ≡ head.collection + defs.as_number head.open_end
+
 -- Nothing is left of Text, the last place stands in Places, the numbers are those of the head, and both codes are used.
 pub record IsAtEnd (parts : Parts) (head : Head) (code : TextCode) (p : Progress) : Type 0 where
   pub place : p.place ≡ head.text_bytes
@@ -121,3 +128,21 @@ pub record IsAtEnd (parts : Parts) (head : Head) (code : TextCode) (p : Progress
   pub bytes : p.bytes + p.documents ≡ head.collection + defs.as_number head.open_end
   pub words : IsUsed p.uses.words.items code.words.lengths
   pub others : IsUsed p.uses.others.items code.others.lengths
+
+-- ---- what reading found
+
+-- A document stands next, and it was added.
+pub record FoundNext (parts : Parts) (version : ℕ) (code : TextCode) (old new : Progress) : Type 0 where
+  pub doc : List ℕ
+  pub next : IsNextDoc parts version code doc old
+  pub added : HasAdded code doc old new
+
+-- Some documents were read.
+pub record FoundDocs (parts : Parts) (version : ℕ) (code : TextCode) (p : Progress) : Type 0 where
+  pub docs : List (List ℕ)
+  pub so : HasRead parts version code docs p
+
+-- The parts mean some documents.
+pub record FoundText (parts : Parts) (h : defs.Head) (code : TextCode) : Type 0 where
+  pub docs : List (List ℕ)
+  pub meant : IsMeant parts h code docs

@@ -1,0 +1,17 @@
+use Rattle.std.proofs.Common.{◌≡◌, ◌≤◌}
+use Rattle.mg_layout.specs.Stands.{parts_at}
+use Rattle.mg_text.specs.Reading.{SameText, TextFits}
+use Rattle.mg_check.specs.Checking.{FoundDocs, IsInRange}
+use Rattle.std.specs.Option.{IsSome}
+use Rattle.mg_check.proofs.read_text.read_docs.Given as goal
+
+abbrev pub invariant-loop-number : goal.invariant-loop-number
+invariant-loop-number g l = record {
+  fits : TextFits l.reader (g.S.Store.files l.store);
+  same : SameText l.initial.reader l.reader;
+  range : IsInRange l.initial.reader.code l.head l.progress;
+  count : l.progress.documents ≡ l._number;
+  found : IsSome (g.S.Store.files l.initial.store) → FoundDocs (parts_at (g.S.Store.files l.initial.store) l.base) l.head.version l.initial.reader.code l.progress;
+  files : g.S.Store.files l.store ≡ g.S.Store.files l.initial.store;
+  later : g.S.Store.faults l.initial.store ≤ g.S.Store.faults l.store;
+}
