@@ -13,6 +13,7 @@ mod DocumentLaws
 mod WrittenLaws
 mod TextLaws
 mod NextLaws
+mod RestLaws
 mod DocumentSums
 mod RunSteps
 mod TallySteps

@@ -3,3 +3,5 @@ pub mod Decoding
 pub mod Checking
 pub mod Counting
 pub mod Listing
+pub mod Rest
+pub mod Found

@@ -1,0 +1,215 @@
+-- Where the text of a set means documents: what the other parts and the head's numbers are to be.
+use Rattle.std.proofs.Common.{arith, ◌≡◌, ◌≤◌, ◌<◌, ◌-◌, ◌*◌, ◌^◌, ◌==◌, ℕ, Bool, true, false, if◌then◌else◌, List, Contains, length, map, IfErr, IsSome, OnOk, Ok, Err, refl, sym, ap, subst, ◌∙◌}
+use Rattle.std.specs.List.{AllByRecursion, flat_map}
+use Rattle.std.specs.declared.option.Option.{Option}
+use Rattle.std.specs.declared.result.Result.{Result}
+use Rattle.mg_dev.specs.Files.{Files, bytes_at}
+use Rattle.mg_defs.specs.declared.Stream.TheVariants.{Words, Others}
+use Rattle.mg_defs.specs.Bits.{bits_of}
+use Rattle.mg_defs.specs.CodedText.{IsTextCode, TextCode, places_of, text_of}
+use Rattle.mg_defs.specs.Heads as defs
+use Rattle.mg_defs.specs.Heads.{run_count}
+use Rattle.mg_defs.specs.Limits.{IsWithinLimits}
+use Rattle.mg_defs.specs.Means.{Mean, StandForNone, docs_bytes}
+use Rattle.mg_defs.specs.Occurrences.{occurrences}
+use Rattle.mg_defs.specs.Split.{documents, has_open_end, joined}
+use Rattle.mg_defs.specs.Lists.{inverted, lists_entries}
+use Rattle.mg_defs.specs.Stands.{Parts, Stand, head_of, skip_count}
+use Rattle.mg_defs.specs.Terms.{dictionary, docs}
+use Rattle.mg_defs.specs.Vocabulary.{all_pieces, pieces_in, sorted_pieces}
+use Rattle.mg_defs.proofs.SplitLaws.{split_unique}
+use Rattle.mg_defs.proofs.StandDocs.{most}
+use Rattle.mg_defs.proofs.StandLaws.{stands-only, told-stands}
+use Rattle.mg_defs.proofs.StandSizes.{text-room}
+use Rattle.mg_defs.proofs.StandUse.{code-of}
+use Rattle.mg_defs.proofs.StandWhole.{whole-set}
+use Rattle.mg_laws.proofs.WholeBytes.{entries_sized}
+use Rattle.mg_dev.specs.declared.part_err.PartErr.{PartErr}
+use Rattle.mg_dev.specs.declared.part_err.PartErr.TheVariants.{Device, Memory, Bad}
+use Rattle.mg_layout.specs.HeadAnswers.{fields_of}
+use Rattle.mg_layout.specs.Stands.{parts_at}
+use Rattle.mg_layout.specs.declared.head.Head.{Head}
+use Rattle.mg_model.specs.Terms.{TermNumbers, terms_and_numbers}
+use Rattle.mg_text.specs.Places.{most_text}
+use Rattle.mg_text.specs.Reading.{SameText, TextReading, TextStands}
+use Rattle.mg_check.specs.Checking.{FoundText, IfBad, IsLoaded, IsMeant, OnBad}
+use Rattle.mg_check.specs.Counting.{TermsStand}
+use Rattle.mg_check.specs.Found.{StandsWith}
+use Rattle.mg_check.specs.Listing.{IndexStands, IsIndexOf, Refutes}
+use Rattle.mg_check.specs.Rest.{AreNumbers, HaveSizes, RestStands}
+use Rattle.mg_check.proofs.DocumentLaws.{stands_on, table_terms}
+use Rattle.mg_check.proofs.NextLaws.{head-few}
+use Rattle.mg_check.proofs.TextLaws.{all-get, all-others, all-words}
+
+-- ---- the collection that is meant
+
+own-docs : (parts : Parts) (h : defs.Head) (code : TextCode) (docs : List (List ℕ)) → IsMeant parts h code docs → docs ≡ documents (joined docs h.open_end)
+own-docs parts h code docs meant = (split_unique (joined docs h.open_end) docs h.open_end meant.split).0
+
+pub code-meant : (parts : Parts) (h : defs.Head) (code : TextCode) (docs : List (List ℕ)) → IsMeant parts h code docs → IsTextCode (joined docs h.open_end) code
+code-meant parts h code docs meant =
+    let own = own-docs parts h code docs meant in (
+      code-of Words (joined docs h.open_end) code.words meant.mean.tell.model.words (λ k d within. all-get (Contains code.words.pieces) (all_pieces Words (joined docs h.open_end)) k d (subst (λ (ds : List (List ℕ)). AllByRecursion (Contains code.words.pieces) (flat_map (pieces_in Words) ds)) own (all-words code docs meant.mean.each)) within) meant.words,
+      code-of Others (joined docs h.open_end) code.others meant.mean.tell.model.others (λ k d within. all-get (Contains code.others.pieces) (all_pieces Others (joined docs h.open_end)) k d (subst (λ (ds : List (List ℕ)). AllByRecursion (Contains code.others.pieces) (flat_map (pieces_in Others) ds)) own (all-others code docs meant.mean.each)) within) meant.others,
+    )
+
+text-meant : (parts : Parts) (h : defs.Head) (code : TextCode) (docs : List (List ℕ)) → IsMeant parts h code docs → parts.text ≡ text_of code (joined docs h.open_end)
+text-meant parts h code docs meant = meant.mean.text ∙ ap (docs_bytes code) (own-docs parts h code docs meant)
+
+room : (narrow : Bool) (n : ℕ) → n < (if narrow then 2 ^ 32 else 2 ^ 60) → n ≤ (if narrow then 2 ^ 32 - 1 else 2 ^ 60)
+room true n h = omega (arith, h)
+room false n h = omega (arith, h)
+
+small-text : (version : ℕ) (code : TextCode) (collection : List ℕ) → IsTextCode collection code → IsWithinLimits version collection → length (text_of code collection) ≤ most_text version
+small-text version code collection is within = room (version == 1) (length (text_of code collection)) (text-room version collection code within is)
+
+-- the reader reads its text
+pub meant-stands : (files : Option Files) (base : List ℕ) (head : Head) (r : TextReading) (docs : List (List ℕ)) → IsLoaded files base head r → IsMeant (parts_at files base) (fields_of head) r.code docs → TextStands r files (joined docs head.open_end)
+meant-stands files base head r docs loaded meant =
+    let parts = parts_at files base in
+    let own = own-docs (parts_at files base) (fields_of head) r.code docs meant in
+    let code = code-meant (parts_at files base) (fields_of head) r.code docs meant in
+    let text = text-meant (parts_at files base) (fields_of head) r.code docs meant in
+    let size : r.size ≡ length (text_of r.code (joined docs head.open_end)) = loaded.reader.size_is ∙ sym loaded.text ∙ ap length text in
+    record {
+      told = loaded.told;
+      model = loaded.tell.model;
+      code = code;
+      text = ap (λ (name : List ℕ). bits_of (bytes_at files name)) loaded.reader.text_is ∙ ap bits_of text;
+      places = ap (bytes_at files) loaded.reader.places_is ∙ meant.places ∙ ap (λ (v : ℕ). places_of v r.code (joined docs head.open_end)) (sym loaded.reader.version_is);
+      size = size;
+      documents = loaded.reader.documents_are ∙ sym meant.mean.count ∙ ap length own;
+      few = (most head.version (joined docs head.open_end) meant.limits).0;
+      small = subst (λ (v : ℕ). r.size ≤ most_text v) (sym loaded.reader.version_is) (subst (λ (n : ℕ). n ≤ most_text head.version) (sym size) (small-text head.version r.code (joined docs head.open_end) code meant.limits));
+    }
+
+-- ---- all parts
+
+head-meant : (files : Option Files) (base : List ℕ) (head : Head) (r : TextReading) (docs : List (List ℕ)) → IsLoaded files base head r → IsMeant (parts_at files base) (fields_of head) r.code docs → AreNumbers head (joined docs head.open_end) → fields_of head ≡ head_of head.version head.cap r.code (joined docs head.open_end)
+head-meant files base head r docs loaded meant numbers =
+    let code = code-meant (parts_at files base) (fields_of head) r.code docs meant in
+    let end : head.open_end ≡ has_open_end (joined docs head.open_end) = (split_unique (joined docs head.open_end) docs head.open_end meant.split).1 in
+    let count : head.documents ≡ length (documents (joined docs head.open_end)) = sym meant.mean.count ∙ ap length (own-docs (parts_at files base) (fields_of head) r.code docs meant) in
+    let words : head.words ≡ length (sorted_pieces Words (joined docs head.open_end)) = loaded.words ∙ ap length code.0.pieces in
+    let others : head.others ≡ length (sorted_pieces Others (joined docs head.open_end)) = loaded.others ∙ ap length code.1.pieces in
+    let runs : head.runs ≡ run_count (length (occurrences (joined docs head.open_end))) head.cap = loaded.tell.head.within.runs ∙ ap (λ (n : ℕ). run_count n head.cap) numbers.occurrences in
+    let text : head.text_bytes ≡ length (text_of r.code (joined docs head.open_end)) = sym loaded.text ∙ ap length (text-meant (parts_at files base) (fields_of head) r.code docs meant) in
+    let size : head.collection ≡ length (joined docs head.open_end) = meant.bytes in
+    let terms = numbers.terms in
+    let occurrences_are = numbers.occurrences in
+    let post = numbers.post_bytes in
+    let skip = numbers.skip_count in
+    cc
+
+-- where the other parts are those of the collection that is meant, the set stands for it
+pub rest-stands : (files : Option Files) (base : List ℕ) (head : Head) (r : TextReading) (docs : List (List ℕ)) → IsLoaded files base head r → IsMeant (parts_at files base) (fields_of head) r.code docs → RestStands files base head (joined docs head.open_end) → Stand (parts_at files base) (joined docs head.open_end)
+rest-stands files base head r docs loaded meant rest = record {
+  version = head.version;
+  cap = head.cap;
+  code = r.code;
+  are =
+      whole-set (parts_at files base) (fields_of head) r.code docs meant.mean meant.split meant.words meant.others (head-meant files base head r docs loaded meant rest.numbers)
+      (record { places = meant.places; lex = rest.index.lexicon.lex; lex_at = rest.index.lexicon.lex_at; post = rest.index.lists.post; skip = rest.index.lists.skip; weights = rest.terms.weights; run = rest.terms.run });
+}
+
+-- and where the set stands for any collection, they are
+pub stands-rest : (files : Option Files) (base : List ℕ) (head : Head) (r : TextReading) (docs : List (List ℕ)) (collection : List ℕ) → IsMeant (parts_at files base) (fields_of head) r.code docs → Stand (parts_at files base) collection → RestStands files base head (joined docs head.open_end)
+stands-rest files base head r docs collection meant stand =
+    let only = stands-only (parts_at files base) (fields_of head) r.code docs collection meant.mean stand in
+    let are = only.2 in
+    let told = told-stands (parts_at files base) (fields_of head) r.code (joined docs head.open_end) meant.mean.tell (record { version = head.version; cap = head.cap; code = r.code; are = only.2 }) in
+    record {
+      numbers = record {
+        terms = ap (λ (h : defs.Head). h.terms) told.0;
+        occurrences = ap (λ (h : defs.Head). h.occurrences) told.0;
+        post_bytes = ap (λ (h : defs.Head). h.post_bytes) told.0;
+        skip_count = ap (λ (h : defs.Head). h.skip_count) told.0;
+      };
+      terms = record { weights = are.weights; run = are.run };
+      index = record { lists = record { post = are.post; skip = are.skip }; lexicon = record { lex = are.lex; lex_at = are.lex_at } };
+    }
+
+-- so a refusal of one of them shows that the set stands for none
+pub refuted-none : (files : Option Files) (base : List ℕ) (head : Head) (r : TextReading) (docs : List (List ℕ)) (refusal : PartErr) → IsMeant (parts_at files base) (fields_of head) r.code docs → Refutes (RestStands files base head (joined docs head.open_end)) refusal → IfBad refusal (StandForNone (parts_at files base))
+refuted-none files base head r docs Device meant other = tt
+refuted-none files base head r docs Memory meant other = tt
+refuted-none files base head r docs (Bad bad) meant other = λ collection stand. other (stands-rest files base head r docs collection meant stand)
+
+-- ---- the head's numbers
+
+-- where the other parts are those of a collection, Post and Skip have the sizes that the head tells
+pub sizes-of : (files : Option Files) (base : List ℕ) (head : Head) (collection : List ℕ) → RestStands files base head collection → HaveSizes (parts_at files base) head
+sizes-of files base head collection rest = record {
+  post = ap length rest.index.lists.post ∙ sym rest.numbers.post_bytes;
+  skip = ap length rest.index.lists.skip ∙ entries_sized (lists_entries (length (documents collection)) (inverted collection)) ∙ ap (λ (n : ℕ). 16 * n) (sym rest.numbers.skip_count);
+}
+
+-- and these sizes, where Post and Skip are a collection's own, are the numbers that the head is to have
+pub numbers-of : (files : Option Files) (base : List ℕ) (head : Head) (collection : List ℕ) → head.terms ≡ length (dictionary collection) → head.occurrences ≡ length (occurrences collection) → HaveSizes (parts_at files base) head → IndexStands files base collection → AreNumbers head collection
+numbers-of files base head collection terms occurrences_are sizes index =
+    let entries : length (parts_at files base).skip ≡ 16 * skip_count collection = ap length index.lists.skip ∙ entries_sized (lists_entries (length (documents collection)) (inverted collection)) in
+    record {
+      terms = terms;
+      occurrences = occurrences_are;
+      post_bytes = sym sizes.post ∙ ap length index.lists.post;
+      skip_count = omega (arith, entries, sizes.skip);
+    }
+
+-- ---- answers
+
+pub refutes-so : (P Q : Type 0) (refusal : PartErr) → (Q → P) → Refutes P refusal → Refutes Q refusal
+refutes-so P Q Device so other = tt
+refutes-so P Q Memory so other = tt
+refutes-so P Q (Bad bad) so other = λ q. other (so q)
+
+-- where the lists and the lexicon were compared last
+pub rest-ok : (files : Option Files) (base : List ℕ) (head : Head) (collection : List ℕ) (r : Result (Unit {0}) PartErr) → head.terms ≡ length (dictionary collection) → head.occurrences ≡ length (occurrences collection) → HaveSizes (parts_at files base) head →
+    TermsStand base files head.cap collection → OnOk r (IndexStands files base collection) → OnOk r (RestStands files base head collection)
+rest-ok files base head collection (Ok done) terms_are occurrences_are sizes terms index = record { numbers = numbers-of files base head collection terms_are occurrences_are sizes index; terms = terms; index = index }
+rest-ok files base head collection (Err refusal) terms_are occurrences_are sizes terms index = tt
+
+pub rest-other : (files : Option Files) (base : List ℕ) (head : Head) (collection : List ℕ) (r : Result (Unit {0}) PartErr) → IfErr r (Refutes (IndexStands files base collection)) → IfErr r (Refutes (RestStands files base head collection))
+rest-other files base head collection (Ok done) other = tt
+rest-other files base head collection (Err refusal) other = refutes-so (IndexStands files base collection) (RestStands files base head collection) refusal (λ rest. rest.index) other
+
+-- ---- a set whose text was read
+
+pub none-here : (files now : Option Files) (base : List ℕ) (head : Head) (r : TextReading) (refusal : PartErr) → now ≡ files → (IsLoaded now base head r → IfBad refusal (StandForNone (parts_at now base))) → IsLoaded files base head r → IfBad refusal (StandForNone (parts_at files base))
+none-here files now base head r refusal same none = subst (λ (f : Option Files). IsLoaded f base head r → IfBad refusal (StandForNone (parts_at f base))) same none
+
+pub found-here : (files now : Option Files) (base : List ℕ) (head : Head) (r : TextReading) → now ≡ files → (IsLoaded now base head r → FoundText (parts_at now base) (fields_of head) r.code) → IsLoaded files base head r → FoundText (parts_at files base) (fields_of head) r.code
+found-here files now base head r same found = subst (λ (f : Option Files). IsLoaded f base head r → FoundText (parts_at f base) (fields_of head) r.code) same found
+
+pub set-stands : (files now : Option Files) (base : List ℕ) (head : Head) (r next : TextReading) (result : Result (Unit {0}) PartErr) → now ≡ files → SameText r next → IsLoaded files base head r → FoundText (parts_at files base) (fields_of head) r.code →
+    ((collection : List ℕ) → TextStands next now collection → OnOk result (RestStands now base head collection)) → OnOk result (StandsWith files base head.documents head.collection)
+set-stands files now base head r next (Ok done) same_files same loaded found stand =
+    let c : List ℕ = joined found.docs head.open_end in
+    let there = stands_on r next files now (joined found.docs head.open_end) same same_files (meant-stands files base head r found.docs loaded found.meant) in
+    let rest = subst (λ (f : Option Files). RestStands f base head (joined found.docs head.open_end)) same_files (stand (joined found.docs head.open_end) there) in
+    record {
+      collection = joined found.docs head.open_end;
+      stands = record { told = loaded.told; stand = rest-stands files base head r found.docs loaded found.meant rest };
+      documents_are = sym found.meant.mean.count ∙ ap length (own-docs (parts_at files base) (fields_of head) r.code found.docs found.meant);
+      bytes_are = found.meant.bytes;
+    }
+set-stands files now base head r next (Err refusal) same_files same loaded found stand = tt
+
+pub set-none : (files now : Option Files) (base : List ℕ) (head : Head) (r next : TextReading) (result : Result (Unit {0}) PartErr) → now ≡ files → SameText r next → IsLoaded files base head r → FoundText (parts_at files base) (fields_of head) r.code →
+    ((collection : List ℕ) → TextStands next now collection → IfErr result (Refutes (RestStands now base head collection))) → OnBad result (StandForNone (parts_at files base))
+set-none files now base head r next (Ok done) same_files same loaded found other = tt
+set-none files now base head r next (Err refusal) same_files same loaded found other =
+    let there = stands_on r next files now (joined found.docs head.open_end) same same_files (meant-stands files base head r found.docs loaded found.meant) in
+    let refuted = subst (λ (f : Option Files). Refutes (RestStands f base head (joined found.docs head.open_end)) refusal) same_files (other (joined found.docs head.open_end) there) in
+    refuted-none files base head r found.docs refusal found.meant refuted
+
+-- ---- the terms of the text
+
+-- what is told to who compares the lists and the lexicon
+pub index-of : (files now : Option Files) (head : Head) (r next : TextReading) (table : TermNumbers) (docs_of collection : List ℕ) → now ≡ files → SameText r next → table ≡ terms_and_numbers r.code.words.pieces → docs_of ≡ map (docs collection) (dictionary collection) → r.documents ≡ head.documents →
+    defs.IsWithin (fields_of head) → TextStands r files collection → IsIndexOf next now table.terms docs_of collection
+index-of files now head r next table docs_of collection same_files same table_is docs_are documents_are within stand = record {
+  stands = stands_on r next files now collection same same_files stand;
+  terms_are = table_terms table r files collection table_is stand;
+  docs_are = docs_are;
+  few = omega (arith, (head-few head within).1, documents_are, stand.documents);
+}

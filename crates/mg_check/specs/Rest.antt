@@ -1,0 +1,28 @@
+-- What of a set is compared behind its text: the head's numbers that the text does not tell, and the parts that tell of terms.
+use Rattle.std.specs.Prelude.{◌≡◌, ◌*◌, ℕ, List, length}
+use Rattle.std.specs.declared.option.Option.{Option}
+use Rattle.mg_dev.specs.Files.{Files}
+use Rattle.mg_defs.specs.Occurrences.{occurrences}
+use Rattle.mg_defs.specs.Stands.{Parts, post_part, skip_count}
+use Rattle.mg_defs.specs.Terms.{dictionary}
+use Rattle.mg_layout.specs.declared.head.Head.{Head}
+use Rattle.mg_check.specs.Counting.{TermsStand}
+use Rattle.mg_check.specs.Listing.{IndexStands}
+
+-- the head has as many terms and occurrences as a collection, and the sizes of its lists and skip entries
+pub record AreNumbers (head : Head) (collection : List ℕ) : Type 0 where
+  pub terms : head.terms ≡ length (dictionary collection)
+  pub occurrences : head.occurrences ≡ length (occurrences collection)
+  pub post_bytes : head.post_bytes ≡ length (post_part collection)
+  pub skip_count : head.skip_count ≡ skip_count collection
+
+-- Post has the size that the head tells, and Skip is as long as so many entries.
+pub record HaveSizes (parts : Parts) (head : Head) : Type 0 where
+  pub post : length parts.post ≡ head.post_bytes
+  pub skip : length parts.skip ≡ 16 * head.skip_count
+
+-- these numbers, and the six parts that tell of terms, are those of a collection
+pub record RestStands (files : Option Files) (base : List ℕ) (head : Head) (collection : List ℕ) : Type 0 where
+  pub numbers : AreNumbers head collection
+  pub terms : TermsStand base files head.cap collection
+  pub index : IndexStands files base collection
