@@ -14,4 +14,6 @@ mod WrittenLaws
 mod TextLaws
 mod DocumentSums
 mod RunSteps
+mod RunWritten
+mod RunPartLaws
 mod TallySteps

@@ -15,6 +15,7 @@ mod postings;
 mod progress;
 mod ranges;
 mod read_doc;
+mod run_part;
 mod uses;
 mod wanted;
 mod weights;
