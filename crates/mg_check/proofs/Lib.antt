@@ -17,3 +17,4 @@ mod RunSteps
 mod RunWritten
 mod RunPartLaws
 mod TallySteps
+mod TallyAdds

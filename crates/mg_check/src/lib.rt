@@ -16,6 +16,7 @@ mod progress;
 mod ranges;
 mod read_doc;
 mod run_part;
+mod tally;
 mod uses;
 mod wanted;
 mod weights;
