@@ -18,3 +18,4 @@ mod RunWritten
 mod RunPartLaws
 mod TallySteps
 mod TallyAdds
+mod TallyText

@@ -1,5 +1,5 @@
 -- A run that is written in memory.
-use Rattle.std.proofs.Common.{arith, ◌≡◌, ◌+◌, ◌*◌, ◌/◌, ◌%◌, ◌≤◌, ◌^◌, max, ℕ, List, [], ◌∷◌, ◌++◌, length, sym, ap, subst, ◌∙◌, append-nil, IsSome}
+use Rattle.std.proofs.Common.{arith, ◌≡◌, ◌+◌, ◌*◌, ◌/◌, ◌%◌, ◌≤◌, ◌^◌, max, ℕ, List, [], ◌++◌, length, sym, ap, ◌∙◌, append-nil, IsSome}
 use Rattle.std.specs.declared.option.Option.{Option}
 use Rattle.mg_dev.specs.Files.{Files}
 use Rattle.mg_defs.specs.Bits.{Bits, bits_of, digits, filled, to_byte}
@@ -7,7 +7,7 @@ use Rattle.mg_defs.specs.CodedText.{as_bytes}
 use Rattle.mg_defs.specs.Postings.{gathered}
 use Rattle.mg_defs.specs.RunBits.{run_bits}
 use Rattle.mg_defs.proofs.BitLaws.{length_bits_of}
-use Rattle.mg_bits.specs.BitWriting.{BitWriting, Holds, WroteBits, bits_put}
+use Rattle.mg_bits.specs.BitWriting.{BitWriting, WroteBits, bits_put}
 use Rattle.mg_bits.specs.Writer.{AreBytes}
 use Rattle.mg_bits.proofs.CallerLemmas.{bytes_again}
 use Rattle.mg_runs.specs.Pooled.{Pooled}

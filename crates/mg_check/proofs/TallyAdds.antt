@@ -1,6 +1,6 @@
 -- One document more in a tally, and its end.
-use Rattle.std.proofs.Common.{arith, ◌≡◌, ◌≢◌, ◌+◌, ◌*◌, ◌-◌, ◌<◌, ◌≤◌, ◌^◌, ℕ, List, [], ◌∷◌, ◌++◌, length, map, take, drop, replicate, All, Ok, Err, refl, sym, ap, subst, ◌∙◌}
-use Rattle.std.specs.Prelude.{flat_map, nat_lt, filter}
+use Rattle.std.proofs.Common.{arith, ◌≡◌, ◌≢◌, ◌+◌, ◌<◌, ◌≤◌, ◌^◌, ℕ, List, [], ◌∷◌, ◌++◌, length, map, take, drop, replicate, All, Ok, Err, refl, sym, ap, subst, ◌∙◌}
+use Rattle.std.specs.Prelude.{flat_map, nat_lt}
 use Rattle.std.specs.List.{enumerate_from}
 use Rattle.std.specs.declared.option.Option.{Option}
 use Rattle.std.specs.declared.result.Result.{Result}
@@ -19,9 +19,9 @@ use Rattle.mg_defs.specs.Terms.{freq_in}
 use Rattle.mg_defs.specs.Weights.{weight}
 use Rattle.mg_runs.specs.Fed.{cap_of}
 use Rattle.mg_check.specs.Counting.{AreTermsOf, HasTaken, HasTallied, HasWeighed, HaveTallied, IsCounted, NoneGoesOn, Tallying, TermsRead, WhereBad, docs_among, occurrences_from, one_more_each, weight_of_counts}
-use Rattle.mg_check.specs.Documents.{counted_in, numbers_in}
+use Rattle.mg_check.specs.Documents.{counted_in}
 use Rattle.mg_check.proofs.DocumentSums.{docs_counted, weight_is}
-use Rattle.mg_check.proofs.TallySteps.{of_doc, runs_bad, tallied_next, too_many, weights_bad}
+use Rattle.mg_check.proofs.TallySteps.{runs_bad, tallied_next, too_many, weights_bad}
 
 -- ---- terms of a document
 

@@ -6,6 +6,7 @@
 
 mod code_doc;
 mod comparison;
+mod counting;
 mod doc_terms;
 mod held;
 mod lexicon;

@@ -1,4 +1,4 @@
-use Rattle.std.proofs.Common.{Err, ◌≡◌, ◌∙◌, ℕ, List, ap, sym, subst, IsSome}
+use Rattle.std.proofs.Common.{Err, sym, subst, IsSome}
 use Rattle.mg_check.specs.Counting.{HasTallied, HaveTallied, Tallying, WhereBad}
 use Rattle.mg_check.proofs.TallyAdds.{NotTallied, have_tallied, weights_other}
 use Rattle.mg_check.proofs.tally.Tally.finish.Goals as goal
@@ -14,5 +14,5 @@ returns-clause-done g c = λ told words docs is.
     let old : Tallying = record { docs = c.self.inside.docs.items; weights = c.self.inside.weights; runs = c.self.inside.runs; occurrences = c.self.inside.occurrences } in
     subst (λ (t : Tallying). HasTallied t (g.S.Store.files c.args.store.now) words docs → HaveTallied t (g.S.Store.files c.args.store.now) words docs) c.self.view_is
     (have_tallied old (g.S.Store.files c.args.store.now) (g.S.Store.files c.finish.new.store) c.in-Ok.ensures.files (c.in-Ok.ensures.done told)
-        (c.in-Ok-finish.ensures.done (subst (λ f. IsSome f) (sym c.in-Ok.ensures.files) told)) words docs)
+    (c.in-Ok-finish.ensures.done (subst (λ f. IsSome f) (sym c.in-Ok.ensures.files) told)) words docs)
     is
