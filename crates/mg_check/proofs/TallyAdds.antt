@@ -18,7 +18,7 @@ use Rattle.mg_defs.specs.RunBits.{run_part_bits}
 use Rattle.mg_defs.specs.Terms.{freq_in}
 use Rattle.mg_defs.specs.Weights.{weight}
 use Rattle.mg_runs.specs.Fed.{cap_of}
-use Rattle.mg_check.specs.Counting.{AreTermsOf, HasTaken, HasTallied, HasWeighed, HaveTallied, IsCounted, NoneGoesOn, Tallying, TermsRead, WhereBad, docs_among, occurrences_from, one_more_each, weight_of_counts}
+use Rattle.mg_check.specs.Counting.{AreTermsOf, HasTaken, HasTallied, HasWeighed, HaveTallied, IsCounted, NoneGoesOn, NotTallied, Tallying, TermsRead, WhereBad, docs_among, occurrences_from, one_more_each, weight_of_counts}
 use Rattle.mg_check.specs.Documents.{counted_in}
 use Rattle.mg_check.proofs.DocumentSums.{docs_counted, weight_is}
 use Rattle.mg_check.proofs.TallySteps.{runs_bad, tallied_next, too_many, weights_bad}
@@ -107,9 +107,6 @@ have_tallied t f f1 files weighed taken words docs is = record {
   weights = weighed (flat_map four (map weight docs)) is.weighed;
   run = ap (λ g. bytes_at g t.runs.part.name) (sym files) ∙ taken (occurrences_from words 1 docs) (subst (λ g. HasTaken t.runs g (occurrences_from words 1 docs)) (sym files) is.taken);
 }
-
-abbrev pub NotTallied : Tallying → Option Files → Type 0
-NotTallied t f = (words docs : List (List ℕ)) → HasTallied t f words docs → HaveTallied t f words docs → ⊥
 
 pub weights_other : {T : Type 0} (x : Result T PartErr) (t : Tallying) (f : Option Files) → WhereBad ((bytes : List ℕ) → HasWeighed t.weights f bytes → bytes_at f t.weights.part.name ≢ bytes) x → WhereBad (NotTallied t f) x
 weights_other (Ok value) t f bad = tt

@@ -100,6 +100,10 @@ pub record RunReading : Type 0 where
 abbrev pub run_of_pool : Pooled → List ℕ
 run_of_pool pool = as_bytes (runs_bits (gathered pool.entries ∷ []))
 
+-- the bytes of the part of the runs of these occurrences
+abbrev pub run_part_of : RunReading → List (ℕ × ℕ) → List ℕ
+run_part_of r fed = as_bytes (run_part_bits (cap_of r.pool) fed)
+
 -- These occurrences were taken: the part begins with the finished runs, and the pool has the rest.
 pub record HasTaken (r : RunReading) (files : Option Files) (fed : List (ℕ × ℕ)) : Type 0 where
   pub least : 4096 ≤ r.pool.limit
@@ -189,6 +193,10 @@ NoneGoesOn t files number terms_read =
 pub record HaveTallied (t : Tallying) (files : Option Files) (dictionary docs : List (List ℕ)) : Type 0 where
   pub weights : bytes_at files t.weights.part.name ≡ flat_map four (map weight docs)
   pub run : bytes_at files t.runs.part.name ≡ as_bytes (run_part_bits (cap_of t.runs.pool) (occurrences_from dictionary 1 docs))
+
+-- They are not those of the documents that were taken.
+abbrev pub NotTallied : Tallying → Option Files → Type 0
+NotTallied t files = (words docs : List (List ℕ)) → HasTallied t files words docs → HaveTallied t files words docs → ⊥
 
 -- So many documents of the text were taken; where it stands for a collection, they are all of the collection's.
 pub record TalliedText (t : Tallying) (files : Option Files) (words : List (List ℕ)) (documents_read : ℕ) (r : TextReading) : Type 0 where

@@ -7,11 +7,9 @@ ghost use Rattle.mg_dev.specs.Files.{Files, bytes_at};
 ghost use Rattle.mg_dev.specs.Names.{full_name};
 ghost use Rattle.mg_dev.specs.PartCauses.{HasPartCause};
 ghost use Rattle.mg_dev.specs.declared.part.Part.TheVariants as part;
-ghost use Rattle.mg_defs.specs.CodedText.{as_bytes};
-ghost use Rattle.mg_defs.specs.RunBits.{run_part_bits};
 ghost use Rattle.mg_runs.specs.Bytes.{AreEntries};
 ghost use Rattle.mg_runs.specs.Fed.{cap_of};
-ghost use Rattle.mg_check.specs.Counting.{HasBegun, HasTaken, WhereBad, run_of_pool};
+ghost use Rattle.mg_check.specs.Counting.{HasBegun, HasTaken, WhereBad, run_of_pool, run_part_of};
 
 use crate::comparison::Comparison;
 use crate::wanted::wanted;
@@ -128,8 +126,10 @@ impl<'a> RunPart<'a> {
         requires many { length self.old.pool.entries ≤ 2 ^ 32 }
         requires entries { AreEntries self.old.pool.entries }
         requires place { self.old.part.at ≤ 2 ^ 62 }
-        ensures begun { OnOk result ((done : List ℕ) → HasBegun self.old.part (S.files store.old) done → HasBegun self.new.part (S.files store.new) (done ++ run_of_pool self.old.pool)) }
-        ensures bad { IsSome (S.files store.old) → WhereBad ((done rest : List ℕ) → HasBegun self.old.part (S.files store.old) done → bytes_at (S.files store.old) self.old.part.name ≢ done ++ (run_of_pool self.old.pool ++ rest)) result }
+        ensures begun { OnOk result ((done : List ℕ) → HasBegun self.old.part (S.files store.old) done →
+            HasBegun self.new.part (S.files store.new) (done ++ run_of_pool self.old.pool)) }
+        ensures bad { IsSome (S.files store.old) → WhereBad ((done rest : List ℕ) → HasBegun self.old.part (S.files store.old) done →
+            bytes_at (S.files store.old) self.old.part.name ≢ done ++ (run_of_pool self.old.pool ++ rest)) result }
         ensures place { OnOk result (self.new.part.at ≤ self.old.part.at + 16 + 32 * length self.old.pool.entries) }
         ensures empty { OnOk result (self.new.pool.entries ≡ []) }
         ensures slots { OnOk result (self.old.pool.slots ≡ [] → self.new.pool.slots ≡ []) }
@@ -157,9 +157,10 @@ impl<'a> RunPart<'a> {
     ) -> Result<(), PartErr>
         requires taken { (fed : List (ℕ × ℕ)) × (length fed < 2 ^ 32 - 1) × HasTaken self.old (S.files store.old) fed }
         requires doc { 1 ≤ doc }
-        ensures taken { OnOk result ((fed : List (ℕ × ℕ)) → length fed < 2 ^ 32 - 1 → HasTaken self.old (S.files store.old) fed → HasTaken self.new (S.files store.new) (fed ++ (term, doc) ∷ [])) }
+        ensures taken { OnOk result ((fed : List (ℕ × ℕ)) → length fed < 2 ^ 32 - 1 → HasTaken self.old (S.files store.old) fed →
+            HasTaken self.new (S.files store.new) (fed ++ (term, doc) ∷ [])) }
         ensures bad { IsSome (S.files store.old) → WhereBad ((fed rest : List (ℕ × ℕ)) → HasTaken self.old (S.files store.old) fed →
-            bytes_at (S.files store.old) self.old.part.name ≢ as_bytes (run_part_bits (cap_of self.old.pool) (fed ++ rest))) result }
+            bytes_at (S.files store.old) self.old.part.name ≢ run_part_of self.old (fed ++ rest)) result }
         ensures limit { self.new.pool.limit ≡ self.old.pool.limit }
         ensures name { self.new.part.name ≡ self.old.part.name }
         ensures files { S.files store.new ≡ S.files store.old }
@@ -189,7 +190,7 @@ impl<'a> RunPart<'a> {
         ensures taken { OnOk result ((fed : List (ℕ × ℕ)) → length fed + length numbers.now < 2 ^ 32 → HasTaken self.old (S.files store.old) fed →
             HasTaken self.new (S.files store.new) (fed ++ map (λ n. (n, doc)) numbers.now)) }
         ensures bad { IsSome (S.files store.old) → WhereBad ((fed rest : List (ℕ × ℕ)) → length fed + length numbers.now < 2 ^ 32 → HasTaken self.old (S.files store.old) fed →
-            bytes_at (S.files store.old) self.old.part.name ≢ as_bytes (run_part_bits (cap_of self.old.pool) (fed ++ (map (λ n. (n, doc)) numbers.now ++ rest)))) result }
+            bytes_at (S.files store.old) self.old.part.name ≢ run_part_of self.old (fed ++ (map (λ n. (n, doc)) numbers.now ++ rest))) result }
         ensures limit { self.new.pool.limit ≡ self.old.pool.limit }
         ensures name { self.new.part.name ≡ self.old.part.name }
         ensures files { S.files store.new ≡ S.files store.old }
@@ -208,9 +209,9 @@ impl<'a> RunPart<'a> {
     fn compare_rest<S: Store>(&mut self, store: &mut S) -> Result<(), PartErr>
         requires taken { (fed : List (ℕ × ℕ)) × HasTaken self.old (S.files store.old) fed }
         ensures begun { OnOk result ((fed : List (ℕ × ℕ)) → HasTaken self.old (S.files store.old) fed →
-            HasBegun self.new.part (S.files store.new) (as_bytes (run_part_bits (cap_of self.old.pool) fed))) }
+            HasBegun self.new.part (S.files store.new) (run_part_of self.old fed)) }
         ensures bad { IsSome (S.files store.old) → WhereBad ((fed : List (ℕ × ℕ)) → HasTaken self.old (S.files store.old) fed →
-            bytes_at (S.files store.old) self.old.part.name ≢ as_bytes (run_part_bits (cap_of self.old.pool) fed)) result }
+            bytes_at (S.files store.old) self.old.part.name ≢ run_part_of self.old fed) result }
         ensures name { self.new.part.name ≡ self.old.part.name }
         ensures files { S.files store.new ≡ S.files store.old }
         ensures cause { HasPartCause (S.faults store.old) (S.faults store.new) result }
@@ -230,9 +231,9 @@ impl<'a> RunPart<'a> {
     pub(crate) fn finish<S: Store>(&mut self, store: &mut S) -> Result<(), PartErr>
         requires taken { (fed : List (ℕ × ℕ)) × HasTaken self.old (S.files store.old) fed }
         ensures done { IsSome (S.files store.old) → OnOk result ((fed : List (ℕ × ℕ)) → HasTaken self.old (S.files store.old) fed →
-            bytes_at (S.files store.old) self.old.part.name ≡ as_bytes (run_part_bits (cap_of self.old.pool) fed)) }
+            bytes_at (S.files store.old) self.old.part.name ≡ run_part_of self.old fed) }
         ensures bad { IsSome (S.files store.old) → WhereBad ((fed : List (ℕ × ℕ)) → HasTaken self.old (S.files store.old) fed →
-            bytes_at (S.files store.old) self.old.part.name ≢ as_bytes (run_part_bits (cap_of self.old.pool) fed)) result }
+            bytes_at (S.files store.old) self.old.part.name ≢ run_part_of self.old fed) result }
         ensures files { S.files store.new ≡ S.files store.old }
         ensures cause { HasPartCause (S.faults store.old) (S.faults store.new) result }
     {

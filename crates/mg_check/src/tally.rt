@@ -5,7 +5,7 @@ ghost use Rattle.mg_dev.specs.Names.{full_name};
 ghost use Rattle.mg_dev.specs.PartCauses.{HasPartCause};
 ghost use Rattle.mg_dev.specs.declared.part.Part.TheVariants as part;
 ghost use Rattle.mg_runs.specs.Fed.{cap_of};
-ghost use Rattle.mg_check.specs.Counting.{AreTermsOf, CanAdd, HasTallied, HaveTallied, IsCounted, NoneGoesOn, SameParts, WhereBad, one_more_each};
+ghost use Rattle.mg_check.specs.Counting.{AreTermsOf, CanAdd, HasTallied, HaveTallied, IsCounted, NoneGoesOn, NotTallied, SameParts, WhereBad, one_more_each};
 
 use crate::doc_terms::{DocTerms, weight_of};
 use crate::run_part::RunPart;
@@ -121,8 +121,9 @@ impl<'a> Tally<'a> {
     /// Compares what is left of both parts, and refuses more bytes.
     pub(crate) fn finish<S: Store>(&mut self, store: &mut S) -> Result<(), PartErr>
         requires tallied { (words docs : List (List ℕ)) × (length docs < 2 ^ 32) × HasTallied self.old (S.files store.old) words docs }
-        ensures done { IsSome (S.files store.old) → OnOk result ((words docs : List (List ℕ)) → HasTallied self.old (S.files store.old) words docs → HaveTallied self.old (S.files store.old) words docs) }
-        ensures bad { IsSome (S.files store.old) → WhereBad ((words docs : List (List ℕ)) → HasTallied self.old (S.files store.old) words docs → HaveTallied self.old (S.files store.old) words docs → ⊥) result }
+        ensures done { IsSome (S.files store.old) → OnOk result ((words docs : List (List ℕ)) → HasTallied self.old (S.files store.old) words docs →
+            HaveTallied self.old (S.files store.old) words docs) }
+        ensures bad { IsSome (S.files store.old) → WhereBad (NotTallied self.old (S.files store.old)) result }
         ensures docs { self.new.docs ≡ self.old.docs }
         ensures occurrences { self.new.occurrences ≡ self.old.occurrences }
         ensures files { S.files store.new ≡ S.files store.old }

@@ -1,6 +1,6 @@
 use Rattle.std.proofs.Common.{Err, sym, subst, IsSome}
-use Rattle.mg_check.specs.Counting.{HasTallied, HaveTallied, Tallying, WhereBad}
-use Rattle.mg_check.proofs.TallyAdds.{NotTallied, have_tallied, weights_other}
+use Rattle.mg_check.specs.Counting.{HasTallied, HaveTallied, NotTallied, Tallying, WhereBad}
+use Rattle.mg_check.proofs.TallyAdds.{have_tallied, weights_other}
 use Rattle.mg_check.proofs.tally.Tally.finish.Goals as goal
 
 pub returns-in-Err-clause-bad : goal.returns-in-Err-clause-bad
