@@ -1,5 +1,5 @@
 -- A document's weight, and how many documents have each term, by the counts of its terms.
-use Rattle.std.proofs.Common.{arith, ◌≡◌, ◌+◌, ◌*◌, ◌-◌, ◌<◌, ◌≤◌, ◌^◌, ◌||◌, ℕ, zero, suc, Bool, true, false, cond, nat_lt, min, List, [], ◌∷◌, ◌++◌, length, drop, get_or, slice_index, slice_set, map, filter, count_by, sum_by, All, refl, sym, ap, subst, ◌∙◌, inl, inr, append_assoc, length-set}
+use Rattle.std.proofs.Common.{arith, ◌≡◌, ◌+◌, ◌*◌, ◌-◌, ◌<◌, ◌≤◌, ◌^◌, ◌||◌, ℕ, suc, Bool, true, false, cond, nat_lt, min, List, [], ◌∷◌, ◌++◌, length, drop, get_or, slice_index, slice_set, map, filter, count_by, sum_by, All, refl, sym, ap, ◌∙◌, inl, inr, append_assoc, length-set}
 use Rattle.std.specs.List.{AllByRecursion, enumerate_from, list_any}
 use Rattle.std.specs.List.Sorted.{IsStrictlySortedBy}
 use Rattle.std.specs.Ordering.{nat_cmp}
@@ -17,7 +17,7 @@ use Rattle.mg_defs.specs.Fixed.{isqrt}
 use Rattle.mg_defs.specs.Sorted.{number_of, sorted_distinct}
 use Rattle.mg_defs.specs.Terms.{freq_in, same_term, terms}
 use Rattle.mg_defs.specs.Weights.{has_term, weight, weight_in_doc, wd}
-use Rattle.mg_defs.proofs.SortedLaws.{has-sorted, number-missing, rising-unique, same-is, same-refl, sorted-rising}
+use Rattle.mg_defs.proofs.SortedLaws.{has-sorted, number-missing, rising-unique, same-is, sorted-rising}
 use Rattle.mg_check.specs.Counting.{docs_among, one_more_each, weight_of_counts}
 use Rattle.mg_check.specs.Documents.{counted_in, numbers_in}
 

@@ -16,4 +16,8 @@ mod NextLaws
 mod RestLaws
 mod DocumentSums
 mod RunSteps
+mod RunWritten
+mod RunPartLaws
 mod TallySteps
+mod TallyAdds
+mod TallyText

@@ -1,9 +1,7 @@
 -- Occurrences taken one after the other, with the runs that are compared.
-use Rattle.std.proofs.Common.{◌≡◌, ◌≢◌, ℕ, zero, suc, ◌+◌, ◌-◌, ◌*◌, ◌/◌, ◌<◌, ◌≤◌, ◌^◌, List, [], ◌∷◌, ◌++◌, length, Ok, Err, refl, sym, ap, ◌∙◌, subst, arith, take, drop, map, IsSome, length-append, append-nil, append_assoc}
-use Rattle.std.specs.Prelude.{OnOk}
+use Rattle.std.proofs.Common.{◌≡◌, ◌≢◌, ℕ, zero, suc, ◌+◌, ◌-◌, ◌*◌, ◌/◌, ◌<◌, ◌≤◌, ◌^◌, List, [], ◌∷◌, ◌++◌, length, Ok, Err, refl, sym, ap, ◌∙◌, subst, arith, take, drop, map, length-append, append-nil, append_assoc}
 use Rattle.std.specs.declared.option.Option.{Option}
 use Rattle.std.specs.declared.result.Result.{Result}
-use Rattle.std.specs.Simd.{first_chunks}
 use Rattle.std.proofs.lemmas.Grind.{common_steps}
 use Rattle.std.proofs.lemmas.Nat.{div_below, le-div}
 use Rattle.std.proofs.lemmas.List.{drop-drop}
@@ -19,7 +17,7 @@ use Rattle.mg_defs.proofs.Segments.{finished-room, finished-full, finished-low, 
 use Rattle.mg_runs.specs.Bytes.{AreEntries}
 use Rattle.mg_runs.specs.Fed.{IsOccurrence, AreOccurrences, cap_of}
 use Rattle.mg_runs.specs.Pooled.{Pooled, used}
-use Rattle.mg_check.specs.Counting.{Comparing, HasBegun, HasTaken, RunReading, WhereBad}
+use Rattle.mg_check.specs.Counting.{HasBegun, HasTaken, RunReading, WhereBad}
 
 -- ---- lists
 

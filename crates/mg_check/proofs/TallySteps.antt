@@ -1,5 +1,5 @@
 -- What the documents so far amount to, after one more.
-use Rattle.std.proofs.Common.{arith, ◌≡◌, ◌≢◌, ◌+◌, ◌*◌, ◌-◌, ◌<◌, ◌≤◌, ◌^◌, ℕ, suc, List, [], ◌∷◌, ◌++◌, length, map, All, Ok, Err, refl, sym, ap, subst, ◌∙◌, append_assoc, append-nil, length-append}
+use Rattle.std.proofs.Common.{arith, ◌≡◌, ◌≢◌, ◌+◌, ◌<◌, ◌≤◌, ◌^◌, ℕ, suc, List, [], ◌∷◌, ◌++◌, length, map, Ok, Err, refl, sym, ap, subst, ◌∙◌, append_assoc, append-nil, length-append}
 use Rattle.std.specs.Prelude.{flat_map}
 use Rattle.std.specs.List.{enumerate_from}
 use Rattle.std.specs.declared.option.Option.{Option}
@@ -16,11 +16,10 @@ use Rattle.mg_defs.specs.Occurrences.{occurrences}
 use Rattle.mg_defs.specs.RunBits.{run_part_bits}
 use Rattle.mg_defs.specs.Sorted.{number_of}
 use Rattle.mg_defs.specs.Split.{documents}
-use Rattle.mg_defs.specs.Stands.{weights_part}
 use Rattle.mg_defs.specs.Terms.{dictionary, terms}
 use Rattle.mg_defs.specs.Weights.{weight}
 use Rattle.mg_runs.specs.Fed.{cap_of}
-use Rattle.mg_check.specs.Counting.{AreOwn, Comparing, GoesOn, HasTaken, HasTallied, HasWeighed, RunReading, Tallying, Weighing, WhereBad, docs_among, occurrences_from}
+use Rattle.mg_check.specs.Counting.{AreOwn, GoesOn, HasTaken, HasTallied, HasWeighed, Tallying, WhereBad, docs_among, occurrences_from}
 use Rattle.mg_check.specs.Documents.{numbers_in}
 
 -- ---- occurrences

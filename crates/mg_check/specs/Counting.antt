@@ -1,5 +1,8 @@
 -- What contracts see of terms that are counted, and of weights and runs that are compared with their parts.
-use Rattle.std.specs.Prelude.{◌≡◌, ℕ, ◌+◌, ◌-◌, ◌*◌, ◌<◌, ◌≤◌, ◌^◌, ◌==◌, nat_eq, nat_lt, if◌then◌else◌, List, [], ◌∷◌, ◌++◌, length, take, drop, flat_map, min, slice_index, slice_set, map, filter, sum_by, count_by, Ok, Err}
+use Rattle.std.specs.Prelude.{◌≡◌, ℕ, ◌+◌, ◌-◌, ◌*◌, ◌<◌, ◌≤◌, ◌^◌, ◌==◌, nat_eq, nat_lt, if◌then◌else◌, List, [], ◌∷◌, ◌++◌, All, length, take, drop, flat_map, min, slice_index, slice_set, map, filter, sum_by, count_by, Ok, Err}
+use Rattle.std.specs.Cmp.Lexicographic.{slice_cmp}
+use Rattle.std.specs.List.Sorted.{IsStrictlySortedBy}
+use Rattle.std.specs.Ordering.{nat_cmp}
 use Rattle.std.specs.Option.{IsSome}
 use Rattle.std.specs.declared.option.Option.{Option}
 use Rattle.std.specs.declared.result.Result.{Result}
@@ -14,7 +17,7 @@ use Rattle.mg_defs.specs.Fixed.{isqrt}
 use Rattle.mg_defs.specs.Means.{IsCodable}
 use Rattle.mg_defs.specs.Numbers.{four}
 use Rattle.mg_defs.specs.Occurrences.{occurrences}
-use Rattle.mg_defs.specs.Postings.{once}
+use Rattle.mg_defs.specs.Postings.{gathered, once}
 use Rattle.mg_defs.specs.RunBits.{run_part_bits, runs_bits}
 use Rattle.mg_defs.specs.Runs.{first_runs, finished}
 use Rattle.mg_defs.specs.Split.{documents}
@@ -22,7 +25,7 @@ use Rattle.mg_defs.specs.Stands.{weights_part}
 use Rattle.mg_defs.specs.Terms.{dictionary, same_term, terms}
 use Rattle.mg_defs.specs.Weights.{weight, weight_in_doc}
 use Rattle.mg_text.specs.Reading.{TextReading, TextStands}
-use Rattle.mg_check.specs.Documents.{numbers_in}
+use Rattle.mg_check.specs.Documents.{counted_in, numbers_in}
 use Rattle.mg_runs.specs.Fed.{AreOccurrences, cap_of}
 use Rattle.mg_runs.specs.Pooled.{Pooled}
 
@@ -93,6 +96,14 @@ pub record RunReading : Type 0 where
   pub part : Comparing
   pub pool : Pooled
 
+-- the bytes of the run that a pool's entries make
+abbrev pub run_of_pool : Pooled → List ℕ
+run_of_pool pool = as_bytes (runs_bits (gathered pool.entries ∷ []))
+
+-- the bytes of the part of the runs of these occurrences
+abbrev pub run_part_of : RunReading → List (ℕ × ℕ) → List ℕ
+run_part_of r fed = as_bytes (run_part_bits (cap_of r.pool) fed)
+
 -- These occurrences were taken: the part begins with the finished runs, and the pool has the rest.
 pub record HasTaken (r : RunReading) (files : Option Files) (fed : List (ℕ × ℕ)) : Type 0 where
   pub least : 4096 ≤ r.pool.limit
@@ -134,6 +145,25 @@ pub record HasTallied (t : Tallying) (files : Option Files) (dictionary docs : L
   pub count : t.occurrences ≡ length (occurrences_from dictionary 1 docs)
   pub counts : t.docs ≡ map (docs_among docs) dictionary
 
+-- The terms that were read are those of a document, by this dictionary.
+pub record AreTermsOf (words : List (List ℕ)) (doc : List ℕ) (t : TermsRead) : Type 0 where
+  pub rising : IsStrictlySortedBy (slice_cmp nat_cmp) words
+  pub few : length words ≤ 2 ^ 22
+  pub numbers : t.numbers ≡ numbers_in words doc
+  pub within : All (λ n. n < length words) t.numbers
+  pub counted : t.counted ≡ counted_in words doc
+  pub counts : All (IsCounted (length words)) t.counted
+  pub short : length t.numbers < 2 ^ 32
+
+-- Documents were taken, and these are the terms of the next one, which has this number.
+pub record CanAdd (t : Tallying) (files : Option Files) (number : ℕ) (terms_read : TermsRead) : Type 0 where
+  pub words : List (List ℕ)
+  pub docs : List (List ℕ)
+  pub doc : List ℕ
+  pub number_is : 1 + length docs ≡ number
+  pub terms_are : AreTermsOf words doc terms_read
+  pub tallied : HasTallied t files words docs
+
 -- the same parts are compared, by runs of the same number of occurrences
 pub record SameParts (old new : Tallying) : Type 0 where
   pub weights : new.weights.part.name ≡ old.weights.part.name
@@ -153,10 +183,20 @@ pub record GoesOn (code : TextCode) (words : List (List ℕ)) (collection : List
   pub few : length collection < 2 ^ 32
   pub dictionary_is : words ≡ dictionary collection
 
+-- Weights and Run are those of no collection whose documents go on with one that has these terms and this number.
+abbrev pub NoneGoesOn : Tallying → Option Files → ℕ → TermsRead → Type 0
+NoneGoesOn t files number terms_read =
+    (code : TextCode) (words : List (List ℕ)) (doc collection : List ℕ) (docs : List (List ℕ)) → AreTermsOf words doc terms_read → 1 + length docs ≡ number
+    → GoesOn code words collection docs doc → HasTallied t files words docs → AreOwn t files collection → ⊥
+
 -- Weights and Run are those of these documents.
 pub record HaveTallied (t : Tallying) (files : Option Files) (dictionary docs : List (List ℕ)) : Type 0 where
   pub weights : bytes_at files t.weights.part.name ≡ flat_map four (map weight docs)
   pub run : bytes_at files t.runs.part.name ≡ as_bytes (run_part_bits (cap_of t.runs.pool) (occurrences_from dictionary 1 docs))
+
+-- They are not those of the documents that were taken.
+abbrev pub NotTallied : Tallying → Option Files → Type 0
+NotTallied t files = (words docs : List (List ℕ)) → HasTallied t files words docs → HaveTallied t files words docs → ⊥
 
 -- So many documents of the text were taken; where it stands for a collection, they are all of the collection's.
 pub record TalliedText (t : Tallying) (files : Option Files) (words : List (List ℕ)) (documents_read : ℕ) (r : TextReading) : Type 0 where

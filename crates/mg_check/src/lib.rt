@@ -6,6 +6,7 @@
 
 mod code_doc;
 mod comparison;
+mod counting;
 mod doc_terms;
 mod held;
 mod lexicon;
@@ -17,6 +18,8 @@ mod progress;
 mod ranges;
 mod read_doc;
 mod read_text;
+mod run_part;
+mod tally;
 mod uses;
 mod wanted;
 mod weights;

@@ -1,4 +1,4 @@
-use Rattle.std.proofs.Common.{Err, ◌∙◌, ap, sym, subst, IsSome}
+use Rattle.std.proofs.Common.{Err, ap, sym, subst, IsSome}
 use Rattle.mg_check.specs.Counting.{Weighing}
 use Rattle.mg_check.proofs.Comparing.{weighed_done, weighed_other}
 use Rattle.mg_check.proofs.weights.Weights.finish.Goals as goal
