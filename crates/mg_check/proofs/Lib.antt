@@ -11,6 +11,8 @@ mod LexiconLaws
 mod RangedLaws
 mod DocumentLaws
 mod WrittenLaws
+mod ListedLaws
+mod ComparedLaws
 mod TextLaws
 mod DocumentSums
 mod RunSteps
