@@ -13,6 +13,7 @@ mod DocumentLaws
 mod WrittenLaws
 mod ListedLaws
 mod ComparedLaws
+mod IndexLaws
 mod TextLaws
 mod DocumentSums
 mod RunSteps

@@ -8,6 +8,7 @@ mod code_doc;
 mod comparison;
 mod doc_terms;
 mod held;
+mod index;
 mod lexicon;
 mod lists;
 mod load;
