@@ -11,6 +11,9 @@ mod LexiconLaws
 mod RangedLaws
 mod DocumentLaws
 mod WrittenLaws
+mod ListedLaws
+mod ComparedLaws
+mod IndexLaws
 mod TextLaws
 mod NextLaws
 mod RestLaws

@@ -1,5 +1,5 @@
 -- The lists of a range of terms in one vector, and lists, skip entries and lexicon as far as the terms below a number.
-use Rattle.std.specs.Prelude.{◌≡◌, ◌<◌, ◌≤◌, ◌+◌, ◌-◌, ◌^◌, ℕ, List, [], ◌++◌, length, map, filter, flat_map, take, drop, get_or, slice_get, slice_index, nat_eq, Some}
+use Rattle.std.specs.Prelude.{◌≡◌, ◌<◌, ◌≤◌, ◌+◌, ◌-◌, ◌^◌, ℕ, List, [], ◌++◌, length, map, filter, flat_map, take, drop, get_or, codes, slice_get, slice_index, nat_eq, Some}
 use Rattle.std.specs.Option.{IsSome}
 use Rattle.std.specs.declared.option.Option.{Option}
 use Rattle.mg_dev.specs.Files.{Files, bytes_at}
@@ -15,10 +15,12 @@ use Rattle.mg_defs.specs.PostingLists.{postings_upto}
 use Rattle.mg_defs.specs.Split.{documents}
 use Rattle.mg_defs.specs.Stands.{post_part}
 use Rattle.mg_defs.specs.Terms.{dictionary, docs}
+use Rattle.mg_layout.specs.Contents.{StandAt}
 use Rattle.mg_lex.specs.Terms.{Term, terms_of}
 use Rattle.mg_lex.specs.Writing.{LexWriting, TookTerms}
 use Rattle.mg_post.specs.Writing.{Listing, Took}
 use Rattle.mg_text.specs.Reading.{TextReading, TextStands}
+use Rattle.mg_check.specs.declared.lists.Places.{Places}
 
 -- ---- sizes
 
@@ -106,6 +108,12 @@ Refutes P Device = Unit {0}
 Refutes P Memory = Unit {0}
 Refutes P (Bad bad) = P → ⊥
 
+-- the store was not asked
+abbrev pub IsNotDevice : PartErr → Type 0
+IsNotDevice Device = ⊥
+IsNotDevice Memory = Unit {0}
+IsNotDevice (Bad bad) = Unit {0}
+
 -- ---- what is written anew
 
 -- so many postings more of the list that was begun were pushed
@@ -131,21 +139,32 @@ pub record CanList (w : Ranged) (index : ℕ) (lists : Listing) (files : Option 
   pub total : lists.total + slice_index w.starts 0 ≡ slice_index w.starts index
   pub rooms : AreRooms w lists.all
 
--- the terms of a range, their lists and the sizes of those before them are those of a collection
-pub record IsRangeOf (w : Ranged) (terms : List (List ℕ)) (all post skip : ℕ) (collection : List ℕ) : Type 0 where
+-- the bytes of the lists of the terms below a number, and those of their skip entries
+abbrev pub post_upto : ℕ → List ℕ → List ℕ
+post_upto number collection = as_bytes (lists_bits (length (documents collection)) (take number (inverted collection)))
+
+abbrev pub skip_upto : ℕ → List ℕ → List ℕ
+skip_upto number collection = as_bytes (flat_map entry_bits (lists_entries (length (documents collection)) (take number (inverted collection))))
+
+-- the places are behind the lists of the terms below a number
+pub record ArePlacesOf (number : ℕ) (places : Places) (collection : List ℕ) : Type 0 where
+  pub post_is : places.post ≡ length (post_upto number collection)
+  pub skip_is : places.skip ≡ length (skip_upto number collection)
+
+-- the terms of a range and their lists are those of a collection
+pub record IsRangeOf (w : Ranged) (terms : List (List ℕ)) (all : ℕ) (collection : List ℕ) : Type 0 where
   pub terms_are : terms ≡ dictionary collection
   pub all_are : all ≡ length (documents collection)
   pub few : length collection < 2 ^ 32
-  pub documents_few : length (documents collection) ≤ 2 ^ 24
   pub lists : HoldsLists w (lists_of collection)
   pub rooms : HasRoomForAll w collection
-  pub post_is : post ≡ length (as_bytes (lists_bits (length (documents collection)) (take w.first (inverted collection))))
-  pub skip_is : skip ≡ length (as_bytes (flat_map entry_bits (lists_entries (length (documents collection)) (take w.first (inverted collection)))))
 
--- the lists of the first terms of the range were written, and the lexicon as far as they go
-pub record HasListed (w : Ranged) (index : ℕ) (collection : List ℕ) (lists : Listing) (files : Option Files) (lex : LexWriting) (lex_files : Option Files) : Type 0 where
+-- The range is one of a collection, and places are behind the lists before it. The lists of its first terms were written, and the lexicon as far as they go.
+pub record HasListed (w : Ranged) (terms : List (List ℕ)) (before : Places) (index : ℕ) (collection : List ℕ) (lists : Listing) (files : Option Files) (lex : LexWriting) (lex_files : Option Files) : Type 0 where
+  pub of : IsRangeOf w terms lists.all collection
+  pub places : ArePlacesOf w.first before collection
   pub took : Took lists files (take index (drop w.first (inverted collection))) []
-  pub terms : TookTerms lex lex_files (take (w.first + index) (terms_of collection))
+  pub lexicon : TookTerms lex lex_files (take (w.first + index) (terms_of collection))
 
 -- ---- what was compared
 
@@ -154,16 +173,36 @@ pub record BeginsAt (bytes : List ℕ) (place : ℕ) (front : List ℕ) : Type 0
   pub place_is : place ≡ length front
   pub bytes_are : take place bytes ≡ front
 
-abbrev pub post_upto : ℕ → List ℕ → List ℕ
-post_upto number collection = as_bytes (lists_bits (length (documents collection)) (take number (inverted collection)))
-
-abbrev pub skip_upto : ℕ → List ℕ → List ℕ
-skip_upto number collection = as_bytes (flat_map entry_bits (lists_entries (length (documents collection)) (take number (inverted collection))))
-
 -- Post and Skip begin with the lists of the terms below a number
-pub record ListsAgree (files : Option Files) (base collection : List ℕ) (number post skip : ℕ) : Type 0 where
-  pub post_is : BeginsAt (bytes_at files (full_name base Post)) post (post_upto number collection)
-  pub skip_is : BeginsAt (bytes_at files (full_name base Skip)) skip (skip_upto number collection)
+pub record ListsAgree (files : Option Files) (base collection : List ℕ) (number : ℕ) (places : Places) : Type 0 where
+  pub post_is : BeginsAt (bytes_at files (full_name base Post)) places.post (post_upto number collection)
+  pub skip_is : BeginsAt (bytes_at files (full_name base Skip)) places.skip (skip_upto number collection)
+
+-- these lists stand in Post and Skip from two places on
+pub record ListsFollow (files : Option Files) (base : List ℕ) (all : ℕ) (lists : List (List Posting)) (places : Places) : Type 0 where
+  pub post_is : StandAt places.post (as_bytes (lists_bits all lists)) (bytes_at files (full_name base Post))
+  pub skip_is : StandAt places.skip (as_bytes (flat_map entry_bits (lists_entries all lists))) (bytes_at files (full_name base Skip))
+
+-- two places are behind these lists, which begin at two others
+pub record AreBehind (all : ℕ) (lists : List (List Posting)) (before after : Places) : Type 0 where
+  pub post_is : after.post ≡ before.post + length (as_bytes (lists_bits all lists))
+  pub skip_is : after.skip ≡ before.skip + length (as_bytes (flat_map entry_bits (lists_entries all lists)))
+
+-- the places are those of bytes in a part
+pub record ArePlaces (places : Places) : Type 0 where
+  pub post : places.post ≤ 2 ^ 63
+  pub skip : places.skip ≤ 2 ^ 63
+
+-- The lexicon in memory has the terms below a number, and the places are those of bytes.
+pub record CanCompare (terms : List (List ℕ)) (number : ℕ) (places : Places) (lex : LexWriting) (lex_files : Option Files) : Type 0 where
+  pub push : CanPush terms number lex lex_files
+  pub base : lex.base ≡ codes "new"
+  pub within : ArePlaces places
+
+-- Post and Skip begin with the lists of the terms below a number, and the lexicon in memory has what is to stand of these terms.
+pub record HasCompared (files : Option Files) (base collection : List ℕ) (number : ℕ) (places : Places) (lex : LexWriting) (lex_files : Option Files) : Type 0 where
+  pub lists : ListsAgree files base collection number places
+  pub terms : TookTerms lex lex_files (take number (terms_of collection))
 
 -- Post and Skip are the lists of a collection
 pub record ListsStand (files : Option Files) (base collection : List ℕ) : Type 0 where

@@ -9,6 +9,7 @@ mod comparison;
 mod counting;
 mod doc_terms;
 mod held;
+mod index;
 mod lexicon;
 mod lists;
 mod load;

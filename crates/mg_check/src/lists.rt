@@ -14,12 +14,14 @@ ghost use Rattle.mg_dev.specs.declared.part.Part.TheVariants as part;
 ghost use Rattle.mg_defs.specs.declared.Posting.{Posting};
 ghost use Rattle.mg_defs.specs.Lists.{Rises, lists_bits, lists_entries};
 ghost use Rattle.mg_post.specs.Writing.{Pushed, SameFiles, Took, posting_of};
-ghost use Rattle.mg_check.specs.Listing.{AreRooms, CanList, CanPush, HasListed, IsLaidOut, IsRangeOf, Refutes, PushedMore, room_at};
+ghost use Rattle.mg_layout.specs.Infos.{info_of};
+ghost use Rattle.mg_check.specs.Listing.{AreBehind, ArePlaces, AreRooms, CanCompare, CanList, CanPush, HasCompared, HasListed, IsLaidOut, IsNotDevice, IsRangeOf, ListsFollow, ListsStand, PushedMore, Refutes, room_at};
 
 use crate::lexicon::Lexicon;
 use crate::postings::RangeLists;
+use crate::wanted::{expect_more, wanted};
 use mg_defs::Posting;
-use mg_dev::{Bad, Part, PartErr, Store, SureStore};
+use mg_dev::{Bad, FileRef, Part, PartErr, Store, SureStore};
 use mg_layout::TermInfo;
 use mg_model::TermTable;
 use mg_post::ListWriter;
@@ -39,6 +41,9 @@ struct NewLists<'a> {
     writer: ListWriter<'a>,
 }
 
+/// The bytes of a skip entry.
+const ENTRY_BYTES: u64 = 16;
+
 // A list is not the one that was counted: so much was found where low to high was to be.
 fn other_list(found: u64, low: u64, high: u64) -> Bad
     requires { low ≤ found → high < found }
@@ -49,6 +54,25 @@ fn other_list(found: u64, low: u64, high: u64) -> Bad
         low,
         high,
         found,
+    }
+}
+
+// What is to stand of a term whose list begins so far behind the places that were compared; None where there are too
+// many skip entries before it.
+fn info_behind(number: u32, docs: u32, before: Places, at: (u64, u32)) -> Option<TermInfo>
+    requires post { before.post + at.0 < 2 ^ 64 }
+    ensures number { IfSome result (λ info. info.number ≡ number) }
+    ensures info { IfSome result (λ info. info_of info ≡ record { docs = docs; post_at = before.post + at.0; skip_at = before.skip / 16 + at.1 }) }
+    ensures some { before.skip / 16 + at.1 < 2 ^ 32 → IsSome result }
+{
+    match u32::try_from(before.skip / ENTRY_BYTES + u64::from(at.1)) {
+        Ok(skip_at) => Some(TermInfo {
+            number,
+            docs,
+            post_at: before.post + at.0,
+            skip_at,
+        }),
+        Err(_) => None,
     }
 }
 
@@ -84,6 +108,7 @@ impl<'a> NewLists<'a> {
         ensures within { OnOk result (posting.doc ≤ all) }
         ensures same { SameFiles self.old.writer self.new.writer }
         ensures never_bad { (left : List Posting) → Rises all last (posting ∷ left) → IfErr result (λ refusal. IsNotBad refusal) }
+        ensures own { IfErr result (λ refusal. IsNotDevice refusal) }
     {
         let doc = u64::from(posting.doc);
         if posting.doc <= last {
@@ -115,6 +140,7 @@ impl<'a> NewLists<'a> {
         ensures pushed { OnOk result (PushedMore self.old.writer self.new.writer (length postings.now)) }
         ensures same { SameFiles self.old.writer self.new.writer }
         ensures never_bad { Rises all 0 postings.now → IfErr result (λ refusal. IsNotBad refusal) }
+        ensures own { IfErr result (λ refusal. IsNotDevice refusal) }
     {
         let mut last = 0;
         for posting in postings {
@@ -143,6 +169,7 @@ impl<'a> NewLists<'a> {
         ensures total { OnOk result (self.new.writer.total ≡ self.old.writer.total + count) }
         ensures same { SameFiles self.old.writer self.new.writer }
         ensures never_bad { Rises all 0 postings.now → length postings.now ≡ count → IfErr result (λ refusal. IsNotBad refusal) }
+        ensures own { IfErr result (λ refusal. IsNotDevice refusal) }
     {
         if postings.len() != count as usize {
             let wanted = u64::from(count);
@@ -160,5 +187,195 @@ impl<'a> NewLists<'a> {
             Ok(at) => Ok(at),
             Err(_) => Err(PartErr::Memory),
         }
+    }
+
+    // Writes the list of a term of a range, and pushes what is to stand of the term. The lists before the range were
+    // compared as far as these places.
+    fn push_term(
+        &mut self,
+        lists: &RangeLists,
+        index: usize,
+        table: &TermTable,
+        all: u32,
+        before: Places,
+        lexicon: &mut Lexicon<'_>,
+    ) -> Result<(), PartErr>
+        requires laid { IsLaidOut lists.now }
+        requires index { index < length lists.now.next }
+        requires range { lists.now.first + length lists.now.next ≤ length table.now.terms }
+        requires few { length table.now.terms ≤ 2 ^ 22 }
+        requires rising { IsStrictlySortedBy (slice_cmp nat_cmp) table.now.terms }
+        requires all { self.old.writer.all ≡ all }
+        requires place { before.post ≤ 2 ^ 63 }
+        requires can { CanList lists.now index self.old.writer (⟦<SureStore as Store>⟧.files self.old.store) }
+        requires push { CanPush table.now.terms (lists.now.first + index) lexicon.old.writer (⟦<SureStore as Store>⟧.files lexicon.old.store) }
+        ensures can { OnOk result (CanList lists.now (index + 1) self.new.writer (⟦<SureStore as Store>⟧.files self.new.store)) }
+        ensures push { OnOk result (CanPush table.now.terms (lists.now.first + (index + 1))
+            lexicon.new.writer (⟦<SureStore as Store>⟧.files lexicon.new.store)) }
+        ensures listed { (collection : List ℕ) → HasListed lists.now table.now.terms before index collection
+            self.old.writer (⟦<SureStore as Store>⟧.files self.old.store) lexicon.old.writer (⟦<SureStore as Store>⟧.files lexicon.old.store) →
+            OnOk result (HasListed lists.now table.now.terms before (index + 1) collection
+            self.new.writer (⟦<SureStore as Store>⟧.files self.new.store) lexicon.new.writer (⟦<SureStore as Store>⟧.files lexicon.new.store)) }
+        ensures never_bad { (collection : List ℕ) → HasListed lists.now table.now.terms before index collection
+            self.old.writer (⟦<SureStore as Store>⟧.files self.old.store) lexicon.old.writer (⟦<SureStore as Store>⟧.files lexicon.old.store) →
+            IfErr result (λ refusal. IsNotBad refusal) }
+        ensures own { IfErr result (λ refusal. IsNotDevice refusal) }
+        ensures same { SameFiles self.old.writer self.new.writer }
+        ensures base { lexicon.new.writer.base ≡ lexicon.old.writer.base }
+    {
+        let docs = lists.room(index);
+        let at = match self.write(lists.list(index), docs, all) {
+            Ok(at) => at,
+            Err(refusal) => return Err(refusal),
+        };
+        let info = match info_behind(lists.number(index), docs, before, at) {
+            Some(info) => info,
+            None => return Err(PartErr::Bad(other_list(1 << 32, 0, u64::from(u32::MAX)))),
+        };
+        match lexicon.push(table, &info) {
+            Ok(()) => Ok(()),
+            Err(AllocError) => Err(PartErr::Memory),
+        }
+    }
+
+    // Writes all lists of a range, and pushes what is to stand of their terms.
+    fn push_terms(
+        &mut self,
+        lists: &RangeLists,
+        table: &TermTable,
+        all: u32,
+        before: Places,
+        lexicon: &mut Lexicon<'_>,
+    ) -> Result<(), PartErr>
+        requires laid { IsLaidOut lists.now }
+        requires range { lists.now.first + length lists.now.next ≤ length table.now.terms }
+        requires few { length table.now.terms ≤ 2 ^ 22 }
+        requires rising { IsStrictlySortedBy (slice_cmp nat_cmp) table.now.terms }
+        requires all { self.old.writer.all ≡ all }
+        requires place { before.post ≤ 2 ^ 63 }
+        requires can { CanList lists.now 0 self.old.writer (⟦<SureStore as Store>⟧.files self.old.store) }
+        requires push { CanPush table.now.terms lists.now.first lexicon.old.writer (⟦<SureStore as Store>⟧.files lexicon.old.store) }
+        ensures can { OnOk result (CanList lists.now (length lists.now.next) self.new.writer (⟦<SureStore as Store>⟧.files self.new.store)) }
+        ensures push { OnOk result (CanPush table.now.terms (lists.now.first + length lists.now.next)
+            lexicon.new.writer (⟦<SureStore as Store>⟧.files lexicon.new.store)) }
+        ensures listed { (collection : List ℕ) → HasListed lists.now table.now.terms before 0 collection
+            self.old.writer (⟦<SureStore as Store>⟧.files self.old.store) lexicon.old.writer (⟦<SureStore as Store>⟧.files lexicon.old.store) →
+            OnOk result (HasListed lists.now table.now.terms before (length lists.now.next) collection
+            self.new.writer (⟦<SureStore as Store>⟧.files self.new.store) lexicon.new.writer (⟦<SureStore as Store>⟧.files lexicon.new.store)) }
+        ensures never_bad { (collection : List ℕ) → HasListed lists.now table.now.terms before 0 collection
+            self.old.writer (⟦<SureStore as Store>⟧.files self.old.store) lexicon.old.writer (⟦<SureStore as Store>⟧.files lexicon.old.store) →
+            IfErr result (λ refusal. IsNotBad refusal) }
+        ensures own { IfErr result (λ refusal. IsNotDevice refusal) }
+        ensures same { SameFiles self.old.writer self.new.writer }
+        ensures base { lexicon.new.writer.base ≡ lexicon.old.writer.base }
+    {
+        for index in 0..lists.count() {
+            match self.push_term(lists, index, table, all, before, lexicon) {
+                Ok(()) => {}
+                Err(refusal) => return Err(refusal),
+            }
+        }
+        Ok(())
+    }
+
+    // Writes what is held, and sees that the lists stand in Post and Skip from two places on. Answers the places behind
+    // them.
+    fn compare<S: Store>(
+        &mut self,
+        store: &mut S,
+        base: &str,
+        before: Places,
+    ) -> Result<Places, PartErr>
+        requires took { (done : List (List Posting)) × Took self.old.writer (⟦<SureStore as Store>⟧.files self.old.store) done [] }
+        requires post { self.old.writer.post.name ≡ full_name (codes "new") part.Post }
+        requires skip { self.old.writer.skip.name ≡ full_name (codes "new") part.Skip }
+        requires places { ArePlaces before }
+        ensures stand { (done : List (List Posting)) → Took self.old.writer (⟦<SureStore as Store>⟧.files self.old.store) done [] →
+            IsSome (S.files store.old) → OnOk result (ListsFollow (S.files store.old) base.now self.old.writer.all done before) }
+        ensures other { (done : List (List Posting)) → Took self.old.writer (⟦<SureStore as Store>⟧.files self.old.store) done [] →
+            IsSome (S.files store.old) → IfErr result (Refutes (ListsFollow (S.files store.old) base.now self.old.writer.all done before)) }
+        ensures behind { (done : List (List Posting)) → Took self.old.writer (⟦<SureStore as Store>⟧.files self.old.store) done [] →
+            IfOk result (λ after. AreBehind self.old.writer.all done before after) }
+        ensures places { IfOk result (λ after. ArePlaces after) }
+        ensures files { S.files store.new ≡ S.files store.old }
+        ensures cause { HasPartCause (S.faults store.old) (S.faults store.new) result }
+    {
+        match self.writer.finish(&mut self.store) {
+            Ok(_) => {}
+            Err(_) => return Err(PartErr::Memory),
+        }
+        let lists = FileRef {
+            base,
+            part: Part::Post,
+        };
+        let post = match expect_more(store, lists, before.post, wanted(&self.store, "new.post")) {
+            Ok(post) => post,
+            Err(refusal) => return Err(refusal),
+        };
+        let entries = FileRef {
+            base,
+            part: Part::Skip,
+        };
+        match expect_more(store, entries, before.skip, wanted(&self.store, "new.skip")) {
+            Ok(skip) => Ok(Places { post, skip }),
+            Err(refusal) => Err(refusal),
+        }
+    }
+}
+
+/// What of the index was compared, as far as the terms below a number.
+#[derive(Drop)]
+pub(crate) struct Compared<'a> {
+    pub(crate) places: Places,
+    pub(crate) lexicon: Lexicon<'a>,
+}
+
+/// Sees that Post and Skip go on with the lists of a range, and pushes what is to stand of its terms.
+pub(crate) fn check_lists<S: Store>(
+    alloc: Global,
+    store: &mut S,
+    base: &str,
+    all: u32,
+    lists: &RangeLists,
+    table: &TermTable,
+    compared: &mut Compared<'_>,
+) -> Result<(), PartErr>
+    requires laid { IsLaidOut lists.now }
+    requires rooms { AreRooms lists.now all }
+    requires range { lists.now.first + length lists.now.next ≤ length table.now.terms }
+    requires few { length table.now.terms ≤ 2 ^ 22 }
+    requires rising { IsStrictlySortedBy (slice_cmp nat_cmp) table.now.terms }
+    requires documents { all ≤ 2 ^ 24 }
+    requires can { CanCompare table.now.terms lists.now.first
+        compared.old.places compared.old.lexicon.writer (⟦<SureStore as Store>⟧.files compared.old.lexicon.store) }
+    ensures can { OnOk result (CanCompare table.now.terms (lists.now.first + length lists.now.next)
+        compared.new.places compared.new.lexicon.writer (⟦<SureStore as Store>⟧.files compared.new.lexicon.store)) }
+    ensures agree { (collection : List ℕ) → IsSome (S.files store.old) → IsRangeOf lists.now table.now.terms all collection →
+        HasCompared (S.files store.old) base.now collection lists.now.first
+        compared.old.places compared.old.lexicon.writer (⟦<SureStore as Store>⟧.files compared.old.lexicon.store) →
+        OnOk result (HasCompared (S.files store.old) base.now collection (lists.now.first + length lists.now.next)
+        compared.new.places compared.new.lexicon.writer (⟦<SureStore as Store>⟧.files compared.new.lexicon.store)) }
+    ensures other { (collection : List ℕ) → IsSome (S.files store.old) → IsRangeOf lists.now table.now.terms all collection →
+        HasCompared (S.files store.old) base.now collection lists.now.first
+        compared.old.places compared.old.lexicon.writer (⟦<SureStore as Store>⟧.files compared.old.lexicon.store) →
+        IfErr result (Refutes (ListsStand (S.files store.old) base.now collection)) }
+    ensures files { S.files store.new ≡ S.files store.old }
+    ensures cause { HasPartCause (S.faults store.old) (S.faults store.new) result }
+{
+    let before = compared.places;
+    let mut new_lists = match NewLists::start(alloc, all) {
+        Ok(new_lists) => new_lists,
+        Err(AllocError) => return Err(PartErr::Memory),
+    };
+    match new_lists.push_terms(lists, table, all, before, &mut compared.lexicon) {
+        Ok(()) => {}
+        Err(refusal) => return Err(refusal),
+    }
+    match new_lists.compare(store, base, before) {
+        Ok(after) => {
+            compared.places = after;
+            Ok(())
+        }
+        Err(refusal) => Err(refusal),
     }
 }

@@ -1,0 +1,22 @@
+use Rattle.std.proofs.Common.{arith, ◌≡◌, ◌∙◌, Some, length, subst}
+use Rattle.mg_dev.specs.Shelf.{files_of}
+use Rattle.mg_check.specs.Listing.{HasListed}
+use Rattle.mg_check.proofs.WrittenLaws.{names_more}
+use Rattle.mg_check.proofs.lists.NewLists.push_terms.Goals as goal
+
+pub loop-index-preserved : goal.loop-index-preserved
+loop-index-preserved c =
+    let inv = c.loop-index.invariant in
+    record {
+      can = c.in-Ok.ensures.can;
+      push = c.in-Ok.ensures.push;
+      listed = λ collection has. c.in-Ok.ensures.listed collection (inv.listed collection has);
+      same = names_more _ _ _ inv.same c.push_term.ensures.same;
+      base = c.push_term.ensures.base ∙ inv.base;
+    }
+
+pub returns-clause-listed : goal.returns-clause-listed
+returns-clause-listed c = λ collection has.
+    let all : c.loop-index.index ≡ length c.args.lists.now.next = omega (arith, c.loop-index-test.false, c.loop-index.auto.index-end, c.count-index-end.ensures) in
+    subst (λ n. HasListed c.args.lists.now c.args.table.now.terms c.args.before n collection c.loop-index.self.writer (Some (files_of c.loop-index.self.store.shelf.files.items)) c.loop-index.lexicon.writer (Some (files_of c.loop-index.lexicon.store.shelf.files.items))) all
+    (c.loop-index.invariant.listed collection has)
