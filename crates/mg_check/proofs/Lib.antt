@@ -17,6 +17,7 @@ mod IndexLaws
 mod TextLaws
 mod NextLaws
 mod RestLaws
+mod FoundLaws
 mod DocumentSums
 mod RunSteps
 mod RunWritten

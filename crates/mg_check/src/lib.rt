@@ -4,10 +4,12 @@
 //! other part is compared with what the definitions say of the collection that was found.
 #![tactic(auto)]
 
+mod checking;
 mod code_doc;
 mod comparison;
 mod counting;
 mod doc_terms;
+mod found;
 mod held;
 mod index;
 mod lexicon;
@@ -24,3 +26,5 @@ mod tally;
 mod uses;
 mod wanted;
 mod weights;
+
+pub use found::{Found, check};

@@ -1,0 +1,14 @@
+use Rattle.mg_dev.specs.Causes.{Rose}
+use Rattle.mg_check.proofs.FoundLaws.{completes, refused-unbuilt, tells-outside}
+use Rattle.mg_check.proofs.found.check.Goals as goal
+
+pub returns-clause-outside : goal.returns-clause-outside
+returns-clause-outside g c = tells-outside c.check_files.result
+
+pub returns-clause-not_built : goal.returns-clause-not_built
+returns-clause-not_built g c = λ told none.
+    refused-unbuilt (Rose (g.S.Store.faults c.args.store.now) (g.S.Store.faults c.check_files.new.store)) (g.S.Store.files c.args.store.now) c.args.base.now c.check_files.result c.check_files.ensures.stands c.check_files.ensures.cause told none
+
+pub returns-clause-complete : goal.returns-clause-complete
+returns-clause-complete g c = λ collection stands fine.
+    completes (Rose (g.S.Store.faults c.args.store.now) (g.S.Store.faults c.check_files.new.store)) (g.S.Store.files c.args.store.now) c.args.base.now collection c.check_files.result c.check_files.ensures.cause stands fine

@@ -1,0 +1,154 @@
+//! A set whose head is known against the one collection that it can stand for.
+ghost use Rattle.std.specs.Prelude.{◌≡◌, ◌<◌, ◌^◌, ℕ, List, IfErr, IsSome, OnOk};
+ghost use Rattle.mg_dev.specs.PartCauses.{HasPartCause};
+ghost use Rattle.mg_defs.specs.Heads.{IsHead, IsWithin};
+ghost use Rattle.mg_defs.specs.Means.{IsModel, StandForNone};
+ghost use Rattle.mg_layout.specs.HeadAnswers.{fields_of};
+ghost use Rattle.mg_layout.specs.Stands.{parts_at};
+ghost use Rattle.mg_text.specs.Reading.{TextFits, TextStands};
+ghost use Rattle.mg_check.specs.Checking.{OnBad};
+ghost use Rattle.mg_check.specs.Found.{StandsWith};
+ghost use Rattle.mg_check.specs.Listing.{Refutes};
+ghost use Rattle.mg_check.specs.Rest.{HaveSizes, RestStands};
+
+use crate::counting::check_terms;
+use crate::index::check_index;
+use crate::load::load_text;
+use crate::read_text::read_text;
+use mg_dev::{Bad, FileRef, Part, PartErr, Store};
+use mg_layout::{Head, expect_size};
+use mg_model::TermTable;
+use mg_text::TextReader;
+use std::alloc::Global;
+
+// Where the numbers of terms and of occurrences stand in a head.
+const TERMS_AT: u64 = 20;
+
+const NARROW_OCCURRENCES_AT: u64 = 36;
+
+const WIDE_OCCURRENCES_AT: u64 = 40;
+
+// How many bytes a skip entry has.
+const ENTRY_BYTES: u64 = 16;
+
+// Where the number of occurrences stands in a head of a version.
+fn occurrences_at(version: u8) -> u64 {
+    if version == 1 {
+        NARROW_OCCURRENCES_AT
+    } else {
+        WIDE_OCCURRENCES_AT
+    }
+}
+
+// Refuses a number of the head that is another one than was counted.
+fn expect_number(at: u64, counted: u64, found: u64) -> Result<(), PartErr>
+    ensures same { OnOk result (found ≡ counted) }
+    ensures other { IfErr result (Refutes (found ≡ counted)) }
+    ensures cause { (faults : ℕ) → HasPartCause faults faults result }
+{
+    if found == counted {
+        return Ok(());
+    }
+    Err(PartErr::Bad(Bad {
+        part: Part::Head,
+        at,
+        low: counted,
+        high: counted,
+        found,
+    }))
+}
+
+// Sees that Post and Skip have the sizes that the head tells.
+fn expect_sizes<S: Store>(store: &mut S, base: &str, head: &Head) -> Result<(), PartErr>
+    requires entries { head.now.skip_count < 2 ^ 32 }
+    ensures sizes { IsSome (S.files store.old) → OnOk result (HaveSizes (parts_at (S.files store.old) base.now) head.now) }
+    ensures other { IsSome (S.files store.old) → IfErr result (Refutes (HaveSizes (parts_at (S.files store.old) base.now) head.now)) }
+    ensures files { S.files store.new ≡ S.files store.old }
+    ensures cause { HasPartCause (S.faults store.old) (S.faults store.new) result }
+{
+    let post = FileRef {
+        base,
+        part: Part::Post,
+    };
+    let skip = FileRef {
+        base,
+        part: Part::Skip,
+    };
+    match expect_size(store, post, head.post_bytes) {
+        Ok(()) => {}
+        Err(refusal) => return Err(refusal),
+    }
+    match expect_size(store, skip, ENTRY_BYTES * head.skip_count) {
+        Ok(()) => Ok(()),
+        Err(refusal) => Err(refusal),
+    }
+}
+
+// Sees that the numbers of the head that the text does not tell, and the six parts that tell of terms, are those of the
+// collection whose text is read.
+fn check_rest<S: Store>(
+    alloc: Global,
+    store: &mut S,
+    base: &str,
+    head: &Head,
+    reader: &mut TextReader<'_, S>,
+) -> Result<(), PartErr>
+    requires within { IsWithin (fields_of head.now) }
+    requires fits { TextFits reader.old (S.files store.old) }
+    requires documents { reader.old.documents ≡ head.now.documents }
+    ensures stand { (collection : List ℕ) → TextStands reader.old (S.files store.old) collection → OnOk result (RestStands (S.files store.old) base.now head.now collection) }
+    ensures other { (collection : List ℕ) → TextStands reader.old (S.files store.old) collection → IfErr result (Refutes (RestStands (S.files store.old) base.now head.now collection)) }
+    ensures files { S.files store.new ≡ S.files store.old }
+    ensures cause { HasPartCause (S.faults store.old) (S.faults store.new) result }
+{
+    let table = match TermTable::of(alloc, reader.model()) {
+        Ok(table) => table,
+        Err(_) => return Err(PartErr::Memory),
+    };
+    let (count, documents) = (u64::from(table.count()), head.documents);
+    match expect_number(TERMS_AT, count, u64::from(head.terms)) {
+        Ok(()) => {}
+        Err(refusal) => return Err(refusal),
+    }
+    match expect_sizes(store, base, head) {
+        Ok(()) => {}
+        Err(refusal) => return Err(refusal),
+    }
+    let counts = match check_terms(alloc, store, base, reader, &table, head.cap, documents) {
+        Ok(counts) => counts,
+        Err(refusal) => return Err(refusal),
+    };
+    match expect_number(
+        occurrences_at(head.version),
+        counts.occurrences,
+        head.occurrences,
+    ) {
+        Ok(()) => {}
+        Err(refusal) => return Err(refusal),
+    }
+    check_index(alloc, store, base, reader, &table, &counts.docs, documents)
+}
+
+/// Checks a set with this head: that its parts are those of a collection, which the text tells.
+pub(crate) fn check_set<S: Store>(
+    alloc: Global,
+    store: &mut S,
+    base: &str,
+    head: &Head,
+) -> Result<(), PartErr>
+    requires within { IsWithin (fields_of head.now) }
+    ensures stands { IsSome (S.files store.old) → IsHead 1 2 (parts_at (S.files store.old) base.now).head (fields_of head.now) → OnOk result (StandsWith (S.files store.old) base.now head.now.documents head.now.collection) }
+    ensures none { IsSome (S.files store.old) → IsHead 1 2 (parts_at (S.files store.old) base.now).head (fields_of head.now) → OnBad result (StandForNone (parts_at (S.files store.old) base.now)) }
+    ensures files { S.files store.new ≡ S.files store.old }
+    ensures cause { HasPartCause (S.faults store.old) (S.faults store.new) result }
+{
+    let mut reader = match load_text(alloc, store, base, head) {
+        Ok(reader) => reader,
+        Err(refusal) => return Err(refusal),
+    };
+    match read_text(alloc, store, base, head, &mut reader) {
+        Ok(()) => {}
+        Err(refusal) => return Err(refusal),
+    }
+    check_rest(alloc, store, base, head, &mut reader)
+}

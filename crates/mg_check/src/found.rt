@@ -1,0 +1,76 @@
+//! Whether a set of files stands for a collection.
+ghost use Rattle.std.specs.Prelude.{◌≡◌, ◌≢◌, ◌⊎◌, ◌≤◌, ℕ, List, [], Err, IfErr, IfOk, IsSome};
+ghost use Rattle.mg_dev.specs.Causes.{Rose};
+ghost use Rattle.mg_dev.specs.Files.{bytes_at};
+ghost use Rattle.mg_dev.specs.Names.{full_name};
+ghost use Rattle.mg_dev.specs.declared.fault.Fault.TheVariants as fault;
+ghost use Rattle.mg_dev.specs.declared.part.Part.TheVariants as part;
+ghost use Rattle.mg_layout.specs.Stands.{Stands};
+ghost use Rattle.mg_check.specs.Found.{CheckStops, StandsWith, TellsOutside};
+
+use crate::checking::check_set;
+use mg_dev::{Fault, Store};
+use mg_layout::Head;
+use std::alloc::Global;
+
+/// The collection that a set of files stands for.
+#[derive(Clone, Copy, Debug, PartialEq, Eq)]
+pub struct Found {
+    /// How many documents it has.
+    pub documents: u32,
+    /// How many bytes it has.
+    pub bytes: u64,
+}
+
+// The same, with the clauses from which the others follow.
+fn check_files<S: Store>(alloc: Global, store: &mut S, base: &str) -> Result<Found, Fault>
+    ensures stands { IsSome (S.files store.old) → IfOk result (λ found. StandsWith (S.files store.old) base.now found.documents found.bytes) }
+    ensures cause { IfErr result (CheckStops (Rose (S.faults store.old) (S.faults store.new)) (S.files store.old) base.now) }
+    ensures early { IsSome (S.files store.old) → bytes_at (S.files store.old) (full_name base.now part.Head) ≡ [] → result ≢ Err fault.Memory }
+    ensures files { S.files store.new ≡ S.files store.old }
+    ensures later { S.faults store.old ≤ S.faults store.new }
+{
+    let loaded = match Head::load(store, base) {
+        Ok(loaded) => loaded,
+        Err(refusal) => return Err(Fault::from(refusal)),
+    };
+    let head = match loaded {
+        Some(head) => head,
+        None => return Err(Fault::NotBuilt),
+    };
+    match check_set(alloc, store, base, &head) {
+        Ok(()) => Ok(Found {
+            documents: head.documents,
+            bytes: head.collection,
+        }),
+        Err(refusal) => Err(Fault::from(refusal)),
+    }
+}
+
+/// Sees whether the set under a base stands for a collection, and answers how large that is.
+///
+/// Nothing that the files hold is trusted: the text is decoded and coded anew, and every other part is compared with what
+/// it is to be for the collection that was found. No file is changed.
+///
+/// # Errors
+///
+/// `NotBuilt` where the head is missing or empty, `Damaged` where there is one and the files stand for no collection,
+/// `StoreFault` where the store failed, and `Memory`. Which of several damages is told is not promised.
+pub fn check<S: Store>(alloc: Global, store: &mut S, base: &str) -> Result<Found, Fault>
+    // Yes: the files stand for a collection of so many documents and bytes.
+    ensures stands { IsSome (S.files store.old) → IfOk result (λ found. StandsWith (S.files store.old) base.now found.documents found.bytes) }
+    // No, and every other refusal, has its cause. A damage is told by a number outside its range.
+    ensures cause { IfErr result (CheckStops (Rose (S.faults store.old) (S.faults store.new)) (S.files store.old) base.now) }
+    ensures outside { IfErr result TellsOutside }
+    // Where there is no head, that is told, unless the store fails; memory is not wanted there.
+    ensures not_built { IsSome (S.files store.old) → bytes_at (S.files store.old) (full_name base.now part.Head) ≡ [] →
+        (result ≡ Err fault.NotBuilt) ⊎ (result ≡ Err fault.StoreFault) ⊎ (result ≡ Err fault.Memory) }
+    ensures early { IsSome (S.files store.old) → bytes_at (S.files store.old) (full_name base.now part.Head) ≡ [] → result ≢ Err fault.Memory }
+    // Where the files stand and the store does not fail, the answer is yes, or memory is wanting.
+    ensures complete { (collection : List ℕ) → Stands (S.files store.old) base.now collection → ¬ Rose (S.faults store.old) (S.faults store.new) → IfErr result (λ refusal. refusal ≡ fault.Memory) }
+    // No file changes.
+    ensures files { S.files store.new ≡ S.files store.old }
+    ensures later { S.faults store.old ≤ S.faults store.new }
+{
+    check_files(alloc, store, base)
+}
