@@ -7,3 +7,4 @@ mod NothingDone
 mod Asked
 mod MigratedLaws
 mod MergedLaws
+mod CheckedLaws

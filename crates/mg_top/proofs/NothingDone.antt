@@ -25,6 +25,7 @@ use Rattle.mg_build.specs.Outcomes.{DecodeStops}
 use Rattle.mg_words.specs.Tasks.{Task, build, query, decode, scan, trial, migrate, check, wild, phrase, merge}
 use Rattle.mg_top.specs.Ends.{ToldWhy}
 use Rattle.mg_dev.specs.Runs.{IfStopped, Run, SaysNothing, KeepsFiles, Stops, StoreFailed, InputFailed, OutputFailed}
+use Rattle.mg_top.specs.Checked.{Checked, CheckStops, standing_line}
 use Rattle.mg_top.specs.Built.{Built, BuildStops, collection_of}
 use Rattle.mg_build.specs.Decoded.{Decoded}
 use Rattle.mg_session.specs.Matched.{Matched}
@@ -164,6 +165,19 @@ module _ (run : Run) (stops : Stops run Memory) (store : run.store_now ≡ run.s
     input = input;
   }
 
+  checked : (n : List ℕ) → Checked n run
+  checked n = record {
+    done = λ told is. absurd (not_done is);
+    prefix = λ c stands. prefix (standing_line c);
+    silent = λ told none. silent;
+    cause = caused (CheckStops (StoreFailed run) (OutputFailed run) run.store.files n) tt;
+    damaged = λ told it. inr (inr stops);
+    not_built = λ told none. inr (inr stops);
+    complete = λ c stands no_store no_output. inr stops;
+    files = files;
+    input = input;
+  }
+
   migrated : (n m : List ℕ) → Migrated n m run
   migrated n m = record {
     done = λ version cap c stands is. absurd (not_done is);
@@ -223,7 +237,7 @@ module _ (run : Run) (stops : Stops run Memory) (store : run.store_now ≡ run.s
   nothing_done (Some (scan n)) = scanned n
   nothing_done (Some (trial s d)) = tried s d
   nothing_done (Some (migrate n m)) = migrated n m
-  nothing_done (Some (check n)) = not_understood
+  nothing_done (Some (check n)) = checked n
   nothing_done (Some (wild n)) = matched n
   nothing_done (Some (phrase n)) = phrased n
   nothing_done (Some (merge a b c)) = merged a b c

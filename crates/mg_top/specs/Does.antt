@@ -2,10 +2,11 @@
 use Rattle.std.specs.Prelude.{◌≡◌, ◌⊎◌, Some, None}
 use Rattle.std.specs.declared.option.Option.{Option}
 use Rattle.mg_dev.specs.declared.fault.Fault.TheVariants.{Usage, Memory}
-use Rattle.mg_words.specs.Tasks.{Task, build, query, decode, scan, migrate, merge, trial, phrase, wild}
+use Rattle.mg_words.specs.Tasks.{Task, build, query, decode, scan, migrate, merge, trial, check, phrase, wild}
 use Rattle.mg_top.specs.Ends.{ToldWhy}
 use Rattle.mg_dev.specs.Runs.{Run, Stops}
 use Rattle.mg_top.specs.Built.{Built}
+use Rattle.mg_top.specs.Checked.{Checked}
 use Rattle.mg_build.specs.Decoded.{Decoded}
 use Rattle.mg_session.specs.Matched.{Matched}
 use Rattle.mg_top.specs.Merged.{Merged}
@@ -22,19 +23,6 @@ pub record NotUnderstood (run : Run) : Type 0 where
   pub input : run.input_now ≡ run.input
   pub out : run.out_now ≡ run.out
 
--- What words ask of the tools that are built; the words of a tool to come are not understood.
-abbrev pub built : Option Task → Option Task
-built (Some (build name base budget)) = Some (build name base budget)
-built (Some (query name)) = Some (query name)
-built (Some (decode name)) = Some (decode name)
-built (Some (scan name)) = Some (scan name)
-built (Some (migrate name new)) = Some (migrate name new)
-built (Some (merge first second new)) = Some (merge first second new)
-built (Some (trial seed docs)) = Some (trial seed docs)
-built (Some (phrase name)) = Some (phrase name)
-built (Some (wild name)) = Some (wild name)
-built other = None
-
 -- what the words ask is done
 abbrev pub Does : Option Task → Run → Type 0
 Does (Some (build name base budget)) run = Built name base budget run
@@ -44,9 +32,10 @@ Does (Some (scan name)) run = Scanned name run
 Does (Some (migrate name new)) run = Migrated name new run
 Does (Some (merge first second new)) run = Merged first second new run
 Does (Some (trial seed docs)) run = Tried seed docs run
+Does (Some (check name)) run = Checked name run
 Does (Some (phrase name)) run = Phrased name run
 Does (Some (wild name)) run = Matched name run
-Does other run = NotUnderstood run
+Does None run = NotUnderstood run
 
 pub record Ran (task : Option Task) (run : Run) : Type 0 where
   -- status 1 comes exactly where the words ask nothing, unless memory is wanting

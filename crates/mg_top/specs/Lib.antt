@@ -3,6 +3,7 @@ pub mod Lines
 pub mod Built
 pub mod Trials
 pub mod Tried
+pub mod Checked
 pub mod Does
 pub mod Migrated
 pub mod Merged

@@ -22,6 +22,10 @@ pool_line peak budget = concat (codes "pool " ∷ decimal peak ∷ codes " of " 
 unfoldable pub bytes_line : List ℕ → ℕ → List ℕ
 bytes_line name number = concat (name ∷ codes " " ∷ decimal number ∷ codes " bytes\n" ∷ [])
 
+-- that a set stands: how many documents and bytes its collection has
+unfoldable pub stands_line : ℕ → ℕ → List ℕ
+stands_line documents bytes = concat (codes "stands " ∷ decimal documents ∷ codes " documents " ∷ decimal bytes ∷ codes " bytes\n" ∷ [])
+
 -- what was compared, a blank, and how it came out
 unfoldable pub compared_line : List ℕ → Bool → List ℕ
 compared_line name same = concat (name ∷ codes " " ∷ (if same then codes "same" else codes "different") ∷ codes "\n" ∷ [])

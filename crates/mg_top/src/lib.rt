@@ -4,12 +4,12 @@
 //! what its one clause says. That clause is a table: for what the words ask, a record a tool, over what
 //! the devices told and counted before the run and after it, and the status. It is generic over the
 //! store, the input and the outputs; tests run it over devices in memory, the program over files and
-//! standard streams. Built so far: `build`, `query`, `decode`, `scan`, `phrase`, `wild`, `migrate`, `merge`
-//! and `trial`, of which [`trial`] is the work over any store. Two laws speak of the whole table:
-//! [`usage_asks_nothing`] and [`lacking_runs_do_all`].
+//! standard streams. [`trial`] is the work of the tool of this name, over any store. Two laws speak of the
+//! whole table: [`usage_asks_nothing`] and [`lacking_runs_do_all`].
 #![tactic(auto)]
 
 mod building;
+mod checking;
 mod comparing;
 mod decoding;
 mod laws;

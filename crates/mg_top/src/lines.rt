@@ -7,7 +7,7 @@ ghost use Rattle.std.specs.List.{flat_map};
 ghost use Rattle.mg_dev.specs.Streams.{AfterPut};
 ghost use Rattle.mg_dev.specs.Causes.{HasPutCause, HasLack};
 ghost use Rattle.mg_defs.specs.Summaries.{number_line};
-ghost use Rattle.mg_top.specs.Lines.{piece_text, line_text, bytes_line, compared_line, summary_lines, pool_line, trial_summary_lines};
+ghost use Rattle.mg_top.specs.Lines.{piece_text, line_text, bytes_line, compared_line, summary_lines, pool_line, stands_line, trial_summary_lines};
 
 use crate::trial_summary::TrialSummary;
 use itoa::Buffer;
@@ -150,6 +150,23 @@ fn put_lines<O: Sink>(out: &mut O, lines: &[Line<'_>]) -> Result<(), PutErr>
             put_lines(out, rest)
         }
     }
+}
+
+/// Writes that a set stands: how many documents and bytes its collection has.
+#[tactic(auto, unfolding(crate::specs::Lines::stands_line))]
+pub(crate) fn put_standing<O: Sink>(out: &mut O, documents: u32, bytes: u64) -> Result<(), PutErr>
+    ensures content { AfterPut (O.written out.old) (O.written out.new) (stands_line documents bytes) result }
+    ensures cause { HasPutCause (O.faults out.old) (O.faults out.new) result }
+    ensures lack { HasLack (O.lacks out.old) (O.lacks out.new) result }
+{
+    let pieces = [
+        Piece::Text("stands "),
+        Piece::Number(u64::from(documents)),
+        Piece::Text(" documents "),
+        Piece::Number(bytes),
+        Piece::Text(" bytes\n"),
+    ];
+    put_pieces(out, &pieces)
 }
 
 /// Writes how many documents a set has.

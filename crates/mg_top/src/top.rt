@@ -2,9 +2,10 @@
 ghost use Rattle.std.specs.Prelude.{◌≡◌, ◌⊎◌, map, string_bytes, Some, None};
 ghost use Rattle.mg_words.specs.Tasks.{task_of};
 ghost use Rattle.mg_dev.specs.Runs.{Run};
-ghost use Rattle.mg_top.specs.Does.{Ran, built};
+ghost use Rattle.mg_top.specs.Does.{Ran};
 
 use crate::building::run_build;
+use crate::checking::run_check;
 use crate::decoding::run_decode;
 use crate::matching::run_wild;
 use crate::merging::run_merge;
@@ -30,12 +31,13 @@ use std::alloc::{AllocError, Global};
 /// | `decode NAME` | `Decoded` | the collection of the set |
 /// | `scan COLLECTION` | `Scanned` | the session that the input asks of the collection's documents |
 /// | `migrate NAME NEW` | `Migrated` | how many documents the set has that it makes anew in version 2 |
+/// | `check NAME` | `Checked` | how many documents and bytes the collection has for which the files stand |
 /// | `phrase NAME` | `Phrased` | the session of phrases that the input asks of the set |
 /// | `wild NAME` | `Matched` | the session of patterns that the input asks of the set |
 /// | `merge A B NEW` | `Merged` | the numbers of the set that it makes of two sets |
 /// | `trial SEED DOCS` | `Tried` | what a trial found of a collection that it makes, in a store of its own |
 ///
-/// The words of a tool that is not built yet are not understood. At every status but 0 the fault's line
+/// Words that ask nothing are not understood. At every status but 0 the fault's line
 /// goes to `err`; a failed write there changes nothing.
 pub fn run<S: Store, I: Source, O: Sink, E: Sink>(
     alloc: Global,
@@ -45,7 +47,7 @@ pub fn run<S: Store, I: Source, O: Sink, E: Sink>(
     out: &mut O,
     err: &mut E,
 ) -> Status
-    ensures { Ran (built (task_of (map string_bytes words.now))) (record {
+    ensures { Ran (task_of (map string_bytes words.now)) (record {
       store = record { files = S.files store.old; reads = S.reads store.old; faults = S.faults store.old };
       store_now = record { files = S.files store.new; reads = S.reads store.new; faults = S.faults store.new };
       input = record { left = I.left input.old; faults = I.faults input.old };
@@ -77,9 +79,10 @@ pub fn run<S: Store, I: Source, O: Sink, E: Sink>(
             run_merge(alloc, first, second, new, store, out, err)
         }
         Ok(Some(Task::Trial { seed, docs })) => run_trial(alloc, seed, docs, out, err),
+        Ok(Some(Task::Check { name })) => run_check(alloc, name, store, out, err),
         Ok(Some(Task::Phrase { name })) => run_phrase(alloc, name, store, input, out, err),
         Ok(Some(Task::Wild { name })) => run_wild(alloc, name, store, input, out, err),
-        Ok(_) => stopped(Fault::Usage, err),
+        Ok(None) => stopped(Fault::Usage, err),
         Err(AllocError) => stopped(Fault::Memory, err),
     }
 }
