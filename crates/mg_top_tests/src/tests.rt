@@ -282,6 +282,25 @@ fn sets_are_decoded(rt: HostRuntime) -> Result<(), Fail> {
 }
 
 #[test]
+fn sets_are_checked(rt: HostRuntime) -> Result<(), Fail> {
+    let alloc = rt.alloc();
+    let mut store = MemStore::new(alloc);
+    store.put_file("text", LETTERS)?;
+    let made = ran_over(alloc, &["build", "text", "set"], &mut store, b"")?;
+    assert_eq!(rt; made.status, Status::Done);
+    let left = ran_over(alloc, &["check", "set"], &mut store, b"")?;
+    assert_eq!(rt;
+        (left.status, left.out.bytes()),
+        (Status::Done, b"stands 3 documents 39 bytes\n".as_slice())
+    );
+    store.put_file("set.run", b"")?;
+    let left = ran_over(alloc, &["check", "set"], &mut store, b"")?;
+    assert!(rt; matches!(left.status, Status::Stopped(Fault::Damaged(_))));
+    assert!(rt; left.out.bytes().is_empty());
+    Ok(())
+}
+
+#[test]
 fn a_missing_set_is_not_built(rt: HostRuntime) -> Result<(), Fail> {
     for tool in ["query", "decode"] {
         let left = ran(rt.alloc(), &[tool, "set"], LETTERS, b"cat\n")?;
