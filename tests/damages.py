@@ -1,6 +1,6 @@
 """Random damages of sets on the disk: whatever bytes stand in a part, each tool ends soon, with a true status.
 
-Each damage is made to one part of a sound set; then `decode`, `query`, `phrase`, `wild`, `migrate` and
+Each damage is made to one part of a sound set; then `decode`, `query`, `phrase`, `wild`, `check`, `migrate` and
 `merge` are run over it. None may end by a signal, take longer than 20 seconds, or end with another status than
 0, 5 or 6 and the line of that status (a merge also with 8, by what a damaged head tells); none may take
 32 megabytes more than over the sound set. The seed is printed, and `--seed N` repeats a run.
@@ -35,7 +35,7 @@ LINES = {
 }
 # A merge adds up what the heads of both sets tell.
 MERGE_LINES = LINES | {8: rb"mg: the collection has [0-9]+ bytes, more than 4294967295\n"}
-TOOLS = [["decode", "set"], ["query", "set"], ["phrase", "set"], ["wild", "set"], ["migrate", "set", "new"], ["merge", "set", "set", "new"]]
+TOOLS = [["decode", "set"], ["query", "set"], ["phrase", "set"], ["wild", "set"], ["migrate", "set", "new"], ["merge", "set", "set", "new"], ["check", "set"]]
 
 
 def kept_parts():

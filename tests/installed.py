@@ -63,7 +63,7 @@ def completion(suite):
     if not shutil.which("bash"):
         suite.check("bash is installed", False, True)
         return
-    tools = sorted(["build", "query", "decode", "scan", "phrase", "wild", "migrate", "merge", "trial"])
+    tools = sorted(["build", "query", "decode", "scan", "phrase", "wild", "migrate", "merge", "check", "trial"])
     with fresh_folder(suite) as folder:
         for name in ["letters", "letters.mail", "letters.head", "letters.words", "a set.head", "sub/more.head", "x.table", ".head"]:
             os.makedirs(os.path.dirname(os.path.join(folder, name)), exist_ok=True)
@@ -74,7 +74,7 @@ def completion(suite):
             (["mg", ""], tools), (["mg", "q"], ["query"]), (["mg", "x"], []), (["mg", "x", ""], []),
             (["mg", "query", ""], ["a set", "letters", "sub"]), (["mg", "query", "let"], ["letters"]),
             (["mg", "query", "a\\ s"], ["a set"]), (["mg", "query", "'a s"], ["a set"]), (["mg", "query", "sub/"], ["sub/more"]),
-            (["mg", "query", "letters", ""], []), (["mg", "decode", "s"], ["sub"]), (["mg", "decode", "z"], []),
+            (["mg", "query", "letters", ""], []), (["mg", "decode", "s"], ["sub"]), (["mg", "decode", "z"], []), (["mg", "check", "let"], ["letters"]),
             (["mg", "migrate", "l"], ["letters"]), (["mg", "migrate", "letters", ""], ["a set", "letters", "sub"]),
             (["mg", "migrate", "letters", "new", ""], []), (["mg", "phrase", "let"], ["letters"]), (["mg", "wild", "let"], ["letters"]),
             (["mg", "merge", "letters", "a\\ set", ""], ["a set", "letters", "sub"]), (["mg", "scan", "letters.m"], ["letters.mail"]), (["mg", "scan", ""], files),

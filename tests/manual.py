@@ -109,7 +109,7 @@ def statuses(suite):
         (0, ["build", "text", "--", "-x"], b""), (0, ["decode", "--", "-x"], b""),
         (1, ["index", "text"], b""), (1, ["trial", "1", "20001"], b""), (1, ["query", ""], b""),
         (2, ["scan", "folder"], b""), (2, ["build", "text", "nowhere/set"], b""), (5, ["query", "none"], b""),
-        (5, ["decode", "none"], b""), (6, ["decode", "M"], b""), (7, ["scan", "none"], b""), (7, ["build", "none", "set"], b""),
+        (5, ["decode", "none"], b""), (6, ["decode", "M"], b""), (0, ["check", "set"], b""), (5, ["check", "none"], b""), (6, ["check", "M"], b""), (7, ["scan", "none"], b""), (7, ["build", "none", "set"], b""),
         (13, ["build", "N.head", "N"], b""), (16, ["migrate", "set", "set"], b""), (16, ["merge", "set", "set", "set"], b""), (5, ["phrase", "none"], b""), (5, ["wild", "none"], b""),
         (18, [b"scan", b"\xff"], b""),
     ]:

@@ -11,12 +11,14 @@ another one at each run if none is given.
 import argparse
 import os
 import pathlib
+import re
 import subprocess
 import sys
 import tempfile
 import time
 
 import builds
+import checks
 import collect
 import damages
 import files
@@ -32,6 +34,14 @@ from kinds import Draws, cases
 EXPECTED = pathlib.Path(__file__).parent / "expected"
 K = b"the cat sat\n\x02the dog\n\x02Cat, cat & dog!\n\x02"
 MOST = 268_435_456
+# The tools that make a set, and which of their names is the set's.
+MADE = {"build": 1, "migrate": 1, "merge": 2}
+
+
+def names_in(words):
+    """The names among a tool's words: all behind `--`, and before it what is neither an option nor its number."""
+    end = words.index("--") if "--" in words else len(words)
+    return [word for word in words[:end] if not word.startswith("-") and not word.isdigit()] + words[end + 1 :]
 
 
 class Suite:
@@ -55,7 +65,18 @@ class Suite:
         run = subprocess.run(
             [self.program, *words], cwd=self.folder, stdout=stdout, stderr=subprocess.PIPE, timeout=300, **source
         )
+        if run.returncode == 0 and words and words[0] in MADE:
+            self.made(words, run.stdout or b"")
         return run.returncode, run.stdout, run.stderr
+
+    def made(self, words, out):
+        """`check` says that a set which was just made stands, with as many documents as were told."""
+        told = re.match(rb"documents ([0-9]+)\n", out)
+        names = names_in(words[1:])
+        number = told.group(1) if told else b"[0-9]+"
+        found = self.run(["check", "--", names[MADE[words[0]]]])
+        stands = re.fullmatch(rb"stands %s documents [0-9]+ bytes\n" % number, found[1]) is not None
+        self.check(f"{' '.join(words)}: the set that was made stands", stands and found[0] == 0 or found, True)
 
     def check(self, name, got, wanted):
         if got == wanted:
@@ -198,7 +219,7 @@ def long_input(suite):
 
 PARTS = [rows, stored, words, devices, large_collection]
 SLOW = [long_input]
-for module in (files, builds, merges, shards, phrases, patterns, damages, manual, collect, installed, pages):
+for module in (files, builds, checks, merges, shards, phrases, patterns, damages, manual, collect, installed, pages):
     PARTS += module.PARTS
     SLOW += getattr(module, "SLOW", [])
 
