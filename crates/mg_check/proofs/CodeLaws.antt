@@ -1,18 +1,17 @@
 -- Pieces and pairs that are put and counted.
-use Rattle.std.proofs.Common.{arith, zero, suc, ◌≡◌, ◌≢◌, ◌≤◌, ◌<◌, ◌+◌, ◌*◌, ◌-◌, ◌^◌, ◌++◌, ℕ, Bool, true, false, cond, List, [], ◌∷◌, Contains, length, map, sum, sum_by, get_or, slice_get, Ok, Err, refl, sym, ap, subst, ◌∙◌, Some, None, append_assoc, append-nil, length-append, add-zero}
+use Rattle.std.proofs.Common.{arith, zero, suc, ◌≡◌, ◌≢◌, ◌≤◌, ◌<◌, ◌+◌, ◌*◌, ◌^◌, ◌++◌, ℕ, Bool, false, cond, List, [], ◌∷◌, Contains, length, map, sum, get_or, slice_get, Ok, Err, refl, sym, ap, subst, ◌∙◌, Some, None, append_assoc, append-nil, length-append, add-zero}
 use Rattle.std.specs.List.{AllByRecursion, flat_map}
-use Rattle.std.specs.Option.{IsSome}
 use Rattle.std.specs.Str.{bytes_eq}
 use Rattle.std.specs.declared.option.Option.{Option}
 use Rattle.std.specs.declared.result.Result.{Result}
 use Rattle.std.proofs.Math.ListN.{set}
 use Rattle.std.proofs.lemmas.Grind.{flat_map-append}
-use Rattle.std.proofs.lemmas.List.{length-map, length-set, map-append}
+use Rattle.std.proofs.lemmas.List.{length-set, map-append}
 use Rattle.std.proofs.lemmas.List.Sums.{sum_by-append, sum_by-cons, sum_by-set}
 use Rattle.std.proofs.lemmas.Option.{get_or_from_slice_get, slice_get_within}
 use Rattle.mg_dev.specs.Files.{Files}
 use Rattle.mg_dev.specs.declared.device.PutErr.{PutErr}
-use Rattle.mg_defs.proofs.SortedLaws.{number-at, other-isnt, same-is, same-refl}
+use Rattle.mg_defs.proofs.SortedLaws.{number-at, other-isnt, same-refl}
 use Rattle.mg_defs.specs.Bits.{Bits}
 use Rattle.mg_defs.specs.CodedText.{StreamCode, TextCode, as_bytes, codeword_of, coded_doc, coded_pair}
 use Rattle.mg_defs.specs.Codes.{gamma}

@@ -1,5 +1,5 @@
 -- What checking a set finds, and the cause of each refusal.
-use Rattle.std.proofs.Common.{arith, ◌≡◌, ◌≢◌, ◌≤◌, ◌<◌, ◌⊎◌, inl, inr, ℕ, true, false, List, [], Ok, Err, None, Some, IsSome, IfErr, IfOk, refl, sym, ap, subst, ◌∙◌}
+use Rattle.std.proofs.Common.{◌≡◌, ◌≢◌, ◌⊎◌, inl, inr, ℕ, List, [], Ok, Err, None, Some, IsSome, IfErr, IfOk, refl, sym, ap, subst, ◌∙◌}
 use Rattle.std.proofs.lemmas.Bool.{cases_lt}
 use Rattle.std.specs.declared.option.Option.{Option}
 use Rattle.std.specs.declared.result.Result.{Result}
@@ -22,11 +22,11 @@ use Rattle.mg_defs.proofs.HeadLaws.{no_damage}
 use Rattle.mg_defs.proofs.StandLaws.{stand-tells}
 use Rattle.mg_layout.specs.Contents.{IsOutside}
 use Rattle.mg_layout.specs.HeadAnswers.{AnswersBack, AnswersHead, AnswersWithin, fields_of}
-use Rattle.mg_layout.specs.Stands.{Stands, StandsForNone, parts_at}
+use Rattle.mg_layout.specs.Stands.{Stands, parts_at}
 use Rattle.mg_layout.specs.declared.head.Head.{Head}
 use Rattle.mg_check.specs.Checking.{IfBad}
 use Rattle.mg_check.specs.declared.found.Found.{Found}
-use Rattle.mg_check.specs.Found.{CheckStops, IsDamagedSet, StandsWith, TellsOutside}
+use Rattle.mg_check.specs.Found.{CheckStops, StandsWith, TellsOutside}
 
 -- bytes that tell a head
 pub some-head : (bytes : List ℕ) (h : defs.Head) → IsHead 1 2 bytes h → bytes ≢ []

@@ -1,5 +1,5 @@
 -- The lexicon that is written anew, and what is compared with it.
-use Rattle.std.proofs.Common.{arith, ◌≡◌, ◌<◌, ◌+◌, ℕ, zero, suc, true, List, [], ◌∷◌, refl, sym, ap, subst, ◌∙◌, Some, IsSome, ◌||◌, ◌==◌}
+use Rattle.std.proofs.Common.{arith, ◌≡◌, ◌+◌, ℕ, zero, suc, true, List, [], ◌∷◌, refl, sym, ap, subst, ◌∙◌, Some, ◌||◌, ◌==◌}
 use Rattle.std.specs.Prelude.{codes, slice_get}
 use Rattle.std.specs.declared.option.Option.{Option}
 use Rattle.std.specs.declared.cmp.Ordering.TheVariants.{Less}

@@ -1,6 +1,6 @@
 -- The lists of a range that are written anew, and what the lexicon has of their terms.
-use Rattle.std.proofs.Common.{arith, ◌≡◌, ◌<◌, ◌≤◌, ◌+◌, ◌*◌, ◌/◌, ◌^◌, ◌-◌, ℕ, List, [], ◌∷◌, ◌++◌, length, map, take, drop, get_or, refl, sym, ap, subst, ◌∙◌, Some, length-append, length-drop}
-use Rattle.std.specs.Prelude.{slice_get, slice_index}
+use Rattle.std.proofs.Common.{arith, ◌≡◌, ◌<◌, ◌≤◌, ◌+◌, ◌/◌, ◌^◌, ℕ, List, [], ◌∷◌, ◌++◌, length, take, drop, get_or, refl, sym, ap, subst, ◌∙◌, Some, length-append, length-drop}
+use Rattle.std.specs.Prelude.{slice_get}
 use Rattle.std.specs.declared.option.Option.{Option}
 use Rattle.std.specs.List.{enumerate_from, flat_map}
 use Rattle.std.proofs.Math.Seq.{take-add}
@@ -12,13 +12,13 @@ use Rattle.mg_dev.specs.Files.{Files}
 use Rattle.mg_defs.proofs.ListLaws.{list_rises}
 use Rattle.mg_defs.proofs.StandGrow.{docs-are}
 use Rattle.mg_defs.proofs.StandLists.{entry_fits}
-use Rattle.mg_defs.proofs.StandRanges.{entries-append, lists-append}
+use Rattle.mg_defs.proofs.StandRanges.{lists-append}
 use Rattle.mg_defs.specs.declared.Posting.{Posting}
 use Rattle.mg_defs.specs.CodedText.{as_bytes}
 use Rattle.mg_defs.specs.Lexicon.{TermInfo, info_of}
 use Rattle.mg_defs.specs.Lists.{Rises, entries_of_list, entry_bits, first_entry, inverted, list_byte, lists_bits, lists_entries, postings}
 use Rattle.mg_defs.specs.Split.{documents}
-use Rattle.mg_defs.specs.Terms.{dictionary, docs}
+use Rattle.mg_defs.specs.Terms.{dictionary}
 use Rattle.mg_laws.proofs.WholeBytes.{entries_sized, lists_are_whole, whole_long}
 use Rattle.mg_lex.specs.Terms.{Term, terms_of}
 use Rattle.mg_lex.specs.Writing.{LexWriting, TookTerms}

@@ -1,7 +1,6 @@
 -- What a reader that was loaded by a head knows, and what its refusal shows.
-use Rattle.std.proofs.Common.{arith, ◌≡◌, ◌≤◌, ℕ, List, Ok, Err, refl, sym, ap, subst, ◌∙◌, IsSome}
+use Rattle.std.proofs.Common.{ℕ, List, Ok, sym, IsSome}
 use Rattle.std.specs.declared.option.Option.{Option}
-use Rattle.std.specs.declared.result.Result.{Result}
 use Rattle.mg_dev.specs.Bads.{IsNotBad}
 use Rattle.mg_dev.specs.Files.{Files}
 use Rattle.mg_dev.specs.declared.part_err.PartErr.{PartErr}

@@ -1,5 +1,5 @@
 -- One document more, and what follows the last one: ranges of the numbers, and what a refusal shows.
-use Rattle.std.proofs.Common.{arith, ◌≡◌, ◌≢◌, ◌≤◌, ◌<◌, ◌+◌, ◌*◌, ◌-◌, ◌^◌, ◌==◌, ℕ, Bool, true, false, if◌then◌else◌, List, [], ◌∷◌, ◌++◌, length, map, get_or, IsSome, OnOk, OnErr, IfErr, refl, sym, ap, subst, ◌∙◌, Ok, Err}
+use Rattle.std.proofs.Common.{arith, ◌≡◌, ◌≤◌, ◌<◌, ◌+◌, ◌*◌, ◌-◌, ◌^◌, ◌==◌, ℕ, Bool, true, false, if◌then◌else◌, List, [], ◌∷◌, ◌++◌, length, get_or, IsSome, OnOk, IfErr, sym, ap, subst, ◌∙◌, Ok, Err}
 use Rattle.std.proofs.lemmas.List.{length-map}
 use Rattle.std.specs.declared.option.Option.{Option}
 use Rattle.std.specs.declared.result.Result.{Result}
@@ -14,7 +14,7 @@ use Rattle.mg_defs.specs.Heads.{limits}
 use Rattle.mg_defs.specs.Means.{StandForNone, Tell}
 use Rattle.mg_defs.specs.Parse.{parse}
 use Rattle.mg_defs.specs.Split.{IsDocument, documents}
-use Rattle.mg_defs.specs.Stands.{Parts, Stand}
+use Rattle.mg_defs.specs.Stands.{Parts}
 use Rattle.mg_defs.specs.Vocabulary.{piece_of_pair, pieces_in}
 use Rattle.mg_defs.proofs.ParseLaws.{parse_short}
 use Rattle.mg_defs.proofs.SplitLaws.{documents_split}

@@ -1,5 +1,5 @@
 -- Where the text of a set means documents: what the other parts and the head's numbers are to be.
-use Rattle.std.proofs.Common.{arith, ◌≡◌, ◌≤◌, ◌<◌, ◌-◌, ◌*◌, ◌^◌, ◌==◌, ℕ, Bool, true, false, if◌then◌else◌, List, Contains, length, map, IfErr, IsSome, OnOk, Ok, Err, refl, sym, ap, subst, ◌∙◌}
+use Rattle.std.proofs.Common.{arith, ◌≡◌, ◌≤◌, ◌<◌, ◌-◌, ◌*◌, ◌^◌, ◌==◌, ℕ, Bool, true, false, if◌then◌else◌, List, Contains, length, map, IfErr, OnOk, Ok, Err, sym, ap, subst, ◌∙◌}
 use Rattle.std.specs.List.{AllByRecursion, flat_map}
 use Rattle.std.specs.declared.option.Option.{Option}
 use Rattle.std.specs.declared.result.Result.{Result}
@@ -10,7 +10,7 @@ use Rattle.mg_defs.specs.CodedText.{IsTextCode, TextCode, places_of, text_of}
 use Rattle.mg_defs.specs.Heads as defs
 use Rattle.mg_defs.specs.Heads.{run_count}
 use Rattle.mg_defs.specs.Limits.{IsWithinLimits}
-use Rattle.mg_defs.specs.Means.{Mean, StandForNone, docs_bytes}
+use Rattle.mg_defs.specs.Means.{StandForNone, docs_bytes}
 use Rattle.mg_defs.specs.Occurrences.{occurrences}
 use Rattle.mg_defs.specs.Split.{documents, has_open_end, joined}
 use Rattle.mg_defs.specs.Lists.{inverted, lists_entries}

@@ -1,5 +1,5 @@
 -- The text of a set, document by document, and what it means at the end.
-use Rattle.std.proofs.Common.{arith, zero, suc, ◌≡◌, ◌≤◌, ◌<◌, ◌+◌, ◌*◌, ◌-◌, ◌==◌, ◌++◌, ℕ, Bool, true, false, if◌then◌else◌, List, [], ◌∷◌, All, Contains, length, map, sum, sum_by, take, drop, get_or, IsTrue, IsSome, refl, sym, ap, subst, ◌∙◌, append_assoc, append-nil, length-append, add-zero, add-one}
+use Rattle.std.proofs.Common.{arith, zero, suc, ◌≡◌, ◌≤◌, ◌<◌, ◌+◌, ◌*◌, ◌==◌, ◌++◌, ℕ, Bool, true, false, if◌then◌else◌, List, [], ◌∷◌, Contains, length, map, sum, sum_by, take, drop, get_or, IsTrue, refl, sym, ap, subst, ◌∙◌, append_assoc, append-nil, length-append, add-zero}
 use Rattle.std.specs.List.{AllByRecursion, flat_map}
 use Rattle.std.specs.declared.option.Option.{Option}
 use Rattle.std.proofs.Math.Seq.{drop-append_seam, drop-cons, take-add, take-append_seam, take-length}
@@ -7,20 +7,17 @@ use Rattle.std.proofs.lemmas.Grind.{flat_map-append}
 use Rattle.std.proofs.lemmas.List.{length-drop, length-map, map-append, take-append-drop}
 use Rattle.std.proofs.lemmas.List.Sums.{sum_by-append, sum_by-cons, sum_by-take-drop}
 use Rattle.mg_dev.specs.Files.{Files, bytes_at}
-use Rattle.mg_dev.specs.Names.{full_name}
-use Rattle.mg_dev.specs.declared.part.Part.TheVariants as part
 use Rattle.mg_defs.specs.declared.Stream.{Stream}
 use Rattle.mg_defs.specs.declared.Stream.TheVariants.{Words, Others}
 use Rattle.mg_defs.specs.Bits.{bits_of}
-use Rattle.mg_defs.specs.CodedText.{StreamCode, TextCode, as_bytes, coded_doc, coded_size, place_bytes, places_of, running, text_of}
+use Rattle.mg_defs.specs.CodedText.{StreamCode, TextCode, as_bytes, coded_doc, coded_size, place_bytes, places_of, running}
 use Rattle.mg_defs.specs.Heads as defs
-use Rattle.mg_defs.specs.Limits.{IsWithinLimits}
-use Rattle.mg_defs.specs.Means.{BeginsWith, HasCodewords, IsCodable, IsUsedWell, Mean, Tell, counts_in, docs_bytes}
+use Rattle.mg_defs.specs.Means.{HasCodewords, IsCodable, IsUsedWell, Mean, counts_in, docs_bytes}
 use Rattle.mg_defs.specs.Numbers.{eight, four}
 use Rattle.mg_defs.specs.Parse.{Pair, parse}
-use Rattle.mg_defs.specs.Split.{IsDocument, IsSplit, LastIsNotEmpty, documents, has_open_end, joined}
-use Rattle.mg_defs.specs.Stands.{AreParts, Parts, Stand, head_of}
-use Rattle.mg_defs.specs.Vocabulary.{all_pieces, count_in, piece_of_pair, pieces_in, sorted_pieces}
+use Rattle.mg_defs.specs.Split.{IsDocument, IsSplit, LastIsNotEmpty, documents, joined}
+use Rattle.mg_defs.specs.Stands.{Parts, Stand}
+use Rattle.mg_defs.specs.Vocabulary.{all_pieces, count_in, piece_of_pair, pieces_in}
 use Rattle.mg_defs.proofs.SplitLaws.{docs_within, documents_split, split_unique}
 use Rattle.mg_defs.proofs.StandDocs.{code-docs}
 use Rattle.mg_defs.proofs.StandLaws.{last-stands, so-far, stands-only, told-stands}
@@ -32,7 +29,7 @@ use Rattle.mg_layout.specs.Stands.{parts_at}
 use Rattle.mg_layout.specs.declared.head.Head.{Head}
 use Rattle.mg_text.proofs.CallerLemmas.{set_is_text}
 use Rattle.mg_text.specs.Places.{most_text, place_width}
-use Rattle.mg_text.specs.Reading.{IsText, TextReading, TextStands}
+use Rattle.mg_text.specs.Reading.{TextReading, TextStands}
 use Rattle.mg_text.specs.Writing.{starts}
 use Rattle.mg_check.specs.Checking.{HasAdded, HasRead, IsAtEnd, IsLoaded, IsMeant, IsNextDoc, docs_places, last_size}
 use Rattle.mg_check.specs.Decoding.{AreCounts, IsUsed}

@@ -1,9 +1,7 @@
 -- Counts by symbol, and what a code costs by them.
-use Rattle.std.proofs.Common.{arith, zero, suc, ◌≡◌, ◌≤◌, ◌<◌, ◌+◌, ◌*◌, ◌++◌, ℕ, Bool, true, false, cond, List, [], ◌∷◌, All, length, map, sum, get_or, take, drop, replicate, refl, sym, ap, subst, ◌∙◌, slice_index, add-one}
+use Rattle.std.proofs.Common.{arith, zero, suc, ◌≡◌, ◌≤◌, ◌<◌, ◌+◌, ◌*◌, ℕ, List, [], ◌∷◌, All, length, map, sum, get_or, drop, replicate, refl, sym, ap, subst, ◌∙◌, add-one}
 use Rattle.std.proofs.Math.Seq.{drop-cons}
 use Rattle.std.proofs.lemmas.List.Sums.{sum_by-cons}
-use Rattle.std.proofs.lemmas.Grind.{common_steps}
-use Rattle.std.specs.Str.{bytes_eq}
 use Rattle.mg_defs.specs.CodedText.{StreamCode}
 use Rattle.mg_defs.specs.Cost.{cost_of}
 use Rattle.mg_defs.specs.Vocabulary.{count_in}

@@ -1,5 +1,5 @@
 -- Lists that are written anew: what rises, and how far they go.
-use Rattle.std.proofs.Common.{arith, ◌≡◌, ◌<◌, ◌≤◌, ◌+◌, ◌*◌, ◌/◌, ◌^◌, ◌-◌, ℕ, List, [], ◌∷◌, ◌++◌, length, map, take, drop, get_or, refl, sym, ap, subst, ◌∙◌, Some}
+use Rattle.std.proofs.Common.{arith, ◌+◌, ℕ, List, ◌∷◌, ◌∙◌}
 use Rattle.mg_defs.specs.declared.Posting.{Posting}
 use Rattle.mg_defs.specs.Lists.{Follows, Rises}
 use Rattle.mg_post.specs.Writing.{Listing, Pushed, SameFiles}

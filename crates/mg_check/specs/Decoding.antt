@@ -7,11 +7,10 @@ use Rattle.std.specs.declared.result.Result.{Result}
 use Rattle.mg_dev.specs.Files.{Files}
 use Rattle.mg_defs.specs.declared.Stream.TheVariants.{Words, Others}
 use Rattle.mg_defs.specs.Bits.{Bits}
-use Rattle.mg_defs.specs.Codes.{gamma}
 use Rattle.mg_defs.specs.CodedText.{StreamCode, TextCode, as_bytes, codeword_of, coded_doc, coded_pair}
 use Rattle.mg_defs.specs.Cost.{cost_of, huffman_cost}
 use Rattle.mg_defs.specs.Means.{HasCodewords, IsCodable}
-use Rattle.mg_defs.specs.Parse.{Pair, parse}
+use Rattle.mg_defs.specs.Parse.{Pair}
 use Rattle.mg_defs.specs.Vocabulary.{count_in, piece_of_pair, pieces_in}
 use Rattle.mg_text.specs.Writing.{IsOnText, PutOne, TextWriting}
 use Rattle.mg_check.specs.declared.uses.Uses.{Uses}

@@ -22,31 +22,6 @@ pub struct Found {
     pub bytes: u64,
 }
 
-// The same, with the clauses from which the others follow.
-fn check_files<S: Store>(alloc: Global, store: &mut S, base: &str) -> Result<Found, Fault>
-    ensures stands { IsSome (S.files store.old) → IfOk result (λ found. StandsWith (S.files store.old) base.now found.documents found.bytes) }
-    ensures cause { IfErr result (CheckStops (Rose (S.faults store.old) (S.faults store.new)) (S.files store.old) base.now) }
-    ensures early { IsSome (S.files store.old) → bytes_at (S.files store.old) (full_name base.now part.Head) ≡ [] → result ≢ Err fault.Memory }
-    ensures files { S.files store.new ≡ S.files store.old }
-    ensures later { S.faults store.old ≤ S.faults store.new }
-{
-    let loaded = match Head::load(store, base) {
-        Ok(loaded) => loaded,
-        Err(refusal) => return Err(Fault::from(refusal)),
-    };
-    let head = match loaded {
-        Some(head) => head,
-        None => return Err(Fault::NotBuilt),
-    };
-    match check_set(alloc, store, base, &head) {
-        Ok(()) => Ok(Found {
-            documents: head.documents,
-            bytes: head.collection,
-        }),
-        Err(refusal) => Err(Fault::from(refusal)),
-    }
-}
-
 /// Sees whether the set under a base stands for a collection, and answers how large that is.
 ///
 /// Nothing that the files hold is trusted: the text is decoded and coded anew, and every other part is compared with what
@@ -73,4 +48,29 @@ pub fn check<S: Store>(alloc: Global, store: &mut S, base: &str) -> Result<Found
     ensures later { S.faults store.old ≤ S.faults store.new }
 {
     check_files(alloc, store, base)
+}
+
+// The same, with the clauses from which the others follow.
+fn check_files<S: Store>(alloc: Global, store: &mut S, base: &str) -> Result<Found, Fault>
+    ensures stands { IsSome (S.files store.old) → IfOk result (λ found. StandsWith (S.files store.old) base.now found.documents found.bytes) }
+    ensures cause { IfErr result (CheckStops (Rose (S.faults store.old) (S.faults store.new)) (S.files store.old) base.now) }
+    ensures early { IsSome (S.files store.old) → bytes_at (S.files store.old) (full_name base.now part.Head) ≡ [] → result ≢ Err fault.Memory }
+    ensures files { S.files store.new ≡ S.files store.old }
+    ensures later { S.faults store.old ≤ S.faults store.new }
+{
+    let loaded = match Head::load(store, base) {
+        Ok(loaded) => loaded,
+        Err(refusal) => return Err(Fault::from(refusal)),
+    };
+    let head = match loaded {
+        Some(head) => head,
+        None => return Err(Fault::NotBuilt),
+    };
+    match check_set(alloc, store, base, &head) {
+        Ok(()) => Ok(Found {
+            documents: head.documents,
+            bytes: head.collection,
+        }),
+        Err(refusal) => Err(Fault::from(refusal)),
+    }
 }

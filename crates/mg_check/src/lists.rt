@@ -2,10 +2,9 @@
 //!
 //! The lists of a range of terms are written into a store in memory, and its bytes are compared with those of Post and
 //! Skip behind what was compared before. On the way the lexicon gets what is to stand of each term.
-ghost use Rattle.std.specs.Prelude.{◌≡◌, ◌<◌, ◌≤◌, ◌+◌, ◌-◌, ◌*◌, ◌/◌, ◌^◌, ◌++◌, ◌∷◌, ℕ, List, [], IfErr, IfOk, IfSome, OnOk, IsSome, codes, length, slice_index};
+ghost use Rattle.std.specs.Prelude.{◌≡◌, ◌<◌, ◌≤◌, ◌+◌, ◌-◌, ◌*◌, ◌/◌, ◌^◌, ◌++◌, ◌∷◌, ℕ, List, [], IfErr, IfOk, IfSome, OnOk, IsSome, codes, length};
 ghost use Rattle.std.specs.Cmp.Lexicographic.{slice_cmp};
 ghost use Rattle.std.specs.List.Sorted.{IsStrictlySortedBy};
-ghost use Rattle.std.specs.Option.{is_some};
 ghost use Rattle.std.specs.Ordering.{nat_cmp};
 ghost use Rattle.mg_dev.specs.Bads.{IsNotBad};
 ghost use Rattle.mg_dev.specs.Names.{full_name};
@@ -13,9 +12,9 @@ ghost use Rattle.mg_dev.specs.PartCauses.{HasPartCause};
 ghost use Rattle.mg_dev.specs.declared.part.Part.TheVariants as part;
 ghost use Rattle.mg_defs.specs.declared.Posting.{Posting};
 ghost use Rattle.mg_defs.specs.Lists.{Rises, lists_bits, lists_entries};
-ghost use Rattle.mg_post.specs.Writing.{Pushed, SameFiles, Took, posting_of};
+ghost use Rattle.mg_post.specs.Writing.{Pushed, SameFiles, Took};
 ghost use Rattle.mg_layout.specs.Infos.{info_of};
-ghost use Rattle.mg_check.specs.Listing.{AreBehind, ArePlaces, AreRooms, CanCompare, CanList, CanPush, HasCompared, HasListed, IsLaidOut, IsNotDevice, IsRangeOf, ListsFollow, ListsStand, PushedMore, Refutes, room_at};
+ghost use Rattle.mg_check.specs.Listing.{AreBehind, ArePlaces, AreRooms, CanCompare, CanList, CanPush, HasCompared, HasListed, IsLaidOut, IsNotDevice, IsRangeOf, ListsFollow, ListsStand, PushedMore, Refutes};
 
 use crate::lexicon::Lexicon;
 use crate::postings::RangeLists;

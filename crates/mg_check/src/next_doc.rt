@@ -1,27 +1,24 @@
 //! One document more of a text that nothing is known of.
-ghost use Rattle.std.specs.Prelude.{◌≡◌, ◌≢◌, ◌+◌, ◌-◌, ◌*◌, ◌<◌, ◌≤◌, ◌^◌, ℕ, List, [], Err, IfErr, IfOk, IsSome, OnOk, get_or, length};
+ghost use Rattle.std.specs.Prelude.{◌≡◌, ◌≢◌, ◌+◌, ◌-◌, ◌*◌, ◌<◌, ◌≤◌, ◌^◌, ℕ, List, [], Err, IfErr, IsSome, OnOk, get_or, length};
 ghost use Rattle.mg_dev.specs.Bads.{IsNotBad};
 ghost use Rattle.mg_dev.specs.PartCauses.{HasPartCause};
 ghost use Rattle.mg_defs.specs.CodedText.{coded_size, place_bytes};
 ghost use Rattle.mg_defs.specs.Heads.{IsWithin};
 ghost use Rattle.mg_defs.specs.Means.{IsModel, StandForNone};
 ghost use Rattle.mg_defs.specs.Split.{IsDocument, documents};
-ghost use Rattle.mg_defs.specs.Vocabulary.{pieces_in};
-ghost use Rattle.mg_defs.specs.declared.Stream.TheVariants.{Words, Others};
 ghost use Rattle.mg_layout.specs.Contents.{StandAt};
 ghost use Rattle.mg_layout.specs.HeadAnswers.{fields_of};
 ghost use Rattle.mg_layout.specs.Stands.{parts_at};
 ghost use Rattle.mg_text.specs.Places.{place_width};
 ghost use Rattle.mg_text.specs.Reading.{SameText, TextFits, TextStands};
 ghost use Rattle.mg_check.specs.Checking.{FoundNext, HasAdded, HasRead, IsInRange, IsLoaded, IsNextDoc, OnBad};
-ghost use Rattle.mg_check.specs.Decoding.{Counted, HasRoom};
+ghost use Rattle.mg_check.specs.Decoding.{HasRoom};
 ghost use Rattle.mg_check.specs.Listing.{Refutes};
 
 use crate::code_doc::code_doc;
 use crate::held::Held;
 use crate::progress::Progress;
 use crate::read_doc::read_doc;
-use crate::uses::Uses;
 use crate::wanted::expect_more;
 use mg_dev::{Bad, FileRef, Part, PartErr, Store};
 use mg_fields::{eight_bytes, four_bytes};

@@ -2,14 +2,14 @@
 //!
 //! Nothing is trusted: a document is kept only once its own code was found in Text. At the end the parts that are read
 //! so far mean one collection, or the set stands for none.
-ghost use Rattle.std.specs.Prelude.{◌≡◌, ◌≢◌, ◌⊎◌, ◌+◌, ◌-◌, ◌*◌, ◌<◌, ◌≤◌, ◌^◌, ℕ, List, [], Err, IfOk, IsSome, OnErr, OnOk};
+ghost use Rattle.std.specs.Prelude.{◌≡◌, ◌<◌, ◌≤◌, ◌^◌, IfOk, IsSome, OnErr, OnOk};
 ghost use Rattle.mg_dev.specs.PartCauses.{HasPartCause};
 ghost use Rattle.mg_defs.specs.Heads.{IsWithin};
 ghost use Rattle.mg_defs.specs.Means.{IsModel, StandForNone};
 ghost use Rattle.mg_layout.specs.HeadAnswers.{fields_of};
 ghost use Rattle.mg_layout.specs.Stands.{parts_at};
-ghost use Rattle.mg_text.specs.Reading.{IsTextReader, SameText, TextFits};
-ghost use Rattle.mg_check.specs.Checking.{EndNumbers, FoundDocs, FoundText, HasRead, IsAtEnd, IsInRange, IsLoaded, OnBad};
+ghost use Rattle.mg_text.specs.Reading.{SameText, TextFits};
+ghost use Rattle.mg_check.specs.Checking.{EndNumbers, FoundDocs, FoundText, IsAtEnd, IsInRange, IsLoaded, OnBad};
 
 use crate::held::Held;
 use crate::next_doc::{expect_place, next_doc};

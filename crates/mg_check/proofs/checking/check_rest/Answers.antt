@@ -1,4 +1,4 @@
-use Rattle.std.proofs.Common.{arith, ◌≡◌, ◌≤◌, ◌∙◌, ℕ, List, Option, length, IfErr, OnOk, ap, sym, subst}
+use Rattle.std.proofs.Common.{arith, ◌≡◌, ◌∙◌, Option, length, IfErr, OnOk, ap, sym, subst}
 use Rattle.mg_dev.specs.Files.{Files}
 use Rattle.mg_defs.specs.CodedText.{TextCode}
 use Rattle.mg_defs.specs.Terms.{dictionary}

@@ -1,4 +1,4 @@
-use Rattle.std.proofs.Common.{arith, ◌≤◌, ◌∙◌}
+use Rattle.std.proofs.Common.{arith, ◌∙◌}
 use Rattle.mg_check.proofs.DocumentLaws.{caused_more}
 use Rattle.mg_check.proofs.RestLaws.{found-here, none-here, set-none, set-stands}
 use Rattle.mg_check.proofs.checking.check_set.Goals as goal

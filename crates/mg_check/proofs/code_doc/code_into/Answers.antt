@@ -1,9 +1,8 @@
-use Rattle.std.proofs.Common.{◌++◌, ◌+◌, ◌≡◌, [], ◌∷◌, ap, sym, ◌∙◌, List, ℕ, length, IsSome}
+use Rattle.std.proofs.Common.{◌++◌, ◌+◌, ◌≡◌, [], ap, sym, ◌∙◌, List, ℕ, length, IsSome}
 use Rattle.std.specs.List.{flat_map}
 use Rattle.mg_dev.specs.Files.{bytes_at}
 use Rattle.mg_dev.specs.Names.{full_name}
 use Rattle.mg_dev.specs.declared.part.Part.TheVariants as part
-use Rattle.mg_defs.specs.Bits.{Bits}
 use Rattle.mg_defs.specs.Codes.{gamma}
 use Rattle.mg_defs.specs.CodedText.{coded_pair}
 use Rattle.mg_defs.specs.Parse.{parse}

@@ -1,11 +1,7 @@
-use Rattle.std.proofs.Common.{arith, ◌≡◌, ◌≤◌, ◌∙◌, IsSome, sym, subst}
-use Rattle.mg_dev.specs.Causes.{Rose}
 use Rattle.mg_dev.specs.Files.{bytes_at}
 use Rattle.mg_dev.specs.Names.{full_name}
-use Rattle.mg_dev.specs.declared.fault.Fault.{Fault}
 use Rattle.mg_dev.specs.declared.part.Part.TheVariants as part
 use Rattle.mg_layout.specs.HeadAnswers.{fields_of}
-use Rattle.mg_check.specs.Found.{CheckStops}
 use Rattle.mg_check.proofs.DocumentLaws.{caused_more}
 use Rattle.mg_check.proofs.FoundLaws.{early-err, head-refused, loaded-head, no-head, set-found, set-none-here, set-refused, some-head}
 use Rattle.mg_check.proofs.found.check_files.Goals as goal

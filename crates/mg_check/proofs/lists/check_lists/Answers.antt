@@ -1,7 +1,7 @@
-use Rattle.std.proofs.Common.{◌≡◌, ◌+◌, ◌∙◌, ℕ, List, length, take, drop, refl, sym, ap, subst}
+use Rattle.std.proofs.Common.{length, take, drop}
 use Rattle.mg_defs.specs.Lists.{inverted}
 use Rattle.mg_check.specs.Listing.{ListsStand}
-use Rattle.mg_check.proofs.ComparedLaws.{agree_more, not_bad_refutes, own_cause, stand_follow}
+use Rattle.mg_check.proofs.ComparedLaws.{agree_more, own_cause, stand_follow}
 use Rattle.mg_check.proofs.LexiconLaws.{refutes_wider}
 use Rattle.mg_check.proofs.ListedLaws.{listed_none}
 use Rattle.mg_check.proofs.lists.check_lists.Goals as goal

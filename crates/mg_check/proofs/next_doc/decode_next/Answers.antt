@@ -1,5 +1,4 @@
-use Rattle.std.proofs.Common.{arith, ◌≡◌, ◌<◌, ◌≤◌, ◌+◌, ◌-◌, List, ℕ, [], refl, length, get_or}
-use Rattle.mg_defs.specs.Split.{documents}
+use Rattle.std.proofs.Common.{arith, refl}
 use Rattle.mg_check.proofs.DocumentLaws.{doc_of_reader}
 use Rattle.mg_check.proofs.NextLaws.{doc-fine, ok-so, room-for}
 use Rattle.mg_check.proofs.next_doc.decode_next.Goals as goal

@@ -1,4 +1,4 @@
-use Rattle.std.proofs.Common.{arith, ◌≡◌, ◌≤◌, ◌+◌, ◌∙◌, List, ℕ, length, ap, sym}
+use Rattle.std.proofs.Common.{arith, ◌≡◌, ◌≤◌, ◌+◌, ◌∙◌, length, ap, sym}
 use Rattle.mg_layout.specs.Stands.{parts_at}
 use Rattle.mg_check.specs.Checking.{IsNextDoc}
 use Rattle.mg_check.proofs.NextLaws.{both-ok, code-range, next-there, on-bad, other-next, range-next, refused-next, told-there}

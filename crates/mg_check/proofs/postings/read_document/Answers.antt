@@ -1,5 +1,4 @@
-use Rattle.std.proofs.Common.{rules, arith, ◌≡◌, ◌<◌, ◌≤◌, ◌+◌, ◌-◌, ◌^◌, ◌∙◌, ℕ, List, [], length, get_or, sym, ap, subst}
-use Rattle.mg_defs.specs.Means.{IsCodable}
+use Rattle.std.proofs.Common.{rules, arith, ◌<◌, ◌≤◌, ◌+◌, ◌-◌, [], length, get_or, sym, subst}
 use Rattle.mg_defs.specs.Split.{documents}
 use Rattle.mg_check.specs.Listing.{HasRoomFor, HoldsLists, lists_upto, with_document}
 use Rattle.mg_check.proofs.DocumentLaws.{counted_is, doc_of_reader, doc_short, holds_upto, known_is, range_in, room_upto}

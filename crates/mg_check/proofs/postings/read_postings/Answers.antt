@@ -1,9 +1,6 @@
-use Rattle.std.proofs.Common.{rules, arith, ◌≡◌, ◌<◌, ◌≤◌, ◌+◌, ◌∙◌, ℕ, List, length, sym, ap, subst}
-use Rattle.mg_defs.specs.Split.{documents}
-use Rattle.mg_model.specs.Terms.{terms_and_numbers}
-use Rattle.mg_check.specs.Listing.{HasRoomFor, lists_upto}
+use Rattle.std.proofs.Common.{arith, ◌+◌, ◌∙◌}
 use Rattle.mg_check.proofs.RangedLaws.{same_more}
-use Rattle.mg_check.proofs.DocumentLaws.{caused_more, room_for_all, room_stays, stands_on, text_more, upto_all}
+use Rattle.mg_check.proofs.DocumentLaws.{room_for_all, room_stays, stands_on, text_more, upto_all}
 use Rattle.mg_check.proofs.postings.read_postings.Goals as goal
 
 pub returns-in-Err-clause-never_bad : goal.returns-in-Err-clause-never_bad

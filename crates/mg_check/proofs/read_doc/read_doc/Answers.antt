@@ -1,4 +1,4 @@
-use Rattle.std.proofs.Common.{arith, ◌≡◌, ◌≤◌, ◌-◌, ◌∙◌, ap, length, get_or, List, ℕ, []}
+use Rattle.std.proofs.Common.{arith, ◌≡◌, ◌-◌, ◌∙◌, ap, length, get_or, []}
 use Rattle.mg_defs.specs.Split.{documents}
 use Rattle.mg_check.proofs.ReadLaws.{held-short, held-whole, part-not-bad}
 use Rattle.mg_check.proofs.read_doc.read_doc.Goals as goal

@@ -1,4 +1,4 @@
-use Rattle.std.proofs.Common.{arith, ◌≡◌, ◌≤◌, ◌<◌, ◌+◌, ◌∙◌, List, ℕ, [], length, ap, sym, subst, refl, IsSome}
+use Rattle.std.proofs.Common.{arith, ◌+◌, ◌∙◌, ℕ, ap, sym, subst, refl, IsSome}
 use Rattle.mg_defs.specs.CodedText.{TextCode}
 use Rattle.mg_defs.specs.Means.{IsModel}
 use Rattle.mg_layout.specs.Stands.{parts_at}

@@ -1,4 +1,4 @@
-use Rattle.std.proofs.Common.{◌≡◌, ◌∙◌, refl, sym, ap, subst, IsSome}
+use Rattle.std.proofs.Common.{◌∙◌, refl, sym, ap, subst, IsSome}
 use Rattle.mg_dev.specs.declared.part.Part.TheVariants.{LexAt}
 use Rattle.mg_dev.specs.Files.{bytes_at}
 use Rattle.mg_dev.specs.Names.{full_name}

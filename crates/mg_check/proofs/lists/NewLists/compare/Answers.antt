@@ -1,4 +1,4 @@
-use Rattle.std.proofs.Common.{◌≡◌, ◌+◌, ◌∙◌, ℕ, List, IsSome, length, refl, sym, ap, subst}
+use Rattle.std.proofs.Common.{◌+◌, ◌∙◌, ℕ, List, IsSome, length, refl, sym, ap, subst}
 use Rattle.mg_check.specs.Listing.{ListsFollow}
 use Rattle.mg_check.proofs.ComparedLaws.{both_follow, post_follows, post_is, skip_follows, skip_is}
 use Rattle.mg_check.proofs.LexiconLaws.{refutes_wider}

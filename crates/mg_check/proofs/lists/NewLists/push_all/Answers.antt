@@ -1,4 +1,4 @@
-use Rattle.std.proofs.Common.{arith, ◌≡◌, ◌+◌, ◌++◌, ◌∷◌, [], Some, take, drop, sym, subst}
+use Rattle.std.proofs.Common.{arith, Some, take, sym, subst}
 use Rattle.std.proofs.lemmas.List.{drop_more, take_more}
 use Rattle.mg_defs.specs.Lists.{Rises}
 use Rattle.mg_dev.specs.Shelf.{files_of}

@@ -1,4 +1,4 @@
-use Rattle.std.proofs.Common.{rules, arith, ◌≡◌, ◌<◌, ◌+◌, ◌++◌, ◌∷◌, ◌/◌, ◌^◌, ◌∙◌, ℕ, List, [], Some, length, take, drop, get_or, refl, sym, ap, subst}
+use Rattle.std.proofs.Common.{rules, arith, ◌<◌, ◌+◌, ◌++◌, ◌∷◌, ◌/◌, ◌^◌, ◌∙◌, List, [], Some, length, take, drop, get_or, sym, ap, subst}
 use Rattle.std.specs.Prelude.{slice_get}
 use Rattle.std.proofs.lemmas.Option.{slice_get-get_or}
 use Rattle.mg_dev.specs.Shelf.{files_of}
