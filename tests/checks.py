@@ -13,7 +13,7 @@ sys.path.insert(0, str(pathlib.Path(__file__).parent / "reference"))
 from damages import LINES, damaged
 from files import BUDGET, K, put_set, remove
 from kinds import Draws, cases
-from parts import ENDINGS, Damaged, build
+from parts import ENDINGS, Damaged, all_parts, build, models
 from standing import check, write_parts
 from texts import Collection
 
@@ -23,6 +23,8 @@ PARTS_OF_A_SET = ENDINGS[:11]
 # Where a head of each version has how many occurrences a run takes at most.
 CAP_AT = {1: 24, 2: 24}
 DAMAGES = 500
+# Lengths of codewords for the others of K, in the order of their bytes: a tie of Huffman's method, and a good code that costs more.
+OTHER_LENGTHS = {"of the same cost": (2, 1, 4, 4, 3), "of a greater cost": (1, 2, 3, 4, 4)}
 
 
 def line_of(data):
@@ -95,6 +97,10 @@ def changed_sets(suite):
             compare(suite, f"a byte behind {ending}", sound | {ending: sound[ending] + b"\0"})
             compare(suite, f"{ending} without its last byte", sound | {ending: sound[ending][:-1]})
             compare(suite, f"{ending} of another collection", sound | {ending: other[ending]})
+        words, others = models(Collection(K))
+        for name, lengths in OTHER_LENGTHS.items():
+            parts = all_parts(Collection(K), BUDGET // 12, version, words, dict(zip(others, lengths)))
+            compare(suite, f"lengths {name}", parts)
         for cap in (341, 342, 4096, 89_478_485, 340, 89_478_486):
             compare(suite, f"runs of at most {cap}", with_bytes(sound, "head", CAP_AT[version], cap.to_bytes(4, "big")))
     eight = build(Collection(EIGHT), BUDGET, 2)
