@@ -51,7 +51,7 @@ def readme(suite):
         for name in ["contrib", "docs", "examples", "Makefile"]:
             (suite.folder / folder / name).symlink_to(ROOT / name)
         count = sum(run_block(suite, "README.md", block, folder) for block in markdown_blocks(ROOT / "README.md"))
-        suite.check("commands of README.md", count, 10)
+        suite.check("commands of README.md", count, 11)
 
 
 PARTS = [questions, readme]
