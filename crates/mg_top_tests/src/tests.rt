@@ -164,7 +164,7 @@ fn other_words_are_not_understood(rt: HostRuntime) -> Result<(), Fail> {
         &["scan", "-h"],
         &["scan", "text", "more"],
         &["Scan", "text"],
-        &["check", "text"],
+        &["check", "text", "more"],
     ];
     for given in rows {
         let left = ran(rt.alloc(), given, LETTERS, b"cat\n")?;
