@@ -18,8 +18,10 @@ pub fn no_code_is_a_front()
 pub fn one_answer()
     ensures unary { (limit : ℕ) (bits : Bits) (a b : Answer) → Answers (UpTo limit) unary bits a → Answers (UpTo limit) unary bits b → a ≡ b }
     ensures gamma { (limit : ℕ) (bits : Bits) (a b : Answer) → limit < 2 ^ 64 → Answers (UpTo limit) gamma bits a → Answers (UpTo limit) gamma bits b → a ≡ b }
-    ensures short { (p : ℕ) (bits : Bits) (a b : Answer) → 1 ≤ p → p ≤ 2 ^ 64 → Answers (Below p) (short p) bits a → Answers (Below p) (short p) bits b → a ≡ b }
-    ensures golomb { (p limit : ℕ) (bits : Bits) (a b : Answer) → 1 ≤ p → p ≤ 2 ^ 64 → Answers (UpTo limit) (golomb p) bits a → Answers (UpTo limit) (golomb p) bits b → a ≡ b }
+    ensures short { (p : ℕ) (bits : Bits) (a b : Answer) → 1 ≤ p → p ≤ 2 ^ 64 → Answers (Below p) (short p) bits a →
+        Answers (Below p) (short p) bits b → a ≡ b }
+    ensures golomb { (p limit : ℕ) (bits : Bits) (a b : Answer) → 1 ≤ p → p ≤ 2 ^ 64 → Answers (UpTo limit) (golomb p) bits a →
+        Answers (UpTo limit) (golomb p) bits b → a ≡ b }
 {}
 
 /// The pages with a bit of a range go from the page of its first bit to that of its last.

@@ -6,7 +6,8 @@ ghost use Rattle.mg_defs.specs.Numbers.{four};
 /// The decoder reads what the encoder writes: an entry that stands first is read with its size,
 /// what is read stands first, and nothing is read exactly where no entry stands first.
 pub fn entries_are_read()
-    ensures written { (width i : ℕ) (before : List ℕ) (e : Entry) (rest : List ℕ) → IsEntry width i before e → read_entry width i before (entry_bytes i before e ++ rest) ≡ Some (record { entry = e; size = length (entry_bytes i before e) }) }
+    ensures written { (width i : ℕ) (before : List ℕ) (e : Entry) (rest : List ℕ) → IsEntry width i before e →
+        read_entry width i before (entry_bytes i before e ++ rest) ≡ Some (record { entry = e; size = length (entry_bytes i before e) }) }
     ensures read { (width i : ℕ) (before bytes : List ℕ) (it : Found) → read_entry width i before bytes ≡ Some it → StandsFirst width i before bytes it }
     ensures none { (width i : ℕ) (before bytes : List ℕ) → (read_entry width i before bytes ≡ None) ↔ NoEntry width i before bytes }
 {}
@@ -18,7 +19,8 @@ pub fn one_front()
 
 /// The strings of entries rise, so that each stands once.
 pub fn strings_rise()
-    ensures { (width : ℕ) (es : List Entry) (j k : ℕ) (d e : Entry) → AreEntries width 0 [] es → j < k → slice_get es j ≡ Some d → slice_get es k ≡ Some e → is_below d.string e.string ≡ true }
+    ensures { (width : ℕ) (es : List Entry) (j k : ℕ) (d e : Entry) → AreEntries width 0 [] es → j < k → slice_get es j ≡ Some d → slice_get es k ≡ Some e →
+        is_below d.string e.string ≡ true }
 {}
 
 /// What two strings share is the length of their longest common front: they are the same up to it, it is
@@ -34,6 +36,7 @@ pub fn longest_shared()
 /// four bytes. A part begins with the bytes of its first entries, however many, so that they end there.
 pub fn whole_entries_have_places()
     ensures size { (es : List Entry) → length (whole_at es) ≡ 4 * ((length es + 3) / 4) }
-    ensures place { (es : List Entry) (block : ℕ) → 4 * block < length es → take 4 (drop (4 * block) (whole_at es)) ≡ four (length (front (take (4 * block) es))) }
+    ensures place { (es : List Entry) (block : ℕ) → 4 * block < length es →
+        take 4 (drop (4 * block) (whole_at es)) ≡ four (length (front (take (4 * block) es))) }
     ensures begins { (es : List Entry) (j : ℕ) → take (length (front (take j es))) (front es) ≡ front (take j es) }
 {}

@@ -10,5 +10,6 @@ pub fn one_head()
 /// Bytes have no damage exactly where they are a head.
 pub fn damage_decides()
     ensures none { (low high : ℕ) (bytes : List ℕ) (h : Head) → IsHead low high bytes h → first_damage low high bytes ≡ None }
-    ensures head { (low high : ℕ) (bytes : List ℕ) → 1 ≤ low → high ≤ 2 → ((i : ℕ) → slice_index bytes i < 256) → first_damage low high bytes ≡ None → IsHead low high bytes (read_head bytes) }
+    ensures head { (low high : ℕ) (bytes : List ℕ) → 1 ≤ low → high ≤ 2 → ((i : ℕ) → slice_index bytes i < 256) → first_damage low high bytes ≡ None →
+        IsHead low high bytes (read_head bytes) }
 {}

@@ -7,7 +7,8 @@ ghost use Rattle.mg_defs.specs.Split.{documents};
 
 /// The bits of a list's block stand at its first bit, read from the last document before it.
 pub fn block_stands()
-    ensures { (b : ℕ) (ps : List Posting) (k : ℕ) (bits : Bits) → Begins (bits_after b 0 ps) bits → Begins (bits_after b (doc_before (64 * k) ps) (block_of k ps)) (drop (bits_before b (64 * k) ps) bits) }
+    ensures { (b : ℕ) (ps : List Posting) (k : ℕ) (bits : Bits) → Begins (bits_after b 0 ps) bits →
+        Begins (bits_after b (doc_before (64 * k) ps) (block_of k ps)) (drop (bits_before b (64 * k) ps) bits) }
 {}
 
 /// The range of one block holds each document up to the list's last.

@@ -15,7 +15,8 @@ ghost use Rattle.mg_defs.specs.RankedLines.{IsTermRefusedAfter, IsTermList, IsTe
 /// The tokens of a line are its longest runs of word bytes and its signs, from the front.
 pub fn token_runs()
     ensures none { (at : ℕ) → tokens_from at [] ≡ [] }
-    ensures run { (at b : ℕ) (w rest : List ℕ) → AllByRecursion (λ c. is_word_byte c ≡ true) (b ∷ w) → EndsBefore Words rest → tokens_from at (b ∷ (w ++ rest)) ≡ placed at (word (b ∷ w)) ∷ tokens_from (at + length (b ∷ w)) rest }
+    ensures run { (at b : ℕ) (w rest : List ℕ) → AllByRecursion (λ c. is_word_byte c ≡ true) (b ∷ w) → EndsBefore Words rest →
+        tokens_from at (b ∷ (w ++ rest)) ≡ placed at (word (b ∷ w)) ∷ tokens_from (at + length (b ∷ w)) rest }
     ensures other { (at b : ℕ) (rest : List ℕ) → is_word_byte b ≡ false → tokens_from at (b ∷ rest) ≡ onto_sign at (sign_of b) (tokens_from (at + 1) rest) }
 {}
 
@@ -32,8 +33,10 @@ pub fn one_query()
 
 /// Where none of the tokens before it is refused, a token meets at most one cause.
 pub fn one_cause()
-    ensures boolean { (before : List Placed) (t : Placed) (why other : Refusal) → NoneRefused IsRefusedAfter [] before → IsRefusedAfter before t why → IsRefusedAfter before t other → why ≡ other }
-    ensures ranked { (before : List Placed) (t : Placed) (why other : Refusal) → IsTermRefusedAfter before t why → IsTermRefusedAfter before t other → why ≡ other }
+    ensures boolean { (before : List Placed) (t : Placed) (why other : Refusal) → NoneRefused IsRefusedAfter [] before → IsRefusedAfter before t why →
+        IsRefusedAfter before t other → why ≡ other }
+    ensures ranked { (before : List Placed) (t : Placed) (why other : Refusal) → IsTermRefusedAfter before t why →
+        IsTermRefusedAfter before t other → why ≡ other }
 {}
 
 /// A line has one query or one refusal, and not both.

@@ -28,5 +28,6 @@ pub fn weight_is_root()
 pub fn one_ranking()
     ensures sorted { (collection : List ℕ) (query : List (List ℕ)) → AreSorted (by_score (hits collection query)) }
     ensures permutes { (collection : List ℕ) (query : List (List ℕ)) → IsPermutation (hits collection query) (by_score (hits collection query)) }
-    ensures only { (collection : List ℕ) (query : List (List ℕ)) (order : List Hit) → AreSorted order → IsPermutation (hits collection query) order → order ≡ by_score (hits collection query) }
+    ensures only { (collection : List ℕ) (query : List (List ℕ)) (order : List Hit) → AreSorted order → IsPermutation (hits collection query) order →
+        order ≡ by_score (hits collection query) }
 {}
