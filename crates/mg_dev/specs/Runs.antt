@@ -12,10 +12,24 @@ abbrev pub status_of : {T : Type 0} → Result T Fault → Status
 status_of (Ok value) = Done
 status_of (Err fault) = Stopped fault
 
+-- this refusal, unless the store fails or memory lacks
+abbrev pub RefusedFor : {T : Type 0} → Result T Fault → Fault → Type 0
+RefusedFor result fault = (result ≡ Err fault) ⊎ (result ≡ Err StoreFault) ⊎ (result ≡ Err Memory)
+
+-- it is done, or memory lacks
+abbrev pub IsDone : {T : Type 0} → Result T Fault → Type 0
+IsDone (Ok value) = Unit {0}
+IsDone (Err Memory) = Unit {0}
+IsDone (Err _) = ⊥
+
 -- this holds of the fault, if the run stopped
 abbrev pub IfStopped : Status → (Fault → Type 0) → Type 0
 IfStopped Done holds = Unit {0}
 IfStopped (Stopped fault) holds = holds fault
+
+-- it stopped for this fault, unless the store failed or memory was wanting
+abbrev pub StoppedFor : Status → Fault → Type 0
+StoppedFor status fault = (status ≡ Stopped fault) ⊎ (status ≡ Stopped StoreFault) ⊎ (status ≡ Stopped Memory)
 
 -- a run: its devices before it and after it, and the status
 pub record Run : Type 0 where
@@ -48,6 +62,6 @@ KeepsFiles run = KeptFiles run.store run.store_now
 abbrev pub Stops : Run → Fault → Type 0
 Stops run fault = run.status ≡ Stopped fault
 
--- it stopped for this fault, unless the store failed or memory was wanting
+-- the same of a run
 abbrev pub StopsUnless : Run → Fault → Type 0
-StopsUnless run fault = Stops run fault ⊎ Stops run StoreFault ⊎ Stops run Memory
+StopsUnless run fault = StoppedFor run.status fault

@@ -70,7 +70,8 @@ impl Sink for MemSink {
         ensures lack { HasLack (⟦<MemSink as Sink>⟧.lacks self.old) (⟦<MemSink as Sink>⟧.lacks self.new) result }
         ensures refused { IsSome (next_keep (sink_plan self.old)) → IsErr result }
         ensures failed { IsErrOf result PutErr.Failed → IsSome (next_keep (sink_plan self.old)) }
-        ensures kept { IsErrOf result PutErr.Failed → IfSome (next_keep (sink_plan self.old)) (λ keep. ⟦<MemSink as Sink>⟧.written self.new ≡ appended (⟦<MemSink as Sink>⟧.written self.old) (take keep piece.now)) }
+        ensures kept { IsErrOf result PutErr.Failed → IfSome (next_keep (sink_plan self.old)) (λ keep. ⟦<MemSink as Sink>⟧.written self.new
+            ≡ appended (⟦<MemSink as Sink>⟧.written self.old) (take keep piece.now)) }
         ensures memory { IsErrOf result PutErr.Memory → ⟦<MemSink as Sink>⟧.written self.new ≡ ⟦<MemSink as Sink>⟧.written self.old }
         ensures counted { AfterCall (sink_plan self.old) (sink_plan self.new) }
         ensures calm { result ≢ Err PutErr.Failed → ⟦<MemSink as Sink>⟧.faults self.new ≡ ⟦<MemSink as Sink>⟧.faults self.old }

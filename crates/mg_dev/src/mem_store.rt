@@ -143,7 +143,8 @@ impl Store for MemStore {
     }
 
     fn reset(&mut self, file: &FileRef<'_>) -> Result<(), PutErr>
-        ensures content { AfterReset (⟦<MemStore as Store>⟧.files self.old) (⟦<MemStore as Store>⟧.files self.new) (full_name file.now.base.now file.now.part) result }
+        ensures content { AfterReset (⟦<MemStore as Store>⟧.files self.old) (⟦<MemStore as Store>⟧.files self.new)
+            (full_name file.now.base.now file.now.part) result }
         ensures reads { SameReads (⟦<MemStore as Store>⟧.reads self.old) (⟦<MemStore as Store>⟧.reads self.new) }
         ensures cause { HasPutCause (⟦<MemStore as Store>⟧.faults self.old) (⟦<MemStore as Store>⟧.faults self.new) result }
         ensures planned { IsErrOf result PutErr.Failed ↔ IsSome (next_keep (store_plan self.old)) }
@@ -161,12 +162,14 @@ impl Store for MemStore {
     /// Where the append is to fail and there is no memory for the bytes that it keeps, it answers
     /// `Memory` and keeps none.
     fn append(&mut self, file: &FileRef<'_>, piece: &[u8]) -> Result<(), PutErr>
-        ensures content { AfterAppend (⟦<MemStore as Store>⟧.files self.old) (⟦<MemStore as Store>⟧.files self.new) (full_name file.now.base.now file.now.part) piece.now result }
+        ensures content { AfterAppend (⟦<MemStore as Store>⟧.files self.old) (⟦<MemStore as Store>⟧.files self.new)
+            (full_name file.now.base.now file.now.part) piece.now result }
         ensures reads { SameReads (⟦<MemStore as Store>⟧.reads self.old) (⟦<MemStore as Store>⟧.reads self.new) }
         ensures cause { HasPutCause (⟦<MemStore as Store>⟧.faults self.old) (⟦<MemStore as Store>⟧.faults self.new) result }
         ensures refused { IsSome (next_keep (store_plan self.old)) → IsErr result }
         ensures failed { IsErrOf result PutErr.Failed → IsSome (next_keep (store_plan self.old)) }
-        ensures kept { IsErrOf result PutErr.Failed → IfSome (next_keep (store_plan self.old)) (λ keep. ⟦<MemStore as Store>⟧.files self.new ≡ kept (⟦<MemStore as Store>⟧.files self.old) (full_name file.now.base.now file.now.part) (take keep piece.now)) }
+        ensures kept { IsErrOf result PutErr.Failed → IfSome (next_keep (store_plan self.old)) (λ keep. ⟦<MemStore as Store>⟧.files self.new
+            ≡ kept (⟦<MemStore as Store>⟧.files self.old) (full_name file.now.base.now file.now.part) (take keep piece.now)) }
         ensures memory { IsErrOf result PutErr.Memory → ⟦<MemStore as Store>⟧.files self.new ≡ ⟦<MemStore as Store>⟧.files self.old }
         ensures counted { AfterCall (store_plan self.old) (store_plan self.new) }
         ensures calm { result ≢ Err PutErr.Failed → ⟦<MemStore as Store>⟧.faults self.new ≡ ⟦<MemStore as Store>⟧.faults self.old }

@@ -138,7 +138,8 @@ impl Store for SureStore {
     }
 
     fn reset(&mut self, file: &FileRef<'_>) -> Result<(), PutErr>
-        ensures content { AfterReset (⟦<SureStore as Store>⟧.files self.old) (⟦<SureStore as Store>⟧.files self.new) (full_name file.now.base.now file.now.part) result }
+        ensures content { AfterReset (⟦<SureStore as Store>⟧.files self.old) (⟦<SureStore as Store>⟧.files self.new)
+            (full_name file.now.base.now file.now.part) result }
         ensures reads { SameReads (⟦<SureStore as Store>⟧.reads self.old) (⟦<SureStore as Store>⟧.reads self.new) }
         ensures cause { HasPutCause (⟦<SureStore as Store>⟧.faults self.old) (⟦<SureStore as Store>⟧.faults self.new) result }
         ensures sure { result ≢ Err PutErr.Failed }
@@ -152,7 +153,8 @@ impl Store for SureStore {
     }
 
     fn append(&mut self, file: &FileRef<'_>, piece: &[u8]) -> Result<(), PutErr>
-        ensures content { AfterAppend (⟦<SureStore as Store>⟧.files self.old) (⟦<SureStore as Store>⟧.files self.new) (full_name file.now.base.now file.now.part) piece.now result }
+        ensures content { AfterAppend (⟦<SureStore as Store>⟧.files self.old) (⟦<SureStore as Store>⟧.files self.new)
+            (full_name file.now.base.now file.now.part) piece.now result }
         ensures reads { SameReads (⟦<SureStore as Store>⟧.reads self.old) (⟦<SureStore as Store>⟧.reads self.new) }
         ensures cause { HasPutCause (⟦<SureStore as Store>⟧.faults self.old) (⟦<SureStore as Store>⟧.faults self.new) result }
         ensures sure { result ≢ Err PutErr.Failed }
