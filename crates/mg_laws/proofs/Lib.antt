@@ -22,4 +22,5 @@ pub mod PlainLaws
 pub mod RotationOrder
 pub mod SizeLaws
 pub mod SquareLaws
+pub mod TermLaws
 pub mod WholeBytes
