@@ -12,7 +12,8 @@ use mg_dev::{PutErr, Sink};
 impl Writer {
     /// Hands the text on where there is no room for another document.
     fn make_room<O: Sink>(&mut self, out: &mut O) -> Result<(), PutErr>
-        ensures handed { (old : Option (List ℕ)) (made : Made) → Handed old (O.written out.old) self.old made → MatchResult result (λ _. Handed old (O.written out.new) self.new made) (λ _. GrewByPrefix (O.written out.old) (O.written out.new) self.old.text.items) }
+        ensures handed { (old : Option (List ℕ)) (made : Made) → Handed old (O.written out.old) self.old made → MatchResult result
+            (λ _. Handed old (O.written out.new) self.new made) (λ _. GrewByPrefix (O.written out.old) (O.written out.new) self.old.text.items) }
         ensures room { OnOk result (length self.new.text.items + 867 ≤ 8192) }
         ensures cause { HasPutCause (O.faults out.old) (O.faults out.new) result }
         ensures lack { HasLack (O.lacks out.old) (O.lacks out.new) result }
