@@ -98,7 +98,8 @@ fn serve_line<O: Sink, A: Answerer>(
     requires short { length line.now ≤ 1024 }
     requires fits { A.fits (A.state answerer.old dev.old) }
     ensures fits { A.fits (A.state answerer.new dev.new) }
-    ensures after { A.after (A.state answerer.old dev.old) (A.state answerer.new dev.new) (asked_by now.old line.now (hears hearing (command line.now now.old))) }
+    ensures after { A.after (A.state answerer.old dev.old) (A.state answerer.new dev.new)
+        (asked_by now.old line.now (hears hearing (command line.now now.old))) }
     ensures text { (reply : Settings → List ℕ → List ℕ) → A.answers (A.state answerer.old dev.old) reply →
         AfterPut (O.written out.old) (O.written out.new) (text_of reply bad_command now.old line.now (hears hearing (command line.now now.old))) result }
     ensures settings { OnOk result (now.new ≡ settings_after now.old (hears hearing (command line.now now.old))) }
