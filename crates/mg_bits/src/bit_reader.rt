@@ -73,9 +73,11 @@ impl<F: Feed> BitReader<F> {
     #[inline]
     pub fn peek(&self) -> Option<u64>
         ensures below { IfSome result (λ next. next < 2 ^ 57) }
-        ensures told { (files : Option Files) → F.fits self.now.feed files → IfSome result (λ next. FromPlace ((F.feeding self.now.feed).source files) self.now.place (Begins (digits 57 next))) }
+        ensures told { (files : Option Files) → F.fits self.now.feed files →
+            IfSome result (λ next. FromPlace ((F.feeding self.now.feed).source files) self.now.place (Begins (digits 57 next))) }
         ensures held { IfSome result (λ next. HoldsBits (F.feeding self.now.feed) self.now.place 57) }
-        ensures some { (files : Option Files) → F.fits self.now.feed files → HasBits (F.feeding self.now.feed) files (8 * (self.now.place / 8)) 64 → IsSome result }
+        ensures some { (files : Option Files) → F.fits self.now.feed files →
+            HasBits (F.feeding self.now.feed) files (8 * (self.now.place / 8)) 64 → IsSome result }
     {
         match self.feed.word(self.place / 8) {
             Some(word) => Some(middle(word, (self.place % 8) as u32)),
@@ -91,11 +93,14 @@ impl<F: Feed> BitReader<F> {
         requires some { 0 < count }
         requires room { self.old.place % 8 + count ≤ 8 }
         ensures fits { F.fits self.new.feed (F.device dev.new).files }
-        ensures read { OnOk result (Read (F.feeding self.old.feed) (F.feeding self.new.feed) (F.device dev.old) (F.device dev.new) self.old.place (self.old.place + count)) }
-        ensures part { OnErr result (ReadPart (F.feeding self.old.feed) (F.feeding self.new.feed) (F.device dev.old) (F.device dev.new) self.old.place (self.old.place + count)) }
+        ensures read { OnOk result
+            (Read (F.feeding self.old.feed) (F.feeding self.new.feed) (F.device dev.old) (F.device dev.new) self.old.place (self.old.place + count)) }
+        ensures part { OnErr result
+            (ReadPart (F.feeding self.old.feed) (F.feeding self.new.feed) (F.device dev.old) (F.device dev.new) self.old.place (self.old.place + count)) }
         ensures place { MatchResult result (λ _. self.new.place ≡ self.old.place + count) (λ _. self.new.place ≡ self.old.place) }
         ensures below { IfOk result (λ value. value < 2 ^ count) }
-        ensures keeps { (F.feeding self.old.feed).held ≡ Some (page_of (F.feeding self.old.feed).page self.old.place) → (F.feeding self.new.feed).held ≡ (F.feeding self.old.feed).held }
+        ensures keeps { (F.feeding self.old.feed).held ≡ Some (page_of (F.feeding self.old.feed).page self.old.place) →
+            (F.feeding self.new.feed).held ≡ (F.feeding self.old.feed).held }
         ensures told { FromPlace ((F.feeding self.old.feed).source (F.device dev.old).files) self.old.place (AnswersPiece result self.old.place count) }
         ensures cause { DeviceCause result (F.device dev.old).faults (F.device dev.new).faults }
     {
@@ -118,8 +123,10 @@ impl<F: Feed> BitReader<F> {
         requires place { self.old.place + count < 2 ^ 64 }
         requires count { count ≤ 64 }
         ensures fits { F.fits self.new.feed (F.device dev.new).files }
-        ensures read { OnOk result (Read (F.feeding self.old.feed) (F.feeding self.new.feed) (F.device dev.old) (F.device dev.new) self.old.place (self.old.place + count)) }
-        ensures part { OnErr result (ReadPart (F.feeding self.old.feed) (F.feeding self.new.feed) (F.device dev.old) (F.device dev.new) self.old.place (self.old.place + count)) }
+        ensures read { OnOk result
+            (Read (F.feeding self.old.feed) (F.feeding self.new.feed) (F.device dev.old) (F.device dev.new) self.old.place (self.old.place + count)) }
+        ensures part { OnErr result
+            (ReadPart (F.feeding self.old.feed) (F.feeding self.new.feed) (F.device dev.old) (F.device dev.new) self.old.place (self.old.place + count)) }
         ensures place { MatchResult result (λ _. self.new.place ≡ self.old.place + count) (λ _. self.new.place ≡ self.old.place) }
         ensures below { IfOk result (λ value. value < 2 ^ count) }
         ensures told { FromPlace ((F.feeding self.old.feed).source (F.device dev.old).files) self.old.place (AnswersBits result self.old.place count) }
@@ -145,8 +152,10 @@ impl<F: Feed> BitReader<F> {
         requires place { self.old.place + count < 2 ^ 64 }
         requires count { count ≤ 64 }
         ensures fits { F.fits self.new.feed (F.device dev.new).files }
-        ensures read { OnOk result (Read (F.feeding self.old.feed) (F.feeding self.new.feed) (F.device dev.old) (F.device dev.new) self.old.place (self.old.place + count)) }
-        ensures part { OnErr result (ReadPart (F.feeding self.old.feed) (F.feeding self.new.feed) (F.device dev.old) (F.device dev.new) self.old.place (self.old.place + count)) }
+        ensures read { OnOk result
+            (Read (F.feeding self.old.feed) (F.feeding self.new.feed) (F.device dev.old) (F.device dev.new) self.old.place (self.old.place + count)) }
+        ensures part { OnErr result
+            (ReadPart (F.feeding self.old.feed) (F.feeding self.new.feed) (F.device dev.old) (F.device dev.new) self.old.place (self.old.place + count)) }
         ensures place { MatchResult result (λ _. self.new.place ≡ self.old.place + count) (λ _. self.new.place ≡ self.old.place) }
         ensures below { IfOk result (λ value. value < 2 ^ count) }
         ensures told { FromPlace ((F.feeding self.old.feed).source (F.device dev.old).files) self.old.place (AnswersBits result self.old.place count) }
@@ -180,8 +189,10 @@ impl<F: Feed> BitReader<F> {
         requires fits { F.fits self.old.feed (F.device dev.old).files }
         requires place { self.old.place + 1 < 2 ^ 64 }
         ensures fits { F.fits self.new.feed (F.device dev.new).files }
-        ensures read { OnOk result (Read (F.feeding self.old.feed) (F.feeding self.new.feed) (F.device dev.old) (F.device dev.new) self.old.place (self.old.place + 1)) }
-        ensures part { OnErr result (ReadPart (F.feeding self.old.feed) (F.feeding self.new.feed) (F.device dev.old) (F.device dev.new) self.old.place (self.old.place + 1)) }
+        ensures read { OnOk result
+            (Read (F.feeding self.old.feed) (F.feeding self.new.feed) (F.device dev.old) (F.device dev.new) self.old.place (self.old.place + 1)) }
+        ensures part { OnErr result
+            (ReadPart (F.feeding self.old.feed) (F.feeding self.new.feed) (F.device dev.old) (F.device dev.new) self.old.place (self.old.place + 1)) }
         ensures place { MatchResult result (λ _. self.new.place ≡ self.old.place + 1) (λ _. self.new.place ≡ self.old.place) }
         ensures told { FromPlace ((F.feeding self.old.feed).source (F.device dev.old).files) self.old.place (AnswersBit result self.old.place) }
         ensures cause { DeviceCause result (F.device dev.old).faults (F.device dev.new).faults }
@@ -198,8 +209,10 @@ impl<F: Feed> BitReader<F> {
         requires fits { F.fits self.old.feed (F.device dev.old).files }
         requires place { self.old.place + 1 < 2 ^ 64 }
         ensures fits { F.fits self.new.feed (F.device dev.new).files }
-        ensures read { OnOk result (Read (F.feeding self.old.feed) (F.feeding self.new.feed) (F.device dev.old) (F.device dev.new) self.old.place (self.old.place + 1)) }
-        ensures part { OnErr result (ReadPart (F.feeding self.old.feed) (F.feeding self.new.feed) (F.device dev.old) (F.device dev.new) self.old.place (self.old.place + 1)) }
+        ensures read { OnOk result
+            (Read (F.feeding self.old.feed) (F.feeding self.new.feed) (F.device dev.old) (F.device dev.new) self.old.place (self.old.place + 1)) }
+        ensures part { OnErr result
+            (ReadPart (F.feeding self.old.feed) (F.feeding self.new.feed) (F.device dev.old) (F.device dev.new) self.old.place (self.old.place + 1)) }
         ensures place { MatchResult result (λ _. self.new.place ≡ self.old.place + 1) (λ _. self.new.place ≡ self.old.place) }
         ensures told { FromPlace ((F.feeding self.old.feed).source (F.device dev.old).files) self.old.place (AnswersBit result self.old.place) }
         ensures cause { DeviceCause result (F.device dev.old).faults (F.device dev.new).faults }
@@ -224,7 +237,8 @@ impl<F: Feed> BitReader<F> {
     fn kept_bit(&mut self) -> Option<bool>
         requires place { self.old.place + 1 < 2 ^ 64 }
         ensures feed { self.new.feed ≡ self.old.feed }
-        ensures told { (files : Option Files) → F.fits self.old.feed files → IfSome result (λ bit. FromPlace ((F.feeding self.old.feed).source files) self.old.place (Begins (bit ∷ []))) }
+        ensures told { (files : Option Files) → F.fits self.old.feed files →
+            IfSome result (λ bit. FromPlace ((F.feeding self.old.feed).source files) self.old.place (Begins (bit ∷ []))) }
         ensures held { OnSome result (HoldsBits (F.feeding self.old.feed) self.old.place 1) }
         ensures some { OnSome result (self.new.place ≡ self.old.place + 1) }
         ensures none { IfNone result (self.new.place ≡ self.old.place) }

@@ -46,7 +46,8 @@ impl<'a> BitWriter<'a> {
         ensures holds { IfOk result (λ w. Holds w (S.files store.new)) }
         ensures held { IfOk result (λ w. length w.buffered < 32768) }
         ensures started { AfterStart (S.files store.old) (S.files store.new) (full_name file.entry.base.now file.entry.part) result }
-        ensures wrote { WroteTo (full_name file.entry.base.now file.entry.part) (S.files store.old) (S.files store.new) (S.reads store.old) (S.reads store.new) }
+        ensures wrote { WroteTo (full_name file.entry.base.now file.entry.part) (S.files store.old) (S.files store.new)
+            (S.reads store.old) (S.reads store.new) }
         ensures cause { HasPutCause (S.faults store.old) (S.faults store.new) result }
     {
         match PageWriter::start(alloc, store, file) {
@@ -117,7 +118,8 @@ impl<'a> BitWriter<'a> {
         ensures bits { OnOk result (WroteBits self.old self.new (S.files store.old) (S.files store.new) (digits (to_byte self.old.place) 0)) }
         ensures grew { GrewBits self.old.name (S.files store.old) (S.files store.new) (self.old.buffered ++ digits (to_byte self.old.place) 0) }
         ensures held { length self.new.buffered < 32768 }
-        ensures file { IsSome (S.files store.old) → OnOk result (bits_of (bytes_at (S.files store.new) self.old.name) ≡ bits_put self.old (S.files store.old) ++ digits (to_byte self.old.place) 0) }
+        ensures file { IsSome (S.files store.old) →
+            OnOk result (bits_of (bytes_at (S.files store.new) self.old.name) ≡ bits_put self.old (S.files store.old) ++ digits (to_byte self.old.place) 0) }
         ensures nothing { OnOk result (self.new.buffered ≡ []) }
         ensures name { self.new.name ≡ self.old.name }
         ensures wrote { WroteTo self.old.name (S.files store.old) (S.files store.new) (S.reads store.old) (S.reads store.new) }

@@ -36,14 +36,16 @@ pub trait Feed {
     /// The byte at a place, where the page that is held has it, and None elsewhere. The device is not
     /// asked.
     fn held_byte(&self, at: u64) -> Option<u8>
-        ensures told { (files : Option Files) → fits self.now files → IfSome result (λ byte. IfSome ((feeding self.now).source files) (λ bytes. Some byte ≡ slice_get bytes at)) }
+        ensures told { (files : Option Files) → fits self.now files →
+            IfSome result (λ byte. IfSome ((feeding self.now).source files) (λ bytes. Some byte ≡ slice_get bytes at)) }
         ensures held { OnSome result ((feeding self.now).held ≡ Some (page_of (feeding self.now).page (8 * at))) }
         ensures some { (files : Option Files) → fits self.now files → HasBits (feeding self.now) files (8 * at) 8 → IsSome result };
 
     /// The eight bytes from a place on as a number, the first of them highest, where the page that
     /// is held has them all, and None elsewhere. The device is not asked.
     fn word(&self, at: u64) -> Option<u64>
-        ensures told { (files : Option Files) → fits self.now files → IfSome result (λ word. FromPlace ((feeding self.now).source files) (8 * at) (Begins (digits 64 word))) }
+        ensures told { (files : Option Files) → fits self.now files →
+            IfSome result (λ word. FromPlace ((feeding self.now).source files) (8 * at) (Begins (digits 64 word))) }
         ensures held { IfSome result (λ word. HoldsBits (feeding self.now) (8 * at) 64) }
         ensures some { (files : Option Files) → fits self.now files → HasBits (feeding self.now) files (8 * at) 64 → IsSome result };
 

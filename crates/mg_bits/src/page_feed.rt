@@ -64,10 +64,13 @@ impl<'a, S: Store> PageFeed<'a, S> {
         requires fits { Fits self.old (S.files store.old) }
         ensures fits { Fits self.new (S.files store.new) }
         ensures file { SameFile self.old self.new }
-        ensures looked { Looked self.old.part (S.files store.old) (S.files store.new) (S.reads store.old) (S.reads store.new) (S.faults store.old) (S.faults store.new) }
+        ensures looked { Looked self.old.part (S.files store.old) (S.files store.new) (S.reads store.old) (S.reads store.new)
+            (S.faults store.old) (S.faults store.new) }
         ensures told { IsSome (S.files store.old) → IfOk result (λ byte. byte ≡ slice_get (bytes_at (S.files store.old) self.old.name) at) }
-        ensures calm { Calm (feeding_of 4096 self.old) (feeding_of 4096 self.new) (of_store (S.files store.old) (S.faults store.old) (S.reads store.old)) (of_store (S.files store.new) (S.faults store.new) (S.reads store.new)) }
-        ensures pages { ReadsWithin (feeding_of 4096 self.old) (feeding_of 4096 self.new) (of_store (S.files store.old) (S.faults store.old) (S.reads store.old)) (of_store (S.files store.new) (S.faults store.new) (S.reads store.new)) (8 * at) (8 * at + 1) }
+        ensures calm { Calm (feeding_of 4096 self.old) (feeding_of 4096 self.new) (of_store (S.files store.old) (S.faults store.old) (S.reads store.old))
+            (of_store (S.files store.new) (S.faults store.new) (S.reads store.new)) }
+        ensures pages { ReadsWithin (feeding_of 4096 self.old) (feeding_of 4096 self.new) (of_store (S.files store.old) (S.faults store.old)
+            (S.reads store.old)) (of_store (S.files store.new) (S.faults store.new) (S.reads store.new)) (8 * at) (8 * at + 1) }
         ensures held { IfOk result (λ byte. OnSome byte (self.new.held ≡ Some (page_of 4096 (8 * at)))) }
         ensures keeps { self.old.held ≡ Some (page_of 4096 (8 * at)) → self.new.held ≡ self.old.held }
         ensures cause { HasCause (S.faults store.old) (S.faults store.new) result }
@@ -87,10 +90,13 @@ impl<'a, S: Store> PageFeed<'a, S> {
         requires fits { Fits self.old (S.files store.old) }
         ensures fits { Fits self.new (S.files store.new) }
         ensures file { SameFile self.old self.new }
-        ensures looked { Looked self.old.part (S.files store.old) (S.files store.new) (S.reads store.old) (S.reads store.new) (S.faults store.old) (S.faults store.new) }
+        ensures looked { Looked self.old.part (S.files store.old) (S.files store.new) (S.reads store.old) (S.reads store.new)
+            (S.faults store.old) (S.faults store.new) }
         ensures told { IsSome (S.files store.old) → IfOk result (λ byte. byte ≡ slice_get (bytes_at (S.files store.old) self.old.name) at) }
-        ensures calm { Calm (feeding_of 4096 self.old) (feeding_of 4096 self.new) (of_store (S.files store.old) (S.faults store.old) (S.reads store.old)) (of_store (S.files store.new) (S.faults store.new) (S.reads store.new)) }
-        ensures pages { ReadsWithin (feeding_of 4096 self.old) (feeding_of 4096 self.new) (of_store (S.files store.old) (S.faults store.old) (S.reads store.old)) (of_store (S.files store.new) (S.faults store.new) (S.reads store.new)) (8 * at) (8 * at + 1) }
+        ensures calm { Calm (feeding_of 4096 self.old) (feeding_of 4096 self.new) (of_store (S.files store.old) (S.faults store.old) (S.reads store.old))
+            (of_store (S.files store.new) (S.faults store.new) (S.reads store.new)) }
+        ensures pages { ReadsWithin (feeding_of 4096 self.old) (feeding_of 4096 self.new) (of_store (S.files store.old) (S.faults store.old)
+            (S.reads store.old)) (of_store (S.files store.new) (S.faults store.new) (S.reads store.new)) (8 * at) (8 * at + 1) }
         ensures held { IfOk result (λ byte. OnSome byte (self.new.held ≡ Some (page_of 4096 (8 * at)))) }
         ensures keeps { self.old.held ≡ Some (page_of 4096 (8 * at)) → self.new.held ≡ self.old.held }
         ensures cause { HasCause (S.faults store.old) (S.faults store.new) result }
@@ -113,7 +119,8 @@ impl<'a, S: Store> PageFeed<'a, S> {
     /// The byte at a place, if the page that is held has it.
     #[inline]
     fn held_byte(&self, at: u64) -> Option<u8>
-        ensures told { (files : Option Files) → Fits self.now files → IfSome result (λ byte. IfSome ((feeding_of 4096 self.now).source files) (λ bytes. Some byte ≡ slice_get bytes at)) }
+        ensures told { (files : Option Files) → Fits self.now files →
+            IfSome result (λ byte. IfSome ((feeding_of 4096 self.now).source files) (λ bytes. Some byte ≡ slice_get bytes at)) }
         ensures held { OnSome result (self.now.held ≡ Some (page_of 4096 (8 * at))) }
         ensures some { (files : Option Files) → Fits self.now files → HasBits (feeding_of 4096 self.now) files (8 * at) 8 → IsSome result }
     {
@@ -127,7 +134,8 @@ impl<'a, S: Store> PageFeed<'a, S> {
     /// The eight bytes from a place on as a number, if the page that is held has them all.
     #[inline]
     fn held_word(&self, at: u64) -> Option<u64>
-        ensures told { (files : Option Files) → Fits self.now files → IfSome result (λ word. FromPlace ((feeding_of 4096 self.now).source files) (8 * at) (Begins (digits 64 word))) }
+        ensures told { (files : Option Files) → Fits self.now files →
+            IfSome result (λ word. FromPlace ((feeding_of 4096 self.now).source files) (8 * at) (Begins (digits 64 word))) }
         ensures held { IfSome result (λ word. HoldsBits (feeding_of 4096 self.now) (8 * at) 64) }
         ensures some { (files : Option Files) → Fits self.now files → HasBits (feeding_of 4096 self.now) files (8 * at) 64 → IsSome result }
     {
@@ -141,7 +149,8 @@ impl<'a, S: Store> PageFeed<'a, S> {
     /// The number of bytes of the file; a missing one has none.
     pub fn size(&mut self, store: &mut S) -> Result<u64, Failed>
         ensures same { self.new ≡ self.old }
-        ensures looked { Looked self.old.part (S.files store.old) (S.files store.new) (S.reads store.old) (S.reads store.new) (S.faults store.old) (S.faults store.new) }
+        ensures looked { Looked self.old.part (S.files store.old) (S.files store.new) (S.reads store.old) (S.reads store.new)
+            (S.faults store.old) (S.faults store.new) }
         ensures reads { SameReads (S.reads store.old) (S.reads store.new) }
         ensures told { IsSome (S.files store.old) → IfOk result (λ size. size ≡ length (bytes_at (S.files store.old) self.old.name)) }
         ensures cause { HasCause (S.faults store.old) (S.faults store.new) result }
@@ -174,9 +183,11 @@ impl<'a, S: Store> PageFeed<'a, S> {
         requires place { at + length buf.old < 2 ^ 64 }
         ensures fits { Fits self.new (S.files store.new) }
         ensures file { SameFile self.old self.new }
-        ensures looked { Looked self.old.part (S.files store.old) (S.files store.new) (S.reads store.old) (S.reads store.new) (S.faults store.old) (S.faults store.new) }
+        ensures looked { Looked self.old.part (S.files store.old) (S.files store.new) (S.reads store.old) (S.reads store.new)
+            (S.faults store.old) (S.faults store.new) }
         ensures told { IsSome (S.files store.old) → IfOk result (λ whole. IsFilled whole buf.new at (bytes_at (S.files store.old) self.old.name)) }
-        ensures part { ReadPart (feeding_of 4096 self.old) (feeding_of 4096 self.new) (of_store (S.files store.old) (S.faults store.old) (S.reads store.old)) (of_store (S.files store.new) (S.faults store.new) (S.reads store.new)) (8 * at) (8 * (at + length buf.old)) }
+        ensures part { ReadPart (feeding_of 4096 self.old) (feeding_of 4096 self.new) (of_store (S.files store.old) (S.faults store.old) (S.reads store.old))
+            (of_store (S.files store.new) (S.faults store.new) (S.reads store.new)) (8 * at) (8 * (at + length buf.old)) }
         ensures held { IfOk result (λ whole. whole ≡ true → self.new.held ≡ held_after 4096 self.old.held (8 * at) (8 * (at + length buf.old))) }
         ensures cause { HasCause (S.faults store.old) (S.faults store.new) result }
     {
@@ -202,7 +213,8 @@ impl<'a, S: Store> PageFeed<'a, S> {
         requires from { from ≤ length buf.old }
         ensures length { length buf.new ≡ length buf.old }
         ensures within { from + result ≤ length buf.old }
-        ensures told { (files : Option Files) → Fits self.now files → IsSome files → take (from + result) buf.new ≡ take from buf.old ++ take result (drop at (bytes_at files self.now.name)) }
+        ensures told { (files : Option Files) → Fits self.now files → IsSome files →
+            take (from + result) buf.new ≡ take from buf.old ++ take result (drop at (bytes_at files self.now.name)) }
         ensures held { 0 < result → HoldsBits (feeding_of 4096 self.now) (8 * at) (8 * result) }
     {
         if !self.window.has(at) {

@@ -52,7 +52,8 @@ impl<'a> PageWriter<'a> {
         ensures empty { IsSome (S.files store.old) → IfOk result (λ w. put_to w (S.files store.new) ≡ []) }
         ensures page { IfOk result (λ w. length w.buffered < 4096) }
         ensures started { AfterStart (S.files store.old) (S.files store.new) (full_name file.entry.base.now file.entry.part) result }
-        ensures wrote { WroteTo (full_name file.entry.base.now file.entry.part) (S.files store.old) (S.files store.new) (S.reads store.old) (S.reads store.new) }
+        ensures wrote { WroteTo (full_name file.entry.base.now file.entry.part) (S.files store.old) (S.files store.new)
+            (S.reads store.old) (S.reads store.new) }
         ensures cause { HasPutCause (S.faults store.old) (S.faults store.new) result }
     {
         let page = vec![in alloc; 0; PAGE]?;

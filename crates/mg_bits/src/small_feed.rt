@@ -27,7 +27,8 @@ pub struct SmallFeed<'a, 'b, S> {
 impl<'a, 'b, S: Store> SmallFeed<'a, 'b, S> {
     /// A feed that holds no page.
     pub fn new(file: FileRef<'a>, slot: &'b mut [u8; 64]) -> Self
-        ensures feeding { ⟦<SmallFeed<'a, 'b, S> as Feed>⟧.feeding result ≡ over_file (full_name file.entry.base.now file.entry.part) file.entry.part 64 None 0 }
+        ensures feeding { ⟦<SmallFeed<'a, 'b, S> as Feed>⟧.feeding result
+            ≡ over_file (full_name file.entry.base.now file.entry.part) file.entry.part 64 None 0 }
         ensures fits { (files : Option Files) → ⟦<SmallFeed<'a, 'b, S> as Feed>⟧.fits result files }
     {
         SmallFeed {
@@ -46,7 +47,8 @@ impl<'a, 'b, S: Store> Feed for SmallFeed<'a, 'b, S> {
 
     ghost feeding = { λ s. over_file (full_name s.file.base.now s.file.part) s.file.part 64 s.window.held s.window.reads };
 
-    ghost fits = { λ s files. IsSome files → IsPageIn 64 s.window.held (take s.window.count s.slot.now) (bytes_at files (full_name s.file.base.now s.file.part)) };
+    ghost fits = { λ s files. IsSome files →
+        IsPageIn 64 s.window.held (take s.window.count s.slot.now) (bytes_at files (full_name s.file.base.now s.file.part)) };
 
     #[inline]
     fn byte(&mut self, dev: &mut S, at: u64) -> Result<Option<u8>, Failed> {

@@ -74,10 +74,12 @@ fn load<S: Store>(
     requires fits { length page.old * number < 2 ^ 64 }
     requires within { window.old.count ≤ length page.old }
     requires first { IsFirst window.old.held (length page.old) window.old.first window.old.count }
-    requires agrees { IsSome (S.files store.old) → IsPageIn (length page.old) window.old.held (take window.old.count page.old) (bytes_at (S.files store.old) (full_name file.now.base.now file.now.part)) }
+    requires agrees { IsSome (S.files store.old) → IsPageIn (length page.old) window.old.held (take window.old.count page.old)
+        (bytes_at (S.files store.old) (full_name file.now.base.now file.now.part)) }
     ensures within { window.new.count ≤ length page.new }
     ensures first { IsFirst window.new.held (length page.new) window.new.first window.new.count }
-    ensures agrees { IsSome (S.files store.new) → IsPageIn (length page.new) window.new.held (take window.new.count page.new) (bytes_at (S.files store.new) (full_name file.now.base.now file.now.part)) }
+    ensures agrees { IsSome (S.files store.new) → IsPageIn (length page.new) window.new.held (take window.new.count page.new)
+        (bytes_at (S.files store.new) (full_name file.now.base.now file.now.part)) }
     ensures calm { Calm (over_file (full_name file.now.base.now file.now.part) file.now.part (length page.old) window.old.held window.old.reads)
         (over_file (full_name file.now.base.now file.now.part) file.now.part (length page.old) window.new.held window.new.reads)
         (of_store (S.files store.old) (S.faults store.old) (S.reads store.old))
@@ -155,11 +157,14 @@ pub fn window_byte<S: Store>(
     requires some { 0 < length page.old }
     requires within { window.old.count ≤ length page.old }
     requires first { IsFirst window.old.held (length page.old) window.old.first window.old.count }
-    requires agrees { IsSome (S.files store.old) → IsPageIn (length page.old) window.old.held (take window.old.count page.old) (bytes_at (S.files store.old) (full_name file.now.base.now file.now.part)) }
+    requires agrees { IsSome (S.files store.old) → IsPageIn (length page.old) window.old.held (take window.old.count page.old)
+        (bytes_at (S.files store.old) (full_name file.now.base.now file.now.part)) }
     ensures within { window.new.count ≤ length page.new }
     ensures first { IsFirst window.new.held (length page.new) window.new.first window.new.count }
-    ensures agrees { IsSome (S.files store.new) → IsPageIn (length page.new) window.new.held (take window.new.count page.new) (bytes_at (S.files store.new) (full_name file.now.base.now file.now.part)) }
-    ensures told { IsSome (S.files store.old) → IfOk result (λ byte. byte ≡ slice_get (bytes_at (S.files store.old) (full_name file.now.base.now file.now.part)) at) }
+    ensures agrees { IsSome (S.files store.new) → IsPageIn (length page.new) window.new.held (take window.new.count page.new)
+        (bytes_at (S.files store.new) (full_name file.now.base.now file.now.part)) }
+    ensures told { IsSome (S.files store.old) →
+        IfOk result (λ byte. byte ≡ slice_get (bytes_at (S.files store.old) (full_name file.now.base.now file.now.part)) at) }
     ensures calm { Calm (over_file (full_name file.now.base.now file.now.part) file.now.part (length page.old) window.old.held window.old.reads)
         (over_file (full_name file.now.base.now file.now.part) file.now.part (length page.old) window.new.held window.new.reads)
         (of_store (S.files store.old) (S.faults store.old) (S.reads store.old))
