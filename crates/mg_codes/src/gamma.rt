@@ -73,7 +73,8 @@ pub fn get_gamma<F: Feed>(
     requires limit { limit < 2 ^ 48 }
     ensures fits { F.fits r.new.feed (F.device dev.new).files }
     ensures calm { Calm (F.feeding r.old.feed) (F.feeding r.new.feed) (F.device dev.old) (F.device dev.new) }
-    ensures read { IfOk result (λ x. Read (F.feeding r.old.feed) (F.feeding r.new.feed) (F.device dev.old) (F.device dev.new) r.old.place (r.old.place + length (gamma x))) }
+    ensures read { IfOk result
+        (λ x. Read (F.feeding r.old.feed) (F.feeding r.new.feed) (F.device dev.old) (F.device dev.new) r.old.place (r.old.place + length (gamma x))) }
     ensures pages { OnErr result (FromPlace ((F.feeding r.old.feed).source (F.device dev.old).files) r.old.place
         (OnlyPagesOf (UpTo limit) gamma (F.feeding r.old.feed) (F.feeding r.new.feed) (F.device dev.old) (F.device dev.new) r.old.place)) }
     ensures place { MatchResult result (λ x. r.new.place ≡ r.old.place + length (gamma x)) (λ _. r.new.place ≡ r.old.place) }
@@ -102,7 +103,8 @@ fn gamma_by_parts<F: Feed>(
     requires limit { limit < 2 ^ 48 }
     ensures fits { F.fits r.new.feed (F.device dev.new).files }
     ensures calm { Calm (F.feeding r.old.feed) (F.feeding r.new.feed) (F.device dev.old) (F.device dev.new) }
-    ensures read { IfOk result (λ x. Read (F.feeding r.old.feed) (F.feeding r.new.feed) (F.device dev.old) (F.device dev.new) r.old.place (r.old.place + length (gamma x))) }
+    ensures read { IfOk result
+        (λ x. Read (F.feeding r.old.feed) (F.feeding r.new.feed) (F.device dev.old) (F.device dev.new) r.old.place (r.old.place + length (gamma x))) }
     ensures pages { OnErr result (FromPlace ((F.feeding r.old.feed).source (F.device dev.old).files) r.old.place
         (OnlyPagesOf (UpTo limit) gamma (F.feeding r.old.feed) (F.feeding r.new.feed) (F.device dev.old) (F.device dev.new) r.old.place)) }
     ensures place { MatchResult result (λ x. r.new.place ≡ r.old.place + length (gamma x)) (λ _. r.new.place ≡ r.old.place) }

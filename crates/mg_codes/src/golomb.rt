@@ -83,11 +83,13 @@ pub fn get_golomb<F: Feed>(
     requires limit { limit < 2 ^ 48 }
     ensures fits { F.fits r.new.feed (F.device dev.new).files }
     ensures calm { Calm (F.feeding r.old.feed) (F.feeding r.new.feed) (F.device dev.old) (F.device dev.new) }
-    ensures read { IfOk result (λ x. Read (F.feeding r.old.feed) (F.feeding r.new.feed) (F.device dev.old) (F.device dev.new) r.old.place (r.old.place + length (golomb b x))) }
+    ensures read { IfOk result
+        (λ x. Read (F.feeding r.old.feed) (F.feeding r.new.feed) (F.device dev.old) (F.device dev.new) r.old.place (r.old.place + length (golomb b x))) }
     ensures pages { OnErr result (FromPlace ((F.feeding r.old.feed).source (F.device dev.old).files) r.old.place
         (OnlyPagesOf (UpTo limit) (golomb b) (F.feeding r.old.feed) (F.feeding r.new.feed) (F.device dev.old) (F.device dev.new) r.old.place)) }
     ensures place { MatchResult result (λ x. r.new.place ≡ r.old.place + length (golomb b x)) (λ _. r.new.place ≡ r.old.place) }
-    ensures told { FromPlace ((F.feeding r.old.feed).source (F.device dev.old).files) r.old.place (AnswersCode result (UpTo limit) (golomb b) limit r.old.place) }
+    ensures told { FromPlace ((F.feeding r.old.feed).source (F.device dev.old).files) r.old.place
+        (AnswersCode result (UpTo limit) (golomb b) limit r.old.place) }
     ensures range { IfOk result (λ x. UpTo limit x) }
     ensures cause { CodeCause result (F.device dev.old).faults (F.device dev.new).faults }
 {
@@ -115,11 +117,13 @@ fn golomb_by_parts<F: Feed>(
     requires limit { limit < 2 ^ 48 }
     ensures fits { F.fits r.new.feed (F.device dev.new).files }
     ensures calm { Calm (F.feeding r.old.feed) (F.feeding r.new.feed) (F.device dev.old) (F.device dev.new) }
-    ensures read { IfOk result (λ x. Read (F.feeding r.old.feed) (F.feeding r.new.feed) (F.device dev.old) (F.device dev.new) r.old.place (r.old.place + length (golomb b x))) }
+    ensures read { IfOk result
+        (λ x. Read (F.feeding r.old.feed) (F.feeding r.new.feed) (F.device dev.old) (F.device dev.new) r.old.place (r.old.place + length (golomb b x))) }
     ensures pages { OnErr result (FromPlace ((F.feeding r.old.feed).source (F.device dev.old).files) r.old.place
         (OnlyPagesOf (UpTo limit) (golomb b) (F.feeding r.old.feed) (F.feeding r.new.feed) (F.device dev.old) (F.device dev.new) r.old.place)) }
     ensures place { MatchResult result (λ x. r.new.place ≡ r.old.place + length (golomb b x)) (λ _. r.new.place ≡ r.old.place) }
-    ensures told { FromPlace ((F.feeding r.old.feed).source (F.device dev.old).files) r.old.place (AnswersCode result (UpTo limit) (golomb b) limit r.old.place) }
+    ensures told { FromPlace ((F.feeding r.old.feed).source (F.device dev.old).files) r.old.place
+        (AnswersCode result (UpTo limit) (golomb b) limit r.old.place) }
     ensures range { IfOk result (λ x. UpTo limit x) }
     ensures cause { CodeCause result (F.device dev.old).faults (F.device dev.new).faults }
 {

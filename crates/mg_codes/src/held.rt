@@ -103,7 +103,8 @@ pub fn golomb_here<F: Feed>(r: &BitReader<F>, b: u64, limit: u64) -> Option<Held
     ensures small { IfSome result (λ code. code.size ≤ 57) }
     ensures size { IfSome result (λ code. length (golomb b code.value) ≡ code.size) }
     ensures held { IfSome result (λ code. HoldsBits (F.feeding r.now.feed) r.now.place code.size) }
-    ensures told { (files : Option Files) → F.fits r.now.feed files → IfSome result (λ code. FromPlace ((F.feeding r.now.feed).source files) r.now.place (Begins (golomb b code.value))) }
+    ensures told { (files : Option Files) → F.fits r.now.feed files →
+        IfSome result (λ code. FromPlace ((F.feeding r.now.feed).source files) r.now.place (Begins (golomb b code.value))) }
 {
     let Some(next) = r.peek() else {
         return None;
@@ -124,7 +125,8 @@ pub fn gamma_here<F: Feed>(r: &BitReader<F>, limit: u64) -> Option<HeldCode>
     ensures small { IfSome result (λ code. code.size ≤ 57) }
     ensures size { IfSome result (λ code. length (gamma code.value) ≡ code.size) }
     ensures held { IfSome result (λ code. HoldsBits (F.feeding r.now.feed) r.now.place code.size) }
-    ensures told { (files : Option Files) → F.fits r.now.feed files → IfSome result (λ code. FromPlace ((F.feeding r.now.feed).source files) r.now.place (Begins (gamma code.value))) }
+    ensures told { (files : Option Files) → F.fits r.now.feed files →
+        IfSome result (λ code. FromPlace ((F.feeding r.now.feed).source files) r.now.place (Begins (gamma code.value))) }
 {
     let Some(next) = r.peek() else {
         return None;

@@ -98,11 +98,13 @@ pub fn get_below<F: Feed>(
     requires small { b < 2 ^ 48 }
     ensures fits { F.fits r.new.feed (F.device dev.new).files }
     ensures calm { Calm (F.feeding r.old.feed) (F.feeding r.new.feed) (F.device dev.old) (F.device dev.new) }
-    ensures read { IfOk result (λ x. Read (F.feeding r.old.feed) (F.feeding r.new.feed) (F.device dev.old) (F.device dev.new) r.old.place (r.old.place + length (short b x))) }
+    ensures read { IfOk result
+        (λ x. Read (F.feeding r.old.feed) (F.feeding r.new.feed) (F.device dev.old) (F.device dev.new) r.old.place (r.old.place + length (short b x))) }
     ensures pages { OnErr result (FromPlace ((F.feeding r.old.feed).source (F.device dev.old).files) r.old.place
         (OnlyPagesOf (Below bound) (short b) (F.feeding r.old.feed) (F.feeding r.new.feed) (F.device dev.old) (F.device dev.new) r.old.place)) }
     ensures place { MatchResult result (λ x. r.new.place ≡ r.old.place + length (short b x)) (λ _. r.new.place ≡ r.old.place) }
-    ensures told { FromPlace ((F.feeding r.old.feed).source (F.device dev.old).files) r.old.place (AnswersCode result (Below bound) (short b) bound r.old.place) }
+    ensures told { FromPlace ((F.feeding r.old.feed).source (F.device dev.old).files) r.old.place
+        (AnswersCode result (Below bound) (short b) bound r.old.place) }
     ensures range { IfOk result (λ x. x < bound) }
     ensures cause { CodeCause result (F.device dev.old).faults (F.device dev.new).faults }
     ensures over { OverBelow result bound b }
@@ -126,7 +128,8 @@ fn short_here<F: Feed>(r: &BitReader<F>, b: u64, bound: u64) -> Option<HeldCode>
     ensures size { IfSome result (λ code. length (short b code.value) ≡ code.size) }
     ensures small { IfSome result (λ code. code.size ≤ 48) }
     ensures held { IfSome result (λ code. HoldsBits (F.feeding r.now.feed) r.now.place code.size) }
-    ensures told { (files : Option Files) → F.fits r.now.feed files → IfSome result (λ code. FromPlace ((F.feeding r.now.feed).source files) r.now.place (Begins (short b code.value))) }
+    ensures told { (files : Option Files) → F.fits r.now.feed files →
+        IfSome result (λ code. FromPlace ((F.feeding r.now.feed).source files) r.now.place (Begins (short b code.value))) }
 {
     let size = code_size(b);
     if size == 0 {
@@ -183,11 +186,13 @@ fn below_by_bits<F: Feed>(
     requires small { b < 2 ^ 48 }
     ensures fits { F.fits r.new.feed (F.device dev.new).files }
     ensures calm { Calm (F.feeding r.old.feed) (F.feeding r.new.feed) (F.device dev.old) (F.device dev.new) }
-    ensures read { IfOk result (λ x. Read (F.feeding r.old.feed) (F.feeding r.new.feed) (F.device dev.old) (F.device dev.new) r.old.place (r.old.place + length (short b x))) }
+    ensures read { IfOk result
+        (λ x. Read (F.feeding r.old.feed) (F.feeding r.new.feed) (F.device dev.old) (F.device dev.new) r.old.place (r.old.place + length (short b x))) }
     ensures pages { OnErr result (FromPlace ((F.feeding r.old.feed).source (F.device dev.old).files) r.old.place
         (OnlyPagesOf (Below bound) (short b) (F.feeding r.old.feed) (F.feeding r.new.feed) (F.device dev.old) (F.device dev.new) r.old.place)) }
     ensures place { MatchResult result (λ x. r.new.place ≡ r.old.place + length (short b x)) (λ _. r.new.place ≡ r.old.place) }
-    ensures told { FromPlace ((F.feeding r.old.feed).source (F.device dev.old).files) r.old.place (AnswersCode result (Below bound) (short b) bound r.old.place) }
+    ensures told { FromPlace ((F.feeding r.old.feed).source (F.device dev.old).files) r.old.place
+        (AnswersCode result (Below bound) (short b) bound r.old.place) }
     ensures range { IfOk result (λ x. x < bound) }
     ensures cause { CodeCause result (F.device dev.old).faults (F.device dev.new).faults }
     ensures over { OverBelow result bound b }

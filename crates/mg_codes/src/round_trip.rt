@@ -10,5 +10,6 @@ pub fn what_was_put_is_got()
     ensures unary { (limit x : ℕ) (more : Bits) (a : Answer) → UpTo limit x → Answers (UpTo limit) unary (unary x ++ more) a → a ≡ value x }
     ensures gamma { (limit x : ℕ) (more : Bits) (a : Answer) → limit < 2 ^ 64 → UpTo limit x → Answers (UpTo limit) gamma (gamma x ++ more) a → a ≡ value x }
     ensures short { (b r : ℕ) (more : Bits) (a : Answer) → b ≤ 2 ^ 64 → r < b → Answers (Below b) (short b) (short b r ++ more) a → a ≡ value r }
-    ensures golomb { (b limit x : ℕ) (more : Bits) (a : Answer) → 1 ≤ b → b ≤ 2 ^ 64 → UpTo limit x → Answers (UpTo limit) (golomb b) (golomb b x ++ more) a → a ≡ value x }
+    ensures golomb { (b limit x : ℕ) (more : Bits) (a : Answer) → 1 ≤ b → b ≤ 2 ^ 64 → UpTo limit x →
+        Answers (UpTo limit) (golomb b) (golomb b x ++ more) a → a ≡ value x }
 {}

@@ -62,7 +62,8 @@ pub fn get_short<F: Feed>(r: &mut BitReader<F>, dev: &mut F::Dev, b: u64) -> Res
     requires small { b < 2 ^ 48 }
     ensures fits { F.fits r.new.feed (F.device dev.new).files }
     ensures calm { Calm (F.feeding r.old.feed) (F.feeding r.new.feed) (F.device dev.old) (F.device dev.new) }
-    ensures read { IfOk result (λ x. Read (F.feeding r.old.feed) (F.feeding r.new.feed) (F.device dev.old) (F.device dev.new) r.old.place (r.old.place + length (short b x))) }
+    ensures read { IfOk result
+        (λ x. Read (F.feeding r.old.feed) (F.feeding r.new.feed) (F.device dev.old) (F.device dev.new) r.old.place (r.old.place + length (short b x))) }
     ensures pages { OnErr result (FromPlace ((F.feeding r.old.feed).source (F.device dev.old).files) r.old.place
         (OnlyPagesOf (Below b) (short b) (F.feeding r.old.feed) (F.feeding r.new.feed) (F.device dev.old) (F.device dev.new) r.old.place)) }
     ensures place { MatchResult result (λ x. r.new.place ≡ r.old.place + length (short b x)) (λ _. r.new.place ≡ r.old.place) }

@@ -56,7 +56,8 @@ pub fn get_unary<F: Feed>(
     requires limit { limit < 2 ^ 48 }
     ensures fits { F.fits r.new.feed (F.device dev.new).files }
     ensures calm { Calm (F.feeding r.old.feed) (F.feeding r.new.feed) (F.device dev.old) (F.device dev.new) }
-    ensures read { IfOk result (λ x. Read (F.feeding r.old.feed) (F.feeding r.new.feed) (F.device dev.old) (F.device dev.new) r.old.place (r.old.place + length (unary x))) }
+    ensures read { IfOk result
+        (λ x. Read (F.feeding r.old.feed) (F.feeding r.new.feed) (F.device dev.old) (F.device dev.new) r.old.place (r.old.place + length (unary x))) }
     ensures pages { OnErr result (FromPlace ((F.feeding r.old.feed).source (F.device dev.old).files) r.old.place
         (OnlyPagesOf (UpTo limit) unary (F.feeding r.old.feed) (F.feeding r.new.feed) (F.device dev.old) (F.device dev.new) r.old.place)) }
     ensures place { MatchResult result (λ x. r.new.place ≡ r.old.place + length (unary x)) (λ _. r.new.place ≡ r.old.place) }
@@ -79,7 +80,8 @@ fn unary_here<F: Feed>(r: &BitReader<F>, limit: u64) -> Option<u64>
     ensures range { IfSome result (λ x. UpTo limit x) }
     ensures small { IfSome result (λ x. x ≤ 57) }
     ensures held { IfSome result (λ x. HoldsBits (F.feeding r.now.feed) r.now.place x) }
-    ensures told { (files : Option Files) → F.fits r.now.feed files → IfSome result (λ x. FromPlace ((F.feeding r.now.feed).source files) r.now.place (Begins (unary x))) }
+    ensures told { (files : Option Files) → F.fits r.now.feed files →
+        IfSome result (λ x. FromPlace ((F.feeding r.now.feed).source files) r.now.place (Begins (unary x))) }
 {
     let next = match r.peek() {
         Some(next) => next,
@@ -116,7 +118,8 @@ fn unary_by_bits<F: Feed>(
     requires limit { limit < 2 ^ 48 }
     ensures fits { F.fits r.new.feed (F.device dev.new).files }
     ensures calm { Calm (F.feeding r.old.feed) (F.feeding r.new.feed) (F.device dev.old) (F.device dev.new) }
-    ensures read { IfOk result (λ x. Read (F.feeding r.old.feed) (F.feeding r.new.feed) (F.device dev.old) (F.device dev.new) r.old.place (r.old.place + length (unary x))) }
+    ensures read { IfOk result
+        (λ x. Read (F.feeding r.old.feed) (F.feeding r.new.feed) (F.device dev.old) (F.device dev.new) r.old.place (r.old.place + length (unary x))) }
     ensures pages { OnErr result (FromPlace ((F.feeding r.old.feed).source (F.device dev.old).files) r.old.place
         (OnlyPagesOf (UpTo limit) unary (F.feeding r.old.feed) (F.feeding r.new.feed) (F.device dev.old) (F.device dev.new) r.old.place)) }
     ensures place { MatchResult result (λ x. r.new.place ≡ r.old.place + length (unary x)) (λ _. r.new.place ≡ r.old.place) }
