@@ -123,8 +123,10 @@ impl Canon {
         ensures read { IfOk result (λ s. Read (F.feeding reader.old.feed) (F.feeding reader.new.feed) (F.device dev.old) (F.device dev.new)
             reader.old.place (reader.old.place + length (codeword self.now s))) }
         ensures pages { OnErr result (FromPlace ((F.feeding reader.old.feed).source (F.device dev.old).files) reader.old.place
-            (OnlyPagesOf (Below (length self.now)) (codeword self.now) (F.feeding reader.old.feed) (F.feeding reader.new.feed) (F.device dev.old) (F.device dev.new) reader.old.place)) }
-        ensures place { MatchResult result (λ s. reader.new.place ≡ reader.old.place + length (codeword self.now s)) (λ _. reader.new.place ≡ reader.old.place) }
+            (OnlyPagesOf (Below (length self.now)) (codeword self.now) (F.feeding reader.old.feed) (F.feeding reader.new.feed) (F.device dev.old)
+            (F.device dev.new) reader.old.place)) }
+        ensures place { MatchResult result (λ s. reader.new.place
+            ≡ reader.old.place + length (codeword self.now s)) (λ _. reader.new.place ≡ reader.old.place) }
         ensures told { FromPlace ((F.feeding reader.old.feed).source (F.device dev.old).files) reader.old.place
             (AnswersCode result (Below (length self.now)) (codeword self.now) 1 reader.old.place) }
         ensures symbol { IfOk result (λ s. s < length self.now) }
@@ -231,8 +233,10 @@ impl Canon {
         ensures read { IfOk result (λ s. Read (F.feeding reader.old.feed) (F.feeding reader.new.feed) (F.device dev.old) (F.device dev.new)
             reader.old.place (reader.old.place + length (codeword self.now s))) }
         ensures pages { OnErr result (FromPlace ((F.feeding reader.old.feed).source (F.device dev.old).files) reader.old.place
-            (OnlyPagesOf (Below (length self.now)) (codeword self.now) (F.feeding reader.old.feed) (F.feeding reader.new.feed) (F.device dev.old) (F.device dev.new) reader.old.place)) }
-        ensures place { MatchResult result (λ s. reader.new.place ≡ reader.old.place + length (codeword self.now s)) (λ _. reader.new.place ≡ reader.old.place) }
+            (OnlyPagesOf (Below (length self.now)) (codeword self.now) (F.feeding reader.old.feed) (F.feeding reader.new.feed) (F.device dev.old)
+            (F.device dev.new) reader.old.place)) }
+        ensures place { MatchResult result (λ s. reader.new.place
+            ≡ reader.old.place + length (codeword self.now s)) (λ _. reader.new.place ≡ reader.old.place) }
         ensures told { FromPlace ((F.feeding reader.old.feed).source (F.device dev.old).files) reader.old.place
             (AnswersCode result (Below (length self.now)) (codeword self.now) 1 reader.old.place) }
         ensures symbol { IfOk result (λ s. s < length self.now) }
