@@ -115,7 +115,8 @@ impl Head {
     /// first damage where its bytes are no such head.
     pub fn load<S: Store>(store: &mut S, base: &str) -> Result<Option<Head>, PartErr>
         ensures answer { IsSome (S.files store.old) → AnswersHead 1 2 (bytes_at (S.files store.old) (full_name base.now part.Head)) result }
-        ensures back { IsSome (S.files store.old) → (h : defs.Head) → defs.IsHead 1 2 (bytes_at (S.files store.old) (full_name base.now part.Head)) h → AnswersBack h result }
+        ensures back { IsSome (S.files store.old) → (h : defs.Head) →
+            defs.IsHead 1 2 (bytes_at (S.files store.old) (full_name base.now part.Head)) h → AnswersBack h result }
         ensures within { AnswersWithin result }
         ensures files { S.files store.new ≡ S.files store.old }
         ensures reads { SameReads (S.reads store.old) (S.reads store.new) ⊎ OneRead (S.reads store.old) (S.reads store.new) part.Head }

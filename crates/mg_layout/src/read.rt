@@ -45,7 +45,8 @@ fn version_of(bytes: &[u8], low: u8, high: u8) -> Result<u8, Bad>
     requires long { 8 ≤ length bytes.now }
     requires low { low ≤ high }
     requires high { high ≤ 2 }
-    ensures { MatchResult result (λ version. (find defs.is_wrong (defs.magic_checks low high bytes.now) ≡ None) × (48 + version ≡ slice_index bytes.now 6)) (λ bad. TellsOf bad (find defs.is_wrong (defs.magic_checks low high bytes.now))) }
+    ensures { MatchResult result (λ version. (find defs.is_wrong (defs.magic_checks low high bytes.now) ≡ None) ×
+        (48 + version ≡ slice_index bytes.now 6)) (λ bad. TellsOf bad (find defs.is_wrong (defs.magic_checks low high bytes.now))) }
 {
     match pass_all(&magic_checks(bytes, low, high)) {
         Ok(()) => Ok(bytes[6] - b'0'),
@@ -85,7 +86,9 @@ fn byte_check(bytes: &[u8], at: usize, low: u8, high: u8) -> Check
 
 fn read_narrow(bytes: &[u8]) -> Result<Head, Bad>
     requires { length bytes.now ≡ 64 }
-    ensures { MatchResult result (λ head. (find defs.is_wrong (defs.first_checks (defs.limits 1) bytes.now ++ defs.narrow_checks bytes.now) ≡ None) × (fields_of head ≡ defs.narrow_head bytes.now)) (λ bad. TellsOf bad (find defs.is_wrong (defs.first_checks (defs.limits 1) bytes.now ++ defs.narrow_checks bytes.now))) }
+    ensures { MatchResult result (λ head. (find defs.is_wrong (defs.first_checks (defs.limits 1) bytes.now ++ defs.narrow_checks bytes.now) ≡ None) ×
+        (fields_of head ≡ defs.narrow_head bytes.now))
+        (λ bad. TellsOf bad (find defs.is_wrong (defs.first_checks (defs.limits 1) bytes.now ++ defs.narrow_checks bytes.now))) }
 {
     match pass_all(&first_checks(bytes, 1 << 20, 1 << 20)) {
         Ok(()) => {}
@@ -115,7 +118,9 @@ fn read_narrow(bytes: &[u8]) -> Result<Head, Bad>
 fn read_wide(bytes: &[u8], version: u8) -> Result<Head, Bad>
     requires long { length bytes.now ≡ 80 }
     requires version { 48 + version ≡ slice_index bytes.now 6 }
-    ensures { MatchResult result (λ head. (find defs.is_wrong (defs.first_checks (defs.limits 2) bytes.now ++ defs.wide_checks bytes.now) ≡ None) × (fields_of head ≡ defs.wide_head bytes.now)) (λ bad. TellsOf bad (find defs.is_wrong (defs.first_checks (defs.limits 2) bytes.now ++ defs.wide_checks bytes.now))) }
+    ensures { MatchResult result (λ head. (find defs.is_wrong (defs.first_checks (defs.limits 2) bytes.now ++ defs.wide_checks bytes.now) ≡ None) ×
+        (fields_of head
+        ≡ defs.wide_head bytes.now)) (λ bad. TellsOf bad (find defs.is_wrong (defs.first_checks (defs.limits 2) bytes.now ++ defs.wide_checks bytes.now))) }
 {
     match pass_all(&first_checks(bytes, 1 << 24, 1 << 22)) {
         Ok(()) => {}

@@ -11,10 +11,13 @@ ghost use Rattle.mg_layout.specs.declared.head.Head.{Head};
 /// A set that stands in a version stands. Whether it stands, and in which version, is told by its
 /// eleven files alone: other files may change.
 pub fn sets_stand()
-    ensures built { (version cap : ℕ) (files : Option Files) (base collection : List ℕ) → StandsIn version cap files base collection → Stands files base collection }
+    ensures built { (version cap : ℕ) (files : Option Files) (base collection : List ℕ) → StandsIn version cap files base collection →
+        Stands files base collection }
     ensures parts { (before now : Option Files) (base : List ℕ) → SameSet base before now → parts_at now base ≡ parts_at before base }
-    ensures stays { (before now : Option Files) (base collection : List ℕ) → SameSet base before now → Stands before base collection → Stands now base collection }
-    ensures stays_in { (version cap : ℕ) (before now : Option Files) (base collection : List ℕ) → SameSet base before now → StandsIn version cap before base collection → StandsIn version cap now base collection }
+    ensures stays { (before now : Option Files) (base collection : List ℕ) → SameSet base before now →
+        Stands before base collection → Stands now base collection }
+    ensures stays_in { (version cap : ℕ) (before now : Option Files) (base collection : List ℕ) → SameSet base before now →
+        StandsIn version cap before base collection → StandsIn version cap now base collection }
     ensures none { (before now : Option Files) (base : List ℕ) → SameSet base before now → StandsForNone before base → StandsForNone now base }
 {}
 
@@ -22,8 +25,10 @@ pub fn sets_stand()
 /// own under this head and one code. So a head that was loaded, and a code that the parts tell with it, are
 /// those of the collection.
 pub fn heads_tell_sets()
-    ensures loaded { (files : Option Files) (base collection : List ℕ) (head : Head) → Stands files base collection → IsHead 1 2 (parts_at files base).head (fields_of head) →
+    ensures loaded { (files : Option Files) (base collection : List ℕ) (head : Head) → Stands files base collection →
+        IsHead 1 2 (parts_at files base).head (fields_of head) →
         (code : TextCode) × StandsBy head code files base collection }
-    ensures told { (files : Option Files) (base collection : List ℕ) (head : Head) (code : TextCode) → Stands files base collection → Tell (parts_at files base) (fields_of head) code →
+    ensures told { (files : Option Files) (base collection : List ℕ) (head : Head) (code : TextCode) → Stands files base collection →
+        Tell (parts_at files base) (fields_of head) code →
         StandsBy head code files base collection }
 {}
