@@ -1,13 +1,11 @@
 -- The parts of one base.
-use Rattle.std.proofs.Common.{◌≡◌, ◌≢◌, ℕ, List, [], Some, refl, ap, ◌∙◌, IsSome, Ok, Err, ◌∷◌, ◌++◌, length, length-append, arith}
-use Rattle.mg_defs.specs.Bits.{Bits, bits_of}
-use Rattle.mg_defs.proofs.BitLaws.{length_bits_of}
+use Rattle.std.proofs.Common.{◌≡◌, ◌≢◌, ℕ, List, [], Some, ap, ◌∙◌, IsSome, Ok, Err}
 use Rattle.std.specs.Prelude.{OnOk}
 use Rattle.std.specs.declared.option.Option.{Option}
 use Rattle.std.specs.declared.result.Result.{Result}
 use Rattle.mg_dev.specs.declared.part.Part.{Part}
 use Rattle.mg_dev.specs.Names.{full_name, number}
-use Rattle.mg_dev.specs.Files.{Files, Reads, SameReads, AfterReset, file_at}
+use Rattle.mg_dev.specs.Files.{Files, Reads, SameReads, AfterReset, file_at, written}
 use Rattle.mg_dev.specs.Laws.{same_part_of_name, reset-others, reset-told, file_at-written}
 use Rattle.mg_bits.specs.Writer.{WroteTo}
 
@@ -23,13 +21,10 @@ reset_wrote name old new reads now r after same = record {
   reads = same;
 }
 
-pub reset_empty : {E : Type 0} (name : List ℕ) (old new : Option Files) (r : Result (Unit {0}) E) → AfterReset old new name r → IsSome old → OnOk r (file_at new name ≡ Some [])
-reset_empty name old new (Ok u) after told = ap (λ f. file_at f name) after ∙ file_at-written old name [] told
-reset_empty name old new (Err e) after told = tt
+-- a file is there and empty where its writer has started
+pub started_empty : (name : List ℕ) (old new : Option Files) → new ≡ written old name [] → IsSome old → file_at new name ≡ Some []
+started_empty name old new started told = ap (λ f. file_at f name) started ∙ file_at-written old name [] told
 
--- a file without bits has no bytes
-pub no_bytes : (bytes : List ℕ) (more : Bits) → bits_of bytes ++ more ≡ [] → bytes ≡ []
-no_bytes [] more e = refl
-no_bytes (byte ∷ bytes) more e =
-    let n : length (bits_of (byte ∷ bytes) ++ more) ≡ 0 = ap (λ l. length l) e in
-    absurd (omega (arith, n, length-append (bits_of (byte ∷ bytes)) more, length_bits_of (byte ∷ bytes)))
+pub reset_empty : {E : Type 0} (name : List ℕ) (old new : Option Files) (r : Result (Unit {0}) E) → AfterReset old new name r → IsSome old → OnOk r (file_at new name ≡ Some [])
+reset_empty name old new (Ok u) after told = started_empty name old new after told
+reset_empty name old new (Err e) after told = tt

@@ -87,7 +87,8 @@ pub fn spill<S: Store>(pool: &mut Pool, w: &mut BitWriter<'_>, store: &mut S) ->
 }
 
 impl<'a> Runs<'a> {
-    /// Takes a pool into which nothing was put before, and empties the parts of the runs.
+    /// Takes a pool into which nothing was put before. The parts of the runs are there and empty
+    /// then.
     pub fn start<S: Store>(
         alloc: Global,
         store: &mut S,
@@ -100,7 +101,7 @@ impl<'a> Runs<'a> {
         ensures fed { IfOk result (λ runs. IsFed runs (S.files store.new) []) }
         ensures pool { IfOk result (λ runs. runs.pool ≡ pool) }
         ensures base { IfOk result (λ runs. runs.base ≡ base.entry.now) }
-        ensures run { IsSome (S.files store.old) → OnOk result (bytes_at (S.files store.new) (full_name base.entry.now Part.Run) ≡ []) }
+        ensures run { IsSome (S.files store.old) → OnOk result (file_at (S.files store.new) (full_name base.entry.now Part.Run) ≡ Some []) }
         ensures merge_a { IsSome (S.files store.old) → OnOk result (file_at (S.files store.new) (full_name base.entry.now Part.MergeA) ≡ Some []) }
         ensures merge_b { IsSome (S.files store.old) → OnOk result (file_at (S.files store.new) (full_name base.entry.now Part.MergeB) ≡ Some []) }
         ensures others { (n : List ℕ) → n ≢ full_name base.entry.now Part.Run → n ≢ full_name base.entry.now Part.MergeA →

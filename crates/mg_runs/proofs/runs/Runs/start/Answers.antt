@@ -1,7 +1,7 @@
 use Rattle.std.proofs.Common.{arith, sym, ◌∙◌}
 use Rattle.mg_dev.specs.declared.part.Part.TheVariants.{Run, MergeA, MergeB}
 use Rattle.mg_runs.proofs.Feeding.{fed_start}
-use Rattle.mg_runs.proofs.Parts.{apart, no_bytes}
+use Rattle.mg_runs.proofs.Parts.{apart, started_empty}
 use Rattle.mg_runs.proofs.runs.Runs.start.Goals as goal
 
 pub returns-clause-fed : goal.returns-clause-fed
@@ -15,7 +15,7 @@ returns-clause-fed g c =
 
 pub returns-clause-run : goal.returns-clause-run
 returns-clause-run g c = λ told.
-    no_bytes _ _ (rw c.in-Ok.ensures.name at (c.in-Ok.ensures.empty (c.in_ok-reset_part-2.ensures.wrote.told ∙ c.in_ok-reset_part.ensures.wrote.told ∙ told)))
+    started_empty _ _ _ c.in-Ok.ensures.started (c.in_ok-reset_part-2.ensures.wrote.told ∙ c.in_ok-reset_part.ensures.wrote.told ∙ told)
 
 pub returns-clause-merge_a : goal.returns-clause-merge_a
 returns-clause-merge_a g c = λ told.
