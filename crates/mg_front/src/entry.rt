@@ -58,7 +58,8 @@ fn read_byte<S: Store>(
     requires fits { Fits feed.old (S.files store.old) }
     ensures fits { Fits feed.new (S.files store.new) }
     ensures file { SameFile feed.old feed.new }
-    ensures looked { Looked feed.old.part (S.files store.old) (S.files store.new) (S.reads store.old) (S.reads store.new) (S.faults store.old) (S.faults store.new) }
+    ensures looked { Looked feed.old.part (S.files store.old) (S.files store.new) (S.reads store.old) (S.reads store.new)
+        (S.faults store.old) (S.faults store.new) }
     ensures told { IsSome (S.files store.old) → IfOk result (λ byte. byte ≡ slice_get (bytes_at (S.files store.old) feed.old.name) at) }
     ensures read_on { IfOk result (λ byte. OnSome byte (ReadOn feed.old feed.new (S.reads store.old) (S.reads store.new) at (at + 1))) }
     ensures read_to { ReadTo feed.old (S.reads store.old) (S.reads store.new) at (at + 1) }
@@ -83,7 +84,8 @@ pub fn read_bytes<S: Store>(
     requires small { length out.old < 2 ^ 16 }
     ensures fits { Fits feed.new (S.files store.new) }
     ensures file { SameFile feed.old feed.new }
-    ensures looked { Looked feed.old.part (S.files store.old) (S.files store.new) (S.reads store.old) (S.reads store.new) (S.faults store.old) (S.faults store.new) }
+    ensures looked { Looked feed.old.part (S.files store.old) (S.files store.new) (S.reads store.old) (S.reads store.new)
+        (S.faults store.old) (S.faults store.new) }
     ensures told { IsSome (S.files store.old) → IfOk result (λ whole. IsPut whole out.old out.new from count at (bytes_at (S.files store.old) feed.old.name)) }
     ensures read_on { IfOk result (λ whole. whole ≡ true → ReadOn feed.old feed.new (S.reads store.old) (S.reads store.new) at (at + count)) }
     ensures read_to { ReadTo feed.old (S.reads store.old) (S.reads store.new) at (at + count) }
@@ -124,8 +126,10 @@ pub fn read_whole<S: Store>(
     requires place { at < 2 ^ 62 }
     ensures fits { Fits feed.new (S.files store.new) }
     ensures file { SameFile feed.old feed.new }
-    ensures looked { Looked feed.old.part (S.files store.old) (S.files store.new) (S.reads store.old) (S.reads store.new) (S.faults store.old) (S.faults store.new) }
-    ensures told { IsSome (S.files store.old) → IfOk result (λ size. read_whole width number (string_of before.now) (drop at (bytes_at (S.files store.old) feed.old.name)) ≡ found_of width out.new size) }
+    ensures looked { Looked feed.old.part (S.files store.old) (S.files store.new) (S.reads store.old) (S.reads store.new)
+        (S.faults store.old) (S.faults store.new) }
+    ensures told { IsSome (S.files store.old) → IfOk result
+        (λ size. read_whole width number (string_of before.now) (drop at (bytes_at (S.files store.old) feed.old.name)) ≡ found_of width out.new size) }
     ensures size { IfOk result (λ size. IfSome size (λ n. n ≤ 281)) }
     ensures read_on { IfOk result (λ size. IfSome size (λ n. ReadOn feed.old feed.new (S.reads store.old) (S.reads store.new) at (at + n))) }
     ensures read_to { ReadTo feed.old (S.reads store.old) (S.reads store.new) at (at + 281) }
@@ -174,8 +178,10 @@ pub fn read_cut<S: Store>(
     requires place { at < 2 ^ 62 }
     ensures fits { Fits feed.new (S.files store.new) }
     ensures file { SameFile feed.old feed.new }
-    ensures looked { Looked feed.old.part (S.files store.old) (S.files store.new) (S.reads store.old) (S.reads store.new) (S.faults store.old) (S.faults store.new) }
-    ensures told { IsSome (S.files store.old) → IfOk result (λ size. read_cut width (string_of before.now) (drop at (bytes_at (S.files store.old) feed.old.name)) ≡ found_of width out.new size) }
+    ensures looked { Looked feed.old.part (S.files store.old) (S.files store.new) (S.reads store.old) (S.reads store.new)
+        (S.faults store.old) (S.faults store.new) }
+    ensures told { IsSome (S.files store.old) →
+        IfOk result (λ size. read_cut width (string_of before.now) (drop at (bytes_at (S.files store.old) feed.old.name)) ≡ found_of width out.new size) }
     ensures size { IfOk result (λ size. IfSome size (λ n. n ≤ 281)) }
     ensures read_on { IfOk result (λ size. IfSome size (λ n. ReadOn feed.old feed.new (S.reads store.old) (S.reads store.new) at (at + n))) }
     ensures read_to { ReadTo feed.old (S.reads store.old) (S.reads store.new) at (at + 281) }
@@ -226,8 +232,10 @@ pub fn read_entry<S: Store>(
     requires place { at < 2 ^ 62 }
     ensures fits { Fits feed.new (S.files store.new) }
     ensures file { SameFile feed.old feed.new }
-    ensures looked { Looked feed.old.part (S.files store.old) (S.files store.new) (S.reads store.old) (S.reads store.new) (S.faults store.old) (S.faults store.new) }
-    ensures told { IsSome (S.files store.old) → IfOk result (λ size. read_entry width number (string_of before.now) (drop at (bytes_at (S.files store.old) feed.old.name)) ≡ found_of width out.new size) }
+    ensures looked { Looked feed.old.part (S.files store.old) (S.files store.new) (S.reads store.old) (S.reads store.new)
+        (S.faults store.old) (S.faults store.new) }
+    ensures told { IsSome (S.files store.old) → IfOk result
+        (λ size. read_entry width number (string_of before.now) (drop at (bytes_at (S.files store.old) feed.old.name)) ≡ found_of width out.new size) }
     ensures size { IfOk result (λ size. IfSome size (λ n. n ≤ 281)) }
     ensures read_on { IfOk result (λ size. IfSome size (λ n. ReadOn feed.old feed.new (S.reads store.old) (S.reads store.new) at (at + n))) }
     ensures read_to { ReadTo feed.old (S.reads store.old) (S.reads store.new) at (at + 281) }

@@ -12,7 +12,8 @@ ghost use Rattle.mg_front.specs.Walk.{Gave, Walking};
 pub fn fronts_stay()
     ensures took { (w : Fronting) (f g : Option Files) (es : List Entry) → is_some g ≡ is_some f → file_at g w.strings.name ≡ file_at f w.strings.name →
         ForSome w.places (λ places. file_at g places.name ≡ file_at f places.name) → Took w f es → Took w g es }
-    ensures gave { (w : Walking) (f g : Option Files) (es : List Entry) → is_some g ≡ is_some f → file_at g w.feed.name ≡ file_at f w.feed.name → Gave w f es → Gave w g es }
+    ensures gave { (w : Walking) (f g : Option Files) (es : List Entry) → is_some g ≡ is_some f →
+        file_at g w.feed.name ≡ file_at f w.feed.name → Gave w f es → Gave w g es }
     ensures fits { (r : Fronted) (f g : Option Files) → is_some g ≡ is_some f → file_at g r.strings.name ≡ file_at f r.strings.name →
         file_at g r.places.name ≡ file_at f r.places.name → FrontFits r f → FrontFits r g }
     ensures stands { (r : Fronted) (f g : Option Files) (es : List Entry) → is_some g ≡ is_some f → file_at g r.strings.name ≡ file_at f r.strings.name →

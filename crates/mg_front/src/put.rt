@@ -55,7 +55,8 @@ pub fn put_cut<S: Store>(
 ) -> Result<(), PutErr>
     requires short { length string.now ≤ 255 }
     requires within { from ≤ length string.now }
-    ensures bytes { OnOk result (Wrote strings.old strings.new (S.files store.old) (S.files store.new) (from ∷ (length string.now - from) ∷ (drop from string.now ++ field.now))) }
+    ensures bytes { OnOk result
+        (Wrote strings.old strings.new (S.files store.old) (S.files store.new) (from ∷ (length string.now - from) ∷ (drop from string.now ++ field.now))) }
     ensures wrote { WroteTo strings.old.name (S.files store.old) (S.files store.new) (S.reads store.old) (S.reads store.new) }
     ensures cause { HasPutCause (S.faults store.old) (S.faults store.new) result }
 {
@@ -78,7 +79,8 @@ pub fn put_entry<S: Store>(
 ) -> Result<u64, PutErr>
     requires short { length string.now ≤ 255 }
     requires field { length field.now ≤ 24 }
-    ensures bytes { OnOk result (Wrote strings.old strings.new (S.files store.old) (S.files store.new) (entry_bytes number before.now (record { string = string.now; field = field.now }))) }
+    ensures bytes { OnOk result (Wrote strings.old strings.new (S.files store.old) (S.files store.new)
+        (entry_bytes number before.now (record { string = string.now; field = field.now }))) }
     ensures size { IfOk result (λ size. size ≡ length (entry_bytes number before.now (record { string = string.now; field = field.now }))) }
     ensures most { IfOk result (λ size. size ≤ 281) }
     ensures wrote { WroteTo strings.old.name (S.files store.old) (S.files store.new) (S.reads store.old) (S.reads store.new) }

@@ -38,7 +38,8 @@ pub fn place_of<S: Store>(
     requires fits { Fits places.old (S.files store.old) }
     ensures fits { Fits places.new (S.files store.new) }
     ensures file { SameFile places.old places.new }
-    ensures looked { Looked places.old.part (S.files store.old) (S.files store.new) (S.reads store.old) (S.reads store.new) (S.faults store.old) (S.faults store.new) }
+    ensures looked { Looked places.old.part (S.files store.old) (S.files store.new) (S.reads store.old) (S.reads store.new)
+        (S.faults store.old) (S.faults store.new) }
     ensures told { IsSome (S.files store.old) → IfOk result (λ place. AnswersPlace place block (bytes_at (S.files store.old) places.old.name)) }
     ensures small { IfOk result (λ place. IfSome place (λ at. at < 2 ^ 32)) }
     ensures page { S.reads store.new places.old.part ≤ S.reads store.old places.old.part + 1 }
@@ -66,8 +67,10 @@ pub fn read_block<S: Store>(
     requires last { last < 4 }
     ensures fits { Fits strings.new (S.files store.new) }
     ensures file { SameFile strings.old strings.new }
-    ensures looked { Looked strings.old.part (S.files store.old) (S.files store.new) (S.reads store.old) (S.reads store.new) (S.faults store.old) (S.faults store.new) }
-    ensures told { IsSome (S.files store.old) → (es : List Entry) (block : ℕ) → IsFront width (bytes_at (S.files store.old) strings.old.name) es → from ≡ length (front (take (4 * block) es)) → 4 * block + last < length es →
+    ensures looked { Looked strings.old.part (S.files store.old) (S.files store.new) (S.reads store.old) (S.reads store.new)
+        (S.faults store.old) (S.faults store.new) }
+    ensures told { IsSome (S.files store.old) → (es : List Entry) (block : ℕ) → IsFront width (bytes_at (S.files store.old) strings.old.name) es →
+        from ≡ length (front (take (4 * block) es)) → 4 * block + last < length es →
         IfOk result (λ there. (there ≡ true) × (slice_get es (4 * block + last) ≡ Some (entry_of width out.new))) }
     ensures read_to { ReadTo strings.old (S.reads store.old) (S.reads store.new) from (from + 1124) }
     ensures cause { HasCause (S.faults store.old) (S.faults store.new) result }
@@ -113,8 +116,10 @@ fn scan_block<S: Store>(
     requires most { most ≤ 4 }
     ensures fits { Fits strings.new (S.files store.new) }
     ensures file { SameFile strings.old strings.new }
-    ensures looked { Looked strings.old.part (S.files store.old) (S.files store.new) (S.reads store.old) (S.reads store.new) (S.faults store.old) (S.faults store.new) }
-    ensures told { IsSome (S.files store.old) → (es : List Entry) (block : ℕ) → IsFront width (bytes_at (S.files store.old) strings.old.name) es → from ≡ length (front (take (4 * block) es)) → 4 * block + most ≤ length es →
+    ensures looked { Looked strings.old.part (S.files store.old) (S.files store.new) (S.reads store.old) (S.reads store.new)
+        (S.faults store.old) (S.faults store.new) }
+    ensures told { IsSome (S.files store.old) → (es : List Entry) (block : ℕ) → IsFront width (bytes_at (S.files store.old) strings.old.name) es →
+        from ≡ length (front (take (4 * block) es)) → 4 * block + most ≤ length es →
         IfOk result (λ scan. AnswersScan scan (4 * block) most string.now width out.new es) }
     ensures number { IfOk result (λ scan. IsInBlock scan most) }
     ensures read_to { ReadTo strings.old (S.reads store.old) (S.reads store.new) from (from + 1124) }
@@ -139,7 +144,8 @@ fn scan_block<S: Store>(
 
 // Compares the size of the places with that of a place for each whole entry.
 fn expect_places<S: Store>(store: &mut S, places: &FileRef<'_>, count: u32) -> Result<(), PartErr>
-    ensures answer { IsSome (S.files store.old) → AnswersPlaces places.now.part (places_size count) (bytes_at (S.files store.old) (full_name places.now.base.now places.now.part)) result }
+    ensures answer { IsSome (S.files store.old) →
+        AnswersPlaces places.now.part (places_size count) (bytes_at (S.files store.old) (full_name places.now.base.now places.now.part)) result }
     ensures memory { result ≢ Err PartErr.Memory }
     ensures files { S.files store.new ≡ S.files store.old }
     ensures reads { SameReads (S.reads store.old) (S.reads store.new) }
@@ -199,9 +205,12 @@ impl<'a, S: Store> FrontReader<'a, S> {
     ) -> Result<Self, PartErr>
         requires width { width ≤ 24 }
         ensures fits { IfOk result (λ reader. FrontFits reader (S.files store.new)) }
-        ensures reader { IfOk result (λ reader. IsReader reader (full_name strings.entry.base.now strings.entry.part) strings.entry.part (full_name places.entry.base.now places.entry.part) places.entry.part width count) }
-        ensures answer { IsSome (S.files store.old) → AnswersPlaces places.entry.part (places_size count) (bytes_at (S.files store.old) (full_name places.entry.base.now places.entry.part)) result }
-        ensures stands { (es : List Entry) → IsSome (S.files store.old) → bytes_at (S.files store.old) (full_name places.entry.base.now places.entry.part) ≡ whole_at es → length es ≡ count → IfErr result (λ refusal. IsNotBad refusal) }
+        ensures reader { IfOk result (λ reader. IsReader reader (full_name strings.entry.base.now strings.entry.part) strings.entry.part
+            (full_name places.entry.base.now places.entry.part) places.entry.part width count) }
+        ensures answer { IsSome (S.files store.old) →
+            AnswersPlaces places.entry.part (places_size count) (bytes_at (S.files store.old) (full_name places.entry.base.now places.entry.part)) result }
+        ensures stands { (es : List Entry) → IsSome (S.files store.old) → bytes_at (S.files store.old) (full_name places.entry.base.now places.entry.part)
+            ≡ whole_at es → length es ≡ count → IfErr result (λ refusal. IsNotBad refusal) }
         ensures files { S.files store.new ≡ S.files store.old }
         ensures reads { SameReads (S.reads store.old) (S.reads store.new) }
         ensures cause { HasPartCause (S.faults store.old) (S.faults store.new) result }
@@ -239,10 +248,12 @@ impl<'a, S: Store> FrontReader<'a, S> {
         requires below { i < self.old.count }
         ensures fits { FrontFits self.new (S.files store.new) }
         ensures same { SameParts self.old self.new }
-        ensures looked { LookedAt self.old.strings.part self.old.places.part (S.files store.old) (S.files store.new) (S.reads store.old) (S.reads store.new) (S.faults store.old) (S.faults store.new) }
+        ensures looked { LookedAt self.old.strings.part self.old.places.part (S.files store.old) (S.files store.new) (S.reads store.old) (S.reads store.new)
+            (S.faults store.old) (S.faults store.new) }
         ensures entry { (es : List Entry) → FrontStands self.old (S.files store.old) es → AnswersAt result self.old.width i out.new es }
         ensures memory { result ≢ Err PartErr.Memory }
-        ensures reads { same_part self.old.strings.part self.old.places.part ≡ false → ReadLooks self.old.strings.part self.old.places.part (S.reads store.old) (S.reads store.new) 1 }
+        ensures reads { same_part self.old.strings.part self.old.places.part ≡ false →
+            ReadLooks self.old.strings.part self.old.places.part (S.reads store.old) (S.reads store.new) 1 }
         ensures cause { HasPartCause (S.faults store.old) (S.faults store.new) result }
     {
         let place = match place_of(&mut self.places, store, i / 4) {
@@ -284,10 +295,12 @@ impl<'a, S: Store> FrontReader<'a, S> {
         requires fits { FrontFits self.old (S.files store.old) }
         ensures fits { FrontFits self.new (S.files store.new) }
         ensures same { SameParts self.old self.new }
-        ensures looked { LookedAt self.old.strings.part self.old.places.part (S.files store.old) (S.files store.new) (S.reads store.old) (S.reads store.new) (S.faults store.old) (S.faults store.new) }
+        ensures looked { LookedAt self.old.strings.part self.old.places.part (S.files store.old) (S.files store.new) (S.reads store.old) (S.reads store.new)
+            (S.faults store.old) (S.faults store.new) }
         ensures found { (es : List Entry) → FrontStands self.old (S.files store.old) es → AnswersFind result self.old.width string.now out.new es }
         ensures memory { result ≢ Err PartErr.Memory }
-        ensures reads { same_part self.old.strings.part self.old.places.part ≡ false → ReadLooks self.old.strings.part self.old.places.part (S.reads store.old) (S.reads store.new) (looks self.old.count) }
+        ensures reads { same_part self.old.strings.part self.old.places.part ≡ false →
+            ReadLooks self.old.strings.part self.old.places.part (S.reads store.old) (S.reads store.new) (looks self.old.count) }
         ensures cause { HasPartCause (S.faults store.old) (S.faults store.new) result }
     {
         let block = match self.block_of(store, string, out) {
@@ -308,11 +321,13 @@ impl<'a, S: Store> FrontReader<'a, S> {
         requires fits { FrontFits self.old (S.files store.old) }
         ensures fits { FrontFits self.new (S.files store.new) }
         ensures same { SameParts self.old self.new }
-        ensures looked { LookedAt self.old.strings.part self.old.places.part (S.files store.old) (S.files store.new) (S.reads store.old) (S.reads store.new) (S.faults store.old) (S.faults store.new) }
+        ensures looked { LookedAt self.old.strings.part self.old.places.part (S.files store.old) (S.files store.new) (S.reads store.old) (S.reads store.new)
+            (S.faults store.old) (S.faults store.new) }
         ensures found { (es : List Entry) → FrontStands self.old (S.files store.old) es → AnswersBlock result string.now es }
         ensures below { IfOk result (λ block. IfSome block (λ b. 4 * b < self.old.count)) }
         ensures memory { result ≢ Err PartErr.Memory }
-        ensures reads { same_part self.old.strings.part self.old.places.part ≡ false → ReadLooks self.old.strings.part self.old.places.part (S.reads store.old) (S.reads store.new) (halvings (div_ceil self.old.count 4)) }
+        ensures reads { same_part self.old.strings.part self.old.places.part ≡ false →
+            ReadLooks self.old.strings.part self.old.places.part (S.reads store.old) (S.reads store.new) (halvings (div_ceil self.old.count 4)) }
         ensures cause { HasPartCause (S.faults store.old) (S.faults store.new) result }
     {
         let mut low = 0u32;
@@ -345,10 +360,12 @@ impl<'a, S: Store> FrontReader<'a, S> {
         requires below { 4 * block < self.old.count }
         ensures fits { FrontFits self.new (S.files store.new) }
         ensures same { SameParts self.old self.new }
-        ensures looked { LookedAt self.old.strings.part self.old.places.part (S.files store.old) (S.files store.new) (S.reads store.old) (S.reads store.new) (S.faults store.old) (S.faults store.new) }
+        ensures looked { LookedAt self.old.strings.part self.old.places.part (S.files store.old) (S.files store.new) (S.reads store.old) (S.reads store.new)
+            (S.faults store.old) (S.faults store.new) }
         ensures found { (es : List Entry) → FrontStands self.old (S.files store.old) es → AnswersIn result block self.old.width string.now out.new es }
         ensures memory { result ≢ Err PartErr.Memory }
-        ensures reads { same_part self.old.strings.part self.old.places.part ≡ false → ReadLooks self.old.strings.part self.old.places.part (S.reads store.old) (S.reads store.new) 1 }
+        ensures reads { same_part self.old.strings.part self.old.places.part ≡ false →
+            ReadLooks self.old.strings.part self.old.places.part (S.reads store.old) (S.reads store.new) 1 }
         ensures cause { HasPartCause (S.faults store.old) (S.faults store.new) result }
     {
         let place = match place_of(&mut self.places, store, block) {

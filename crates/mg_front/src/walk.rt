@@ -42,7 +42,8 @@ impl<'a, S> Model for FrontWalk<'a, S> {
 
     ghost view = { λ w. record { feed = w.feed; width = w.width; count = w.count; done = w.done; place = w.place; last = string_of w.last } };
 
-    ghost invariant = { λ w. (w.width ≤ 24) × (w.done ≤ w.count) × (w.place ≤ 281 * w.done) × (w.feed.name ≡ full_name w.strings.base.now w.strings.part) × (w.feed.part ≡ w.strings.part) };
+    ghost invariant = { λ w. (w.width ≤ 24) × (w.done ≤ w.count) × (w.place ≤ 281 * w.done) × (w.feed.name ≡ full_name w.strings.base.now w.strings.part) ×
+        (w.feed.part ≡ w.strings.part) };
 }
 
 impl<'a, S: Store> FrontWalk<'a, S> {
@@ -81,14 +82,17 @@ impl<'a, S: Store> FrontWalk<'a, S> {
     /// calls together read each page at most once, up to the first refusal.
     pub fn next(&mut self, store: &mut S, out: &mut FrontEntry) -> Result<bool, PartErr>
         requires gave { (es : List Entry) × Gave self.old (S.files store.old) es }
-        ensures gave { (es : List Entry) → Gave self.old (S.files store.old) es → IfOk result (λ more. Gave self.new (S.files store.new) (with_next es more (entry_of self.old.width out.new))) }
+        ensures gave { (es : List Entry) → Gave self.old (S.files store.old) es →
+            IfOk result (λ more. Gave self.new (S.files store.new) (with_next es more (entry_of self.old.width out.new))) }
         ensures answer { IsSome (S.files store.old) → AnswersNext result self.old out.new (bytes_at (S.files store.old) self.old.feed.name) }
         ensures step { IfOk result (λ more. AfterNext more self.old self.new) }
         ensures same { SameWalk self.old self.new }
-        ensures looked { Looked self.old.feed.part (S.files store.old) (S.files store.new) (S.reads store.old) (S.reads store.new) (S.faults store.old) (S.faults store.new) }
+        ensures looked { Looked self.old.feed.part (S.files store.old) (S.files store.new) (S.reads store.old) (S.reads store.new)
+            (S.faults store.old) (S.faults store.new) }
         ensures reads { ReadsNext result self.old self.new (S.reads store.old) (S.reads store.new) }
         ensures cause { HasPartCause (S.faults store.old) (S.faults store.new) result }
-        ensures among { (all : List Entry) → IsSome (S.files store.old) → IsFront self.old.width (bytes_at (S.files store.old) self.old.feed.name) all → length all ≡ self.old.count → AnswersAmong result self.old out.new all }
+        ensures among { (all : List Entry) → IsSome (S.files store.old) → IsFront self.old.width (bytes_at (S.files store.old) self.old.feed.name) all →
+            length all ≡ self.old.count → AnswersAmong result self.old out.new all }
         ensures memory { result ≢ Err PartErr.Memory }
     {
         self.step(store, out)
@@ -97,11 +101,13 @@ impl<'a, S: Store> FrontWalk<'a, S> {
     // The next entry, over any bytes.
     fn step(&mut self, store: &mut S, out: &mut FrontEntry) -> Result<bool, PartErr>
         requires gave { (es : List Entry) × Gave self.old (S.files store.old) es }
-        ensures gave { (es : List Entry) → Gave self.old (S.files store.old) es → IfOk result (λ more. Gave self.new (S.files store.new) (with_next es more (entry_of self.old.width out.new))) }
+        ensures gave { (es : List Entry) → Gave self.old (S.files store.old) es →
+            IfOk result (λ more. Gave self.new (S.files store.new) (with_next es more (entry_of self.old.width out.new))) }
         ensures answer { IsSome (S.files store.old) → AnswersNext result self.old out.new (bytes_at (S.files store.old) self.old.feed.name) }
         ensures step { IfOk result (λ more. AfterNext more self.old self.new) }
         ensures same { SameWalk self.old self.new }
-        ensures looked { Looked self.old.feed.part (S.files store.old) (S.files store.new) (S.reads store.old) (S.reads store.new) (S.faults store.old) (S.faults store.new) }
+        ensures looked { Looked self.old.feed.part (S.files store.old) (S.files store.new) (S.reads store.old) (S.reads store.new)
+            (S.faults store.old) (S.faults store.new) }
         ensures reads { ReadsNext result self.old self.new (S.reads store.old) (S.reads store.new) }
         ensures cause { HasPartCause (S.faults store.old) (S.faults store.new) result }
         ensures memory { result ≢ Err PartErr.Memory }

@@ -51,9 +51,11 @@ fn start_places<'a, S: Store>(
     store: &mut S,
     places: Option<FileRef<'a>>,
 ) -> Result<Option<PageWriter<'a>>, PutErr>
-    ensures started { IfOk result (λ writer. StartedPlaces (option_map (λ file. full_name file.base.now file.part) places.entry) writer (S.files store.old) (S.files store.new)) }
+    ensures started { IfOk result
+        (λ writer. StartedPlaces (option_map (λ file. full_name file.base.now file.part) places.entry) writer (S.files store.old) (S.files store.new)) }
     ensures empty { OnOk result (S.files store.new ≡ with_empty (S.files store.old) (option_map (λ file. full_name file.base.now file.part) places.entry)) }
-    ensures wrote { WroteToAsked (option_map (λ file. full_name file.base.now file.part) places.entry) (S.files store.old) (S.files store.new) (S.reads store.old) (S.reads store.new) }
+    ensures wrote { WroteToAsked (option_map (λ file. full_name file.base.now file.part) places.entry) (S.files store.old) (S.files store.new)
+        (S.reads store.old) (S.reads store.new) }
     ensures cause { HasPutCause (S.faults store.old) (S.faults store.new) result }
 {
     match places {
@@ -91,11 +93,14 @@ impl<'a> FrontWriter<'a> {
         requires width { width ≤ 24 }
         requires apart { ForSome (option_map (λ file. full_name file.base.now file.part) places) (λ name. name ≢ full_name strings.base.now strings.part) }
         ensures took { IfOk result (λ writer. Took writer (S.files store.new) []) }
-        ensures empty { OnOk result (S.files store.new ≡ with_empty (written (S.files store.old) (full_name strings.entry.base.now strings.entry.part) []) (option_map (λ file. full_name file.base.now file.part) places.entry)) }
+        ensures empty { OnOk result (S.files store.new ≡ with_empty (written (S.files store.old) (full_name strings.entry.base.now strings.entry.part) [])
+            (option_map (λ file. full_name file.base.now file.part) places.entry)) }
         ensures name { IfOk result (λ writer. writer.strings.name ≡ full_name strings.entry.base.now strings.entry.part) }
-        ensures places { IfOk result (λ writer. option_map (λ places. places.name) writer.places ≡ option_map (λ file. full_name file.base.now file.part) places.entry) }
+        ensures places { IfOk result (λ writer. option_map (λ places. places.name) writer.places
+            ≡ option_map (λ file. full_name file.base.now file.part) places.entry) }
         ensures width { IfOk result (λ writer. writer.width ≡ width) }
-        ensures others { (n : List ℕ) → IsNotAsked n (full_name strings.entry.base.now strings.entry.part) (option_map (λ file. full_name file.base.now file.part) places.entry) → file_at (S.files store.new) n ≡ file_at (S.files store.old) n }
+        ensures others { (n : List ℕ) → IsNotAsked n (full_name strings.entry.base.now strings.entry.part)
+            (option_map (λ file. full_name file.base.now file.part) places.entry) → file_at (S.files store.new) n ≡ file_at (S.files store.old) n }
         ensures told { is_some (S.files store.new) ≡ is_some (S.files store.old) }
         ensures reads { SameReads (S.reads store.old) (S.reads store.new) }
         ensures cause { HasPutCause (S.faults store.old) (S.faults store.new) result }
@@ -130,7 +135,8 @@ impl<'a> FrontWriter<'a> {
         requires few { self.old.count < 2 ^ 22 }
         requires width { self.old.width ≤ 24 }
         requires entry { IsEntry self.old.width self.old.count self.old.last (record { string = string.now; field = field.now }) }
-        ensures took { OnOk result ((es : List Entry) → Took self.old (S.files store.old) es → Took self.new (S.files store.new) (es ++ record { string = string.now; field = field.now } ∷ [])) }
+        ensures took { OnOk result ((es : List Entry) → Took self.old (S.files store.old) es →
+            Took self.new (S.files store.new) (es ++ record { string = string.now; field = field.now } ∷ [])) }
         ensures count { OnOk result (self.new.count ≡ self.old.count + 1) }
         ensures last { OnOk result (self.new.last ≡ string.now) }
         ensures name { OnOk result (self.new.strings.name ≡ self.old.strings.name) }
@@ -161,7 +167,8 @@ impl<'a> FrontWriter<'a> {
     /// whole ones.
     pub fn finish<S: Store>(&mut self, store: &mut S) -> Result<(), PutErr>
         requires took { (es : List Entry) × Took self.old (S.files store.old) es }
-        ensures finished { OnOk result ((es : List Entry) → Took self.old (S.files store.old) es → IsSome (S.files store.old) → Finished self.old (S.files store.new) es) }
+        ensures finished { OnOk result ((es : List Entry) → Took self.old (S.files store.old) es → IsSome (S.files store.old) →
+            Finished self.old (S.files store.new) es) }
         ensures width { self.new.width ≡ self.old.width }
         ensures others { (n : List ℕ) → IsOther n self.old.strings.name self.old.places → file_at (S.files store.new) n ≡ file_at (S.files store.old) n }
         ensures told { is_some (S.files store.new) ≡ is_some (S.files store.old) }
