@@ -2,8 +2,7 @@
 use Rattle.std.proofs.Common.{arith, ◌≡◌, ◌≢◌, ◌<◌, ◌≤◌, ◌^◌, ◌==◌, ◌||◌, ◌++◌, true, false, ℕ, List, [], ◌∷◌, length, map, take, drop, refl, sym, ◌∙◌, ap, subst, Some, None, slice_get, IsSome, is_some, unwrap_or, append_assoc, append-nil}
 use Rattle.std.specs.declared.option.Option.{Option}
 use Rattle.std.specs.List.{enumerate_from}
-use Rattle.std.proofs.lemmas.List.{length-map, drop_at}
-use Rattle.std.proofs.lemmas.List.FromFn.{length-enumerate_from}
+use Rattle.std.proofs.lemmas.List.{drop_at}
 use Rattle.mg_dev.specs.Files.{Files, Reads, bytes_at, file_at}
 use Rattle.mg_defs.specs.Numbers.{four, eight, four_at, eight_at}
 use Rattle.mg_defs.specs.Front.{Entry, IsEntry, AreEntries, is_below, front, whole_at}
@@ -76,10 +75,6 @@ entries_from collection (t ∷ ts) = ap (λ (es : List Entry). record { string =
 pub entries_of_terms : (collection : List ℕ) → entries_of (terms_of collection) ≡ lexicon collection
 unfolding terms_of lexicon
 entries_of_terms collection = entries_from collection (enumerate_from 0 (dictionary collection))
-
-pub terms_count : (collection : List ℕ) → length (terms_of collection) ≡ length (dictionary collection)
-unfolding terms_of
-terms_count collection = length-map (enumerate_from 0 (dictionary collection)) _ ∙ length-enumerate_from 0 (dictionary collection)
 
 -- ---- a reader over its parts
 

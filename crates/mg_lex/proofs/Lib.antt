@@ -1,2 +1,3 @@
 mod LexLaws
 mod InfoLaws
+pub mod CallerLemmas

@@ -17,22 +17,27 @@ ghost use Rattle.mg_lex.specs.Writing.{LexWriting, TermsStand, TookTerms};
 pub fn lexicon_has_its_terms()
     ensures entries { (collection : List ℕ) → entries_of (terms_of collection) ≡ lexicon collection }
     ensures count { (collection : List ℕ) → length (terms_of collection) ≡ length (dictionary collection) }
-    ensures written { (base : List ℕ) (files : Option Files) (collection : List ℕ) → IsSome files → TermsStand base files (terms_of collection) → length (dictionary collection) ≤ 2 ^ 22 → IsLexicon base files (length (dictionary collection)) collection }
+    ensures written { (base : List ℕ) (files : Option Files) (collection : List ℕ) → IsSome files → TermsStand base files (terms_of collection) →
+        length (dictionary collection) ≤ 2 ^ 22 → IsLexicon base files (length (dictionary collection)) collection }
     ensures stays { (lex now : Fronted) (files files_now : Option Files) (collection : List ℕ) → SameParts lex now → is_some files_now ≡ is_some files →
-        file_at files_now lex.strings.name ≡ file_at files lex.strings.name → file_at files_now lex.places.name ≡ file_at files lex.places.name → LexStands lex files collection → LexStands now files_now collection }
+        file_at files_now lex.strings.name ≡ file_at files lex.strings.name → file_at files_now lex.places.name ≡ file_at files lex.places.name →
+        LexStands lex files collection → LexStands now files_now collection }
     ensures fits { (lex : Fronted) (files files_now : Option Files) → is_some files_now ≡ is_some files →
-        file_at files_now lex.strings.name ≡ file_at files lex.strings.name → file_at files_now lex.places.name ≡ file_at files lex.places.name → FrontFits lex files → FrontFits lex files_now }
+        file_at files_now lex.strings.name ≡ file_at files lex.strings.name → file_at files_now lex.places.name ≡ file_at files lex.places.name →
+        FrontFits lex files → FrontFits lex files_now }
 {}
 
 /// A writer stands for the terms that it took as long as its two parts stay as they are: calls that
 /// write other files don't matter.
 pub fn terms_stay()
-    ensures { (w : LexWriting) (f g : Option Files) (ts : List Term) → is_some g ≡ is_some f → file_at g (full_name w.base part.Lex) ≡ file_at f (full_name w.base part.Lex) →
+    ensures { (w : LexWriting) (f g : Option Files) (ts : List Term) → is_some g ≡ is_some f →
+        file_at g (full_name w.base part.Lex) ≡ file_at f (full_name w.base part.Lex) →
         file_at g (full_name w.base part.LexAt) ≡ file_at f (full_name w.base part.LexAt) → TookTerms w f ts → TookTerms w g ts }
 {}
 
 /// The bytes of a field tell its numbers, where they fit in it; those of a collection within the limits do.
 pub fn fields_tell()
     ensures same { (a b : TermInfo) → FitsField a → FitsField b → info_bytes a ≡ info_bytes b → a ≡ b }
-    ensures fit { (version : ℕ) (collection : List ℕ) (i : ℕ) (t : List ℕ) → IsWithinLimits version collection → slice_get (dictionary collection) i ≡ Some t → FitsField (info_of collection i t) }
+    ensures fit { (version : ℕ) (collection : List ℕ) (i : ℕ) (t : List ℕ) → IsWithinLimits version collection → slice_get (dictionary collection) i ≡ Some t →
+        FitsField (info_of collection i t) }
 {}

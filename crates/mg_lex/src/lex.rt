@@ -43,10 +43,14 @@ impl<'a, S: Store> Lex<'a, S> {
     /// the size of the places with that number before anything is reserved.
     pub fn load(alloc: Global, store: &mut S, base: &'a str, head: &Head) -> Result<Self, PartErr>
         ensures fits { IfOk result (λ lex. FrontFits lex (S.files store.new)) }
-        ensures lex { IfOk result (λ lex. IsReader lex (full_name base.entry.now part.Lex) part.Lex (full_name base.entry.now part.LexAt) part.LexAt 16 head.now.terms) }
-        ensures answer { IsSome (S.files store.old) → AnswersPlaces part.LexAt (places_size head.now.terms) (bytes_at (S.files store.old) (full_name base.entry.now part.LexAt)) result }
-        ensures stands { (collection : List ℕ) → IsLexicon base.entry.now (S.files store.old) head.now.terms collection → IfOk result (λ lex. LexStands lex (S.files store.new) collection) }
-        ensures never_bad { (collection : List ℕ) → IsLexicon base.entry.now (S.files store.old) head.now.terms collection → IfErr result (λ refusal. IsNotBad refusal) }
+        ensures lex { IfOk result
+            (λ lex. IsReader lex (full_name base.entry.now part.Lex) part.Lex (full_name base.entry.now part.LexAt) part.LexAt 16 head.now.terms) }
+        ensures answer { IsSome (S.files store.old) →
+            AnswersPlaces part.LexAt (places_size head.now.terms) (bytes_at (S.files store.old) (full_name base.entry.now part.LexAt)) result }
+        ensures stands { (collection : List ℕ) → IsLexicon base.entry.now (S.files store.old) head.now.terms collection →
+            IfOk result (λ lex. LexStands lex (S.files store.new) collection) }
+        ensures never_bad { (collection : List ℕ) → IsLexicon base.entry.now (S.files store.old) head.now.terms collection →
+            IfErr result (λ refusal. IsNotBad refusal) }
         ensures files { S.files store.new ≡ S.files store.old }
         ensures reads { SameReads (S.reads store.old) (S.reads store.new) }
         ensures cause { HasPartCause (S.faults store.old) (S.faults store.new) result }
@@ -71,9 +75,11 @@ impl<'a, S: Store> Lex<'a, S> {
         requires fits { FrontFits self.old (S.files store.old) }
         ensures fits { FrontFits self.new (S.files store.new) }
         ensures same { SameParts self.old self.new }
-        ensures looked { LookedAt part.Lex part.LexAt (S.files store.old) (S.files store.new) (S.reads store.old) (S.reads store.new) (S.faults store.old) (S.faults store.new) }
+        ensures looked { LookedAt part.Lex part.LexAt (S.files store.old) (S.files store.new) (S.reads store.old) (S.reads store.new)
+            (S.faults store.old) (S.faults store.new) }
         ensures found { (collection : List ℕ) → LexStands self.old (S.files store.old) collection → AnswersTerm result collection term.now }
-        ensures info { (version : ℕ) (collection : List ℕ) → IsWithinLimits version collection → LexStands self.old (S.files store.old) collection → AnswersInfo result collection term.now }
+        ensures info { (version : ℕ) (collection : List ℕ) → IsWithinLimits version collection → LexStands self.old (S.files store.old) collection →
+            AnswersInfo result collection term.now }
         ensures reads { ReadLooks part.Lex part.LexAt (S.reads store.old) (S.reads store.new) (looks self.old.count) }
         ensures memory { result ≢ Err PartErr.Memory }
         ensures cause { HasPartCause (S.faults store.old) (S.faults store.new) result }

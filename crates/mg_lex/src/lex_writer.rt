@@ -36,7 +36,8 @@ impl<'a> LexWriter<'a> {
     pub fn start<S: Store>(alloc: Global, store: &mut S, base: &'a str) -> Result<Self, PutErr>
         ensures took { IfOk result (λ writer. TookTerms writer (S.files store.new) []) }
         ensures base { IfOk result (λ writer. writer.base ≡ base.entry.now) }
-        ensures others { (n : List ℕ) → n ≢ full_name base.entry.now part.Lex → n ≢ full_name base.entry.now part.LexAt → file_at (S.files store.new) n ≡ file_at (S.files store.old) n }
+        ensures others { (n : List ℕ) → n ≢ full_name base.entry.now part.Lex → n ≢ full_name base.entry.now part.LexAt →
+            file_at (S.files store.new) n ≡ file_at (S.files store.old) n }
         ensures told { is_some (S.files store.new) ≡ is_some (S.files store.old) }
         ensures reads { SameReads (S.reads store.old) (S.reads store.new) }
         ensures cause { HasPutCause (S.faults store.old) (S.faults store.new) result }
@@ -65,11 +66,13 @@ impl<'a> LexWriter<'a> {
         requires few { self.old.front.count < 2 ^ 22 }
         requires short { length term.now ≤ 255 }
         requires above { (self.old.front.count == 0 || is_below self.old.front.last term.now) ≡ true }
-        ensures took { OnOk result ((ts : List Term) → TookTerms self.old (S.files store.old) ts → TookTerms self.new (S.files store.new) (ts ++ record { string = term.now; info = info_of info.now } ∷ [])) }
+        ensures took { OnOk result ((ts : List Term) → TookTerms self.old (S.files store.old) ts →
+            TookTerms self.new (S.files store.new) (ts ++ record { string = term.now; info = info_of info.now } ∷ [])) }
         ensures count { OnOk result (self.new.front.count ≡ self.old.front.count + 1) }
         ensures last { OnOk result (self.new.front.last ≡ term.now) }
         ensures base { self.new.base ≡ self.old.base }
-        ensures others { (n : List ℕ) → n ≢ full_name self.old.base part.Lex → n ≢ full_name self.old.base part.LexAt → file_at (S.files store.new) n ≡ file_at (S.files store.old) n }
+        ensures others { (n : List ℕ) → n ≢ full_name self.old.base part.Lex → n ≢ full_name self.old.base part.LexAt →
+            file_at (S.files store.new) n ≡ file_at (S.files store.old) n }
         ensures told { is_some (S.files store.new) ≡ is_some (S.files store.old) }
         ensures reads { SameReads (S.reads store.old) (S.reads store.new) }
         ensures cause { HasPutCause (S.faults store.old) (S.faults store.new) result }
@@ -81,8 +84,10 @@ impl<'a> LexWriter<'a> {
     /// Writes what is held. Then the parts are the lexicon of the terms that were pushed.
     pub fn finish<S: Store>(&mut self, store: &mut S) -> Result<(), PutErr>
         requires took { (ts : List Term) × TookTerms self.old (S.files store.old) ts }
-        ensures finished { OnOk result ((ts : List Term) → TookTerms self.old (S.files store.old) ts → IsSome (S.files store.old) → TermsStand self.old.base (S.files store.new) ts) }
-        ensures others { (n : List ℕ) → n ≢ full_name self.old.base part.Lex → n ≢ full_name self.old.base part.LexAt → file_at (S.files store.new) n ≡ file_at (S.files store.old) n }
+        ensures finished { OnOk result ((ts : List Term) → TookTerms self.old (S.files store.old) ts → IsSome (S.files store.old) →
+            TermsStand self.old.base (S.files store.new) ts) }
+        ensures others { (n : List ℕ) → n ≢ full_name self.old.base part.Lex → n ≢ full_name self.old.base part.LexAt →
+            file_at (S.files store.new) n ≡ file_at (S.files store.old) n }
         ensures told { is_some (S.files store.new) ≡ is_some (S.files store.old) }
         ensures reads { SameReads (S.reads store.old) (S.reads store.new) }
         ensures cause { HasPutCause (S.faults store.old) (S.faults store.new) result }

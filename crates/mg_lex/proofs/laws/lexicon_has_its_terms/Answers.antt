@@ -1,11 +1,12 @@
-use Rattle.mg_lex.proofs.LexLaws.{entries_of_terms, lex_fits, lex_stays, terms_count, written_is}
+use Rattle.mg_lex.proofs.LexLaws.{entries_of_terms, lex_fits, lex_stays, written_is}
+use Rattle.mg_lex.proofs.CallerLemmas.{terms_long}
 use Rattle.mg_lex.proofs.laws.lexicon_has_its_terms.Goals as goal
 
 pub returns-clause-entries : goal.returns-clause-entries
 returns-clause-entries c = entries_of_terms
 
 pub returns-clause-count : goal.returns-clause-count
-returns-clause-count c = terms_count
+returns-clause-count c = terms_long
 
 pub returns-clause-stays : goal.returns-clause-stays
 returns-clause-stays c = lex_stays
