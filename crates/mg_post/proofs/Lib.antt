@@ -1,6 +1,7 @@
 mod EntryBytes
 mod WriterLaws
 mod ReadLaws
+mod AheadLaws
 mod FindLaws
 mod EnterLaws
 mod CursorLaws

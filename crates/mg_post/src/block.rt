@@ -115,15 +115,19 @@ impl Block {
         requires room { count ≤ 64 }
         ensures fits { F.fits r.new.feed (F.device dev.new).files }
         ensures calm { Calm (F.feeding r.old.feed) (F.feeding r.new.feed) (F.device dev.old) (F.device dev.new) }
-        ensures read { OnOk result (Read (F.feeding r.old.feed) (F.feeding r.new.feed) (F.device dev.old) (F.device dev.new) r.old.place (r.old.place + length (bits_after parameter before self.new))) }
-        ensures pages { OnErr result ((ps : List Posting) → Rises all before ps → count ≤ length ps → r.old.place + length (bits_after parameter before ps) ≤ 2 ^ 63 →
+        ensures read { OnOk result (Read (F.feeding r.old.feed) (F.feeding r.new.feed) (F.device dev.old) (F.device dev.new) r.old.place
+            (r.old.place + length (bits_after parameter before self.new))) }
+        ensures pages { OnErr result ((ps : List Posting) → Rises all before ps → count ≤ length ps →
+            r.old.place + length (bits_after parameter before ps) ≤ 2 ^ 63 →
             Shows ((F.feeding r.old.feed).source (F.device dev.old).files) r.old.place (bits_after parameter before ps) →
-            ReadsWithin (F.feeding r.old.feed) (F.feeding r.new.feed) (F.device dev.old) (F.device dev.new) r.old.place (r.old.place + length (bits_after parameter before (take count ps)))) }
+            ReadsWithin (F.feeding r.old.feed) (F.feeding r.new.feed) (F.device dev.old) (F.device dev.new) r.old.place
+            (r.old.place + length (bits_after parameter before (take count ps)))) }
         ensures rises { OnOk result (Rises all before self.new) }
         ensures last { IfOk result (λ last. last ≡ last_doc before self.new) }
         ensures place { MatchResult result (λ _. r.new.place ≡ r.old.place + length (bits_after parameter before self.new)) (λ _. r.new.place ≡ r.old.place) }
         ensures told { (ps : List Posting) → Rises all before ps → count ≤ length ps → r.old.place + length (bits_after parameter before ps) ≤ 2 ^ 63 →
-            Shows ((F.feeding r.old.feed).source (F.device dev.old).files) r.old.place (bits_after parameter before ps) → OrDevice result (λ _. self.new ≡ take count ps) }
+            Shows ((F.feeding r.old.feed).source (F.device dev.old).files) r.old.place (bits_after parameter before ps) →
+            OrDevice result (λ _. self.new ≡ take count ps) }
         ensures cause { RefusalCause result (F.device dev.old).faults (F.device dev.new).faults }
     {
         match read_block(r, dev, parameter, count, before, all, &mut self.postings) {

@@ -1,5 +1,5 @@
 // A cursor over a list.
-ghost use Rattle.std.specs.Prelude.{◌≡◌, ◌≢◌, ◌+◌, ◌*◌, ◌/◌, ◌<◌, ◌≤◌, ◌^◌, ℕ, List, [], length, true, Option, Some, None, Ok, Err, IfOk, IfErr, IfSome, OnOk, OnErr};
+ghost use Rattle.std.specs.Prelude.{◌≡◌, ◌≢◌, ◌+◌, ◌*◌, ◌/◌, ◌<◌, ◌≤◌, ◌^◌, ℕ, List, [], length, true, false, Option, Some, None, Ok, Err, IfOk, IfErr, IfSome, OnOk, OnErr};
 ghost use Rattle.mg_dev.specs.Files.{Files};
 ghost use Rattle.mg_dev.specs.Names.{full_name};
 ghost use Rattle.mg_dev.specs.PartCauses.{HasPartCause};
@@ -62,7 +62,9 @@ impl<'a, S: Store> Model for Cursor<'a, S> {
 
     ghost view = { λ c. record { post = c.post.feed; skip = c.skip.feed; post_at = c.post_at; skip_at = c.skip_at; docs = c.docs; all = c.all; parameter = c.parameter; reached = c.reached; last = c.last; held = c.block; ended = c.ended; entered = c.entered } };
 
-    ghost invariant = { λ c. (1 ≤ c.parameter) × (c.parameter < 2 ^ 48) × (c.last ≤ c.all) × (c.reached ≤ blocks_of c.docs) × (c.post.feed.part ≡ part.Post) × (c.skip.feed.part ≡ part.Skip) × (c.entered < 2 ^ 64) × (c.ended ≡ true → c.block ≡ []) × HeldRises c.all c.last c.block × (min c.post.feed.count (2 ^ 64 - 1) ≤ c.entered) };
+    ghost invariant = { λ c. (1 ≤ c.parameter) × (c.parameter < 2 ^ 48) × (c.last ≤ c.all) × (c.reached ≤ blocks_of c.docs) × (c.post.feed.part ≡ part.Post) ×
+        (c.skip.feed.part ≡ part.Skip) × (c.entered < 2 ^ 64) × (c.ended ≡ true → c.block ≡ []) × HeldRises c.all c.last c.block ×
+        (min c.post.feed.count (2 ^ 64 - 1) ≤ c.entered) };
 }
 
 /// How many blocks so many postings have.
@@ -93,7 +95,8 @@ impl<'a, S: Store> Cursor<'a, S> {
         info: &TermInfo,
         all: u32,
     ) -> Result<Self, AllocError>
-        ensures over { IfOk result (λ c. IsOver c (full_name base.entry.now part.Post) (full_name base.entry.now part.Skip) info.entry.now.post_at info.entry.now.skip_at info.entry.now.docs all) }
+        ensures over { IfOk result (λ c. IsOver c (full_name base.entry.now part.Post)
+            (full_name base.entry.now part.Skip) info.entry.now.post_at info.entry.now.skip_at info.entry.now.docs all) }
         ensures parameter { IfOk result (λ c. 1 ≤ info.entry.now.docs → c.parameter ≡ golomb_parameter all info.entry.now.docs) }
         ensures fits { IfOk result (λ c. (files : Option Files) → CursorFits c files) }
         ensures term { IfOk result (λ c. (collection asked t : List ℕ) (n : ℕ) → IsInfoOf collection t info.entry.now → all ≡ length (documents collection) →
@@ -140,6 +143,7 @@ impl<'a, S: Store> Cursor<'a, S> {
 
     /// Goes to the first posting, not before the current one, whose document is at least `doc`,
     /// which is at least 1. None where there is none; from then on nothing is read.
+    #[inline]
     pub fn advance_to(&mut self, store: &mut S, doc: u32) -> Result<Option<Posting>, PartErr>
         requires fits { CursorFits self.old (S.files store.old) }
         requires some { 1 ≤ doc }
@@ -147,7 +151,8 @@ impl<'a, S: Store> Cursor<'a, S> {
         ensures same { SameList self.old self.new }
         ensures answer { (ps left : List Posting) → CursorStands self.old (S.files store.old) ps → StandsAt self.old ps left →
             AnswersList result (λ found. (found ≡ head_of (from_doc doc left)) × StandsAt self.new ps (from_doc doc left)) }
-        ensures entered { (ps left : List Posting) → CursorStands self.old (S.files store.old) ps → StandsAt self.old ps left → Enters result ps self.old doc self.new }
+        ensures entered { (ps left : List Posting) → CursorStands self.old (S.files store.old) ps → StandsAt self.old ps left →
+            Enters result ps self.old doc self.new }
         ensures first { post_pages self.new ≤ entered_pages self.new }
         ensures third { skip_pages self.new ≤ entries_pages self.new.skip_at (blocks_of self.new.docs) }
         ensures reads { ReadsTwo self.old self.new (S.reads store.old) (S.reads store.new) }
@@ -169,6 +174,35 @@ impl<'a, S: Store> Cursor<'a, S> {
             self.block.forward(doc);
             return Ok(self.block.current());
         }
+        self.enter_next(store, doc)
+    }
+
+    /// Goes to the first posting beyond the block whose document is at least `doc`. It stands apart so
+    /// that `advance_to` is short within a block.
+    #[inline(never)]
+    fn enter_next(&mut self, store: &mut S, doc: u32) -> Result<Option<Posting>, PartErr>
+        requires fits { CursorFits self.old (S.files store.old) }
+        requires some { 1 ≤ doc }
+        requires on { self.old.ended ≡ false }
+        requires beyond { self.old.last < doc }
+        ensures fits { OnOk result (CursorFits self.new (S.files store.new)) }
+        ensures same { SameList self.old self.new }
+        ensures answer { (ps left : List Posting) → CursorStands self.old (S.files store.old) ps → StandsAt self.old ps left →
+            AnswersList result (λ found. (found ≡ head_of (from_doc doc left)) × StandsAt self.new ps (from_doc doc left)) }
+        ensures entered { (ps left : List Posting) → CursorStands self.old (S.files store.old) ps → StandsAt self.old ps left →
+            Enters result ps self.old doc self.new }
+        ensures first { post_pages self.new ≤ entered_pages self.new }
+        ensures third { skip_pages self.new ≤ entries_pages self.new.skip_at (blocks_of self.new.docs) }
+        ensures reads { ReadsTwo self.old self.new (S.reads store.old) (S.reads store.new) }
+        ensures current { IfOk result (λ found. found ≡ head_of self.new.held) }
+        ensures sound { IfOk result (λ found. IfSome found (IsFrom doc self.old.all)) }
+        ensures forward { self.old.reached ≤ self.new.reached }
+        ensures part { IfErr result NamesItsPart }
+        ensures kept { OnErr result (SamePlace self.old self.new) }
+        ensures files { S.files store.new ≡ S.files store.old }
+        ensures memory { result ≢ Err PartErr.Memory }
+        ensures cause { HasPartCause (S.faults store.old) (S.faults store.new) result }
+    {
         let blocks = count_blocks(self.docs);
         match find_block(
             &mut self.skip,
@@ -219,13 +253,15 @@ impl<'a, S: Store> Cursor<'a, S> {
 
     /// Goes to the next posting: the first one before any was asked for. None after the last;
     /// from then on nothing is read.
+    #[inline]
     pub fn next(&mut self, store: &mut S) -> Result<Option<Posting>, PartErr>
         requires fits { CursorFits self.old (S.files store.old) }
         ensures fits { OnOk result (CursorFits self.new (S.files store.new)) }
         ensures same { SameList self.old self.new }
         ensures answer { (ps left : List Posting) → CursorStands self.old (S.files store.old) ps → StandsAt self.old ps left →
             AnswersList result (λ found. (found ≡ head_of (after self.old.held left)) × StandsAt self.new ps (after self.old.held left)) }
-        ensures entered { (ps left : List Posting) → CursorStands self.old (S.files store.old) ps → StandsAt self.old ps left → Enters result ps self.old (next_doc self.old.held) self.new }
+        ensures entered { (ps left : List Posting) → CursorStands self.old (S.files store.old) ps → StandsAt self.old ps left →
+            Enters result ps self.old (next_doc self.old.held) self.new }
         ensures first { post_pages self.new ≤ entered_pages self.new }
         ensures third { skip_pages self.new ≤ entries_pages self.new.skip_at (blocks_of self.new.docs) }
         ensures reads { ReadsTwo self.old self.new (S.reads store.old) (S.reads store.new) }
@@ -263,6 +299,7 @@ impl<'a, S: Store> Cursor<'a, S> {
     /// As `advance_to`, of the list of a term of a collection. The collection's documents that are
     /// asked over the cursor's life bound what it reads of Post: each block is read at most once, and
     /// only where its range holds one of them.
+    #[inline]
     pub fn ask(&mut self, store: &mut S, doc: u32) -> Result<Option<Posting>, PartErr>
         requires fits { CursorFits self.old (S.files store.old) }
         requires some { 1 ≤ doc }

@@ -69,10 +69,12 @@ pub fn enter<F: Feed>(
     ensures from { IfOk result (λ i. IsFrom doc all i.posting) }
     ensures count { IfOk result (λ i. (F.feeding r.new.feed).count ≤ (F.feeding r.old.feed).count + i.pages) }
     ensures current { IfOk result (λ i. head_of block.new ≡ Some i.posting) }
-    ensures told { (ps : List Posting) (blocks : ℕ) → Rises all 0 ps → docs ≡ length ps → Shows ((F.feeding r.old.feed).source (F.device dev.old).files) (8 * post_at) (bits_after parameter 0 ps) →
+    ensures told { (ps : List Posting) (blocks : ℕ) → Rises all 0 ps → docs ≡ length ps →
+        Shows ((F.feeding r.old.feed).source (F.device dev.old).files) (8 * post_at) (bits_after parameter 0 ps) →
         8 * post_at + length (bits_after parameter 0 ps) ≤ 2 ^ 63 → IsFoundAt parameter ps blocks doc found.block found.before found.last found.at →
         OrDevice result (λ i. Entered parameter ps (8 * post_at) found.block doc i.posting block.new i.pages) }
-    ensures most { (ps : List Posting) (blocks : ℕ) → Rises all 0 ps → docs ≡ length ps → Shows ((F.feeding r.old.feed).source (F.device dev.old).files) (8 * post_at) (bits_after parameter 0 ps) →
+    ensures most { (ps : List Posting) (blocks : ℕ) → Rises all 0 ps → docs ≡ length ps →
+        Shows ((F.feeding r.old.feed).source (F.device dev.old).files) (8 * post_at) (bits_after parameter 0 ps) →
         8 * post_at + length (bits_after parameter 0 ps) ≤ 2 ^ 63 → IsFoundAt parameter ps blocks doc found.block found.before found.last found.at →
         (F.feeding r.new.feed).count ≤ (F.feeding r.old.feed).count + block_pages parameter (8 * post_at) found.block ps }
     ensures cause { RefusalCause result (F.device dev.old).faults (F.device dev.new).faults }

@@ -67,7 +67,8 @@ fn last_of<F: Feed>(
     ensures count { (F.feeding r.new.feed).count ≤ (F.feeding r.old.feed).count + lacks (F.feeding r.old.feed).held (entry_page (skip_at + block)) }
     ensures held { OnOk result ((F.feeding r.new.feed).held ≡ Some (entry_page (skip_at + block))) }
     ensures within { IfOk result (λ last. last ≤ all) }
-    ensures told { (e : SkipEntry) → e.last ≤ all → Shows ((F.feeding r.old.feed).source (F.device dev.old).files) (128 * (skip_at + block)) (entry_bits e) → OrDevice result (λ last. last ≡ e.last) }
+    ensures told { (e : SkipEntry) → e.last ≤ all → Shows ((F.feeding r.old.feed).source (F.device dev.old).files) (128 * (skip_at + block)) (entry_bits e) →
+        OrDevice result (λ last. last ≡ e.last) }
     ensures cause { RefusalCause result (F.device dev.old).faults (F.device dev.new).faults }
 {
     let place = entry_place(skip_at, block);
@@ -95,7 +96,8 @@ fn bits_of<F: Feed>(
     ensures calm { Calm (F.feeding r.old.feed) (F.feeding r.new.feed) (F.device dev.old) (F.device dev.new) }
     ensures count { (F.feeding r.new.feed).count ≤ (F.feeding r.old.feed).count + lacks (F.feeding r.old.feed).held (entry_page (skip_at + block)) }
     ensures held { OnOk result ((F.feeding r.new.feed).held ≡ Some (entry_page (skip_at + block))) }
-    ensures told { (e : SkipEntry) → e.bits < 2 ^ 64 → Shows ((F.feeding r.old.feed).source (F.device dev.old).files) (128 * (skip_at + block)) (entry_bits e) → OrDevice result (λ bits. bits ≡ e.bits) }
+    ensures told { (e : SkipEntry) → e.bits < 2 ^ 64 → Shows ((F.feeding r.old.feed).source (F.device dev.old).files) (128 * (skip_at + block)) (entry_bits e) →
+        OrDevice result (λ bits. bits ≡ e.bits) }
     ensures cause { RefusalCause result (F.device dev.old).faults (F.device dev.new).faults }
 {
     let place = entry_place(skip_at, block) + 64;
@@ -143,8 +145,10 @@ fn search_page<F: Feed>(
     ensures count { (F.feeding r.new.feed).count ≤ (F.feeding r.old.feed).count }
     ensures held { OnOk result ((F.feeding r.new.feed).held ≡ Some (entry_page (skip_at + high))) }
     ensures found { IfOk result (IsSound low (high + 1) all doc) }
-    ensures told { (ps : List Posting) (b blocks : ℕ) → SkipStands all b ((F.feeding r.old.feed).source (F.device dev.old).files) skip_at blocks ps → high < blocks →
-        before ≡ doc_before (64 * low) ps → last ≡ doc_before (64 * (high + 1)) ps → OrDevice result (λ f. IsFoundAt b ps blocks doc f.block f.before f.last f.at) }
+    ensures told { (ps : List Posting) (b blocks : ℕ) →
+        SkipStands all b ((F.feeding r.old.feed).source (F.device dev.old).files) skip_at blocks ps → high < blocks →
+        before ≡ doc_before (64 * low) ps → last ≡ doc_before (64 * (high + 1)) ps →
+        OrDevice result (λ f. IsFoundAt b ps blocks doc f.block f.before f.last f.at) }
     ensures cause { RefusalCause result (F.device dev.old).faults (F.device dev.new).faults }
 {
     let mut from = low;
@@ -201,7 +205,8 @@ pub fn find_block<F: Feed>(
     ensures reads { IfOk result (λ found. SkipReads skip_at (blocks_after blocks found) (F.feeding r.new.feed).held (F.feeding r.new.feed).count) }
     ensures most { (F.feeding r.new.feed).count ≤ entries_pages skip_at blocks }
     ensures found { IfOk result (λ found. IfSome found (IsSound reached blocks all doc)) }
-    ensures told { (ps : List Posting) (b : ℕ) → SkipStands all b ((F.feeding r.old.feed).source (F.device dev.old).files) skip_at blocks ps → last ≡ doc_before (64 * reached) ps → OrDevice result (IsFound b ps blocks doc) }
+    ensures told { (ps : List Posting) (b : ℕ) → SkipStands all b ((F.feeding r.old.feed).source (F.device dev.old).files) skip_at blocks ps →
+        last ≡ doc_before (64 * reached) ps → OrDevice result (IsFound b ps blocks doc) }
     ensures cause { RefusalCause result (F.device dev.old).faults (F.device dev.new).faults }
 {
     let mut low = reached;

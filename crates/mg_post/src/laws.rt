@@ -22,30 +22,36 @@ ghost use Rattle.mg_post.specs.Writing.{Listing, Took};
 /// Where two parts hold lists and their skip entries, each list stands where the lists before it
 /// end.
 pub fn lists_stand()
-    ensures { (all n : ℕ) (lists : List (List Posting)) (ps : List Posting) (post skip : List ℕ) → bits_of post ≡ lists_bits all lists → bits_of skip ≡ flat_map entry_bits (lists_entries all lists) →
+    ensures { (all n : ℕ) (lists : List (List Posting)) (ps : List Posting) (post skip : List ℕ) → bits_of post ≡ lists_bits all lists →
+        bits_of skip ≡ flat_map entry_bits (lists_entries all lists) →
         slice_get lists n ≡ Some ps → Rises all 0 ps → all < 2 ^ 32 - 1 → length (lists_bits all lists) ≤ 2 ^ 63 →
-        ListStands all (golomb_parameter all (length ps)) (Some post) (Some skip) (8 * (length (lists_bits all (take n lists)) / 8)) (length (lists_entries all (take n lists))) (length ps) (blocks_of (length ps)) ps }
+        ListStands all (golomb_parameter all (length ps)) (Some post) (Some skip) (8 * (length (lists_bits all (take n lists)) / 8))
+        (length (lists_entries all (take n lists))) (length ps) (blocks_of (length ps)) ps }
 {}
 
 /// Where two parts hold the lists of a collection, the list of each of its terms stands where the
 /// lexicon says.
 pub fn list_of_a_term_stands()
-    ensures { (collection : List ℕ) (n : ℕ) (t : List ℕ) (post skip : List ℕ) → length collection < 2 ^ 32 → length (documents collection) < 2 ^ 32 - 1 → bits_of post ≡ post_bits collection → bits_of skip ≡ skip_bits collection →
+    ensures { (collection : List ℕ) (n : ℕ) (t : List ℕ) (post skip : List ℕ) → length collection < 2 ^ 32 → length (documents collection) < 2 ^ 32 - 1 →
+        bits_of post ≡ post_bits collection → bits_of skip ≡ skip_bits collection →
         slice_get (dictionary collection) n ≡ Some t → length (post_bits collection) ≤ 2 ^ 63 →
         ListStands (length (documents collection)) (golomb_parameter (length (documents collection)) (length (postings collection t))) (Some post) (Some skip)
-        (8 * list_byte collection n) (first_entry collection n) (length (postings collection t)) (blocks_of (length (postings collection t))) (postings collection t) }
+        (8 * list_byte collection n) (first_entry collection n) (length (postings collection t))
+        (blocks_of (length (postings collection t))) (postings collection t) }
 {}
 
 /// The lists of a collection within the limits have at most 2^63 bits.
 pub fn post_is_short()
-    ensures { (collection : List ℕ) → length collection < 2 ^ 32 → length (documents collection) ≤ 2 ^ 24 → length (dictionary collection) ≤ 2 ^ 22 → length (post_bits collection) ≤ 2 ^ 63 }
+    ensures { (collection : List ℕ) → length collection < 2 ^ 32 → length (documents collection) ≤ 2 ^ 24 → length (dictionary collection) ≤ 2 ^ 22 →
+        length (post_bits collection) ≤ 2 ^ 63 }
 {}
 
 /// What the lexicon tells of a term of a collection within the limits fits in its field: the number of
 /// documents in 4 bytes, the byte of its list in 8, and its first skip entry in 4.
 pub fn infos_fit()
     ensures docs { (collection : List ℕ) (t : List ℕ) → length (documents collection) ≤ 2 ^ 24 → docs collection t < 2 ^ 32 }
-    ensures post_at { (collection : List ℕ) (n : ℕ) → length collection < 2 ^ 32 → length (documents collection) ≤ 2 ^ 24 → length (dictionary collection) ≤ 2 ^ 22 → list_byte collection n < 2 ^ 64 }
+    ensures post_at { (collection : List ℕ) (n : ℕ) → length collection < 2 ^ 32 → length (documents collection) ≤ 2 ^ 24 →
+        length (dictionary collection) ≤ 2 ^ 22 → list_byte collection n < 2 ^ 64 }
     ensures skip_at { (collection : List ℕ) (n : ℕ) → length collection < 2 ^ 32 → first_entry collection n < 2 ^ 32 }
 {}
 
@@ -75,13 +81,17 @@ pub fn cursor_still_fits()
 /// comes to its end, and the reads of Post rise by no more than the cursor's.
 pub fn blocks_are_entered_once()
     ensures start { (asked : List ℕ) (ps : List Posting) (c : Cursoring) → entered_pages c ≡ 0 → EnteredFor asked ps c }
-    ensures more { (asked : List ℕ) (ps : List Posting) (c v : Cursoring) (doc : ℕ) (found : Option Posting) → IsAmong asked ps doc → SameList c v → c.reached ≤ v.reached →
+    ensures more { (asked : List ℕ) (ps : List Posting) (c v : Cursoring) (doc : ℕ) (found : Option Posting) → IsAmong asked ps doc →
+        SameList c v → c.reached ≤ v.reached →
         Enters (Ok found) ps c doc v → EnteredFor asked ps c → EnteredFor asked ps v }
-    ensures most { (asked : List ℕ) (ps : List Posting) (c v : Cursoring) (doc : ℕ) (result : Result (Option Posting) PartErr) → IsAmong asked ps doc → Enters result ps c doc v →
+    ensures most { (asked : List ℕ) (ps : List Posting) (c v : Cursoring) (doc : ℕ) (result : Result (Option Posting) PartErr) →
+        IsAmong asked ps doc → Enters result ps c doc v →
         EnteredFor asked ps c → entered_pages v ≤ met_pages asked c.parameter (8 * c.post_at) (block_count ps) ps }
-    ensures few { (asked : List ℕ) (ps : List Posting) (files : Option Files) (c : Cursoring) → CursorStands c files ps → met_pages asked c.parameter (8 * c.post_at) (block_count ps) ps < 2 ^ 50 }
+    ensures few { (asked : List ℕ) (ps : List Posting) (files : Option Files) (c : Cursoring) → CursorStands c files ps →
+        met_pages asked c.parameter (8 * c.post_at) (block_count ps) ps < 2 ^ 50 }
     ensures skip { (skip_at docs : ℕ) → docs < 2 ^ 32 → entries_pages skip_at (blocks_of docs) < 2 ^ 50 }
-    ensures reads { (c v : Cursoring) (before now : Reads) → ReadsTwo c v before now → entered_pages v < 2 ^ 64 - 1 → now part.Post + post_pages c ≤ before part.Post + post_pages v }
+    ensures reads { (c v : Cursoring) (before now : Reads) → ReadsTwo c v before now → entered_pages v < 2 ^ 64 - 1 →
+        now part.Post + post_pages c ≤ before part.Post + post_pages v }
 {}
 
 /// A document that is one of those asked may be asked of every list.
@@ -91,7 +101,8 @@ pub fn documents_are_among()
 
 /// A cursor that was asked for no document past one was asked for none past a later one.
 pub fn cursor_for_later()
-    ensures { (base collection asked t : List ℕ) (m n : ℕ) (c : Cursoring) → m ≤ n → CursorFor base collection asked t m c → CursorFor base collection asked t n c }
+    ensures { (base collection asked t : List ℕ) (m n : ℕ) (c : Cursoring) → m ≤ n → CursorFor base collection asked t m c →
+        CursorFor base collection asked t n c }
 {}
 
 /// What a cursor over the list of a term has read is within the pages that may be read.

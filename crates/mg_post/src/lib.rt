@@ -9,6 +9,7 @@
 //! Lists and skips are those of Witten, Moffat and Bell, *Managing Gigabytes*, chapters 3 and 4.
 #![tactic(auto)]
 
+mod ahead;
 mod block;
 mod cursor;
 mod enter;

@@ -3,9 +3,11 @@ ghost use Rattle.std.specs.Prelude.{◌≡◌, ◌+◌, ◌-◌, ◌*◌, ◌<�
 ghost use Rattle.mg_bits.specs.Feed.{Calm, Read, ReadsWithin};
 ghost use Rattle.mg_defs.specs.declared.Posting.{Posting};
 ghost use Rattle.mg_defs.specs.Lists.{posting_bits, bits_after, last_doc, Rises, Follows};
+ghost use Rattle.mg_post.specs.Ahead.{IsAhead, IsGapCode};
 ghost use Rattle.mg_post.specs.Stands.{Shows};
 ghost use Rattle.mg_post.specs.Answers.{OrDevice, RefusalCause};
 
+use crate::ahead::{Ahead, GapCode, gap_code, posting_ahead};
 use crate::refusal::{Refusal, refused_code};
 use mg_bits::{BitReader, Feed};
 use mg_codes::{get_gamma, get_golomb};
@@ -14,8 +16,10 @@ use mg_defs::Posting;
 // The last place from which a code is read.
 const LAST: u64 = 1 << 63;
 
-/// The posting that stands after a document, by the list's parameter, among so many documents.
-pub fn read_posting<F: Feed>(
+/// The posting that stands after a document, by the list's parameter, among so many documents. It
+/// stands apart so that what is read from bits that were looked at is short.
+#[inline(never)]
+fn read_posting<F: Feed>(
     r: &mut BitReader<F>,
     dev: &mut F::Dev,
     parameter: u64,
@@ -28,9 +32,12 @@ pub fn read_posting<F: Feed>(
     requires limit { parameter < 2 ^ 48 }
     ensures fits { F.fits r.new.feed (F.device dev.new).files }
     ensures calm { Calm (F.feeding r.old.feed) (F.feeding r.new.feed) (F.device dev.old) (F.device dev.new) }
-    ensures read { IfOk result (λ p. Read (F.feeding r.old.feed) (F.feeding r.new.feed) (F.device dev.old) (F.device dev.new) r.old.place (r.old.place + length (posting_bits parameter before p))) }
-    ensures pages { OnErr result ((p : Posting) → Follows all before p → Shows ((F.feeding r.old.feed).source (F.device dev.old).files) r.old.place (posting_bits parameter before p) →
-        ReadsWithin (F.feeding r.old.feed) (F.feeding r.new.feed) (F.device dev.old) (F.device dev.new) r.old.place (r.old.place + length (posting_bits parameter before p))) }
+    ensures read { IfOk result (λ p. Read (F.feeding r.old.feed) (F.feeding r.new.feed) (F.device dev.old) (F.device dev.new) r.old.place
+        (r.old.place + length (posting_bits parameter before p))) }
+    ensures pages { OnErr result ((p : Posting) → Follows all before p →
+        Shows ((F.feeding r.old.feed).source (F.device dev.old).files) r.old.place (posting_bits parameter before p) →
+        ReadsWithin (F.feeding r.old.feed) (F.feeding r.new.feed) (F.device dev.old) (F.device dev.new) r.old.place
+        (r.old.place + length (posting_bits parameter before p))) }
     ensures place { MatchResult result (λ p. r.new.place ≡ r.old.place + length (posting_bits parameter before p)) (λ _. r.new.place ≡ r.old.place) }
     ensures follows { IfOk result (Follows all before) }
     ensures told { (p : Posting) → Follows all before p → r.old.place + length (posting_bits parameter before p) ≤ 2 ^ 63 →
@@ -61,6 +68,67 @@ pub fn read_posting<F: Feed>(
     }
 }
 
+/// Bits to read a posting from: those that were looked at before, or where they are few the next
+/// ones, where the page that is held has them.
+#[inline]
+fn look<F: Feed>(r: &BitReader<F>, ahead: Ahead) -> Ahead
+    requires { IsAhead (F.feeding r.now.feed) (F.fits r.now.feed) r.now.place ahead.bits ahead.count }
+    ensures { IsAhead (F.feeding r.now.feed) (F.fits r.now.feed) r.now.place result.bits result.count }
+{
+    if ahead.count >= 24 || r.place() > LAST {
+        return ahead;
+    }
+    match r.peek() {
+        Some(bits) => Ahead { bits, count: 57 },
+        None => ahead,
+    }
+}
+
+/// As `read_posting`, from the bits that were looked at where they have all of it.
+#[inline]
+fn next_posting<F: Feed>(
+    r: &mut BitReader<F>,
+    dev: &mut F::Dev,
+    ahead: &mut Ahead,
+    parameter: u64,
+    code: GapCode,
+    before: u32,
+    all: u32,
+) -> Result<Posting, Refusal>
+    requires fits { F.fits r.old.feed (F.device dev.old).files }
+    requires ahead { IsAhead (F.feeding r.old.feed) (F.fits r.old.feed) r.old.place ahead.old.bits ahead.old.count }
+    requires before { before ≤ all }
+    requires code { IsGapCode parameter code.size code.few }
+    ensures fits { F.fits r.new.feed (F.device dev.new).files }
+    ensures ahead { IsAhead (F.feeding r.new.feed) (F.fits r.new.feed) r.new.place ahead.new.bits ahead.new.count }
+    ensures calm { Calm (F.feeding r.old.feed) (F.feeding r.new.feed) (F.device dev.old) (F.device dev.new) }
+    ensures read { IfOk result (λ p. Read (F.feeding r.old.feed) (F.feeding r.new.feed) (F.device dev.old) (F.device dev.new) r.old.place
+        (r.old.place + length (posting_bits parameter before p))) }
+    ensures pages { OnErr result ((p : Posting) → Follows all before p →
+        Shows ((F.feeding r.old.feed).source (F.device dev.old).files) r.old.place (posting_bits parameter before p) →
+        ReadsWithin (F.feeding r.old.feed) (F.feeding r.new.feed) (F.device dev.old) (F.device dev.new) r.old.place
+        (r.old.place + length (posting_bits parameter before p))) }
+    ensures place { MatchResult result (λ p. r.new.place ≡ r.old.place + length (posting_bits parameter before p)) (λ _. r.new.place ≡ r.old.place) }
+    ensures follows { IfOk result (Follows all before) }
+    ensures told { (p : Posting) → Follows all before p → r.old.place + length (posting_bits parameter before p) ≤ 2 ^ 63 →
+        Shows ((F.feeding r.old.feed).source (F.device dev.old).files) r.old.place (posting_bits parameter before p) →
+        OrDevice result (λ q. q ≡ p) }
+    ensures cause { RefusalCause result (F.device dev.old).faults (F.device dev.new).faults }
+{
+    let seen = look(r, *ahead);
+    match posting_ahead(seen, parameter, code, before, all) {
+        Some(passed) => {
+            r.seek(r.place() + u64::from(seen.count - passed.left.count));
+            *ahead = passed.left;
+            Ok(passed.posting)
+        }
+        None => {
+            *ahead = Ahead::none();
+            read_posting(r, dev, parameter, before, all)
+        }
+    }
+}
+
 /// Reads so many postings after a document to the front of `out`. Answers the last document.
 pub fn read_block<F: Feed>(
     r: &mut BitReader<F>,
@@ -79,21 +147,28 @@ pub fn read_block<F: Feed>(
     ensures fits { F.fits r.new.feed (F.device dev.new).files }
     ensures calm { Calm (F.feeding r.old.feed) (F.feeding r.new.feed) (F.device dev.old) (F.device dev.new) }
     ensures kept { length out.new.items ≡ length out.old.items }
-    ensures read { OnOk result (Read (F.feeding r.old.feed) (F.feeding r.new.feed) (F.device dev.old) (F.device dev.new) r.old.place (r.old.place + length (bits_after parameter before (take count out.new.items)))) }
-    ensures pages { OnErr result ((ps : List Posting) → Rises all before ps → count ≤ length ps → r.old.place + length (bits_after parameter before ps) ≤ 2 ^ 63 →
+    ensures read { OnOk result (Read (F.feeding r.old.feed) (F.feeding r.new.feed) (F.device dev.old) (F.device dev.new) r.old.place
+        (r.old.place + length (bits_after parameter before (take count out.new.items)))) }
+    ensures pages { OnErr result ((ps : List Posting) → Rises all before ps → count ≤ length ps →
+        r.old.place + length (bits_after parameter before ps) ≤ 2 ^ 63 →
         Shows ((F.feeding r.old.feed).source (F.device dev.old).files) r.old.place (bits_after parameter before ps) →
-        ReadsWithin (F.feeding r.old.feed) (F.feeding r.new.feed) (F.device dev.old) (F.device dev.new) r.old.place (r.old.place + length (bits_after parameter before (take count ps)))) }
-    ensures place { MatchResult result (λ _. r.new.place ≡ r.old.place + length (bits_after parameter before (take count out.new.items))) (λ _. r.new.place ≡ r.old.place) }
+        ReadsWithin (F.feeding r.old.feed) (F.feeding r.new.feed) (F.device dev.old) (F.device dev.new) r.old.place
+        (r.old.place + length (bits_after parameter before (take count ps)))) }
+    ensures place { MatchResult result (λ _. r.new.place
+        ≡ r.old.place + length (bits_after parameter before (take count out.new.items))) (λ _. r.new.place ≡ r.old.place) }
     ensures last { IfOk result (λ last. last ≡ last_doc before (take count out.new.items)) }
     ensures rises { OnOk result (Rises all before (take count out.new.items)) }
     ensures told { (ps : List Posting) → Rises all before ps → count ≤ length ps → r.old.place + length (bits_after parameter before ps) ≤ 2 ^ 63 →
-        Shows ((F.feeding r.old.feed).source (F.device dev.old).files) r.old.place (bits_after parameter before ps) → OrDevice result (λ _. take count out.new.items ≡ take count ps) }
+        Shows ((F.feeding r.old.feed).source (F.device dev.old).files) r.old.place (bits_after parameter before ps) →
+        OrDevice result (λ _. take count out.new.items ≡ take count ps) }
     ensures cause { RefusalCause result (F.device dev.old).faults (F.device dev.new).faults }
 {
     let start = r.place();
+    let code = gap_code(parameter);
+    let mut ahead = Ahead::none();
     let mut last = before;
     for i in 0..count {
-        match read_posting(r, dev, parameter, last, all) {
+        match next_posting(r, dev, &mut ahead, parameter, code, last, all) {
             Ok(posting) => {
                 out[i] = posting;
                 last = posting.doc;

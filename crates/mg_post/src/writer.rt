@@ -69,7 +69,8 @@ fn put_last<S: Store>(
     block_at: u64,
 ) -> Result<u64, PutErr>
     requires full { 64 * full ≤ pushed }
-    ensures some { 64 * full < pushed → IfOk result (λ blocks. (blocks ≡ full + 1) × Wrote w.old w.new (S.files store.old) (S.files store.new) (entry_bytes (skip_entry last block_at))) }
+    ensures some { 64 * full < pushed →
+        IfOk result (λ blocks. (blocks ≡ full + 1) × Wrote w.old w.new (S.files store.old) (S.files store.new) (entry_bytes (skip_entry last block_at))) }
     ensures none { pushed ≤ 64 * full → IfOk result (λ blocks. (blocks ≡ full) × Wrote w.old w.new (S.files store.old) (S.files store.new) []) }
     ensures name { w.new.name ≡ w.old.name }
     ensures wrote { WroteTo w.old.name (S.files store.old) (S.files store.new) (S.reads store.old) (S.reads store.new) }
@@ -96,8 +97,10 @@ impl<'a> ListWriter<'a> {
         ensures skip { IfOk result (λ w. w.skip.name ≡ full_name base.entry.now part.Skip) }
         ensures all { IfOk result (λ w. w.all ≡ all) }
         ensures nothing { IfOk result (λ w. w.total ≡ 0) }
-        ensures empty { OnOk result (S.files store.new ≡ written (written (S.files store.old) (full_name base.entry.now part.Post) []) (full_name base.entry.now part.Skip) []) }
-        ensures others { (n : List ℕ) → n ≢ full_name base.entry.now part.Post → n ≢ full_name base.entry.now part.Skip → file_at (S.files store.new) n ≡ file_at (S.files store.old) n }
+        ensures empty { OnOk result (S.files store.new
+            ≡ written (written (S.files store.old) (full_name base.entry.now part.Post) []) (full_name base.entry.now part.Skip) []) }
+        ensures others { (n : List ℕ) → n ≢ full_name base.entry.now part.Post → n ≢ full_name base.entry.now part.Skip →
+            file_at (S.files store.new) n ≡ file_at (S.files store.old) n }
         ensures told { is_some (S.files store.new) ≡ is_some (S.files store.old) }
         ensures reads { SameReads (S.reads store.old) (S.reads store.new) }
         ensures cause { HasPutCause (S.faults store.old) (S.faults store.new) result }
@@ -163,7 +166,8 @@ impl<'a> ListWriter<'a> {
         requires after { self.old.last < doc }
         requires within { doc ≤ self.old.all }
         requires some { 1 ≤ freq }
-        ensures took { OnOk result ((lists : List (List Posting)) (ps : List Posting) → Took self.old (S.files store.old) lists ps → Took self.new (S.files store.new) lists (ps ++ posting_of doc freq ∷ [])) }
+        ensures took { OnOk result ((lists : List (List Posting)) (ps : List Posting) → Took self.old (S.files store.old) lists ps →
+            Took self.new (S.files store.new) lists (ps ++ posting_of doc freq ∷ [])) }
         ensures pushed { OnOk result (Pushed self.old self.new doc) }
         ensures same { SameFiles self.old self.new }
         ensures others { (n : List ℕ) → n ≢ self.old.post.name → n ≢ self.old.skip.name → file_at (S.files store.new) n ≡ file_at (S.files store.old) n }
@@ -188,7 +192,8 @@ impl<'a> ListWriter<'a> {
     pub fn end_list<S: Store>(&mut self, store: &mut S) -> Result<(u64, u32), PutErr>
         requires took { (lists : List (List Posting)) × (ps : List Posting) × Took self.old (S.files store.old) lists ps }
         requires whole { self.old.pushed ≡ self.old.docs }
-        ensures took { OnOk result ((lists : List (List Posting)) (ps : List Posting) → Took self.old (S.files store.old) lists ps → Took self.new (S.files store.new) (lists ++ ps ∷ []) []) }
+        ensures took { OnOk result ((lists : List (List Posting)) (ps : List Posting) → Took self.old (S.files store.old) lists ps →
+            Took self.new (S.files store.new) (lists ++ ps ∷ []) []) }
         ensures answer { IfOk result (λ at. (lists : List (List Posting)) (ps : List Posting) → Took self.old (S.files store.old) lists ps →
             (at.0 ≡ length (lists_bits self.old.all lists) / 8) × (at.1 ≡ length (lists_entries self.old.all lists))) }
         ensures between { OnOk result (IsBetween self.old self.new self.old.docs) }
@@ -221,8 +226,10 @@ impl<'a> ListWriter<'a> {
     /// of Post and the number of skip entries.
     pub fn finish<S: Store>(&mut self, store: &mut S) -> Result<(u64, u64), PutErr>
         requires took { (lists : List (List Posting)) × Took self.old (S.files store.old) lists [] }
-        ensures finished { OnOk result ((lists : List (List Posting)) → Took self.old (S.files store.old) lists [] → IsSome (S.files store.old) → Finished self.old (S.files store.new) lists) }
-        ensures bytes { OnOk result ((lists : List (List Posting)) → Took self.old (S.files store.old) lists [] → IsSome (S.files store.old) → InBytes self.old (S.files store.new) lists) }
+        ensures finished { OnOk result ((lists : List (List Posting)) → Took self.old (S.files store.old) lists [] → IsSome (S.files store.old) →
+            Finished self.old (S.files store.new) lists) }
+        ensures bytes { OnOk result ((lists : List (List Posting)) → Took self.old (S.files store.old) lists [] → IsSome (S.files store.old) →
+            InBytes self.old (S.files store.new) lists) }
         ensures answer { IfOk result (λ sizes. (lists : List (List Posting)) → Took self.old (S.files store.old) lists [] →
             (sizes.0 ≡ length (lists_bits self.old.all lists) / 8) × (sizes.1 ≡ length (lists_entries self.old.all lists))) }
         ensures same { SameFiles self.old self.new }

@@ -3,6 +3,7 @@ use Rattle.std.proofs.lemmas.Grind.{common_steps}
 use Rattle.std.proofs.lemmas.List.{take_more_set}
 use Rattle.mg_bits.proofs.CallerLemmas.{read_more, read_none, same_told}
 use Rattle.mg_defs.specs.Lists.{posting_bits, bits_after, last_doc, Rises}
+use Rattle.mg_post.proofs.AheadLaws.{nothing_ahead}
 use Rattle.mg_post.proofs.ReadLaws.{next_here, next_answer, any_refused, rises_more, last_more, bits_more, block_pages_more}
 use Rattle.mg_post.proofs.read.read_block.Goals as goal
 
@@ -10,6 +11,7 @@ pub loop-i-init : goal.loop-i-init
 unfolding bits_after last_doc Rises
 loop-i-init g c = record {
   fits = c.requires.fits;
+  ahead = nothing_ahead _ _ _ _ _ c.none-ahead.ensures.bits c.none-ahead.ensures.count;
   len = refl;
   last = refl;
   most = c.requires.before;
@@ -43,6 +45,7 @@ loop-i-preserved g c =
     bits_more c.args.parameter c.args.before c.loop-i.last (take c.loop-i.i c.loop-i.out.items) c.in-Ok.posting c.loop-i.invariant.last in
     record {
       fits = c.in-Ok.ensures.fits;
+      ahead = c.in-Ok.ensures.ahead;
       len = grind (arith, common_steps, c.loop-i.invariant.len);
       last = rw t (sym (last_more c.args.before (take c.loop-i.i c.loop-i.out.items) c.in-Ok.posting));
       most = c.in-Ok.ensures.follows.within;

@@ -2,12 +2,14 @@ use Rattle.std.proofs.Common.{◌≡◌, ◌+◌, ◌^◌, ◌≤◌, List, leng
 use Rattle.mg_bits.specs.Feed.{Read}
 use Rattle.mg_defs.specs.declared.Posting.{Posting}
 use Rattle.mg_defs.specs.Lists.{bits_after, last_doc, Rises}
+use Rattle.mg_post.specs.Ahead.{IsAhead}
 use Rattle.mg_post.specs.Stands.{Shows}
 use Rattle.mg_post.proofs.read.read_block.Given as goal
 
 abbrev pub invariant-loop-i : goal.invariant-loop-i
 invariant-loop-i g l = record {
   fits : g.F.Feed.fits l.r.feed (g.F.Feed.device l.dev).files;
+  ahead : IsAhead (g.F.Feed.feeding l.r.feed) (g.F.Feed.fits l.r.feed) l.r.place l.ahead.bits l.ahead.count;
   len : length l.out.items ≡ length l.fn.out.items;
   last : l.last ≡ last_doc l.before (take l.i l.out.items);
   most : l.last ≤ l.all;
