@@ -21,6 +21,7 @@ use mg_post::{Cursor, cursor_pages_are_within};
 use std::alloc::{AllocError, Global};
 
 /// The first posting of a list behind a document.
+#[inline]
 fn next_posting<S: Store>(
     cursor: &mut Cursor<'_, S>,
     store: &mut S,
@@ -81,6 +82,7 @@ fn weight_of_count(freq: u32) -> u32
 }
 
 /// Adds what a posting of a term of this weight adds to its document.
+#[inline]
 fn add_posting(sums: &mut Sums, weight: u32, posting: Posting) -> Result<(), AllocError>
     requires small { sum_of posting.doc sums.old ≤ 2 ^ 41 }
     requires high { weight < 2 ^ 14 }
