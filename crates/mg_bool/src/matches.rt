@@ -73,7 +73,8 @@ impl<'a, S: Store> Matches<'a, S> {
         all: u32,
     ) -> Result<Self, AllocError>
         requires size { length infos.now ≡ length (query_terms (query_of query.now)) }
-        ensures over { IfOk result (λ m. (collection : List ℕ) → AreInfos collection (query_terms (query_of query.entry.now)) infos.now → all ≡ length (documents collection) →
+        ensures over { IfOk result (λ m. (collection : List ℕ) → AreInfos collection (query_terms (query_of query.entry.now)) infos.now →
+            all ≡ length (documents collection) →
             MatchesOver base.entry.now collection m) }
         ensures asks { IfOk result (λ m. m.asks ≡ query.entry.now) }
         ensures all { IfOk result (λ m. m.all ≡ all) }
@@ -96,6 +97,7 @@ impl<'a, S: Store> Matches<'a, S> {
 
     /// The next document, from 1 to the number of all, that satisfies the query; None where none is
     /// left, and at every further call, which reads nothing.
+    #[inline]
     pub fn next(&mut self, store: &mut S) -> Result<Option<u32>, PartErr>
         requires fits { (base : List ℕ) × MatchesFit base (S.files store.old) self.old }
         ensures fits { OnOk result ((base : List ℕ) → MatchesFit base (S.files store.old) self.old → MatchesFit base (S.files store.new) self.new) }
@@ -103,7 +105,8 @@ impl<'a, S: Store> Matches<'a, S> {
         ensures answer { (base collection : List ℕ) → ListsStand base (S.files store.old) collection → MatchesOver base collection self.old →
             AnswersList result (λ found. GoesOn (left_of collection self.old) (left_of collection self.new) found × MatchesOver base collection self.new) }
         ensures pages { (base collection : List ℕ) → ListsStand base (S.files store.old) collection → MatchesOver base collection self.old →
-            PagesWithin (boolean_bound collection (query_of self.old.asks)) (pages_read self.old.places) (pages_read self.new.places) (S.reads store.old) (S.reads store.new) }
+            PagesWithin (boolean_bound collection (query_of self.old.asks)) (pages_read self.old.places) (pages_read self.new.places)
+            (S.reads store.old) (S.reads store.new) }
         ensures range { IfOk result (λ found. IfSome found (λ doc. (self.old.decided < doc) × (doc ≤ self.old.all) × (self.new.decided ≡ doc))) }
         ensures later { self.old.decided ≤ self.new.decided }
         ensures last { result ≡ Ok None → self.new.decided ≡ self.new.all }

@@ -34,7 +34,8 @@ fn candidate<S: Store>(
     ensures same { SamePlaces places.old.items places.new.items }
     ensures fits { OnOk result (PlacesFit (S.files store.new) places.new.items) }
     ensures answer { (base collection : List ℕ) (q : Meant) → GoesOver base collection q (S.files store.old) places.old.items lead all decided →
-        AnswersList result (λ found. IsNext collection q decided found × PlacesFor base collection (asked_of collection q) (query_terms q) (decided + 1) places.new.items) }
+        AnswersList result (λ found. IsNext collection q decided found ×
+        PlacesFor base collection (asked_of collection q) (query_terms q) (decided + 1) places.new.items) }
     ensures pages { (base collection : List ℕ) (q : Meant) → GoesOver base collection q (S.files store.old) places.old.items lead all decided →
         PagesWithin (boolean_bound collection q) (pages_read places.old.items) (pages_read places.new.items) (S.reads store.old) (S.reads store.new) }
     ensures part { IfErr result NamesItsPart }
@@ -51,6 +52,7 @@ fn candidate<S: Store>(
 }
 
 /// The next document that satisfies a query, each candidate asked of every place.
+#[inline(never)]
 fn next_asked<S: Store>(
     query: &Query,
     places: &mut Vec<Place<'_, S>>,
@@ -76,7 +78,8 @@ fn next_asked<S: Store>(
         AnswersList result (λ found. GoesOn (left_in collection (query_of query.now) decided.old) (left_in collection (query_of query.now) decided.new) found ×
         PlacesOver base collection (query_of query.now) places.new.items lead all decided.new) }
     ensures pages { (base collection : List ℕ) → GoesOver base collection (query_of query.now) (S.files store.old) places.old.items lead all decided.old →
-        PagesWithin (boolean_bound collection (query_of query.now)) (pages_read places.old.items) (pages_read places.new.items) (S.reads store.old) (S.reads store.new) }
+        PagesWithin (boolean_bound collection (query_of query.now)) (pages_read places.old.items) (pages_read places.new.items)
+        (S.reads store.old) (S.reads store.new) }
     ensures part { IfErr result NamesItsPart }
     ensures reads { ReadsLists (S.reads store.old) (S.reads store.new) }
     ensures files { S.files store.new ≡ S.files store.old }
@@ -106,6 +109,7 @@ fn next_asked<S: Store>(
 }
 
 /// The next document from 1 to all that satisfies the query.
+#[inline]
 pub(crate) fn next_match<S: Store>(
     query: &Query,
     places: &mut Vec<Place<'_, S>>,
@@ -131,7 +135,8 @@ pub(crate) fn next_match<S: Store>(
         AnswersList result (λ found. GoesOn (left_in collection (query_of query.now) decided.old) (left_in collection (query_of query.now) decided.new) found ×
         PlacesOver base collection (query_of query.now) places.new.items lead all decided.new) }
     ensures pages { (base collection : List ℕ) → GoesOver base collection (query_of query.now) (S.files store.old) places.old.items lead all decided.old →
-        PagesWithin (boolean_bound collection (query_of query.now)) (pages_read places.old.items) (pages_read places.new.items) (S.reads store.old) (S.reads store.new) }
+        PagesWithin (boolean_bound collection (query_of query.now)) (pages_read places.old.items) (pages_read places.new.items)
+        (S.reads store.old) (S.reads store.new) }
     ensures part { IfErr result NamesItsPart }
     ensures reads { ReadsLists (S.reads store.old) (S.reads store.new) }
     ensures files { S.files store.new ≡ S.files store.old }

@@ -32,6 +32,7 @@ impl<'a, S: Store> Model for Place<'a, S> {
 }
 
 /// The first document of a cursor's list from `doc` on.
+#[inline]
 fn ask_cursor<S: Store>(
     cursor: &mut Cursor<'_, S>,
     store: &mut S,
@@ -85,6 +86,7 @@ impl<'a, S: Store> Place<'a, S> {
     }
 
     /// The first document of the list from `doc` on.
+    #[inline]
     pub(crate) fn ask(&mut self, store: &mut S, doc: u32) -> Result<Option<u32>, PartErr>
         requires fits { PlaceFits (S.files store.old) self.old }
         requires some { 1 ≤ doc }

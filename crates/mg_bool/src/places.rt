@@ -27,6 +27,7 @@ fn is_at(found: Option<u32>, doc: u32) -> bool
 }
 
 /// Asks one place for a document.
+#[inline]
 pub(crate) fn ask_at<S: Store>(
     places: &mut Vec<Place<'_, S>>,
     store: &mut S,
@@ -42,8 +43,10 @@ pub(crate) fn ask_at<S: Store>(
     ensures answer { (base collection asked t : List ℕ) → AsksPlace base collection asked t doc (S.files store.old) (slice_index_or places.old.items i None) →
         AnswersList result (λ found. AnswersPlace base collection asked t doc found (slice_index_or places.new.items i None)) }
     ensures pages { (base collection asked t : List ℕ) → AsksPlace base collection asked t doc (S.files store.old) (slice_index_or places.old.items i None) →
-        PagesWithin (pages_for collection asked t) (place_pages (slice_index_or places.old.items i None)) (place_pages (slice_index_or places.new.items i None)) (S.reads store.old) (S.reads store.new) }
-    ensures range { (base : List ℕ) (all : ℕ) → PlaceOn base all (slice_index_or places.old.items i None) → IfOk result (λ found. IfSome found (IsInRange doc all)) }
+        PagesWithin (pages_for collection asked t) (place_pages (slice_index_or places.old.items i None)) (place_pages (slice_index_or places.new.items i None))
+        (S.reads store.old) (S.reads store.new) }
+    ensures range { (base : List ℕ) (all : ℕ) → PlaceOn base all (slice_index_or places.old.items i None) →
+        IfOk result (λ found. IfSome found (IsInRange doc all)) }
     ensures part { IfErr result NamesItsPart }
     ensures reads { ReadsLists (S.reads store.old) (S.reads store.new) }
     ensures files { S.files store.new ≡ S.files store.old }
@@ -70,7 +73,8 @@ pub(crate) fn ask_all<S: Store>(
     ensures answer { (base collection asked : List ℕ) (ts : List (List ℕ)) → AsksAll base collection asked ts doc (S.files store.old) places.old.items →
         AnswersList result (λ _. AnswersAll base collection asked ts doc there.new.items places.new.items) }
     ensures pages { (base collection asked : List ℕ) (ts : List (List ℕ)) → AsksAll base collection asked ts doc (S.files store.old) places.old.items →
-        PagesWithin (sum_by (pages_for collection asked) ts) (pages_read places.old.items) (pages_read places.new.items) (S.reads store.old) (S.reads store.new) }
+        PagesWithin (sum_by (pages_for collection asked) ts) (pages_read places.old.items) (pages_read places.new.items)
+        (S.reads store.old) (S.reads store.new) }
     ensures part { IfErr result NamesItsPart }
     ensures reads { ReadsLists (S.reads store.old) (S.reads store.new) }
     ensures files { S.files store.new ≡ S.files store.old }
@@ -95,7 +99,8 @@ pub(crate) fn start_all<'a, S: Store>(
     all: u32,
 ) -> Result<Vec<Place<'a, S>>, AllocError>
     ensures size { IfOk result (λ places. length places.items ≡ length infos.now) }
-    ensures over { IfOk result (λ places. (collection asked : List ℕ) (ts : List (List ℕ)) (n : ℕ) → AreInfos collection ts infos.now → all ≡ length (documents collection) →
+    ensures over { IfOk result (λ places. (collection asked : List ℕ) (ts : List (List ℕ)) (n : ℕ) → AreInfos collection ts infos.now →
+        all ≡ length (documents collection) →
         PlacesFor base.entry.now collection asked ts n places.items) }
     ensures on { IfOk result (λ places. PlacesOn base.entry.now all places.items) }
     ensures fits { IfOk result (λ places. (files : Option Files) → PlacesFit files places.items) }

@@ -16,6 +16,7 @@ use mg_post::cursor_pages_are_within;
 
 /// The next document of the only list of a query of one word: it is the next one that satisfies the
 /// query, so that nothing is asked twice. Where none is left all are decided.
+#[inline]
 pub(crate) fn next_of_word<S: Store>(
     places: &mut Vec<Place<'_, S>>,
     store: &mut S,
