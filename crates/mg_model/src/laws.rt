@@ -44,7 +44,8 @@ pub fn terms_are_the_dictionary()
 /// stands at its symbol.
 pub fn words_have_terms()
     ensures word { (words : List (List ℕ)) (word : List ℕ) → Contains words word → word ≢ [] → HasTerm (sorted_distinct (terms_of_words words)) word }
-    ensures symbol { (words : List (List ℕ)) (symbol : ℕ) (word : List ℕ) → slice_get words symbol ≡ Some word → word ≢ [] → HasTerm (terms_and_numbers words).terms word }
+    ensures symbol { (words : List (List ℕ)) (symbol : ℕ) (word : List ℕ) → slice_get words symbol ≡ Some word → word ≢ [] →
+        HasTerm (terms_and_numbers words).terms word }
     ensures number { (words : List (List ℕ)) (symbol : ℕ) (word : List ℕ) → slice_get words symbol ≡ Some word →
         slice_get (terms_and_numbers words).numbers symbol ≡ Some (term_in (terms_and_numbers words).terms word) }
 {}

@@ -34,7 +34,8 @@ pub struct ReadPieces {
 /// Refuses a part that has fewer bytes than so many pieces take, two each. A missing part has no
 /// bytes.
 pub fn expect_room<S: Store>(store: &mut S, file: &FileRef<'_>, count: u32) -> Result<(), PartErr>
-    ensures answer { IsSome (S.files store.old) → AnswersRoom file.now.part count (bytes_at (S.files store.old) (full_name file.now.base.now file.now.part)) result }
+    ensures answer { IsSome (S.files store.old) →
+        AnswersRoom file.now.part count (bytes_at (S.files store.old) (full_name file.now.base.now file.now.part)) result }
     ensures files { S.files store.new ≡ S.files store.old }
     ensures reads { SameReads (S.reads store.old) (S.reads store.new) }
     ensures cause { HasPartCause (S.faults store.old) (S.faults store.new) result }
@@ -120,10 +121,13 @@ pub fn read_pieces<S: Store>(
     count: u32,
 ) -> Result<ReadPieces, PartErr>
     requires { count ≤ 2 ^ 22 }
-    ensures answer { IsSome (S.files store.old) → AnswersEntries file.entry.part count (bytes_at (S.files store.old) (full_name file.entry.base.now file.entry.part)) result }
+    ensures answer { IsSome (S.files store.old) →
+        AnswersEntries file.entry.part count (bytes_at (S.files store.old) (full_name file.entry.base.now file.entry.part)) result }
     ensures each { IfOk result (λ read. length read.lengths.items ≡ length read.pieces) }
-    ensures looked { Looked file.entry.part (S.files store.old) (S.files store.new) (S.reads store.old) (S.reads store.new) (S.faults store.old) (S.faults store.new) }
-    ensures once { IsSome (S.files store.old) → ReadOnce file.entry.part count (bytes_at (S.files store.old) (full_name file.entry.base.now file.entry.part)) (S.reads store.old) (S.reads store.new) result }
+    ensures looked { Looked file.entry.part (S.files store.old) (S.files store.new) (S.reads store.old) (S.reads store.new)
+        (S.faults store.old) (S.faults store.new) }
+    ensures once { IsSome (S.files store.old) → ReadOnce file.entry.part count (bytes_at (S.files store.old) (full_name file.entry.base.now file.entry.part))
+        (S.reads store.old) (S.reads store.new) result }
     ensures cause { HasPartCause (S.faults store.old) (S.faults store.new) result }
 {
     let mut read = room_for(alloc, count)?;

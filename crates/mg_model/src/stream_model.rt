@@ -82,8 +82,10 @@ impl StreamModel {
         store: &mut S,
         file: FileRef<'_>,
     ) -> Result<(), PutErr>
-        ensures bytes { OnOk result (IsSome (S.files store.old) → bytes_at (S.files store.new) (full_name file.entry.base.now file.entry.part) ≡ pieces_part self.now) }
-        ensures wrote { WroteTo (full_name file.entry.base.now file.entry.part) (S.files store.old) (S.files store.new) (S.reads store.old) (S.reads store.new) }
+        ensures bytes { OnOk result (IsSome (S.files store.old) →
+            bytes_at (S.files store.new) (full_name file.entry.base.now file.entry.part) ≡ pieces_part self.now) }
+        ensures wrote { WroteTo (full_name file.entry.base.now file.entry.part) (S.files store.old) (S.files store.new)
+            (S.reads store.old) (S.reads store.new) }
         ensures cause { HasPutCause (S.faults store.old) (S.faults store.new) result }
     {
         let mut writer = FrontWriter::start(alloc, store, file, None, 1)?;
@@ -105,10 +107,14 @@ impl StreamModel {
         count: u32,
     ) -> Result<Self, PartErr>
         requires { count ≤ 2 ^ 22 }
-        ensures answer { IsSome (S.files store.old) → AnswersStream file.entry.part count (bytes_at (S.files store.old) (full_name file.entry.base.now file.entry.part)) result }
-        ensures looked { Looked file.entry.part (S.files store.old) (S.files store.new) (S.reads store.old) (S.reads store.new) (S.faults store.old) (S.faults store.new) }
-        ensures once { IsSome (S.files store.old) → ReadOnce file.entry.part count (bytes_at (S.files store.old) (full_name file.entry.base.now file.entry.part)) (S.reads store.old) (S.reads store.new) result }
-        ensures unread { IsSome (S.files store.old) → UnreadIfShort file.entry.part count (bytes_at (S.files store.old) (full_name file.entry.base.now file.entry.part)) (S.reads store.old) (S.reads store.new) }
+        ensures answer { IsSome (S.files store.old) →
+            AnswersStream file.entry.part count (bytes_at (S.files store.old) (full_name file.entry.base.now file.entry.part)) result }
+        ensures looked { Looked file.entry.part (S.files store.old) (S.files store.new) (S.reads store.old) (S.reads store.new)
+            (S.faults store.old) (S.faults store.new) }
+        ensures once { IsSome (S.files store.old) → ReadOnce file.entry.part count
+            (bytes_at (S.files store.old) (full_name file.entry.base.now file.entry.part)) (S.reads store.old) (S.reads store.new) result }
+        ensures unread { IsSome (S.files store.old) → UnreadIfShort file.entry.part count
+            (bytes_at (S.files store.old) (full_name file.entry.base.now file.entry.part)) (S.reads store.old) (S.reads store.new) }
         ensures cause { HasPartCause (S.faults store.old) (S.faults store.new) result }
     {
         match expect_room(store, &file, count) {

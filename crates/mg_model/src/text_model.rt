@@ -57,7 +57,8 @@ impl TextModel {
     /// Writes the parts Words and Nonwords (docs/FORMAT.md).
     pub fn write<S: Store>(&self, alloc: Global, store: &mut S, base: &str) -> Result<(), PutErr>
         ensures hold { OnOk result (IsSome (S.files store.old) → PartsHold (S.files store.new) base.now self.now) }
-        ensures others { (n : List ℕ) → n ≢ full_name base.now Part.Words → n ≢ full_name base.now Part.Nonwords → file_at (S.files store.new) n ≡ file_at (S.files store.old) n }
+        ensures others { (n : List ℕ) → n ≢ full_name base.now Part.Words → n ≢ full_name base.now Part.Nonwords →
+            file_at (S.files store.new) n ≡ file_at (S.files store.old) n }
         ensures told { is_some (S.files store.new) ≡ is_some (S.files store.old) }
         ensures reads { SameReads (S.reads store.old) (S.reads store.new) }
         ensures cause { HasPutCause (S.faults store.old) (S.faults store.new) result }
@@ -76,12 +77,13 @@ impl TextModel {
 
     /// Reads the parts Words and Nonwords, each once. `words` and `others` are the numbers of pieces,
     /// at most 2^22 each. Three tests are made of a part: its size is compared with twice that number
-    /// before anything is reserved or read of it, its entries are walked, and then the lengths are
-    /// tested. Each test of Words comes before any of Nonwords, and the first that fails is told. So
-    /// memory is wanted only where Words is no shorter than twice `words`, and Nonwords is read only
-    /// where Words has no damage. It reads no page of 4,096 bytes twice; it may ask for one page
-    /// behind a part's end where the device fails or that part's entries are damaged, since an entry
-    /// that breaks off is sought on there. Whatever it answers, the files stay as they were.
+    /// before it is read, its entries are walked, and then the lengths are tested. Each test of Words
+    /// comes before any of Nonwords, and the first that fails is told. So memory is wanted only where
+    /// Words is no shorter than twice `words`, and Nonwords is read only where Words has no damage;
+    /// want of memory does not tell for which of the two it was. It reads no page of 4,096 bytes twice;
+    /// it may ask for one page behind a part's end where the device fails or that part's entries are
+    /// damaged, since an entry that breaks off is sought on there. Whatever it answers, the files stay
+    /// as they were.
     pub fn load<S: Store>(
         alloc: Global,
         store: &mut S,
@@ -91,14 +93,21 @@ impl TextModel {
     ) -> Result<Self, PartErr>
         requires words { words ≤ 2 ^ 22 }
         requires others { others ≤ 2 ^ 22 }
-        ensures answer { IsSome (S.files store.old) → AnswersLoad words others (bytes_at (S.files store.old) (full_name base.now Part.Words)) (bytes_at (S.files store.old) (full_name base.now Part.Nonwords)) result }
+        ensures answer { IsSome (S.files store.old) → AnswersLoad words others (bytes_at (S.files store.old) (full_name base.now Part.Words))
+            (bytes_at (S.files store.old) (full_name base.now Part.Nonwords)) result }
         ensures standing { (code : TextCode) → PartsStand (S.files store.old) base.now code words others → AnswersStanding result code }
-        ensures looked { LookedAt Part.Words Part.Nonwords (S.files store.old) (S.files store.new) (S.reads store.old) (S.reads store.new) (S.faults store.old) (S.faults store.new) }
-        ensures words_once { IsSome (S.files store.old) → ReadOnce Part.Words words (bytes_at (S.files store.old) (full_name base.now Part.Words)) (S.reads store.old) (S.reads store.new) result }
-        ensures others_once { IsSome (S.files store.old) → ReadOnce Part.Nonwords others (bytes_at (S.files store.old) (full_name base.now Part.Nonwords)) (S.reads store.old) (S.reads store.new) result }
-        ensures words_unread { IsSome (S.files store.old) → UnreadIfShort Part.Words words (bytes_at (S.files store.old) (full_name base.now Part.Words)) (S.reads store.old) (S.reads store.new) }
-        ensures others_unread { IsSome (S.files store.old) → UnreadIfShort Part.Nonwords others (bytes_at (S.files store.old) (full_name base.now Part.Nonwords)) (S.reads store.old) (S.reads store.new) }
-        ensures words_first { IsSome (S.files store.old) → ReadBehindWhole words (bytes_at (S.files store.old) (full_name base.now Part.Words)) (S.reads store.old) (S.reads store.new) }
+        ensures looked { LookedAt Part.Words Part.Nonwords (S.files store.old) (S.files store.new) (S.reads store.old) (S.reads store.new)
+            (S.faults store.old) (S.faults store.new) }
+        ensures words_once { IsSome (S.files store.old) →
+            ReadOnce Part.Words words (bytes_at (S.files store.old) (full_name base.now Part.Words)) (S.reads store.old) (S.reads store.new) result }
+        ensures others_once { IsSome (S.files store.old) →
+            ReadOnce Part.Nonwords others (bytes_at (S.files store.old) (full_name base.now Part.Nonwords)) (S.reads store.old) (S.reads store.new) result }
+        ensures words_unread { IsSome (S.files store.old) →
+            UnreadIfShort Part.Words words (bytes_at (S.files store.old) (full_name base.now Part.Words)) (S.reads store.old) (S.reads store.new) }
+        ensures others_unread { IsSome (S.files store.old) →
+            UnreadIfShort Part.Nonwords others (bytes_at (S.files store.old) (full_name base.now Part.Nonwords)) (S.reads store.old) (S.reads store.new) }
+        ensures words_first { IsSome (S.files store.old) →
+            ReadBehindWhole words (bytes_at (S.files store.old) (full_name base.now Part.Words)) (S.reads store.old) (S.reads store.new) }
         ensures words_told { IsSome (S.files store.old) → ToldUnread (S.reads store.old) (S.reads store.new) result }
         ensures cause { HasPartCause (S.faults store.old) (S.faults store.new) result }
     {
@@ -115,13 +124,20 @@ impl TextModel {
     ) -> Result<Self, PartErr>
         requires words { words ≤ 2 ^ 22 }
         requires others { others ≤ 2 ^ 22 }
-        ensures answer { IsSome (S.files store.old) → AnswersLoad words others (bytes_at (S.files store.old) (full_name base.now Part.Words)) (bytes_at (S.files store.old) (full_name base.now Part.Nonwords)) result }
-        ensures looked { LookedAt Part.Words Part.Nonwords (S.files store.old) (S.files store.new) (S.reads store.old) (S.reads store.new) (S.faults store.old) (S.faults store.new) }
-        ensures words_once { IsSome (S.files store.old) → ReadOnce Part.Words words (bytes_at (S.files store.old) (full_name base.now Part.Words)) (S.reads store.old) (S.reads store.new) result }
-        ensures others_once { IsSome (S.files store.old) → ReadOnce Part.Nonwords others (bytes_at (S.files store.old) (full_name base.now Part.Nonwords)) (S.reads store.old) (S.reads store.new) result }
-        ensures words_unread { IsSome (S.files store.old) → UnreadIfShort Part.Words words (bytes_at (S.files store.old) (full_name base.now Part.Words)) (S.reads store.old) (S.reads store.new) }
-        ensures others_unread { IsSome (S.files store.old) → UnreadIfShort Part.Nonwords others (bytes_at (S.files store.old) (full_name base.now Part.Nonwords)) (S.reads store.old) (S.reads store.new) }
-        ensures words_first { IsSome (S.files store.old) → ReadBehindWhole words (bytes_at (S.files store.old) (full_name base.now Part.Words)) (S.reads store.old) (S.reads store.new) }
+        ensures answer { IsSome (S.files store.old) → AnswersLoad words others (bytes_at (S.files store.old) (full_name base.now Part.Words))
+            (bytes_at (S.files store.old) (full_name base.now Part.Nonwords)) result }
+        ensures looked { LookedAt Part.Words Part.Nonwords (S.files store.old) (S.files store.new) (S.reads store.old) (S.reads store.new)
+            (S.faults store.old) (S.faults store.new) }
+        ensures words_once { IsSome (S.files store.old) →
+            ReadOnce Part.Words words (bytes_at (S.files store.old) (full_name base.now Part.Words)) (S.reads store.old) (S.reads store.new) result }
+        ensures others_once { IsSome (S.files store.old) →
+            ReadOnce Part.Nonwords others (bytes_at (S.files store.old) (full_name base.now Part.Nonwords)) (S.reads store.old) (S.reads store.new) result }
+        ensures words_unread { IsSome (S.files store.old) →
+            UnreadIfShort Part.Words words (bytes_at (S.files store.old) (full_name base.now Part.Words)) (S.reads store.old) (S.reads store.new) }
+        ensures others_unread { IsSome (S.files store.old) →
+            UnreadIfShort Part.Nonwords others (bytes_at (S.files store.old) (full_name base.now Part.Nonwords)) (S.reads store.old) (S.reads store.new) }
+        ensures words_first { IsSome (S.files store.old) →
+            ReadBehindWhole words (bytes_at (S.files store.old) (full_name base.now Part.Words)) (S.reads store.old) (S.reads store.new) }
         ensures words_told { IsSome (S.files store.old) → ToldUnread (S.reads store.old) (S.reads store.new) result }
         ensures cause { HasPartCause (S.faults store.old) (S.faults store.new) result }
     {
