@@ -33,13 +33,18 @@ fn show_piece<F: Feed, O: Sink>(
     requires fits { F.fits r.old.feed (F.device dev.old).files }
     ensures fits { F.fits r.new.feed (F.device dev.new).files }
     ensures calm { Calm (F.feeding r.old.feed) (F.feeding r.new.feed) (F.device dev.old) (F.device dev.new) }
-    ensures told { (before : Option (List ℕ)) (bytes piece : List ℕ) → IsIn (code_of stream model.now) piece → r.old.place + length (codeword_of (code_of stream model.now) piece) ≤ 2 ^ 63 →
-        Shows ((F.feeding r.old.feed).source (F.device dev.old).files) r.old.place (codeword_of (code_of stream model.now) piece) → Shown before (O.written out.old) buffer.old bytes →
+    ensures told { (before : Option (List ℕ)) (bytes piece : List ℕ) → IsIn (code_of stream model.now) piece →
+        r.old.place + length (codeword_of (code_of stream model.now) piece) ≤ 2 ^ 63 →
+        Shows ((F.feeding r.old.feed).source (F.device dev.old).files) r.old.place (codeword_of (code_of stream model.now) piece) →
+        Shown before (O.written out.old) buffer.old bytes →
         Ends result
-        (Decoded (F.feeding r.old.feed) (F.feeding r.new.feed) (F.device dev.old) (F.device dev.new) r.old.place (r.old.place + length (codeword_of (code_of stream model.now) piece)) r.new.place before (O.written out.new) buffer.new (bytes ++ piece))
-        (Stopped (F.feeding r.old.feed) (F.feeding r.new.feed) (F.device dev.old) (F.device dev.new) r.old.place (r.old.place + length (codeword_of (code_of stream model.now) piece)) before (O.written out.new) (bytes ++ piece)) }
+        (Decoded (F.feeding r.old.feed) (F.feeding r.new.feed) (F.device dev.old) (F.device dev.new) r.old.place
+        (r.old.place + length (codeword_of (code_of stream model.now) piece)) r.new.place before (O.written out.new) buffer.new (bytes ++ piece))
+        (Stopped (F.feeding r.old.feed) (F.feeding r.new.feed) (F.device dev.old) (F.device dev.new) r.old.place
+        (r.old.place + length (codeword_of (code_of stream model.now) piece)) before (O.written out.new) (bytes ++ piece)) }
     ensures added { Added (O.written out.old) (O.written out.new) (O.faults out.old) (O.faults out.new) (O.lacks out.old) (O.lacks out.new) }
-    ensures cause { IsShowCaused result (F.device dev.old).faults (F.device dev.new).faults (O.faults out.old) (O.faults out.new) (O.lacks out.old) (O.lacks out.new) }
+    ensures cause { IsShowCaused result (F.device dev.old).faults (F.device dev.new).faults (O.faults out.old) (O.faults out.new)
+        (O.lacks out.old) (O.lacks out.new) }
 {
     match get_symbol(model.canon(stream), r, dev) {
         Ok(symbol) => match buffer.put(out, model.piece(stream, symbol)) {
@@ -62,12 +67,16 @@ fn show_pair<F: Feed, O: Sink>(
     ensures fits { F.fits r.new.feed (F.device dev.new).files }
     ensures calm { Calm (F.feeding r.old.feed) (F.feeding r.new.feed) (F.device dev.old) (F.device dev.new) }
     ensures told { (before : Option (List ℕ)) (bytes : List ℕ) (p : Pair) → PairIn model.now p → r.old.place + length (coded_pair model.now p) ≤ 2 ^ 63 →
-        Shows ((F.feeding r.old.feed).source (F.device dev.old).files) r.old.place (coded_pair model.now p) → Shown before (O.written out.old) buffer.old bytes →
+        Shows ((F.feeding r.old.feed).source (F.device dev.old).files) r.old.place (coded_pair model.now p) →
+        Shown before (O.written out.old) buffer.old bytes →
         Ends result
-        (Decoded (F.feeding r.old.feed) (F.feeding r.new.feed) (F.device dev.old) (F.device dev.new) r.old.place (r.old.place + length (coded_pair model.now p)) r.new.place before (O.written out.new) buffer.new (bytes ++ (p.word ++ p.other)))
-        (Stopped (F.feeding r.old.feed) (F.feeding r.new.feed) (F.device dev.old) (F.device dev.new) r.old.place (r.old.place + length (coded_pair model.now p)) before (O.written out.new) (bytes ++ (p.word ++ p.other))) }
+        (Decoded (F.feeding r.old.feed) (F.feeding r.new.feed) (F.device dev.old) (F.device dev.new) r.old.place
+        (r.old.place + length (coded_pair model.now p)) r.new.place before (O.written out.new) buffer.new (bytes ++ (p.word ++ p.other)))
+        (Stopped (F.feeding r.old.feed) (F.feeding r.new.feed) (F.device dev.old) (F.device dev.new) r.old.place
+        (r.old.place + length (coded_pair model.now p)) before (O.written out.new) (bytes ++ (p.word ++ p.other))) }
     ensures added { Added (O.written out.old) (O.written out.new) (O.faults out.old) (O.faults out.new) (O.lacks out.old) (O.lacks out.new) }
-    ensures cause { IsShowCaused result (F.device dev.old).faults (F.device dev.new).faults (O.faults out.old) (O.faults out.new) (O.lacks out.old) (O.lacks out.new) }
+    ensures cause { IsShowCaused result (F.device dev.old).faults (F.device dev.new).faults (O.faults out.old) (O.faults out.new)
+        (O.lacks out.old) (O.lacks out.new) }
 {
     match show_piece(model, Stream::Words, r, dev, buffer, out) {
         Ok(()) => {}
@@ -91,13 +100,18 @@ fn show_pairs<F: Feed, O: Sink>(
     requires fits { F.fits r.old.feed (F.device dev.old).files }
     ensures fits { F.fits r.new.feed (F.device dev.new).files }
     ensures calm { Calm (F.feeding r.old.feed) (F.feeding r.new.feed) (F.device dev.old) (F.device dev.new) }
-    ensures told { (before : Option (List ℕ)) (bytes : List ℕ) (ps : List Pair) → PairsIn model.now ps → count ≡ length ps → r.old.place + length (coded_pairs model.now ps) ≤ 2 ^ 63 →
-        Shows ((F.feeding r.old.feed).source (F.device dev.old).files) r.old.place (coded_pairs model.now ps) → Shown before (O.written out.old) buffer.old bytes →
+    ensures told { (before : Option (List ℕ)) (bytes : List ℕ) (ps : List Pair) → PairsIn model.now ps → count ≡ length ps →
+        r.old.place + length (coded_pairs model.now ps) ≤ 2 ^ 63 →
+        Shows ((F.feeding r.old.feed).source (F.device dev.old).files) r.old.place (coded_pairs model.now ps) →
+        Shown before (O.written out.old) buffer.old bytes →
         Ends result
-        (Decoded (F.feeding r.old.feed) (F.feeding r.new.feed) (F.device dev.old) (F.device dev.new) r.old.place (r.old.place + length (coded_pairs model.now ps)) r.new.place before (O.written out.new) buffer.new (bytes ++ text ps))
-        (Stopped (F.feeding r.old.feed) (F.feeding r.new.feed) (F.device dev.old) (F.device dev.new) r.old.place (r.old.place + length (coded_pairs model.now ps)) before (O.written out.new) (bytes ++ text ps)) }
+        (Decoded (F.feeding r.old.feed) (F.feeding r.new.feed) (F.device dev.old) (F.device dev.new) r.old.place
+        (r.old.place + length (coded_pairs model.now ps)) r.new.place before (O.written out.new) buffer.new (bytes ++ text ps))
+        (Stopped (F.feeding r.old.feed) (F.feeding r.new.feed) (F.device dev.old) (F.device dev.new) r.old.place
+        (r.old.place + length (coded_pairs model.now ps)) before (O.written out.new) (bytes ++ text ps)) }
     ensures added { Added (O.written out.old) (O.written out.new) (O.faults out.old) (O.faults out.new) (O.lacks out.old) (O.lacks out.new) }
-    ensures cause { IsShowCaused result (F.device dev.old).faults (F.device dev.new).faults (O.faults out.old) (O.faults out.new) (O.lacks out.old) (O.lacks out.new) }
+    ensures cause { IsShowCaused result (F.device dev.old).faults (F.device dev.new).faults (O.faults out.old) (O.faults out.new)
+        (O.lacks out.old) (O.lacks out.new) }
 {
     for _i in 0..count {
         match show_pair(model, r, dev, buffer, out) {
@@ -119,13 +133,18 @@ pub fn gather_doc<F: Feed, O: Sink>(
     requires fits { F.fits r.old.feed (F.device dev.old).files }
     ensures fits { F.fits r.new.feed (F.device dev.new).files }
     ensures calm { Calm (F.feeding r.old.feed) (F.feeding r.new.feed) (F.device dev.old) (F.device dev.new) }
-    ensures told { (before : Option (List ℕ)) (bytes doc : List ℕ) → PairsIn model.now (parse doc) → length (parse doc) < 2 ^ 32 → r.old.place + length (coded_doc model.now doc) ≤ 2 ^ 63 →
-        Shows ((F.feeding r.old.feed).source (F.device dev.old).files) r.old.place (coded_doc model.now doc) → Shown before (O.written out.old) buffer.old bytes →
+    ensures told { (before : Option (List ℕ)) (bytes doc : List ℕ) → PairsIn model.now (parse doc) → length (parse doc) < 2 ^ 32 →
+        r.old.place + length (coded_doc model.now doc) ≤ 2 ^ 63 →
+        Shows ((F.feeding r.old.feed).source (F.device dev.old).files) r.old.place (coded_doc model.now doc) →
+        Shown before (O.written out.old) buffer.old bytes →
         Ends result
-        (Decoded (F.feeding r.old.feed) (F.feeding r.new.feed) (F.device dev.old) (F.device dev.new) r.old.place (r.old.place + length (coded_doc model.now doc)) r.new.place before (O.written out.new) buffer.new (bytes ++ doc))
-        (Stopped (F.feeding r.old.feed) (F.feeding r.new.feed) (F.device dev.old) (F.device dev.new) r.old.place (r.old.place + length (coded_doc model.now doc)) before (O.written out.new) (bytes ++ doc)) }
+        (Decoded (F.feeding r.old.feed) (F.feeding r.new.feed) (F.device dev.old) (F.device dev.new) r.old.place
+        (r.old.place + length (coded_doc model.now doc)) r.new.place before (O.written out.new) buffer.new (bytes ++ doc))
+        (Stopped (F.feeding r.old.feed) (F.feeding r.new.feed) (F.device dev.old) (F.device dev.new) r.old.place
+        (r.old.place + length (coded_doc model.now doc)) before (O.written out.new) (bytes ++ doc)) }
     ensures added { Added (O.written out.old) (O.written out.new) (O.faults out.old) (O.faults out.new) (O.lacks out.old) (O.lacks out.new) }
-    ensures cause { IsShowCaused result (F.device dev.old).faults (F.device dev.new).faults (O.faults out.old) (O.faults out.new) (O.lacks out.old) (O.lacks out.new) }
+    ensures cause { IsShowCaused result (F.device dev.old).faults (F.device dev.new).faults (O.faults out.old) (O.faults out.new)
+        (O.lacks out.old) (O.lacks out.new) }
 {
     let count = match get_count(r, dev) {
         Ok(count) => count,
@@ -153,10 +172,13 @@ pub fn show_doc<F: Feed, O: Sink>(
     ensures told { (doc : List ℕ) → PairsIn model.now (parse doc) → length (parse doc) < 2 ^ 32 → r.old.place + length (coded_doc model.now doc) ≤ 2 ^ 63 →
         Shows ((F.feeding r.old.feed).source (F.device dev.old).files) r.old.place (coded_doc model.now doc) →
         Ends result
-        (WholeDoc (F.feeding r.old.feed) (F.feeding r.new.feed) (F.device dev.old) (F.device dev.new) r.old.place (r.old.place + length (coded_doc model.now doc)) (O.written out.old) (O.written out.new) doc)
-        (Stopped (F.feeding r.old.feed) (F.feeding r.new.feed) (F.device dev.old) (F.device dev.new) r.old.place (r.old.place + length (coded_doc model.now doc)) (O.written out.old) (O.written out.new) doc) }
+        (WholeDoc (F.feeding r.old.feed) (F.feeding r.new.feed) (F.device dev.old) (F.device dev.new) r.old.place
+        (r.old.place + length (coded_doc model.now doc)) (O.written out.old) (O.written out.new) doc)
+        (Stopped (F.feeding r.old.feed) (F.feeding r.new.feed) (F.device dev.old) (F.device dev.new) r.old.place
+        (r.old.place + length (coded_doc model.now doc)) (O.written out.old) (O.written out.new) doc) }
     ensures added { Added (O.written out.old) (O.written out.new) (O.faults out.old) (O.faults out.new) (O.lacks out.old) (O.lacks out.new) }
-    ensures cause { IsShowCaused result (F.device dev.old).faults (F.device dev.new).faults (O.faults out.old) (O.faults out.new) (O.lacks out.old) (O.lacks out.new) }
+    ensures cause { IsShowCaused result (F.device dev.old).faults (F.device dev.new).faults (O.faults out.old) (O.faults out.new)
+        (O.lacks out.old) (O.lacks out.new) }
 {
     match gather_doc(model, r, dev, buffer, out) {
         Ok(()) => {}

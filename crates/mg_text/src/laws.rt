@@ -36,12 +36,14 @@ pub fn text_has_its_documents()
     ensures size { (base : List ℕ) (files : Option Files) (code : TextCode) (collection : List ℕ) → IsTextCode collection code →
         DocumentsStand base files (coded_docs code collection) →
         length (bytes_at files (full_name base Text)) ≤ text_bits collection / 8 + length (documents collection) }
-    ensures bytes { (base : List ℕ) (files : Option Files) (docs : List Bits) → DocumentsStand base files docs → bytes_at files (full_name base Text) ≡ text_bytes docs }
+    ensures bytes { (base : List ℕ) (files : Option Files) (docs : List Bits) → DocumentsStand base files docs →
+        bytes_at files (full_name base Text) ≡ text_bytes docs }
 {}
 
 /// What a writer took stays, and it may write on, as long as its Text and Places stay: calls that
 /// write other files don't matter.
 pub fn text_stays()
     ensures { (w : TextWriting) (files files_now : Option Files) (docs : List Bits) (bits : Bits) → is_some files_now ≡ is_some files →
-        file_at files_now (full_name w.base Text) ≡ file_at files (full_name w.base Text) → file_at files_now (full_name w.base Places) ≡ file_at files (full_name w.base Places) → IsOnText w files docs bits → IsOnText w files_now docs bits }
+        file_at files_now (full_name w.base Text) ≡ file_at files (full_name w.base Text) →
+        file_at files_now (full_name w.base Places) ≡ file_at files (full_name w.base Places) → IsOnText w files docs bits → IsOnText w files_now docs bits }
 {}

@@ -30,8 +30,10 @@ fn narrow_place<S: Store>(
     requires fits { Fits places.old (S.files store.old) }
     ensures fits { Fits places.new (S.files store.new) }
     ensures file { SameFile places.old places.new }
-    ensures looked { Looked places.old.part (S.files store.old) (S.files store.new) (S.reads store.old) (S.reads store.new) (S.faults store.old) (S.faults store.new) }
-    ensures told { IsSome (S.files store.old) → (p : ℕ) → p < 2 ^ 32 → take 4 (drop (4 * index) (bytes_at (S.files store.old) places.old.name)) ≡ four p → IfOk result (λ place. place ≡ Some p) }
+    ensures looked { Looked places.old.part (S.files store.old) (S.files store.new) (S.reads store.old) (S.reads store.new)
+        (S.faults store.old) (S.faults store.new) }
+    ensures told { IsSome (S.files store.old) → (p : ℕ) → p < 2 ^ 32 → take 4 (drop (4 * index) (bytes_at (S.files store.old) places.old.name)) ≡ four p →
+        IfOk result (λ place. place ≡ Some p) }
     ensures page { S.reads store.new places.old.part ≤ S.reads store.old places.old.part + 1 }
     ensures cause { HasCause (S.faults store.old) (S.faults store.new) result }
 {
@@ -52,8 +54,10 @@ fn wide_place<S: Store>(
     requires fits { Fits places.old (S.files store.old) }
     ensures fits { Fits places.new (S.files store.new) }
     ensures file { SameFile places.old places.new }
-    ensures looked { Looked places.old.part (S.files store.old) (S.files store.new) (S.reads store.old) (S.reads store.new) (S.faults store.old) (S.faults store.new) }
-    ensures told { IsSome (S.files store.old) → (p : ℕ) → p < 2 ^ 64 → take 8 (drop (8 * index) (bytes_at (S.files store.old) places.old.name)) ≡ eight p → IfOk result (λ place. place ≡ Some p) }
+    ensures looked { Looked places.old.part (S.files store.old) (S.files store.new) (S.reads store.old) (S.reads store.new)
+        (S.faults store.old) (S.faults store.new) }
+    ensures told { IsSome (S.files store.old) → (p : ℕ) → p < 2 ^ 64 → take 8 (drop (8 * index) (bytes_at (S.files store.old) places.old.name)) ≡ eight p →
+        IfOk result (λ place. place ≡ Some p) }
     ensures page { S.reads store.new places.old.part ≤ S.reads store.old places.old.part + 1 }
     ensures cause { HasCause (S.faults store.old) (S.faults store.new) result }
 {
@@ -75,8 +79,10 @@ fn read_place<S: Store>(
     requires fits { Fits places.old (S.files store.old) }
     ensures fits { Fits places.new (S.files store.new) }
     ensures file { SameFile places.old places.new }
-    ensures looked { Looked places.old.part (S.files store.old) (S.files store.new) (S.reads store.old) (S.reads store.new) (S.faults store.old) (S.faults store.new) }
-    ensures told { IsSome (S.files store.old) → (p : ℕ) → IsPlaceAt version index p (bytes_at (S.files store.old) places.old.name) → IfOk result (λ place. place ≡ Some p) }
+    ensures looked { Looked places.old.part (S.files store.old) (S.files store.new) (S.reads store.old) (S.reads store.new)
+        (S.faults store.old) (S.faults store.new) }
+    ensures told { IsSome (S.files store.old) → (p : ℕ) → IsPlaceAt version index p (bytes_at (S.files store.old) places.old.name) →
+        IfOk result (λ place. place ≡ Some p) }
     ensures page { S.reads store.new places.old.part ≤ S.reads store.old places.old.part + 1 }
     ensures cause { HasCause (S.faults store.old) (S.faults store.new) result }
 {
@@ -97,9 +103,11 @@ pub fn first_byte<S: Store>(
     requires fits { Fits places.old (S.files store.old) }
     ensures fits { Fits places.new (S.files store.new) }
     ensures file { SameFile places.old places.new }
-    ensures looked { Looked places.old.part (S.files store.old) (S.files store.new) (S.reads store.old) (S.reads store.new) (S.faults store.old) (S.faults store.new) }
+    ensures looked { Looked places.old.part (S.files store.old) (S.files store.new) (S.reads store.old) (S.reads store.new)
+        (S.faults store.old) (S.faults store.new) }
     ensures small { IfOk result (λ from. from ≤ 2 ^ 60) }
-    ensures told { IsSome (S.files store.old) → (p : ℕ) → IsPlaceAt version index p (bytes_at (S.files store.old) places.old.name) → p ≤ size → p ≤ 2 ^ 60 → Takes result (λ from. from ≡ p) (Unit {0}) }
+    ensures told { IsSome (S.files store.old) → (p : ℕ) → IsPlaceAt version index p (bytes_at (S.files store.old) places.old.name) → p ≤ size → p ≤ 2 ^ 60 →
+        Takes result (λ from. from ≡ p) (Unit {0}) }
     ensures page { S.reads store.new places.old.part ≤ S.reads store.old places.old.part + 1 }
     ensures cause { IsReadCaused result (S.faults store.old) (S.faults store.new) }
 {

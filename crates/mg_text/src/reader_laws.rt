@@ -21,13 +21,20 @@ ghost use Rattle.mg_text.specs.Reading.{IsText, SameText, TextFits, TextReading,
 /// and what it keeps agrees with them, as long as its Text and Places stay as they are: other files
 /// may change.
 pub fn texts_stand()
-    ensures small { (version : ℕ) (code : TextCode) (collection : List ℕ) → IsTextCode collection code → IsWithinLimits version collection → length (text_of code collection) ≤ most_text version }
-    ensures written { (base : List ℕ) (files : Option Files) (head : Head) (code : TextCode) (collection : List ℕ) → TextHolds base files code collection → PartsStand files base code head.words head.others → IsTextCode collection code →
-        head.version ≢ 1 → head.text_bytes ≡ length (text_of code collection) → head.documents ≡ length (documents collection) → IsWithinLimits head.version collection → IsText base files head code collection }
-    ensures set { (base : List ℕ) (files : Option Files) (head : Head) (code : TextCode) (collection : List ℕ) → StandsBy head code files base collection → IsText base files head code collection }
-    ensures told { (base : List ℕ) (files : Option Files) (head : Head) (code : TextCode) (collection : List ℕ) → IsSome files → Tell (parts_at files base) (fields_of head) code → Stand (parts_at files base) collection → IsText base files head code collection }
+    ensures small { (version : ℕ) (code : TextCode) (collection : List ℕ) → IsTextCode collection code → IsWithinLimits version collection →
+        length (text_of code collection) ≤ most_text version }
+    ensures written { (base : List ℕ) (files : Option Files) (head : Head) (code : TextCode) (collection : List ℕ) → TextHolds base files code collection →
+        PartsStand files base code head.words head.others → IsTextCode collection code →
+        head.version ≢ 1 → head.text_bytes ≡ length (text_of code collection) → head.documents ≡ length (documents collection) →
+        IsWithinLimits head.version collection → IsText base files head code collection }
+    ensures set { (base : List ℕ) (files : Option Files) (head : Head) (code : TextCode) (collection : List ℕ) → StandsBy head code files base collection →
+        IsText base files head code collection }
+    ensures told { (base : List ℕ) (files : Option Files) (head : Head) (code : TextCode) (collection : List ℕ) → IsSome files →
+        Tell (parts_at files base) (fields_of head) code → Stand (parts_at files base) collection → IsText base files head code collection }
     ensures stays { (r now : TextReading) (files files_now : Option Files) (collection : List ℕ) → SameText r now → is_some files_now ≡ is_some files →
-        file_at files_now r.text.name ≡ file_at files r.text.name → file_at files_now r.places.name ≡ file_at files r.places.name → TextStands r files collection → TextStands now files_now collection }
+        file_at files_now r.text.name ≡ file_at files r.text.name → file_at files_now r.places.name ≡ file_at files r.places.name →
+        TextStands r files collection → TextStands now files_now collection }
     ensures fits { (r : TextReading) (files files_now : Option Files) → is_some files_now ≡ is_some files →
-        file_at files_now r.text.name ≡ file_at files r.text.name → file_at files_now r.places.name ≡ file_at files r.places.name → TextFits r files → TextFits r files_now }
+        file_at files_now r.text.name ≡ file_at files r.text.name → file_at files_now r.places.name ≡ file_at files r.places.name →
+        TextFits r files → TextFits r files_now }
 {}

@@ -84,7 +84,8 @@ impl ShowBuffer {
     /// Puts what is held to the sink.
     pub fn flush<O: Sink>(&mut self, out: &mut O) -> Result<(), PutErr>
         ensures content { AfterPut (O.written out.old) (O.written out.new) self.old result }
-        ensures shown { (before : Option (List ℕ)) (bytes : List ℕ) → Shown before (O.written out.old) self.old bytes → AfterPut before (O.written out.new) bytes result }
+        ensures shown { (before : Option (List ℕ)) (bytes : List ℕ) → Shown before (O.written out.old) self.old bytes →
+            AfterPut before (O.written out.new) bytes result }
         ensures empty { OnOk result (self.new ≡ []) }
         ensures added { Added (O.written out.old) (O.written out.new) (O.faults out.old) (O.faults out.new) (O.lacks out.old) (O.lacks out.new) }
         ensures cause { HasPutCause (O.faults out.old) (O.faults out.new) result }

@@ -52,9 +52,12 @@ pub fn get_symbol<F: Feed>(
     ensures fits { F.fits r.new.feed (F.device dev.new).files }
     ensures calm { Calm (F.feeding r.old.feed) (F.feeding r.new.feed) (F.device dev.old) (F.device dev.new) }
     ensures symbol { IfOk result (λ s. s < length canon.now) }
-    ensures told { (s : ℕ) → s < length canon.now → r.old.place + length (codeword canon.now s) ≤ 2 ^ 63 → Shows ((F.feeding r.old.feed).source (F.device dev.old).files) r.old.place (codeword canon.now s) →
-        Takes result (λ t. (t ≡ s) × (r.new.place ≡ r.old.place + length (codeword canon.now s)) × Read (F.feeding r.old.feed) (F.feeding r.new.feed) (F.device dev.old) (F.device dev.new) r.old.place (r.old.place + length (codeword canon.now s)))
-        (ReadsWithin (F.feeding r.old.feed) (F.feeding r.new.feed) (F.device dev.old) (F.device dev.new) r.old.place (r.old.place + length (codeword canon.now s))) }
+    ensures told { (s : ℕ) → s < length canon.now → r.old.place + length (codeword canon.now s) ≤ 2 ^ 63 →
+        Shows ((F.feeding r.old.feed).source (F.device dev.old).files) r.old.place (codeword canon.now s) →
+        Takes result (λ t. (t ≡ s) × (r.new.place ≡ r.old.place + length (codeword canon.now s)) ×
+        Read (F.feeding r.old.feed) (F.feeding r.new.feed) (F.device dev.old) (F.device dev.new) r.old.place (r.old.place + length (codeword canon.now s)))
+        (ReadsWithin (F.feeding r.old.feed) (F.feeding r.new.feed) (F.device dev.old) (F.device dev.new) r.old.place
+        (r.old.place + length (codeword canon.now s))) }
     ensures cause { IsReadCaused result (F.device dev.old).faults (F.device dev.new).faults }
 {
     let at = r.place();
@@ -72,8 +75,10 @@ pub fn get_count<F: Feed>(r: &mut BitReader<F>, dev: &mut F::Dev) -> Result<u32,
     requires fits { F.fits r.old.feed (F.device dev.old).files }
     ensures fits { F.fits r.new.feed (F.device dev.new).files }
     ensures calm { Calm (F.feeding r.old.feed) (F.feeding r.new.feed) (F.device dev.old) (F.device dev.new) }
-    ensures told { (n : ℕ) → n < 2 ^ 32 → r.old.place + length (gamma (n + 1)) ≤ 2 ^ 63 → Shows ((F.feeding r.old.feed).source (F.device dev.old).files) r.old.place (gamma (n + 1)) →
-        Takes result (λ m. (m ≡ n) × (r.new.place ≡ r.old.place + length (gamma (n + 1))) × Read (F.feeding r.old.feed) (F.feeding r.new.feed) (F.device dev.old) (F.device dev.new) r.old.place (r.old.place + length (gamma (n + 1))))
+    ensures told { (n : ℕ) → n < 2 ^ 32 → r.old.place + length (gamma (n + 1)) ≤ 2 ^ 63 →
+        Shows ((F.feeding r.old.feed).source (F.device dev.old).files) r.old.place (gamma (n + 1)) →
+        Takes result (λ m. (m ≡ n) × (r.new.place ≡ r.old.place + length (gamma (n + 1))) ×
+        Read (F.feeding r.old.feed) (F.feeding r.new.feed) (F.device dev.old) (F.device dev.new) r.old.place (r.old.place + length (gamma (n + 1))))
         (ReadsWithin (F.feeding r.old.feed) (F.feeding r.new.feed) (F.device dev.old) (F.device dev.new) r.old.place (r.old.place + length (gamma (n + 1)))) }
     ensures cause { IsReadCaused result (F.device dev.old).faults (F.device dev.new).faults }
 {

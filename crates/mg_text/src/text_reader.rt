@@ -88,10 +88,14 @@ impl<'a, S: Store> TextReader<'a, S> {
         ensures fits { IfOk result (λ r. TextFits r (S.files store.new)) }
         ensures reader { IfOk result (λ r. IsTextReader r base.entry.now head.now) }
         ensures answer { IsSome (S.files store.old) → AnswersReader (stored_at (S.files store.old) base.entry.now head.now) result }
-        ensures stands { (code : TextCode) (collection : List ℕ) → IsText base.entry.now (S.files store.old) head.now code collection → IfOk result (λ r. TextStands r (S.files store.new) collection) }
-        ensures code { (code : TextCode) (collection : List ℕ) → IsText base.entry.now (S.files store.old) head.now code collection → IfOk result (λ r. r.code ≡ code) }
-        ensures never_bad { (code : TextCode) (collection : List ℕ) → IsText base.entry.now (S.files store.old) head.now code collection → IfErr result (λ refusal. IsNotBad refusal) }
-        ensures looked { LookedAt part.Words part.Nonwords (S.files store.old) (S.files store.new) (S.reads store.old) (S.reads store.new) (S.faults store.old) (S.faults store.new) }
+        ensures stands { (code : TextCode) (collection : List ℕ) → IsText base.entry.now (S.files store.old) head.now code collection →
+            IfOk result (λ r. TextStands r (S.files store.new) collection) }
+        ensures code { (code : TextCode) (collection : List ℕ) → IsText base.entry.now (S.files store.old) head.now code collection →
+            IfOk result (λ r. r.code ≡ code) }
+        ensures never_bad { (code : TextCode) (collection : List ℕ) → IsText base.entry.now (S.files store.old) head.now code collection →
+            IfErr result (λ refusal. IsNotBad refusal) }
+        ensures looked { LookedAt part.Words part.Nonwords (S.files store.old) (S.files store.new) (S.reads store.old) (S.reads store.new)
+            (S.faults store.old) (S.faults store.new) }
         ensures cause { HasPartCause (S.faults store.old) (S.faults store.new) result }
     {
         match expect_sizes(store, base, head) {
@@ -143,13 +147,17 @@ impl<'a, S: Store> TextReader<'a, S> {
         requires within { number ≤ self.old.documents }
         ensures fits { TextFits self.new (S.files store.new) }
         ensures same { SameText self.old self.new }
-        ensures looked { LookedAt part.Text part.Places (S.files store.old) (S.files store.new) (S.reads store.old) (S.reads store.new) (S.faults store.old) (S.faults store.new) }
-        ensures content { (collection : List ℕ) → TextStands self.old (S.files store.old) collection → AfterPut (O.written out.old) (O.written out.new) (get_or (documents collection) (number - 1) []) result }
+        ensures looked { LookedAt part.Text part.Places (S.files store.old) (S.files store.new) (S.reads store.old) (S.reads store.new)
+            (S.faults store.old) (S.faults store.new) }
+        ensures content { (collection : List ℕ) → TextStands self.old (S.files store.old) collection →
+            AfterPut (O.written out.old) (O.written out.new) (get_or (documents collection) (number - 1) []) result }
         ensures never_bad { (collection : List ℕ) → TextStands self.old (S.files store.old) collection → ShowIsNotBad result }
-        ensures pages { (collection : List ℕ) → TextStands self.old (S.files store.old) collection → S.reads store.new part.Text ≤ S.reads store.old part.Text + pages (doc_range self.old.code collection number).from (doc_range self.old.code collection number).to }
+        ensures pages { (collection : List ℕ) → TextStands self.old (S.files store.old) collection → S.reads store.new part.Text
+            ≤ S.reads store.old part.Text + pages (doc_range self.old.code collection number).from (doc_range self.old.code collection number).to }
         ensures places { S.reads store.new part.Places ≤ S.reads store.old part.Places + 1 }
         ensures added { Added (O.written out.old) (O.written out.new) (O.faults out.old) (O.faults out.new) (O.lacks out.old) (O.lacks out.new) }
-        ensures cause { IsShowCaused result (S.faults store.old) (S.faults store.new) (O.faults out.old) (O.faults out.new) (O.lacks out.old) (O.lacks out.new) }
+        ensures cause { IsShowCaused result (S.faults store.old) (S.faults store.new) (O.faults out.old) (O.faults out.new)
+            (O.lacks out.old) (O.lacks out.new) }
     {
         self.show(store, number, out)
     }
@@ -170,14 +178,18 @@ impl<'a, S: Store> TextReader<'a, S> {
         requires within { number ≤ self.old.documents }
         ensures fits { TextFits self.new (S.files store.new) }
         ensures same { SameText self.old self.new }
-        ensures looked { LookedAt part.Text part.Places (S.files store.old) (S.files store.new) (S.reads store.old) (S.reads store.new) (S.faults store.old) (S.faults store.new) }
-        ensures content { (collection : List ℕ) (before : Option (List ℕ)) (bytes : List ℕ) → TextStands self.old (S.files store.old) collection → Shown before (O.written out.old) buffer.old bytes →
+        ensures looked { LookedAt part.Text part.Places (S.files store.old) (S.files store.new) (S.reads store.old) (S.reads store.new)
+            (S.faults store.old) (S.faults store.new) }
+        ensures content { (collection : List ℕ) (before : Option (List ℕ)) (bytes : List ℕ) → TextStands self.old (S.files store.old) collection →
+            Shown before (O.written out.old) buffer.old bytes →
             Gathers result before (O.written out.new) buffer.new (bytes ++ get_or (documents collection) (number - 1) []) }
         ensures never_bad { (collection : List ℕ) → TextStands self.old (S.files store.old) collection → ShowIsNotBad result }
-        ensures pages { (collection : List ℕ) → TextStands self.old (S.files store.old) collection → S.reads store.new part.Text ≤ S.reads store.old part.Text + pages (doc_range self.old.code collection number).from (doc_range self.old.code collection number).to }
+        ensures pages { (collection : List ℕ) → TextStands self.old (S.files store.old) collection → S.reads store.new part.Text
+            ≤ S.reads store.old part.Text + pages (doc_range self.old.code collection number).from (doc_range self.old.code collection number).to }
         ensures places { S.reads store.new part.Places ≤ S.reads store.old part.Places + 1 }
         ensures added { Added (O.written out.old) (O.written out.new) (O.faults out.old) (O.faults out.new) (O.lacks out.old) (O.lacks out.new) }
-        ensures cause { IsShowCaused result (S.faults store.old) (S.faults store.new) (O.faults out.old) (O.faults out.new) (O.lacks out.old) (O.lacks out.new) }
+        ensures cause { IsShowCaused result (S.faults store.old) (S.faults store.new) (O.faults out.old) (O.faults out.new)
+            (O.lacks out.old) (O.lacks out.new) }
     {
         self.gather_behind(store, number, buffer, out)
     }
@@ -202,12 +214,16 @@ impl<'a, S: Store> TextReader<'a, S> {
         requires within { number ≤ self.old.documents }
         ensures fits { TextFits self.new (S.files store.new) }
         ensures same { SameText self.old self.new }
-        ensures looked { LookedAt part.Text part.Places (S.files store.old) (S.files store.new) (S.reads store.old) (S.reads store.new) (S.faults store.old) (S.faults store.new) }
-        ensures answer { (collection : List ℕ) (before : Option (List ℕ)) (bytes : List ℕ) → TextStands self.old (S.files store.old) collection → Shown before (O.written out.old) buffer.old bytes →
-            AnswersGathered result before (O.written out.new) buffer.new (bytes ++ get_or (documents collection) (number - 1) []) (S.reads store.old part.Text) (S.reads store.new part.Text) (pages (doc_range self.old.code collection number).from (doc_range self.old.code collection number).to) }
+        ensures looked { LookedAt part.Text part.Places (S.files store.old) (S.files store.new) (S.reads store.old) (S.reads store.new)
+            (S.faults store.old) (S.faults store.new) }
+        ensures answer { (collection : List ℕ) (before : Option (List ℕ)) (bytes : List ℕ) → TextStands self.old (S.files store.old) collection →
+            Shown before (O.written out.old) buffer.old bytes →
+            AnswersGathered result before (O.written out.new) buffer.new (bytes ++ get_or (documents collection) (number - 1) []) (S.reads store.old part.Text)
+            (S.reads store.new part.Text) (pages (doc_range self.old.code collection number).from (doc_range self.old.code collection number).to) }
         ensures places { S.reads store.new part.Places ≤ S.reads store.old part.Places + 1 }
         ensures added { Added (O.written out.old) (O.written out.new) (O.faults out.old) (O.faults out.new) (O.lacks out.old) (O.lacks out.new) }
-        ensures cause { IsShowCaused result (S.faults store.old) (S.faults store.new) (O.faults out.old) (O.faults out.new) (O.lacks out.old) (O.lacks out.new) }
+        ensures cause { IsShowCaused result (S.faults store.old) (S.faults store.new) (O.faults out.old) (O.faults out.new)
+            (O.lacks out.old) (O.lacks out.new) }
     {
         let (version, size) = (self.version, self.size);
         let index = number - 1;
@@ -227,12 +243,15 @@ impl<'a, S: Store> TextReader<'a, S> {
         requires within { number ≤ self.old.documents }
         ensures fits { TextFits self.new (S.files store.new) }
         ensures same { SameText self.old self.new }
-        ensures looked { LookedAt part.Text part.Places (S.files store.old) (S.files store.new) (S.reads store.old) (S.reads store.new) (S.faults store.old) (S.faults store.new) }
+        ensures looked { LookedAt part.Text part.Places (S.files store.old) (S.files store.new) (S.reads store.old) (S.reads store.new)
+            (S.faults store.old) (S.faults store.new) }
         ensures answer { (collection : List ℕ) → TextStands self.old (S.files store.old) collection →
-            AnswersDoc result (O.written out.old) (O.written out.new) (get_or (documents collection) (number - 1) []) (S.reads store.old part.Text) (S.reads store.new part.Text) (pages (doc_range self.old.code collection number).from (doc_range self.old.code collection number).to) }
+            AnswersDoc result (O.written out.old) (O.written out.new) (get_or (documents collection) (number - 1) []) (S.reads store.old part.Text)
+            (S.reads store.new part.Text) (pages (doc_range self.old.code collection number).from (doc_range self.old.code collection number).to) }
         ensures places { S.reads store.new part.Places ≤ S.reads store.old part.Places + 1 }
         ensures added { Added (O.written out.old) (O.written out.new) (O.faults out.old) (O.faults out.new) (O.lacks out.old) (O.lacks out.new) }
-        ensures cause { IsShowCaused result (S.faults store.old) (S.faults store.new) (O.faults out.old) (O.faults out.new) (O.lacks out.old) (O.lacks out.new) }
+        ensures cause { IsShowCaused result (S.faults store.old) (S.faults store.new) (O.faults out.old) (O.faults out.new)
+            (O.lacks out.old) (O.lacks out.new) }
     {
         let version = self.version;
         let size = self.size;

@@ -65,7 +65,8 @@ impl<'a> TextWriter<'a> {
         ensures docs { IfOk result (λ writer. writer.docs ≡ 0) }
         ensures pairs { IfOk result (λ writer. writer.pairs ≡ 0) }
         ensures closed { IfOk result (λ writer. writer.is_open ≡ false) }
-        ensures others { (n : List ℕ) → n ≢ full_name base.entry.now part.Text → n ≢ full_name base.entry.now part.Places → file_at (S.files store.new) n ≡ file_at (S.files store.old) n }
+        ensures others { (n : List ℕ) → n ≢ full_name base.entry.now part.Text → n ≢ full_name base.entry.now part.Places →
+            file_at (S.files store.new) n ≡ file_at (S.files store.old) n }
         ensures told { is_some (S.files store.new) ≡ is_some (S.files store.old) }
         ensures reads { SameReads (S.reads store.old) (S.reads store.new) }
         ensures cause { HasPutCause (S.faults store.old) (S.faults store.new) result }
@@ -104,10 +105,12 @@ impl<'a> TextWriter<'a> {
         requires closed { self.old.is_open ≡ false }
         requires docs { self.old.docs < 2 ^ 24 }
         requires pairs { self.old.pairs + pairs ≤ 2 ^ 32 - 1 }
-        ensures took { OnOk result ((docs : List Bits) → IsOnText self.old (S.files store.old) docs [] → IsOnText self.new (S.files store.new) docs (gamma (pairs + 1))) }
+        ensures took { OnOk result ((docs : List Bits) → IsOnText self.old (S.files store.old) docs [] →
+            IsOnText self.new (S.files store.new) docs (gamma (pairs + 1))) }
         ensures began { OnOk result (Began self.old self.new pairs) }
         ensures base { self.new.base ≡ self.old.base }
-        ensures others { (n : List ℕ) → n ≢ full_name self.old.base part.Text → n ≢ full_name self.old.base part.Places → file_at (S.files store.new) n ≡ file_at (S.files store.old) n }
+        ensures others { (n : List ℕ) → n ≢ full_name self.old.base part.Text → n ≢ full_name self.old.base part.Places →
+            file_at (S.files store.new) n ≡ file_at (S.files store.old) n }
         ensures told { is_some (S.files store.new) ≡ is_some (S.files store.old) }
         ensures reads { SameReads (S.reads store.old) (S.reads store.new) }
         ensures cause { HasPutCause (S.faults store.old) (S.faults store.new) result }
@@ -137,7 +140,8 @@ impl<'a> TextWriter<'a> {
         requires more { 0 < self.old.left }
         requires turn { stream ≡ turn self.old.left }
         requires symbol { symbol < length (code_of stream model.now).pieces }
-        ensures took { OnOk result ((docs : List Bits) (bits : Bits) → IsOnText self.old (S.files store.old) docs bits → IsOnText self.new (S.files store.new) docs (bits ++ codeword (code_of stream model.now).lengths symbol)) }
+        ensures took { OnOk result ((docs : List Bits) (bits : Bits) → IsOnText self.old (S.files store.old) docs bits →
+            IsOnText self.new (S.files store.new) docs (bits ++ codeword (code_of stream model.now).lengths symbol)) }
         ensures put { OnOk result (PutOne self.old self.new) }
         ensures base { self.new.base ≡ self.old.base }
         ensures others { (n : List ℕ) → n ≢ full_name self.old.base part.Text → file_at (S.files store.new) n ≡ file_at (S.files store.old) n }
@@ -155,7 +159,8 @@ impl<'a> TextWriter<'a> {
         requires took { (docs : List Bits) × (bits : Bits) × IsOnText self.old (S.files store.old) docs bits }
         requires begun { self.old.is_open ≡ true }
         requires whole { self.old.left ≡ 0 }
-        ensures took { OnOk result ((docs : List Bits) (bits : Bits) → IsOnText self.old (S.files store.old) docs bits → IsOnText self.new (S.files store.new) (docs ++ bits ∷ []) []) }
+        ensures took { OnOk result ((docs : List Bits) (bits : Bits) → IsOnText self.old (S.files store.old) docs bits →
+            IsOnText self.new (S.files store.new) (docs ++ bits ∷ []) []) }
         ensures ended { OnOk result (Ended self.old self.new) }
         ensures base { self.new.base ≡ self.old.base }
         ensures others { (n : List ℕ) → n ≢ full_name self.old.base part.Text → file_at (S.files store.new) n ≡ file_at (S.files store.old) n }
@@ -173,11 +178,14 @@ impl<'a> TextWriter<'a> {
     pub fn finish<S: Store>(&mut self, store: &mut S) -> Result<u64, PutErr>
         requires took { (docs : List Bits) × IsOnText self.old (S.files store.old) docs [] }
         requires closed { self.old.is_open ≡ false }
-        ensures finished { OnOk result ((docs : List Bits) → IsOnText self.old (S.files store.old) docs [] → IsSome (S.files store.old) → DocumentsStand self.old.base (S.files store.new) docs) }
-        ensures bytes { OnOk result ((docs : List Bits) → IsOnText self.old (S.files store.old) docs [] → IsSome (S.files store.old) → bytes_at (S.files store.new) (full_name self.old.base part.Text) ≡ text_bytes docs) }
+        ensures finished { OnOk result ((docs : List Bits) → IsOnText self.old (S.files store.old) docs [] → IsSome (S.files store.old) →
+            DocumentsStand self.old.base (S.files store.new) docs) }
+        ensures bytes { OnOk result ((docs : List Bits) → IsOnText self.old (S.files store.old) docs [] → IsSome (S.files store.old) →
+            bytes_at (S.files store.new) (full_name self.old.base part.Text) ≡ text_bytes docs) }
         ensures answer { IfOk result (λ size. (docs : List Bits) → IsOnText self.old (S.files store.old) docs [] → size ≡ length (text_bytes docs)) }
         ensures base { self.new.base ≡ self.old.base }
-        ensures others { (n : List ℕ) → n ≢ full_name self.old.base part.Text → n ≢ full_name self.old.base part.Places → file_at (S.files store.new) n ≡ file_at (S.files store.old) n }
+        ensures others { (n : List ℕ) → n ≢ full_name self.old.base part.Text → n ≢ full_name self.old.base part.Places →
+            file_at (S.files store.new) n ≡ file_at (S.files store.old) n }
         ensures told { is_some (S.files store.new) ≡ is_some (S.files store.old) }
         ensures reads { SameReads (S.reads store.old) (S.reads store.new) }
         ensures cause { HasPutCause (S.faults store.old) (S.faults store.new) result }
