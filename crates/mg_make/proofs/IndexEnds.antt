@@ -1,8 +1,8 @@
 -- Lists and lexicon before the first term and after the last one.
-use Rattle.std.proofs.Common.{arith, ◌≡◌, ◌≤◌, ◌<◌, ◌+◌, ◌^◌, ℕ, suc, List, [], ◌∷◌, length, map, take, refl, sym, ap, subst, ◌∙◌, IsSome}
+use Rattle.std.proofs.Common.{arith, ◌≡◌, ◌≤◌, ◌<◌, ◌^◌, ℕ, List, [], ◌∷◌, length, map, take, sym, ap, subst, ◌∙◌, IsSome}
 use Rattle.std.specs.Prelude.{replicate}
 use Rattle.std.specs.declared.option.Option.{Option}
-use Rattle.std.specs.List.{AllByRecursion, enumerate_from, flat_map}
+use Rattle.std.specs.List.{AllByRecursion, flat_map}
 use Rattle.std.proofs.lemmas.List.{drop_all, take_all}
 use Rattle.mg_dev.specs.declared.part.Part.TheVariants.{Lex, LexAt, Post, Skip}
 use Rattle.mg_dev.specs.Files.{Files, bytes_at, file_at}
@@ -11,13 +11,13 @@ use Rattle.mg_defs.proofs.ListLaws.{list_rises}
 use Rattle.mg_defs.specs.declared.TermPosting.{TermPosting}
 use Rattle.mg_defs.specs.CodedText.{as_bytes}
 use Rattle.mg_defs.specs.Front.{front, whole_at}
-use Rattle.mg_defs.specs.Lexicon.{info_of, lexicon}
+use Rattle.mg_defs.specs.Lexicon.{lexicon}
 use Rattle.mg_defs.specs.Lists.{Rises, entry_bits, inverted, last_doc, lists_bits, lists_entries, postings}
 use Rattle.mg_defs.specs.PostingLists.{by_terms}
 use Rattle.mg_defs.specs.Split.{documents}
 use Rattle.mg_defs.specs.Squares.{squares, squares_to}
 use Rattle.mg_defs.specs.Terms.{dictionary}
-use Rattle.mg_lex.specs.Terms.{Term, entries_of, terms_of}
+use Rattle.mg_lex.specs.Terms.{entries_of, terms_of}
 use Rattle.mg_lex.specs.Writing.{LexWriting, TermsStand, TookTerms}
 use Rattle.mg_post.specs.Writing.{InBytes, Listing, Took}
 use Rattle.mg_runs.specs.Left.{IsMerging, Merging}
@@ -25,7 +25,8 @@ use Rattle.mg_make.specs.Listing.{AreOfCollection, AreSquares, CanIndex, HasInde
 use Rattle.mg_make.specs.Written.{OfLists, WroteParts}
 use Rattle.mg_make.proofs.ListFrames.{RunsStay, lex_at_stays, lex_stays, merging_stays_all}
 use Rattle.mg_make.proofs.SquareSteps.{summed_all, summed_none}
-use Rattle.mg_make.proofs.TermSteps.{lists_long}
+use Rattle.mg_laws.proofs.TermLaws.{lists_long}
+use Rattle.mg_lex.proofs.CallerLemmas.{terms_long}
 
 -- ---- before the first term
 
@@ -85,14 +86,6 @@ indexed_begun stay most terms docs collection merge lists lex sums f g base all 
 }
 
 -- ---- after the last term
-
-numbered_long : (f : ℕ × List ℕ → Term) (from : ℕ) (xs : List (List ℕ)) → length (map f (enumerate_from from xs)) ≡ length xs
-numbered_long f from [] = refl
-numbered_long f from (x ∷ xs) = ap (λ n. suc n) (numbered_long f (from + 1) xs)
-
-terms_long : (collection : List ℕ) → length (terms_of collection) ≡ length (dictionary collection)
-unfolding terms_of
-terms_long collection = numbered_long (λ t. record { string = t.1; info = info_of collection t.0 t.1 }) 0 (dictionary collection)
 
 -- what is left, and what was taken, behind the last term
 pub record HasEnded (collection : List ℕ) (merge : Merging) (lists : Listing) (lex : LexWriting) (sums : List ℕ) (files : Option Files) : Type 0 where

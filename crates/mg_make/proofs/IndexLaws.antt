@@ -28,7 +28,7 @@ use Rattle.mg_make.specs.Index.{IndexStands, IsInverted, OfIndex, OfWeights}
 use Rattle.mg_make.specs.Listing.{HasLists, ListsStand}
 use Rattle.mg_make.specs.Plans.{Plan}
 use Rattle.mg_make.specs.Written.{OfLists, WroteParts}
-use Rattle.mg_make.proofs.TermSteps.{lists_long}
+use Rattle.mg_laws.proofs.TermLaws.{lists_long}
 
 -- ---- what was written
 

@@ -22,7 +22,8 @@ use Rattle.mg_runs.specs.Left.{Merging}
 use Rattle.mg_make.specs.Listing.{AreOfCollection, CanIndex, CanList, HasIndexed, IsAtList, ListedMore, OfPostings, SameMerge}
 use Rattle.mg_make.specs.Written.{WroteParts}
 use Rattle.mg_make.proofs.ListFrames.{RunsStay, lex_at_stays, lex_stays, merging_stays_all, post_stays, skip_stays, wrote_lex}
-use Rattle.mg_make.proofs.TermSteps.{lists_long, number_within, sizes_more}
+use Rattle.mg_laws.proofs.TermLaws.{lists_long}
+use Rattle.mg_make.proofs.TermSteps.{number_within, sizes_more}
 
 -- the laws of lists and of terms that stay
 abbrev pub ListsStay : Type 0

@@ -1,5 +1,6 @@
 pub mod Meeting
 pub mod DocCounting
+pub mod Outcomes
 pub mod Plans
 pub mod Written
 pub mod Listing

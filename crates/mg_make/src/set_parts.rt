@@ -89,7 +89,8 @@ pub(crate) fn end_pass<'a, S: Store>(
         IfOk result (λ inverted. IsHanded pass.entry.plan (budget_of pass.entry) pass.entry.base fed (S.files store.old) (S.files store.new) inverted) }
     ensures wrote { WroteSecond pass.entry.base (S.files store.old) (S.files store.new) }
     ensures later { S.faults store.old ≤ S.faults store.new }
-    ensures refused { IfErr result (λ fault. (fed : List ℕ) (met : List Mark) → HasMet scanner.old fed met → HasWritten pass.entry (S.files store.old) met → length fed < 2 ^ 32 →
+    ensures refused { IfErr result (λ fault. (fed : List ℕ) (met : List Mark) → HasMet scanner.old fed met →
+        HasWritten pass.entry (S.files store.old) met → length fed < 2 ^ 32 →
         ListStops (Rose (S.faults store.old) (S.faults store.new)) (IsSome (S.files store.old) × IsPlanOf pass.entry.plan fed) fault) }
 {
     let mut pass = pass;
@@ -113,19 +114,24 @@ pub(crate) fn write_rest<S: Store>(
     size: u64,
     limit: u64,
 ) -> Result<(Head, u64), Fault>
-    requires handed { (fed : List ℕ) × (before : Option Files) × IsHanded plan.now limit base.now fed before (S.files store.old) inverted × (size ≡ length fed) }
+    requires handed { (fed : List ℕ) × (before : Option Files) ×
+        IsHanded plan.now limit base.now fed before (S.files store.old) inverted × (size ≡ length fed) }
     requires plan { IsPlan plan.now }
     requires zero { sums.old.items ≡ replicate (length plan.now.pairs) 0 }
     ensures within { IfOk result (λ made. IsWithin (fields_of made.0)) }
-    ensures head { (fed : List ℕ) (before : Option Files) → IsHanded plan.now limit base.now fed before (S.files store.old) inverted.entry → size ≡ length fed → IsSome (S.files store.old) →
+    ensures head { (fed : List ℕ) (before : Option Files) → IsHanded plan.now limit base.now fed before (S.files store.old) inverted.entry →
+        size ≡ length fed → IsSome (S.files store.old) →
         IsPlanOf plan.now fed → IfOk result (λ made. fields_of made.0 ≡ head_of 2 (run_cap limit) plan.now.code fed) }
-    ensures peak { (fed : List ℕ) (before : Option Files) → IsHanded plan.now limit base.now fed before (S.files store.old) inverted.entry → IsPlanOf plan.now fed →
+    ensures peak { (fed : List ℕ) (before : Option Files) →
+        IsHanded plan.now limit base.now fed before (S.files store.old) inverted.entry → IsPlanOf plan.now fed →
         IfOk result (λ made. made.1 ≡ pool_peak (length (occurrences fed)) limit) }
-    ensures stand { (fed : List ℕ) (before : Option Files) → IsHanded plan.now limit base.now fed before (S.files store.old) inverted.entry → IsSome (S.files store.old) → IsPlanOf plan.now fed →
+    ensures stand { (fed : List ℕ) (before : Option Files) → IsHanded plan.now limit base.now fed before (S.files store.old) inverted.entry →
+        IsSome (S.files store.old) → IsPlanOf plan.now fed →
         OnOk result (IndexStands (S.files store.new) base.now fed) }
     ensures wrote { WroteParts OfIndex base.now (S.files store.old) (S.files store.new) }
     ensures later { S.faults store.old ≤ S.faults store.new }
-    ensures refused { IfErr result (λ fault. (fed : List ℕ) (before : Option Files) → IsHanded plan.now limit base.now fed before (S.files store.old) inverted.entry →
+    ensures refused { IfErr result (λ fault. (fed : List ℕ) (before : Option Files) →
+        IsHanded plan.now limit base.now fed before (S.files store.old) inverted.entry →
         ListStops (Rose (S.faults store.old) (S.faults store.new)) (IsSome (S.files store.old) × IsPlanOf plan.now fed) fault) }
 {
     let Inverted {
