@@ -17,8 +17,9 @@ use Rattle.mg_defs.proofs.TextBitsLaws.{text-within}
 use Rattle.mg_laws.proofs.FirstMarks.{first_is_beyond, one_first, within_from}
 use Rattle.mg_layout.specs.Stands.{StandsIn}
 use Rattle.mg_build.specs.Building.{BuildStops, IsEarly, IsPlanFor, PassStops, WriteStops}
-use Rattle.mg_build.specs.Outcomes.{IsDone, RefusedFor}
-use Rattle.mg_build.specs.Sources.{HasSize, OpenStops, most_bytes}
+use Rattle.mg_dev.specs.Runs.{IsDone, RefusedFor}
+use Rattle.mg_make.specs.Outcomes.{most_bytes}
+use Rattle.mg_build.specs.Sources.{HasSize, OpenStops}
 use Rattle.mg_make.specs.Plans.{Plan}
 
 -- ---- the file

@@ -11,10 +11,10 @@ use Rattle.mg_dev.specs.declared.fault.Fault.TheVariants.{StoreFault, NotBuilt, 
 use Rattle.mg_dev.specs.declared.status.Status.{Status}
 use Rattle.mg_dev.specs.declared.status.Status.TheVariants.{Done, Stopped}
 use Rattle.mg_layout.specs.Stands.{Stands}
-use Rattle.mg_build.specs.Outcomes.{DecodeStops, IsDone}
-use Rattle.mg_dev.specs.Runs.{IfStopped, Run, StoreFailed, OutputFailed, Stops, status_of}
+use Rattle.mg_build.specs.Outcomes.{DecodeStops}
+use Rattle.mg_dev.specs.Runs.{IfStopped, IsDone, OutputFailed, Run, Stops, StoreFailed, status_of}
 use Rattle.mg_build.specs.Decoded.{Decoded}
-use Rattle.mg_build.proofs.CallerLemmas.{err_by, only_lacks, put_grew, stopped_by, unless_by}
+use Rattle.mg_dev.proofs.CallerLemmas.{err_by, only_lacks, put_grew, stopped_by, unless_by}
 
 put_when_done : (r : Result (Unit {0}) Fault) (old new : Option (List ℕ)) (bytes : List ℕ) → status_of r ≡ Done → AfterPut old new bytes r → new ≡ appended old bytes
 put_when_done (Ok u) old new bytes is put = put

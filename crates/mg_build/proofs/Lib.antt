@@ -1,4 +1,3 @@
-pub mod CallerLemmas
 mod DocumentLaws
 mod StopLaws
 mod PassLaws

@@ -4,17 +4,16 @@ use Rattle.std.specs.Prelude.{Result, OnOk, IfErr}
 use Rattle.mg_dev.specs.Files.{Files, bytes_at, file_at}
 use Rattle.mg_dev.specs.Moments.{StoreAt, StoreRose, KeptFiles}
 use Rattle.mg_dev.specs.Names.{full_name}
-use Rattle.mg_dev.specs.Runs.{status_of}
+use Rattle.mg_dev.specs.Runs.{IsDone, RefusedFor, status_of}
 use Rattle.mg_dev.specs.declared.part.Part.TheVariants as part
 use Rattle.mg_dev.specs.declared.fault.Fault.{Fault}
 use Rattle.mg_dev.specs.declared.fault.Fault.TheVariants.{NotBuilt, SameName}
 use Rattle.mg_layout.specs.Stands.{Stands, StandsIn}
 use Rattle.mg_make.specs.Putting.{OthersSame}
-use Rattle.mg_build.specs.Building.{Left}
+use Rattle.mg_make.specs.Outcomes.{Left}
 use Rattle.mg_build.specs.MadeAnew.{MadeAnew}
 use Rattle.mg_build.specs.Migrating.{ComesFirst, MigrateStops}
-use Rattle.mg_build.specs.Outcomes.{IsDone, RefusedFor}
-use Rattle.mg_build.proofs.CallerLemmas.{at_fault, done_or_lacks, stopped_by, stopped_for, when_ok}
+use Rattle.mg_dev.proofs.CallerLemmas.{at_fault, done_or_lacks, stopped_by, stopped_for, when_ok}
 
 pub in_stands : (version cap : ℕ) (files : Option Files) (name collection : List ℕ) → StandsIn version cap files name collection → Stands files name collection
 in_stands version cap files name collection is = record { told = is.told; stand = record { version = version; cap = cap; code = is.code; are = is.are } }

@@ -4,7 +4,7 @@ use Rattle.std.specs.Prelude.{Result, OnOk, IfErr}
 use Rattle.mg_dev.specs.Files.{file_at, bytes_at}
 use Rattle.mg_dev.specs.Moments.{StoreAt, StoreRose, KeptFiles}
 use Rattle.mg_dev.specs.Names.{full_name}
-use Rattle.mg_dev.specs.Runs.{status_of}
+use Rattle.mg_dev.specs.Runs.{IsDone, RefusedFor, status_of}
 use Rattle.mg_dev.specs.declared.part.Part.{Part}
 use Rattle.mg_dev.specs.declared.part.Part.TheVariants as part
 use Rattle.mg_dev.specs.declared.fault.Fault.{Fault}
@@ -17,11 +17,10 @@ use Rattle.mg_defs.specs.Summaries.{run_cap}
 use Rattle.mg_defs.specs.TextBits.{text_bits}
 use Rattle.mg_layout.specs.Stands.{StandsIn}
 use Rattle.mg_make.specs.Putting.{IsApart, OthersSame}
-use Rattle.mg_build.specs.Building.{BuildStops, IsEarly, Left}
+use Rattle.mg_build.specs.Building.{BuildStops, IsEarly}
 use Rattle.mg_build.specs.Made.{Made}
-use Rattle.mg_build.specs.Outcomes.{IsDone, RefusedFor}
-use Rattle.mg_build.specs.Sources.{most_bytes}
-use Rattle.mg_build.proofs.CallerLemmas.{at_fault, done_or_lacks, stopped_by, stopped_for, when_ok}
+use Rattle.mg_make.specs.Outcomes.{Left, most_bytes}
+use Rattle.mg_dev.proofs.CallerLemmas.{at_fault, done_or_lacks, stopped_by, stopped_for, when_ok}
 
 module _ {T : Type 0} (name base : List ℕ) (budget : ℕ) (store store_now : StoreAt) (r : Result T Fault)
     (stands : IsSome store.files → OnOk r (StandsIn 2 (run_cap budget) store_now.files base (bytes_at store.files name)))

@@ -20,7 +20,8 @@ use Rattle.mg_layout.specs.Stands.{Stands, StandsBy, StandsIn, parts_at}
 use Rattle.mg_layout.specs.declared.head.Head.{Head}
 use Rattle.mg_build.specs.Copying.{CopyStops}
 use Rattle.mg_build.specs.Migrating.{IsSetOf, MigrateStops}
-use Rattle.mg_build.specs.Outcomes.{DecodeStops, IsDone}
+use Rattle.mg_dev.specs.Runs.{IsDone}
+use Rattle.mg_build.specs.Outcomes.{DecodeStops}
 use Rattle.mg_build.proofs.PassLaws.{rose_behind}
 use Rattle.mg_build.proofs.StopLaws.{head_there}
 

@@ -20,7 +20,8 @@ use Rattle.mg_make.specs.Listing.{ListStops}
 use Rattle.mg_make.specs.Putting.{IsUnbuilt, OthersSame}
 use Rattle.mg_make.specs.Written.{SecondStops}
 use Rattle.mg_make.specs.Plans.{IsPlanOf, Plan}
-use Rattle.mg_build.specs.Building.{IsPlanFor, Left, PassStops, WriteStops}
+use Rattle.mg_make.specs.Outcomes.{Left}
+use Rattle.mg_build.specs.Building.{IsPlanFor, PassStops, WriteStops}
 use Rattle.mg_build.specs.Sources.{AreRead, ByteStops}
 
 -- ---- bytes

@@ -28,7 +28,8 @@ use Rattle.mg_layout.specs.declared.head.Head.{Head}
 use Rattle.mg_layout.proofs.CallerLemmas.{loaded_set}
 use Rattle.mg_text.specs.Decoding.{IsShowCaused}
 use Rattle.mg_text.specs.Reading.{ShowIsNotBad}
-use Rattle.mg_build.specs.Outcomes.{DecodeStops, IsDone, ShowStops}
+use Rattle.mg_dev.specs.Runs.{IsDone}
+use Rattle.mg_build.specs.Outcomes.{DecodeStops, ShowStops}
 
 -- ---- heads
 

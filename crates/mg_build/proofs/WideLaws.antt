@@ -18,7 +18,7 @@ use Rattle.mg_layout.specs.HeadAnswers.{fields_of}
 use Rattle.mg_layout.specs.Stands.{Stands, StandsBy, StandsForNone, StandsIn}
 use Rattle.mg_layout.specs.declared.head.Head as layout
 use Rattle.mg_make.specs.Putting.{IsUnbuilt, LacksOnlyHead}
-use Rattle.mg_build.specs.Building.{Left}
+use Rattle.mg_make.specs.Outcomes.{Left}
 use Rattle.mg_build.specs.Copying.{ChangedAlone, CopyStops}
 use Rattle.mg_build.proofs.CopyLaws.{append_alone}
 use Rattle.mg_build.proofs.MigrateLaws.{part_stays}

@@ -1,5 +1,5 @@
 -- Why a build stops, and what it leaves.
-use Rattle.std.specs.Prelude.{◌≡◌, ◌≢◌, ◌⊎◌, ◌<◌, ℕ, List, length, None}
+use Rattle.std.specs.Prelude.{◌≡◌, ◌≢◌, ◌<◌, ℕ, List, length, None}
 use Rattle.std.specs.Option.{IsSome}
 use Rattle.std.specs.declared.option.Option.{Option}
 use Rattle.mg_dev.specs.declared.part.Part.TheVariants.{Plain}
@@ -9,9 +9,8 @@ use Rattle.mg_dev.specs.declared.fault.Fault.{Fault}
 use Rattle.mg_dev.specs.declared.fault.Fault.TheVariants.{Changed, Damaged, Memory, NameClash, NoCollection, StoreFault, TooLarge, TooManyDocuments, TooManyPieces}
 use Rattle.mg_defs.specs.Limits.{version_2}
 use Rattle.mg_defs.specs.Marks.{PassesFirst, piece, start}
-use Rattle.mg_layout.specs.Stands.{Stands, StandsForNone}
 use Rattle.mg_make.specs.Plans.{IsPlanOf, Plan}
-use Rattle.mg_build.specs.Sources.{most_bytes}
+use Rattle.mg_make.specs.Outcomes.{most_bytes}
 
 -- the store tells its files, this one has so many bytes, and the plan is that of these
 pub record IsPlanFor (plan : Plan) (files : Option Files) (name : List ℕ) (size : ℕ) : Type 0 where
@@ -57,7 +56,3 @@ IsEarly TooManyDocuments = Unit {0}
 IsEarly (TooManyPieces stream) = Unit {0}
 IsEarly (NameClash part) = Unit {0}
 IsEarly _ = ⊥
-
--- What a build leaves, whatever it answers: all files as before, or a set that stands for no collection, or one that stands for this one.
-abbrev pub Left : List ℕ → Option Files → Option Files → List ℕ → Type 0
-Left base before now collection = (now ≡ before) ⊎ (StandsForNone now base ⊎ Stands now base collection)

@@ -4,7 +4,7 @@ use Rattle.std.specs.declared.option.Option.{Option}
 use Rattle.mg_dev.specs.Files.{Files, file_at, bytes_at}
 use Rattle.mg_dev.specs.Moments.{StoreAt, StoreRose, KeptFiles}
 use Rattle.mg_dev.specs.Names.{full_name}
-use Rattle.mg_dev.specs.Runs.{IfStopped}
+use Rattle.mg_dev.specs.Runs.{IfStopped, StoppedFor}
 use Rattle.mg_dev.specs.declared.part.Part.{Part}
 use Rattle.mg_dev.specs.declared.part.Part.TheVariants as part
 use Rattle.mg_dev.specs.declared.fault.Fault.{Fault}
@@ -19,9 +19,8 @@ use Rattle.mg_defs.specs.Summaries.{run_cap}
 use Rattle.mg_defs.specs.TextBits.{text_bits}
 use Rattle.mg_layout.specs.Stands.{StandsIn}
 use Rattle.mg_make.specs.Putting.{IsApart, OthersSame}
-use Rattle.mg_build.specs.Building.{BuildStops, IsEarly, Left}
-use Rattle.mg_build.specs.Outcomes.{StoppedFor}
-use Rattle.mg_build.specs.Sources.{most_bytes}
+use Rattle.mg_build.specs.Building.{BuildStops, IsEarly}
+use Rattle.mg_make.specs.Outcomes.{Left, most_bytes}
 
 -- The files of this base are what a build of the collection with this budget makes.
 pub record AreMade (files : Option Files) (base collection : List ℕ) (budget : ℕ) : Type 0 where

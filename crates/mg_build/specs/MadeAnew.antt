@@ -1,10 +1,9 @@
 -- What making a set anew does to its store, and why it stops.
-use Rattle.std.specs.Prelude.{◌≡◌, ◌≢◌, ◌⊎◌, ℕ, List, [], Some, IsSome}
-use Rattle.std.specs.declared.option.Option.{Option}
-use Rattle.mg_dev.specs.Files.{Files, bytes_at, file_at}
+use Rattle.std.specs.Prelude.{◌≡◌, ◌≢◌, ◌⊎◌, ℕ, List, [], IsSome}
+use Rattle.mg_dev.specs.Files.{bytes_at}
 use Rattle.mg_dev.specs.Moments.{StoreAt, StoreRose, KeptFiles}
 use Rattle.mg_dev.specs.Names.{full_name}
-use Rattle.mg_dev.specs.Runs.{IfStopped}
+use Rattle.mg_dev.specs.Runs.{IfStopped, StoppedFor}
 use Rattle.mg_dev.specs.declared.part.Part.TheVariants as part
 use Rattle.mg_dev.specs.declared.fault.Fault.{Fault}
 use Rattle.mg_dev.specs.declared.fault.Fault.TheVariants.{NotBuilt, Memory, SameName}
@@ -12,15 +11,8 @@ use Rattle.mg_dev.specs.declared.status.Status.{Status}
 use Rattle.mg_dev.specs.declared.status.Status.TheVariants.{Done, Stopped}
 use Rattle.mg_layout.specs.Stands.{Stands, StandsIn}
 use Rattle.mg_make.specs.Putting.{OthersSame}
-use Rattle.mg_build.specs.Building.{Left}
+use Rattle.mg_make.specs.Outcomes.{AreMadeAnew, Left}
 use Rattle.mg_build.specs.Migrating.{ComesFirst, MigrateStops}
-use Rattle.mg_build.specs.Outcomes.{StoppedFor}
-
--- The set of this base stands for the collection in version 2, with so many occurrences to a run, and its working parts are empty.
-pub record AreMadeAnew (files : Option Files) (base collection : List ℕ) (cap : ℕ) : Type 0 where
-  pub stands : StandsIn 2 cap files base collection
-  pub merge_a : file_at files (full_name base part.MergeA) ≡ Some []
-  pub merge_b : file_at files (full_name base part.MergeB) ≡ Some []
 
 -- of each collection that the set of this name stands for, in either version, by the store before the call and after it, and its status
 pub record MadeAnew (name new : List ℕ) (store store_now : StoreAt) (status : Status) : Type 0 where

@@ -12,23 +12,7 @@ use Rattle.mg_dev.specs.declared.part.Part.TheVariants.{Head}
 use Rattle.mg_dev.specs.declared.part_err.PartErr.TheVariants as part
 use Rattle.mg_dev.specs.declared.show_err.ShowErr.{ShowErr}
 use Rattle.mg_dev.specs.declared.show_err.ShowErr.TheVariants as show
-use Rattle.mg_dev.specs.declared.status.Status.{Status}
-use Rattle.mg_dev.specs.declared.status.Status.TheVariants.{Stopped}
 use Rattle.mg_layout.specs.Stands.{StandsForNone}
-
--- this refusal, unless the store fails or memory lacks
-abbrev pub RefusedFor : {T : Type 0} → Result T Fault → Fault → Type 0
-RefusedFor result fault = (result ≡ Err fault) ⊎ ((result ≡ Err StoreFault) ⊎ (result ≡ Err Memory))
-
--- it is done, or memory lacks
-abbrev pub IsDone : {T : Type 0} → Result T Fault → Type 0
-IsDone (Ok value) = Unit {0}
-IsDone (Err Memory) = Unit {0}
-IsDone (Err _) = ⊥
-
--- it stopped for this fault, unless the store failed or memory was wanting
-abbrev pub StoppedFor : Status → Fault → Type 0
-StoppedFor status fault = (status ≡ Stopped fault) ⊎ (status ≡ Stopped StoreFault) ⊎ (status ≡ Stopped Memory)
 
 -- the cause of each refusal of a decoding
 abbrev pub DecodeStops : Type 0 → Type 0 → Option Files → List ℕ → Fault → Type 0

@@ -6,16 +6,12 @@ use Rattle.mg_bits.specs.Pages.{Paging}
 use Rattle.mg_dev.specs.Files.{Files, bytes_at, file_at}
 use Rattle.mg_dev.specs.declared.fault.Fault.{Fault}
 use Rattle.mg_dev.specs.declared.fault.Fault.TheVariants.{Changed, Memory, NoCollection, StoreFault, TooLarge}
-use Rattle.mg_defs.specs.Limits.{version_2}
+use Rattle.mg_make.specs.Outcomes.{most_bytes}
 
 -- a reader of pages, and the bytes that the file had when it was opened
 pub record Sourcing : Type 0 where
   pub feed : Paging
   pub size : ℕ
-
--- the most bytes of a collection that is built
-abbrev pub most_bytes : ℕ
-most_bytes = version_2.collection
 
 -- where the file is told, it is there and has so many bytes
 abbrev pub HasSize : Option Files → List ℕ → ℕ → Type 0

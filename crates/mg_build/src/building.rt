@@ -4,7 +4,7 @@ ghost use Rattle.std.specs.Option.{IsSome};
 ghost use Rattle.mg_dev.specs.Causes.{Rose};
 ghost use Rattle.mg_dev.specs.Files.{bytes_at, file_at};
 ghost use Rattle.mg_dev.specs.Names.{full_name};
-ghost use Rattle.mg_dev.specs.Runs.{status_of};
+ghost use Rattle.mg_dev.specs.Runs.{IsDone, RefusedFor, status_of};
 ghost use Rattle.mg_dev.specs.declared.part.Part.{Part as AnyPart};
 ghost use Rattle.mg_dev.specs.declared.part.Part.TheVariants as part;
 ghost use Rattle.mg_dev.specs.declared.fault.Fault.TheVariants as fault;
@@ -17,10 +17,9 @@ ghost use Rattle.mg_defs.specs.TextBits.{text_bits};
 ghost use Rattle.mg_layout.specs.Stands.{StandsIn};
 ghost use Rattle.mg_make.specs.Putting.{IsApart, OthersSame};
 ghost use Rattle.mg_make.specs.Summaries.{summary_of};
-ghost use Rattle.mg_build.specs.Building.{BuildStops, IsEarly, Left};
+ghost use Rattle.mg_build.specs.Building.{BuildStops, IsEarly};
 ghost use Rattle.mg_build.specs.Made.{Made};
-ghost use Rattle.mg_build.specs.Outcomes.{IsDone, RefusedFor};
-ghost use Rattle.mg_build.specs.Sources.{most_bytes};
+ghost use Rattle.mg_make.specs.Outcomes.{Left, most_bytes};
 
 use crate::names::part_named;
 use crate::passes::{count_all, write_set};
@@ -40,7 +39,8 @@ fn build_files<S: Store>(
     requires least { 4096 ≤ budget }
     requires most { budget ≤ 2 ^ 30 }
     // At `Ok` the set stands for the collection, with the numbers of the summary.
-    ensures stands { IsSome (S.files store.old) → OnOk result (StandsIn 2 (run_cap budget) (S.files store.new) base.now (bytes_at (S.files store.old) collection.now)) }
+    ensures stands { IsSome (S.files store.old) →
+        OnOk result (StandsIn 2 (run_cap budget) (S.files store.new) base.now (bytes_at (S.files store.old) collection.now)) }
     ensures summary { IsSome (S.files store.old) → IfOk result (λ summary. summary ≡ summary_of budget (bytes_at (S.files store.old) collection.now)) }
     ensures text { IsSome (S.files store.old) → OnOk result (length (bytes_at (S.files store.new) (full_name base.now part.Text)) ≤
         text_bits (bytes_at (S.files store.old) collection.now) / 8 + length (documents (bytes_at (S.files store.old) collection.now))) }
@@ -56,12 +56,15 @@ fn build_files<S: Store>(
     ensures later { S.faults store.old ≤ S.faults store.new }
     // Each cause is refused, in this order.
     ensures clash { (p : AnyPart) → p ≢ part.Plain → collection.now ≡ full_name base.now p → result ≡ Err (fault.NameClash p) }
-    ensures missing { IsSome (S.files store.old) → IsApart base.now collection.now → file_at (S.files store.old) collection.now ≡ None → RefusedFor result fault.NoCollection }
+    ensures missing { IsSome (S.files store.old) → IsApart base.now collection.now → file_at (S.files store.old) collection.now ≡ None →
+        RefusedFor result fault.NoCollection }
     ensures large { IsSome (S.files store.old) → IsApart base.now collection.now → most_bytes < length (bytes_at (S.files store.old) collection.now) →
         RefusedFor result (fault.TooLarge (length (bytes_at (S.files store.old) collection.now)) most_bytes) }
-    ensures documents { (bytes : List ℕ) → file_at (S.files store.old) collection.now ≡ Some bytes → IsApart base.now collection.now → length bytes ≤ most_bytes →
+    ensures documents { (bytes : List ℕ) → file_at (S.files store.old) collection.now ≡ Some bytes →
+        IsApart base.now collection.now → length bytes ≤ most_bytes →
         PassesFirst version_2 bytes start_mark → RefusedFor result fault.TooManyDocuments }
-    ensures pieces { (bytes : List ℕ) (stream : Kind) (piece : List ℕ) → file_at (S.files store.old) collection.now ≡ Some bytes → IsApart base.now collection.now → length bytes ≤ most_bytes →
+    ensures pieces { (bytes : List ℕ) (stream : Kind) (piece : List ℕ) → file_at (S.files store.old) collection.now ≡ Some bytes →
+        IsApart base.now collection.now → length bytes ≤ most_bytes →
         PassesFirst version_2 bytes (piece_mark stream piece) → RefusedFor result (fault.TooManyPieces stream) }
     // With no such cause it is done, or memory lacks.
     ensures complete { (bytes : List ℕ) → file_at (S.files store.old) collection.now ≡ Some bytes → IsApart base.now collection.now → IsWithinLimits 2 bytes →

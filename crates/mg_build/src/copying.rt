@@ -20,8 +20,10 @@ fn copy_block<S: Store>(
     requires room { 1 ≤ length block.old }
     requires rest { 1 ≤ rest }
     ensures bytes { IsSome (S.files store.old) → IfOk result (λ n. file_at (S.files store.new) (full_name to.now.base.now to.now.part) ≡
-        Some (bytes_at (S.files store.old) (full_name to.now.base.now to.now.part) ++ take n (drop at (bytes_at (S.files store.old) (full_name from.now.base.now from.now.part))))) }
-    ensures some { IsSome (S.files store.old) → at < length (bytes_at (S.files store.old) (full_name from.now.base.now from.now.part)) → IfOk result (λ n. 1 ≤ n) }
+        Some (bytes_at (S.files store.old) (full_name to.now.base.now to.now.part) ++ take n
+        (drop at (bytes_at (S.files store.old) (full_name from.now.base.now from.now.part))))) }
+    ensures some { IsSome (S.files store.old) →
+        at < length (bytes_at (S.files store.old) (full_name from.now.base.now from.now.part)) → IfOk result (λ n. 1 ≤ n) }
     ensures within { IfOk result (λ n. n ≤ rest) }
     ensures alone { ChangedAlone (full_name to.now.base.now to.now.part) (S.files store.old) (S.files store.new) }
     ensures room { length block.new ≡ length block.old }
@@ -50,7 +52,8 @@ pub(crate) fn copy_part<S: Store>(
     requires apart { new.now ≢ name.now }
     requires own { part ≢ Plain }
     requires room { 1 ≤ length block.old }
-    ensures copied { IsSome (S.files store.old) → OnOk result (bytes_at (S.files store.new) (full_name new.now part) ≡ bytes_at (S.files store.old) (full_name name.now part)) }
+    ensures copied { IsSome (S.files store.old) →
+        OnOk result (bytes_at (S.files store.new) (full_name new.now part) ≡ bytes_at (S.files store.old) (full_name name.now part)) }
     ensures alone { ChangedAlone (full_name new.now part) (S.files store.old) (S.files store.new) }
     ensures room { length block.new ≡ length block.old }
     ensures refused { IfErr result (CopyStops (Rose (S.faults store.old) (S.faults store.new)) (IsSome (S.files store.old))) }

@@ -4,7 +4,7 @@ ghost use Rattle.mg_dev.specs.Causes.{Rose};
 ghost use Rattle.mg_dev.specs.Files.{bytes_at};
 ghost use Rattle.mg_dev.specs.Moments.{SinkAt, SourceAt};
 ghost use Rattle.mg_dev.specs.Names.{full_name, number};
-ghost use Rattle.mg_dev.specs.Runs.{status_of};
+ghost use Rattle.mg_dev.specs.Runs.{IsDone, RefusedFor, status_of};
 ghost use Rattle.mg_dev.specs.Streams.{AfterPut};
 ghost use Rattle.mg_dev.specs.declared.fault.Fault.TheVariants as fault;
 ghost use Rattle.mg_dev.specs.declared.part.Part.{Part as AnyPart};
@@ -14,7 +14,7 @@ ghost use Rattle.mg_layout.specs.Stands.{Stands, StandsBy};
 ghost use Rattle.mg_text.specs.Decoding.{Added};
 ghost use Rattle.mg_text.specs.Reading.{ShowIsNotBad};
 ghost use Rattle.mg_build.specs.Decoded.{Decoded};
-ghost use Rattle.mg_build.specs.Outcomes.{DecodeStops, IsDone, RefusedFor, ShowStops};
+ghost use Rattle.mg_build.specs.Outcomes.{DecodeStops, ShowStops};
 
 use crate::documents::show_documents;
 use mg_dev::{Fault, PartErr, ShowErr, Sink, Store};
@@ -62,15 +62,18 @@ fn decode_files<S: Store, O: Sink>(
     out: &mut O,
 ) -> Result<(), Fault>
     // Where the set stands for a collection, its bytes are written, or after a refusal a prefix.
-    ensures content { (collection : List ℕ) → Stands (S.files store.old) base.now collection → AfterPut (O.written out.old) (O.written out.new) collection result }
+    ensures content { (collection : List ℕ) → Stands (S.files store.old) base.now collection →
+        AfterPut (O.written out.old) (O.written out.new) collection result }
     // Whatever the files hold, bytes are only added.
     ensures added { Added (O.written out.old) (O.written out.new) (O.faults out.old) (O.faults out.new) (O.lacks out.old) (O.lacks out.new) }
     ensures silent { result ≡ Err fault.NotBuilt → O.written out.new ≡ O.written out.old }
     // The cause of each refusal.
-    ensures cause { IfErr result (DecodeStops (Rose (S.faults store.old) (S.faults store.new)) (Rose (O.faults out.old) (O.faults out.new)) (S.files store.old) base.now) }
+    ensures cause { IfErr result
+        (DecodeStops (Rose (S.faults store.old) (S.faults store.new)) (Rose (O.faults out.old) (O.faults out.new)) (S.files store.old) base.now) }
     ensures not_built { IsSome (S.files store.old) → bytes_at (S.files store.old) (full_name base.now part.Head) ≡ [] → RefusedFor result fault.NotBuilt }
     ensures memory { result ≡ Err fault.Memory → (O.written out.new ≡ O.written out.old) ⊎ Rose (O.lacks out.old) (O.lacks out.new) }
-    ensures complete { (collection : List ℕ) → Stands (S.files store.old) base.now collection → ¬ Rose (S.faults store.old) (S.faults store.new) → ¬ Rose (O.faults out.old) (O.faults out.new) → IsDone result }
+    ensures complete { (collection : List ℕ) → Stands (S.files store.old) base.now collection → ¬ Rose (S.faults store.old) (S.faults store.new) →
+        ¬ Rose (O.faults out.old) (O.faults out.new) → IsDone result }
     // No file changes, and of the parts only the head, the models, the text and its places are read.
     ensures files { S.files store.new ≡ S.files store.old }
     ensures reads { (p : AnyPart) → 5 ≤ number p → S.reads store.new p ≡ S.reads store.old p }
@@ -100,10 +103,12 @@ fn show_set<S: Store, O: Sink>(
 ) -> Result<(), ShowErr>
     requires words { head.now.words ≤ 2 ^ 22 }
     requires others { head.now.others ≤ 2 ^ 22 }
-    ensures content { (code : TextCode) (collection : List ℕ) → StandsBy head.now code (S.files store.old) base.now collection → AfterPut (O.written out.old) (O.written out.new) collection result }
+    ensures content { (code : TextCode) (collection : List ℕ) → StandsBy head.now code (S.files store.old) base.now collection →
+        AfterPut (O.written out.old) (O.written out.new) collection result }
     ensures never_bad { (code : TextCode) (collection : List ℕ) → StandsBy head.now code (S.files store.old) base.now collection → ShowIsNotBad result }
     ensures added { Added (O.written out.old) (O.written out.new) (O.faults out.old) (O.faults out.new) (O.lacks out.old) (O.lacks out.new) }
-    ensures cause { ShowStops result (O.written out.old) (O.written out.new) (S.faults store.old) (S.faults store.new) (O.faults out.old) (O.faults out.new) (O.lacks out.old) (O.lacks out.new) }
+    ensures cause { ShowStops result (O.written out.old) (O.written out.new) (S.faults store.old) (S.faults store.new) (O.faults out.old) (O.faults out.new)
+        (O.lacks out.old) (O.lacks out.new) }
     ensures files { S.files store.new ≡ S.files store.old }
     ensures reads { (p : AnyPart) → 5 ≤ number p → S.reads store.new p ≡ S.reads store.old p }
     ensures later { S.faults store.old ≤ S.faults store.new }

@@ -40,8 +40,10 @@ fn gather_closed<S: Store, O: Sink>(
     requires within { number ≤ reader.old.documents }
     ensures fits { TextFits reader.new (S.files store.new) }
     ensures same { SameText reader.old reader.new }
-    ensures looked { LookedAt part.Text part.Places (S.files store.old) (S.files store.new) (S.reads store.old) (S.reads store.new) (S.faults store.old) (S.faults store.new) }
-    ensures content { (collection : List ℕ) (before : Option (List ℕ)) (bytes : List ℕ) → TextStands reader.old (S.files store.old) collection → Shown before (O.written out.old) buffer.old bytes →
+    ensures looked { LookedAt part.Text part.Places (S.files store.old) (S.files store.new) (S.reads store.old) (S.reads store.new)
+        (S.faults store.old) (S.faults store.new) }
+    ensures content { (collection : List ℕ) (before : Option (List ℕ)) (bytes : List ℕ) → TextStands reader.old (S.files store.old) collection →
+        Shown before (O.written out.old) buffer.old bytes →
         Gathers result before (O.written out.new) buffer.new (bytes ++ (get_or (documents collection) (number - 1) [] ++ close closed)) }
     ensures never_bad { (collection : List ℕ) → TextStands reader.old (S.files store.old) collection → ShowIsNotBad result }
     ensures added { Added (O.written out.old) (O.written out.new) (O.faults out.old) (O.faults out.new) (O.lacks out.old) (O.lacks out.new) }
@@ -72,8 +74,10 @@ pub fn show_documents<S: Store, O: Sink>(
     requires fits { TextFits reader.old (S.files store.old) }
     requires documents { reader.old.documents ≡ documents }
     requires empty { buffer.old ≡ [] }
-    ensures looked { LookedAt part.Text part.Places (S.files store.old) (S.files store.new) (S.reads store.old) (S.reads store.new) (S.faults store.old) (S.faults store.new) }
-    ensures content { (collection : List ℕ) → TextStands reader.old (S.files store.old) collection → has_open_end collection ≡ open_end → AfterPut (O.written out.old) (O.written out.new) collection result }
+    ensures looked { LookedAt part.Text part.Places (S.files store.old) (S.files store.new) (S.reads store.old) (S.reads store.new)
+        (S.faults store.old) (S.faults store.new) }
+    ensures content { (collection : List ℕ) → TextStands reader.old (S.files store.old) collection → has_open_end collection ≡ open_end →
+        AfterPut (O.written out.old) (O.written out.new) collection result }
     ensures never_bad { (collection : List ℕ) → TextStands reader.old (S.files store.old) collection → ShowIsNotBad result }
     ensures added { Added (O.written out.old) (O.written out.new) (O.faults out.old) (O.faults out.new) (O.lacks out.old) (O.lacks out.new) }
     ensures cause { IsShowCaused result (S.faults store.old) (S.faults store.new) (O.faults out.old) (O.faults out.new) (O.lacks out.old) (O.lacks out.new) }

@@ -6,7 +6,7 @@ ghost use Rattle.std.specs.Prelude.{◌≡◌, ◌≢◌, ◌≤◌, ◌+◌, �
 ghost use Rattle.mg_dev.specs.Causes.{Rose};
 ghost use Rattle.mg_dev.specs.Files.{bytes_at, file_at};
 ghost use Rattle.mg_dev.specs.Names.{full_name};
-ghost use Rattle.mg_dev.specs.Runs.{status_of};
+ghost use Rattle.mg_dev.specs.Runs.{IsDone, RefusedFor, status_of};
 ghost use Rattle.mg_dev.specs.declared.fault.Fault.TheVariants as fault;
 ghost use Rattle.mg_dev.specs.declared.part.Part.{Part as AnyPart};
 ghost use Rattle.mg_dev.specs.declared.part.Part.TheVariants as part;
@@ -16,11 +16,10 @@ ghost use Rattle.mg_defs.specs.Split.{documents};
 ghost use Rattle.mg_layout.specs.HeadAnswers.{fields_of};
 ghost use Rattle.mg_layout.specs.Stands.{Stands, StandsBy, StandsIn};
 ghost use Rattle.mg_make.specs.Putting.{IsUnbuilt, LacksOnlyHead, OthersSame};
-ghost use Rattle.mg_build.specs.Building.{Left};
+ghost use Rattle.mg_make.specs.Outcomes.{Left};
 ghost use Rattle.mg_build.specs.Copying.{ChangedAlone, CopyStops};
 ghost use Rattle.mg_build.specs.MadeAnew.{MadeAnew};
 ghost use Rattle.mg_build.specs.Migrating.{AreCopied, AreEmptied, ComesFirst, IsMadeAnew, IsSetOf, MigrateStops};
-ghost use Rattle.mg_build.specs.Outcomes.{IsDone, RefusedFor};
 
 use crate::copying::copy_part;
 use crate::widening::widen_places;
@@ -72,10 +71,13 @@ fn migrate_files<S: Store>(
     new: &str,
 ) -> Result<u32, Fault>
     // At `Ok` the new set stands for the same collection, with as many occurrences to a run.
-    ensures stands { (version cap : ℕ) (collection : List ℕ) → StandsIn version cap (S.files store.old) name.now collection → OnOk result (StandsIn 2 cap (S.files store.new) new.now collection) }
+    ensures stands { (version cap : ℕ) (collection : List ℕ) → StandsIn version cap (S.files store.old) name.now collection →
+        OnOk result (StandsIn 2 cap (S.files store.new) new.now collection) }
     ensures documents { (collection : List ℕ) → Stands (S.files store.old) name.now collection → IfOk result (λ count. count ≡ length (documents collection)) }
-    ensures merge_a { (collection : List ℕ) → Stands (S.files store.old) name.now collection → OnOk result (file_at (S.files store.new) (full_name new.now part.MergeA) ≡ Some []) }
-    ensures merge_b { (collection : List ℕ) → Stands (S.files store.old) name.now collection → OnOk result (file_at (S.files store.new) (full_name new.now part.MergeB) ≡ Some []) }
+    ensures merge_a { (collection : List ℕ) → Stands (S.files store.old) name.now collection →
+        OnOk result (file_at (S.files store.new) (full_name new.now part.MergeA) ≡ Some []) }
+    ensures merge_b { (collection : List ℕ) → Stands (S.files store.old) name.now collection →
+        OnOk result (file_at (S.files store.new) (full_name new.now part.MergeB) ≡ Some []) }
     // Whatever it answers: files of other names are as before, and the new set is as before, or stands for no
     // collection, or for this one.
     ensures others { OthersSame new.now (S.files store.old) (S.files store.new) }
@@ -84,8 +86,10 @@ fn migrate_files<S: Store>(
     // The cause of each refusal.
     ensures cause { IfErr result (MigrateStops (Rose (S.faults store.old) (S.faults store.new)) (S.files store.old) name.now new.now) }
     ensures same { new.now ≡ name.now → result ≡ Err fault.SameName }
-    ensures not_built { IsSome (S.files store.old) → new.now ≢ name.now → bytes_at (S.files store.old) (full_name name.now part.Head) ≡ [] → RefusedFor result fault.NotBuilt }
-    ensures complete { (collection : List ℕ) → Stands (S.files store.old) name.now collection → new.now ≢ name.now → ¬ Rose (S.faults store.old) (S.faults store.new) → IsDone result }
+    ensures not_built { IsSome (S.files store.old) → new.now ≢ name.now → bytes_at (S.files store.old) (full_name name.now part.Head) ≡ [] →
+        RefusedFor result fault.NotBuilt }
+    ensures complete { (collection : List ℕ) → Stands (S.files store.old) name.now collection → new.now ≢ name.now →
+        ¬ Rose (S.faults store.old) (S.faults store.new) → IsDone result }
     ensures later { S.faults store.old ≤ S.faults store.new }
 {
     if new == name {

@@ -13,7 +13,8 @@ ghost use Rattle.mg_make.specs.Plans.{IsPlan, IsRoomFor};
 ghost use Rattle.mg_make.specs.Counting.{HasCounted};
 ghost use Rattle.mg_make.specs.Putting.{HasPut};
 ghost use Rattle.mg_make.specs.Summaries.{summary_of};
-ghost use Rattle.mg_build.specs.Building.{IsPlanFor, Left, PassStops, WriteStops};
+ghost use Rattle.mg_make.specs.Outcomes.{Left};
+ghost use Rattle.mg_build.specs.Building.{IsPlanFor, PassStops, WriteStops};
 ghost use Rattle.mg_build.specs.Sources.{AreRead};
 
 use crate::source::Source;
@@ -35,7 +36,8 @@ fn count_bytes<S: Store>(
     ensures size { source.new.size ≡ source.old.size }
     ensures small { source.old.size < 2 ^ 32 }
     ensures refused { IfErr result (PassStops (Rose (S.faults store.old) (S.faults store.new)) (S.files store.old) source.old.feed.name source.old.size) }
-    ensures looked { Looked part.Plain (S.files store.old) (S.files store.new) (S.reads store.old) (S.reads store.new) (S.faults store.old) (S.faults store.new) }
+    ensures looked { Looked part.Plain (S.files store.old) (S.files store.new) (S.reads store.old) (S.reads store.new)
+        (S.faults store.old) (S.faults store.new) }
 {
     for at in 0..source.size() {
         let byte = match source.byte(store, at) {
@@ -68,7 +70,8 @@ pub(crate) fn count_all<S: Store>(
     ensures file { SameFile source.old.feed source.new.feed }
     ensures size { source.new.size ≡ source.old.size }
     ensures refused { IfErr result (PassStops (Rose (S.faults store.old) (S.faults store.new)) (S.files store.old) source.old.feed.name source.old.size) }
-    ensures looked { Looked part.Plain (S.files store.old) (S.files store.new) (S.reads store.old) (S.reads store.new) (S.faults store.old) (S.faults store.new) }
+    ensures looked { Looked part.Plain (S.files store.old) (S.files store.new) (S.reads store.old) (S.reads store.new)
+        (S.faults store.old) (S.faults store.new) }
 {
     let mut count = Count::new(alloc);
     match count_bytes(store, source, &mut count) {
@@ -88,14 +91,16 @@ fn put_bytes<S: Store>(
     requires apart { IsApart writer.old.base source.old.feed.name }
     requires nothing { HasPut writer.old (S.files store.old) [] }
     requires head { IsSome (S.files store.old) → file_at (S.files store.old) (full_name writer.old.base part.Head) ≡ Some [] }
-    ensures put { OnOk result ((fed : List ℕ) × AreRead (S.files store.old) source.old.feed.name source.old.size fed × HasPut writer.new (S.files store.new) fed) }
+    ensures put { OnOk result ((fed : List ℕ) × AreRead (S.files store.old) source.old.feed.name source.old.size fed ×
+        HasPut writer.new (S.files store.new) fed) }
     ensures base { writer.new.base ≡ writer.old.base }
     ensures plan { writer.new.plan ≡ writer.old.plan }
     ensures limit { writer.new.limit ≡ writer.old.limit }
     ensures small { source.old.size < 2 ^ 32 }
     ensures head { IsSome (S.files store.old) → file_at (S.files store.new) (full_name writer.old.base part.Head) ≡ Some [] }
     ensures others { OthersSame writer.old.base (S.files store.old) (S.files store.new) }
-    ensures refused { IfErr result (WriteStops (Rose (S.faults store.old) (S.faults store.new)) (IsPlanFor writer.old.plan (S.files store.old) source.old.feed.name source.old.size)) }
+    ensures refused { IfErr result
+        (WriteStops (Rose (S.faults store.old) (S.faults store.new)) (IsPlanFor writer.old.plan (S.files store.old) source.old.feed.name source.old.size)) }
     ensures later { S.faults store.old ≤ S.faults store.new }
 {
     for at in 0..source.size() {
@@ -135,7 +140,8 @@ pub(crate) fn write_set<'a, S: Store>(
     ensures left { IsPlanFor plan.entry.now (S.files store.old) source.old.feed.name source.old.size →
         Left base.entry.now (S.files store.old) (S.files store.new) (bytes_at (S.files store.old) source.old.feed.name) }
     ensures others { OthersSame base.entry.now (S.files store.old) (S.files store.new) }
-    ensures refused { IfErr result (WriteStops (Rose (S.faults store.old) (S.faults store.new)) (IsPlanFor plan.entry.now (S.files store.old) source.old.feed.name source.old.size)) }
+    ensures refused { IfErr result
+        (WriteStops (Rose (S.faults store.old) (S.faults store.new)) (IsPlanFor plan.entry.now (S.files store.old) source.old.feed.name source.old.size)) }
     ensures later { S.faults store.old ≤ S.faults store.new }
 {
     empty_heads_stand_for_none();

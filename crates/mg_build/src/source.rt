@@ -86,7 +86,8 @@ impl<'a, S: Store> Source<'a, S> {
         ensures size { self.new.size ≡ self.old.size }
         ensures told { IsSome (S.files store.old) → IfOk result (λ byte. slice_get (bytes_at (S.files store.old) self.old.feed.name) at ≡ Some byte) }
         ensures refused { IfErr result (ByteStops (Rose (S.faults store.old) (S.faults store.new)) (S.files store.old) self.old.feed.name self.old.size) }
-        ensures looked { Looked Plain (S.files store.old) (S.files store.new) (S.reads store.old) (S.reads store.new) (S.faults store.old) (S.faults store.new) }
+        ensures looked { Looked Plain (S.files store.old) (S.files store.new) (S.reads store.old) (S.reads store.new)
+            (S.faults store.old) (S.faults store.new) }
     {
         match self.feed.byte(store, at) {
             Ok(Some(byte)) => Ok(byte),

@@ -31,7 +31,8 @@ fn widen_one<S: Store>(
     ensures file { SameFile places.old places.new }
     ensures name { wide.new.name ≡ wide.old.name }
     ensures alone { ChangedAlone wide.old.name (S.files store.old) (S.files store.new) }
-    ensures refused { IfErr result (CopyStops (Rose (S.faults store.old) (S.faults store.new)) (IsSome (S.files store.old) × (number : ℕ) × HasFour (bytes_at (S.files store.old) places.old.name) index number)) }
+    ensures refused { IfErr result (CopyStops (Rose (S.faults store.old) (S.faults store.new)) (IsSome (S.files store.old) × (number : ℕ) ×
+        HasFour (bytes_at (S.files store.old) places.old.name) index number)) }
     ensures later { S.faults store.old ≤ S.faults store.new }
 {
     let mut bytes = [0u8; 4];
@@ -68,7 +69,8 @@ pub(crate) fn widen_places<S: Store>(
     ensures widened { IsSome (S.files store.old) → (numbers : List ℕ) → AreNarrow numbers (bytes_at (S.files store.old) (full_name name.now Places)) count →
         OnOk result (bytes_at (S.files store.new) (full_name new.now Places) ≡ flat_map eight numbers) }
     ensures alone { ChangedAlone (full_name new.now Places) (S.files store.old) (S.files store.new) }
-    ensures refused { IfErr result (CopyStops (Rose (S.faults store.old) (S.faults store.new)) (IsSome (S.files store.old) × (numbers : List ℕ) × AreNarrow numbers (bytes_at (S.files store.old) (full_name name.now Places)) count)) }
+    ensures refused { IfErr result (CopyStops (Rose (S.faults store.old) (S.faults store.new)) (IsSome (S.files store.old) × (numbers : List ℕ) ×
+        AreNarrow numbers (bytes_at (S.files store.old) (full_name name.now Places)) count)) }
     ensures later { S.faults store.old ≤ S.faults store.new }
 {
     let from = FileRef {

@@ -11,7 +11,8 @@ use Rattle.mg_layout.specs.Stands.{StandsIn}
 use Rattle.mg_make.specs.Plans.{Plan}
 use Rattle.mg_make.specs.Summaries.{summary_of}
 use Rattle.mg_make.specs.declared.summary.Summary.{Summary}
-use Rattle.mg_build.specs.Building.{IsPlanFor, Left}
+use Rattle.mg_make.specs.Outcomes.{Left}
+use Rattle.mg_build.specs.Building.{IsPlanFor}
 use Rattle.mg_build.proofs.BuildLaws.{cause_all, done_all, done_or_lacks, early_all, is_told, its_bytes, open_only, opened_or, pass_at, pass_documents, pass_only, pass_pieces, plan_at, size_at, text_all, within_passes}
 use Rattle.mg_build.proofs.PassLaws.{moved, rose_behind}
 use Rattle.mg_build.proofs.building.build_files.Goals as goal

@@ -7,7 +7,7 @@ use Rattle.mg_defs.specs.CodedText.{TextCode}
 use Rattle.mg_defs.specs.Heads as defs
 use Rattle.mg_layout.specs.HeadAnswers.{fields_of}
 use Rattle.mg_layout.specs.Stands.{Stands, StandsBy, StandsIn}
-use Rattle.mg_build.specs.Building.{Left}
+use Rattle.mg_make.specs.Outcomes.{Left}
 use Rattle.mg_build.specs.Migrating.{MigrateStops}
 use Rattle.mg_build.proofs.MigrateStopLaws.{cap_is, head_refused, in_stands, made_or_lacks, set_refused}
 use Rattle.mg_build.proofs.StopLaws.{bad_head, head_there, no_empty_head, no_head, some_head, stands_loaded}
