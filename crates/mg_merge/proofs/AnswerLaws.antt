@@ -4,7 +4,7 @@ use Rattle.std.specs.Prelude.{Result, OnOk, IfErr}
 use Rattle.mg_dev.specs.Files.{Files, file_at}
 use Rattle.mg_dev.specs.Moments.{StoreAt, StoreRose, KeptFiles}
 use Rattle.mg_dev.specs.Names.{full_name}
-use Rattle.mg_dev.specs.Runs.{status_of}
+use Rattle.mg_dev.specs.Runs.{IsDone, RefusedFor, status_of}
 use Rattle.mg_dev.specs.declared.part.Part.TheVariants as part
 use Rattle.mg_dev.specs.declared.fault.Fault.{Fault}
 use Rattle.mg_dev.specs.declared.fault.Fault.TheVariants.{NotBuilt, TooLarge, TooManyDocuments, TooManyPieces, SameName}
@@ -15,9 +15,10 @@ use Rattle.mg_defs.specs.Marks.{PassesFirst, start, piece}
 use Rattle.mg_layout.specs.Stands.{Stands, StandsIn}
 use Rattle.mg_make.specs.Putting.{OthersSame}
 use Rattle.mg_merge.specs.Joined.{Joined}
-use Rattle.mg_merge.specs.Merging.{BothStand, IsDone, IsEarly, IsSizeByHeads, Left, MergeStops, RefusedFor, most_bytes}
+use Rattle.mg_make.specs.Outcomes.{Left, most_bytes}
+use Rattle.mg_merge.specs.Merging.{BothStand, IsEarly, IsSizeByHeads, MergeStops}
 use Rattle.mg_merge.specs.Stops.{IsMissing}
-use Rattle.mg_merge.proofs.Endings.{at_fault, done_or_lacks, stopped_by, stopped_for, when_ok}
+use Rattle.mg_dev.proofs.CallerLemmas.{at_fault, done_or_lacks, stopped_by, stopped_for, when_ok}
 
 -- both sets stand
 both : (version cap : ℕ) (files : Option Files) (first second a b : List ℕ) → StandsIn version cap files first a → Stands files second b → BothStand files first second a b

@@ -11,7 +11,7 @@ use Rattle.mg_dev.specs.declared.part_err.PartErr.TheVariants.{Bad, Device, Memo
 use Rattle.mg_defs.specs.Heads.{IsHead}
 use Rattle.mg_layout.specs.HeadAnswers.{AnswersHead, fields_of}
 use Rattle.mg_layout.specs.declared.head.Head as layout
-use Rattle.mg_merge.specs.Merging.{RefusedFor}
+use Rattle.mg_dev.specs.Runs.{RefusedFor}
 use Rattle.mg_merge.specs.Stops.{AreHeads, IsMissing}
 use Rattle.mg_merge.proofs.StopLaws.{no_empty_head}
 

@@ -6,5 +6,4 @@ mod HeadLaws
 mod GivenLaws
 mod PassLaws
 mod MergeLaws
-mod Endings
 mod AnswerLaws

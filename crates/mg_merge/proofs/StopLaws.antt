@@ -17,7 +17,8 @@ use Rattle.mg_defs.proofs.HeadLaws.{no_damage}
 use Rattle.mg_defs.proofs.StandLaws.{stand-tells}
 use Rattle.mg_laws.proofs.FirstMarks.{first_is_beyond, one_first, within_from}
 use Rattle.mg_layout.specs.Stands.{Stands, parts_at}
-use Rattle.mg_merge.specs.Merging.{BothStand, IsDone, IsEarly, IsSizeByHeads, MergeStops, RefusedFor}
+use Rattle.mg_dev.specs.Runs.{IsDone, RefusedFor}
+use Rattle.mg_merge.specs.Merging.{BothStand, IsEarly, IsSizeByHeads, MergeStops}
 use Rattle.mg_merge.specs.Stops.{AreHeads, CountingStops, HeadStops, IsMissing, ReadStops}
 
 -- the store failed and its failures rose, or memory lacks

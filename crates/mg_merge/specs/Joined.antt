@@ -1,10 +1,7 @@
 -- What a merge does to its store, and why it stops.
-use Rattle.std.specs.Prelude.{◌≡◌, ◌≢◌, ◌⊎◌, ◌<◌, ◌≤◌, ℕ, List, [], length, Some, IsSome}
-use Rattle.std.specs.declared.option.Option.{Option}
-use Rattle.mg_dev.specs.Files.{Files, file_at}
+use Rattle.std.specs.Prelude.{◌≡◌, ◌≢◌, ◌⊎◌, ◌<◌, ◌≤◌, ℕ, List, length, IsSome}
 use Rattle.mg_dev.specs.Moments.{StoreAt, StoreRose, KeptFiles}
-use Rattle.mg_dev.specs.Names.{full_name}
-use Rattle.mg_dev.specs.Runs.{IfStopped}
+use Rattle.mg_dev.specs.Runs.{IfStopped, StoppedFor}
 use Rattle.mg_dev.specs.declared.part.Part.TheVariants as part
 use Rattle.mg_dev.specs.declared.fault.Fault.{Fault}
 use Rattle.mg_dev.specs.declared.fault.Fault.TheVariants.{NotBuilt, TooLarge, TooManyDocuments, TooManyPieces, Memory, SameName}
@@ -16,20 +13,15 @@ use Rattle.mg_defs.specs.Limits.{IsWithinLimits, version_2}
 use Rattle.mg_defs.specs.Marks.{PassesFirst, start, piece}
 use Rattle.mg_layout.specs.Stands.{Stands, StandsIn}
 use Rattle.mg_make.specs.Putting.{OthersSame}
-use Rattle.mg_merge.specs.Merging.{BothStand, IsEarly, IsSizeByHeads, Left, MergeStops, StoppedFor, most_bytes}
+use Rattle.mg_make.specs.Outcomes.{AreMadeAnew, Left, most_bytes}
+use Rattle.mg_merge.specs.Merging.{BothStand, IsEarly, IsSizeByHeads, MergeStops}
 use Rattle.mg_merge.specs.Stops.{IsMissing}
-
--- The set of this base stands for the collection in version 2, with so many occurrences to a run, and its working parts are empty.
-pub record AreJoined (files : Option Files) (base collection : List ℕ) (cap : ℕ) : Type 0 where
-  pub stands : StandsIn 2 cap files base collection
-  pub merge_a : file_at files (full_name base part.MergeA) ≡ Some []
-  pub merge_b : file_at files (full_name base part.MergeB) ≡ Some []
 
 -- of each two collections that the sets of these names stand for, in either version, by the store before the merge and after it, and its status
 pub record Joined (first second new : List ℕ) (store store_now : StoreAt) (status : Status) : Type 0 where
   -- status 0: the new set is made of both in one, with as many occurrences to a run as the first has
   pub done : (version cap : ℕ) (a b : List ℕ) → StandsIn version cap store.files first a → Stands store.files second b → status ≡ Done
-      → AreJoined store_now.files new (join a b) cap
+      → AreMadeAnew store_now.files new (join a b) cap
   -- after the statuses 16, 5 and 8 to 10 no file has changed
   pub unchanged : (fault : Fault) → IsEarly fault → status ≡ Stopped fault → KeptFiles store store_now
   -- every status: all files are as before, or the new set stands for none, or for both collections in one; no file but its own changes

@@ -1,19 +1,17 @@
 -- What a merge makes, what it leaves, and why it stops.
-use Rattle.std.specs.Prelude.{◌≡◌, ◌⊎◌, ◌<◌, ◌+◌, ◌*◌, ℕ, List, length, max, if◌then◌else◌, Ok, Err}
+use Rattle.std.specs.Prelude.{◌≡◌, ◌⊎◌, ◌<◌, ◌+◌, ◌*◌, ℕ, List, max, if◌then◌else◌}
 use Rattle.std.specs.Option.{IsSome}
 use Rattle.std.specs.declared.option.Option.{Option}
-use Rattle.std.specs.declared.result.Result.{Result}
 use Rattle.mg_dev.specs.Files.{Files}
 use Rattle.mg_dev.specs.declared.fault.Fault.{Fault}
 use Rattle.mg_dev.specs.declared.fault.Fault.TheVariants.{Damaged, Memory, NotBuilt, SameName, StoreFault, TooLarge, TooManyDocuments, TooManyPieces}
-use Rattle.mg_dev.specs.declared.status.Status.{Status}
-use Rattle.mg_dev.specs.declared.status.Status.TheVariants.{Stopped}
 use Rattle.mg_defs.specs.Heads as heads
 use Rattle.mg_defs.specs.Join.{join}
 use Rattle.mg_defs.specs.Limits.{version_2}
 use Rattle.mg_defs.specs.Marks.{PassesFirst, piece, start}
-use Rattle.mg_layout.specs.Stands.{Stands, StandsForNone}
+use Rattle.mg_layout.specs.Stands.{Stands}
 use Rattle.mg_merge.specs.Stops.{AreHeads, IsMissing}
+use Rattle.mg_make.specs.Outcomes.{most_bytes}
 
 -- ---- what it makes
 
@@ -24,10 +22,6 @@ budget_of cap = max 4096 (12 * cap)
 -- the bytes of both collections by their heads, with the one that closes the first
 abbrev pub joined_size : heads.Head → heads.Head → ℕ
 joined_size a b = a.collection + b.collection + (if a.open_end then 1 else 0)
-
--- the most bytes of a collection
-abbrev pub most_bytes : ℕ
-most_bytes = version_2.collection
 
 -- Both sets stand, for these collections.
 pub record BothStand (files : Option Files) (first second a b : List ℕ) : Type 0 where
@@ -49,10 +43,6 @@ pub record IsSizeByHeads (files : Option Files) (first second : List ℕ) (size 
   pub size_is : size ≡ joined_size a b
 
 -- ---- what it leaves
-
--- all files as before, or a set that stands for no collection, or one that stands for this one
-abbrev pub Left : List ℕ → Option Files → Option Files → List ℕ → Type 0
-Left base before now collection = (now ≡ before) ⊎ (StandsForNone now base ⊎ Stands now base collection)
 
 -- a refusal before the first write
 abbrev pub IsEarly : Fault → Type 0
@@ -76,17 +66,3 @@ MergeStops store_rose files first second new (TooManyPieces stream) = (a b : Lis
 MergeStops store_rose files first second new Memory = Unit {0}
 MergeStops store_rose files first second new SameName = (new ≡ first) ⊎ (new ≡ second)
 MergeStops store_rose files first second new _ = ⊥
-
--- this refusal, unless the store fails or memory lacks
-abbrev pub RefusedFor : {T : Type 0} → Result T Fault → Fault → Type 0
-RefusedFor result fault = (result ≡ Err fault) ⊎ ((result ≡ Err StoreFault) ⊎ (result ≡ Err Memory))
-
--- it is done, or memory lacks
-abbrev pub IsDone : {T : Type 0} → Result T Fault → Type 0
-IsDone (Ok value) = Unit {0}
-IsDone (Err Memory) = Unit {0}
-IsDone (Err _) = ⊥
-
--- it stopped for this fault, unless the store failed or memory was wanting
-abbrev pub StoppedFor : Status → Fault → Type 0
-StoppedFor status fault = (status ≡ Stopped fault) ⊎ (status ≡ Stopped StoreFault) ⊎ (status ≡ Stopped Memory)

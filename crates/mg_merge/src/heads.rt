@@ -4,7 +4,8 @@ ghost use Rattle.mg_dev.specs.Causes.{Rose};
 ghost use Rattle.mg_dev.specs.declared.fault.Fault.TheVariants as fault;
 ghost use Rattle.mg_defs.specs.Heads.{IsWithin};
 ghost use Rattle.mg_layout.specs.HeadAnswers.{fields_of};
-ghost use Rattle.mg_merge.specs.Merging.{RefusedFor, budget_of, joined_size};
+ghost use Rattle.mg_dev.specs.Runs.{RefusedFor};
+ghost use Rattle.mg_merge.specs.Merging.{budget_of, joined_size};
 ghost use Rattle.mg_merge.specs.Stops.{AreHeads, HeadStops, IsMissing, IsRefusedFirst, IsToldFirst};
 
 use mg_dev::{Fault, PartErr, Store};
@@ -22,10 +23,12 @@ pub(crate) fn load_heads<S: Store>(
     first: &str,
     second: &str,
 ) -> Result<(Head, Head), Fault>
-    ensures heads { IsSome (S.files store.old) → IfOk result (λ heads. AreHeads (S.files store.old) first.now second.now (fields_of heads.0) (fields_of heads.1)) }
+    ensures heads { IsSome (S.files store.old) →
+        IfOk result (λ heads. AreHeads (S.files store.old) first.now second.now (fields_of heads.0) (fields_of heads.1)) }
     ensures first { IfOk result (λ heads. IsWithin (fields_of heads.0)) }
     ensures second { IfOk result (λ heads. IsWithin (fields_of heads.1)) }
-    ensures missing { IsSome (S.files store.old) → IsMissing (S.files store.old) first.now ⊎ IsMissing (S.files store.old) second.now → RefusedFor result fault.NotBuilt }
+    ensures missing { IsSome (S.files store.old) → IsMissing (S.files store.old) first.now ⊎ IsMissing (S.files store.old) second.now →
+        RefusedFor result fault.NotBuilt }
     ensures refused { IfErr result (HeadStops (Rose (S.faults store.old) (S.faults store.new)) (S.files store.old) first.now second.now) }
     ensures files { S.files store.new ≡ S.files store.old }
     ensures later { S.faults store.old ≤ S.faults store.new }

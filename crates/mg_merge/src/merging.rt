@@ -4,7 +4,7 @@ ghost use Rattle.std.specs.Option.{IsSome};
 ghost use Rattle.mg_dev.specs.Causes.{Rose};
 ghost use Rattle.mg_dev.specs.Files.{file_at};
 ghost use Rattle.mg_dev.specs.Names.{full_name};
-ghost use Rattle.mg_dev.specs.Runs.{status_of};
+ghost use Rattle.mg_dev.specs.Runs.{IsDone, RefusedFor, status_of};
 ghost use Rattle.mg_dev.specs.declared.part.Part.TheVariants as part;
 ghost use Rattle.mg_dev.specs.declared.fault.Fault.TheVariants as fault;
 ghost use Rattle.mg_defs.specs.declared.Stream.{Stream as Kind};
@@ -16,7 +16,8 @@ ghost use Rattle.mg_layout.specs.Stands.{Stands, StandsIn};
 ghost use Rattle.mg_make.specs.Putting.{OthersSame};
 ghost use Rattle.mg_make.specs.Summaries.{summary_of};
 ghost use Rattle.mg_merge.specs.Joined.{Joined};
-ghost use Rattle.mg_merge.specs.Merging.{BothStand, IsDone, IsEarly, IsSizeByHeads, Left, MergeStops, RefusedFor, budget_of, most_bytes};
+ghost use Rattle.mg_make.specs.Outcomes.{Left, most_bytes};
+ghost use Rattle.mg_merge.specs.Merging.{BothStand, IsEarly, IsSizeByHeads, MergeStops, budget_of};
 ghost use Rattle.mg_merge.specs.Stops.{CountingStops, IsMissing};
 ghost use Rattle.mg_merge.specs.Passes.{AreApart};
 ghost use Rattle.mg_merge.specs.Texts.{AreTexts, TextsFit, TextsStand};
@@ -77,8 +78,10 @@ fn merge_files<S: Store>(
         OnOk result (StandsIn 2 cap (S.files store.new) new.now (join a b)) }
     ensures summary { (version cap : ℕ) (a b : List ℕ) → StandsIn version cap (S.files store.old) first.now a → Stands (S.files store.old) second.now b →
         IfOk result (λ summary. summary ≡ summary_of (budget_of cap) (join a b)) }
-    ensures merge_a { (a b : List ℕ) → BothStand (S.files store.old) first.now second.now a b → OnOk result (file_at (S.files store.new) (full_name new.now part.MergeA) ≡ Some []) }
-    ensures merge_b { (a b : List ℕ) → BothStand (S.files store.old) first.now second.now a b → OnOk result (file_at (S.files store.new) (full_name new.now part.MergeB) ≡ Some []) }
+    ensures merge_a { (a b : List ℕ) → BothStand (S.files store.old) first.now second.now a b →
+        OnOk result (file_at (S.files store.new) (full_name new.now part.MergeA) ≡ Some []) }
+    ensures merge_b { (a b : List ℕ) → BothStand (S.files store.old) first.now second.now a b →
+        OnOk result (file_at (S.files store.new) (full_name new.now part.MergeB) ≡ Some []) }
     // Whatever it answers: files of other names are as before, and the new set is as before, or stands for no
     // collection, or for this one; after an early refusal all files are as before.
     ensures others { OthersSame new.now (S.files store.old) (S.files store.new) }
@@ -91,11 +94,13 @@ fn merge_files<S: Store>(
     ensures same_name { (new.now ≡ first.now) ⊎ (new.now ≡ second.now) → result ≡ Err fault.SameName }
     ensures missing { IsSome (S.files store.old) → new.now ≢ first.now → new.now ≢ second.now →
         IsMissing (S.files store.old) first.now ⊎ IsMissing (S.files store.old) second.now → RefusedFor result fault.NotBuilt }
-    ensures large { (size : ℕ) → IsSome (S.files store.old) → new.now ≢ first.now → new.now ≢ second.now → IsSizeByHeads (S.files store.old) first.now second.now size →
+    ensures large { (size : ℕ) → IsSome (S.files store.old) → new.now ≢ first.now → new.now ≢ second.now →
+        IsSizeByHeads (S.files store.old) first.now second.now size →
         most_bytes < size → RefusedFor result (fault.TooLarge size most_bytes) }
     ensures documents { (a b : List ℕ) → BothStand (S.files store.old) first.now second.now a b → new.now ≢ first.now → new.now ≢ second.now →
         length (join a b) ≤ most_bytes → PassesFirst version_2 (join a b) start_mark → RefusedFor result fault.TooManyDocuments }
-    ensures pieces { (a b : List ℕ) (stream : Kind) (piece : List ℕ) → BothStand (S.files store.old) first.now second.now a b → new.now ≢ first.now → new.now ≢ second.now →
+    ensures pieces { (a b : List ℕ) (stream : Kind) (piece : List ℕ) → BothStand (S.files store.old) first.now second.now a b →
+        new.now ≢ first.now → new.now ≢ second.now →
         length (join a b) ≤ most_bytes → PassesFirst version_2 (join a b) (piece_mark stream piece) → RefusedFor result (fault.TooManyPieces stream) }
     // With no such cause it is done, or memory lacks.
     ensures complete { (a b : List ℕ) → BothStand (S.files store.old) first.now second.now a b → new.now ≢ first.now → new.now ≢ second.now →
@@ -137,12 +142,15 @@ fn merge_texts<S: Store>(
     requires most { budget ≤ 2 ^ 30 }
     requires fits { TextsFit texts.old (S.files store.old) }
     requires apart { AreApart new.now texts.old }
-    ensures stands { (collection : List ℕ) → TextsStand texts.old (S.files store.old) collection → OnOk result (StandsIn 2 (run_cap budget) (S.files store.new) new.now collection) }
-    ensures summary { (collection : List ℕ) → TextsStand texts.old (S.files store.old) collection → IfOk result (λ summary. summary ≡ summary_of budget collection) }
+    ensures stands { (collection : List ℕ) → TextsStand texts.old (S.files store.old) collection →
+        OnOk result (StandsIn 2 (run_cap budget) (S.files store.new) new.now collection) }
+    ensures summary { (collection : List ℕ) → TextsStand texts.old (S.files store.old) collection →
+        IfOk result (λ summary. summary ≡ summary_of budget collection) }
     ensures limits { (collection : List ℕ) → TextsStand texts.old (S.files store.old) collection → OnOk result (IsWithinLimits 2 collection) }
     ensures merge_a { AreTexts texts.old (S.files store.old) → OnOk result (file_at (S.files store.new) (full_name new.now part.MergeA) ≡ Some []) }
     ensures merge_b { AreTexts texts.old (S.files store.old) → OnOk result (file_at (S.files store.new) (full_name new.now part.MergeB) ≡ Some []) }
-    ensures left { (collection : List ℕ) → TextsStand texts.old (S.files store.old) collection → Left new.now (S.files store.old) (S.files store.new) collection }
+    ensures left { (collection : List ℕ) → TextsStand texts.old (S.files store.old) collection →
+        Left new.now (S.files store.old) (S.files store.new) collection }
     ensures others { OthersSame new.now (S.files store.old) (S.files store.new) }
     ensures early { IfErr result (λ fault. IsEarly fault → S.files store.new ≡ S.files store.old) }
     ensures refused { IfErr result (CountingStops (Rose (S.faults store.old) (S.faults store.new)) (TextsStand texts.old (S.files store.old))) }

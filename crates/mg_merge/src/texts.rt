@@ -57,7 +57,8 @@ fn load_text<'a, S: Store>(
     requires within { IsWithin (fields_of head.now) }
     ensures fits { IfOk result (λ r. TextFits r (S.files store.new)) }
     ensures reader { IfOk result (λ r. IsTextReader r base.entry.now head.now) }
-    ensures stands { (code : TextCode) (collection : List ℕ) → StandsBy head.now code (S.files store.old) base.entry.now collection → IfOk result (λ r. TextStands r (S.files store.new) collection) }
+    ensures stands { (code : TextCode) (collection : List ℕ) → StandsBy head.now code (S.files store.old) base.entry.now collection →
+        IfOk result (λ r. TextStands r (S.files store.new) collection) }
     ensures files { S.files store.new ≡ S.files store.old }
     ensures later { S.faults store.old ≤ S.faults store.new }
     ensures refused { IfErr result (ReadStops (Rose (S.faults store.old) (S.faults store.new)) (IsSetBy head.now (S.files store.old) base.entry.now)) }
@@ -84,10 +85,12 @@ impl<'a, S: Store> Texts<'a, S> {
         requires few { joined_size (fields_of heads.now.0) (fields_of heads.now.1) < 2 ^ 32 }
         ensures fits { IfOk result (λ t. TextsFit t (S.files store.new)) }
         ensures of { IfOk result (λ t. AreTextsOf t first.entry.now second.entry.now) }
-        ensures stands { (a b : List ℕ) → AreSetsBy heads.now.0 heads.now.1 (S.files store.old) first.entry.now second.entry.now a b → IfOk result (λ t. TextsStand t (S.files store.new) (join a b)) }
+        ensures stands { (a b : List ℕ) → AreSetsBy heads.now.0 heads.now.1 (S.files store.old) first.entry.now second.entry.now a b →
+            IfOk result (λ t. TextsStand t (S.files store.new) (join a b)) }
         ensures files { S.files store.new ≡ S.files store.old }
         ensures later { S.faults store.old ≤ S.faults store.new }
-        ensures refused { IfErr result (ReadStops (Rose (S.faults store.old) (S.faults store.new)) (AreSomeSetsBy heads.now.0 heads.now.1 (S.files store.old) first.entry.now second.entry.now)) }
+        ensures refused { IfErr result (ReadStops (Rose (S.faults store.old) (S.faults store.new))
+            (AreSomeSetsBy heads.now.0 heads.now.1 (S.files store.old) first.entry.now second.entry.now)) }
     {
         let before = match load_text(alloc, store, first, &heads.0) {
             Ok(reader) => reader,
@@ -137,7 +140,8 @@ impl<'a, S: Store> Texts<'a, S> {
         requires within { number ≤ self.old.all }
         ensures fits { TextsFit self.new (S.files store.new) }
         ensures same { SameTexts self.old self.new }
-        ensures held { (collection : List ℕ) → TextsStand self.old (S.files store.old) collection → OnOk result (self.new.held ≡ closed_document number collection) }
+        ensures held { (collection : List ℕ) → TextsStand self.old (S.files store.old) collection →
+            OnOk result (self.new.held ≡ closed_document number collection) }
         ensures files { S.files store.new ≡ S.files store.old }
         ensures later { S.faults store.old ≤ S.faults store.new }
         ensures refused { IfErr result (ReadStops (Rose (S.faults store.old) (S.faults store.new)) (AreTexts self.old (S.files store.old))) }

@@ -11,7 +11,7 @@ ghost use Rattle.mg_make.specs.Plans.{IsPlan, IsPlanOf, IsRoomFor};
 ghost use Rattle.mg_make.specs.Putting.{HasPut, OthersSame};
 ghost use Rattle.mg_make.specs.Summaries.{summary_of};
 ghost use Rattle.mg_make.specs.Written.{SecondStops};
-ghost use Rattle.mg_merge.specs.Merging.{Left};
+ghost use Rattle.mg_make.specs.Outcomes.{Left};
 ghost use Rattle.mg_merge.specs.Stops.{ReadStops};
 ghost use Rattle.mg_merge.specs.Passes.{AreAllGiven, AreApart, ArePlanned};
 ghost use Rattle.mg_merge.specs.Texts.{SameTexts, TextsFit, TextsStand};
@@ -106,8 +106,10 @@ pub(crate) fn write_set<'a, S: Store>(
         OnOk result (StandsIn 2 (run_cap room.pool.limit) (S.files store.new) base.entry.now collection) }
     ensures summary { (collection : List ℕ) → TextsStand texts.old (S.files store.old) collection → IsPlanOf plan.entry.now collection →
         IfOk result (λ summary. summary ≡ summary_of room.pool.limit collection) }
-    ensures merge_a { ArePlanned plan.entry.now texts.old (S.files store.old) → OnOk result (file_at (S.files store.new) (full_name base.entry.now part.MergeA) ≡ Some []) }
-    ensures merge_b { ArePlanned plan.entry.now texts.old (S.files store.old) → OnOk result (file_at (S.files store.new) (full_name base.entry.now part.MergeB) ≡ Some []) }
+    ensures merge_a { ArePlanned plan.entry.now texts.old (S.files store.old) →
+        OnOk result (file_at (S.files store.new) (full_name base.entry.now part.MergeA) ≡ Some []) }
+    ensures merge_b { ArePlanned plan.entry.now texts.old (S.files store.old) →
+        OnOk result (file_at (S.files store.new) (full_name base.entry.now part.MergeB) ≡ Some []) }
     ensures left { (collection : List ℕ) → TextsStand texts.old (S.files store.old) collection → IsPlanOf plan.entry.now collection →
         Left base.entry.now (S.files store.old) (S.files store.new) collection }
     ensures others { OthersSame base.entry.now (S.files store.old) (S.files store.new) }

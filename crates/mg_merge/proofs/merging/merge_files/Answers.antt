@@ -9,7 +9,8 @@ use Rattle.mg_layout.specs.Stands.{StandsIn}
 use Rattle.mg_make.specs.Putting.{OthersSame}
 use Rattle.mg_make.specs.Summaries.{summary_of}
 use Rattle.mg_make.specs.declared.summary.Summary.{Summary}
-use Rattle.mg_merge.specs.Merging.{BothStand, Left, joined_size, most_bytes}
+use Rattle.mg_make.specs.Outcomes.{Left, most_bytes}
+use Rattle.mg_merge.specs.Merging.{BothStand, joined_size}
 use Rattle.mg_merge.specs.Stops.{AreHeads}
 use Rattle.mg_merge.specs.Texts.{TextsStand}
 use Rattle.mg_merge.proofs.MergeLaws.{apart_of, both_in, cap_of, cause_all, documents_all, done_all, early_at, one_size, pieces_all, refused_other, sets_by}

@@ -5,7 +5,7 @@ use Rattle.mg_defs.specs.Summaries.{run_cap}
 use Rattle.mg_layout.specs.Stands.{StandsIn}
 use Rattle.mg_make.specs.Putting.{OthersSame}
 use Rattle.mg_make.specs.Summaries.{summary_of}
-use Rattle.mg_merge.specs.Merging.{Left}
+use Rattle.mg_make.specs.Outcomes.{Left}
 use Rattle.mg_merge.specs.Texts.{TextsStand}
 use Rattle.mg_merge.proofs.MergeLaws.{counts_all, early_all, early_at, on_ok}
 use Rattle.mg_merge.proofs.PassLaws.{others_none, rose_behind}
