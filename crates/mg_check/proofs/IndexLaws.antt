@@ -1,51 +1,31 @@
 -- The index of a collection: how many documents have each term, its ranges, and where its parts begin and end.
-use Rattle.std.proofs.Common.{arith, ◌≡◌, ◌<◌, ◌≤◌, ◌+◌, ◌-◌, ◌^◌, ℕ, true, cond, List, [], ◌∷◌, length, take, get_or, refl, sym, ap, subst, ◌∙◌, inl, inr, Ok, Err}
-use Rattle.std.specs.Prelude.{IfErr, count_by, slice_index}
+use Rattle.std.proofs.Common.{arith, ◌≡◌, ◌<◌, ◌≤◌, ◌+◌, ◌-◌, ◌^◌, ℕ, List, [], length, take, get_or, refl, sym, ap, subst, ◌∙◌, Ok, Err}
+use Rattle.std.specs.Prelude.{IfErr, slice_index}
 use Rattle.std.specs.declared.option.Option.{Option}
 use Rattle.std.specs.declared.result.Result.{Result}
 use Rattle.std.specs.List.{flat_map, list_any}
-use Rattle.std.specs.Str.{bytes_eq}
-use Rattle.std.proofs.lemmas.Bool.{false≢true, or_cases}
 use Rattle.std.proofs.lemmas.List.{get_or-map, length-map, take_all}
-use Rattle.std.proofs.lemmas.List.Elements.{Contains-get_or}
-use Rattle.std.proofs.lemmas.List.Folds.{list_any-append}
-use Rattle.std.proofs.lemmas.List.Sums.{count_by-le-length, sum_by-cons}
+use Rattle.std.proofs.lemmas.List.Sums.{count_by-le-length}
 use Rattle.mg_dev.specs.declared.part.Part.TheVariants.{Post, Skip}
 use Rattle.mg_dev.specs.Files.{Files, bytes_at}
 use Rattle.mg_dev.specs.Names.{full_name}
-use Rattle.mg_defs.proofs.SortedLaws.{has-from, has-sorted}
 use Rattle.mg_defs.specs.CodedText.{as_bytes}
 use Rattle.mg_defs.specs.Lists.{entry_bits, inverted, lists_bits, lists_entries}
 use Rattle.mg_defs.specs.Split.{documents}
-use Rattle.mg_defs.specs.Terms.{all_terms, dictionary, docs, same_term, terms}
+use Rattle.mg_defs.specs.Terms.{dictionary, docs, same_term, terms}
+use Rattle.mg_laws.proofs.TermLaws.{lists_long, some_docs}
+use Rattle.mg_lex.proofs.CallerLemmas.{terms_long}
 use Rattle.mg_lex.specs.Terms.{terms_of}
 use Rattle.mg_lex.specs.Writing.{LexWriting, TookTerms}
 use Rattle.mg_text.specs.Reading.{SameText, TextReading}
 use Rattle.mg_check.specs.declared.lists.Places.{Places}
 use Rattle.mg_check.specs.Listing.{AreRooms, AreSizes, BeginsAt, CanCompare, HasCompared, HasRoomForAll, HasRooms, HoldsLists, IsIndexOf, IsRangeOf, LexiconStands, ListsAgree, ListsStand, Ranged, SameRooms, lists_of, post_upto, skip_upto}
 use Rattle.mg_check.proofs.DocumentLaws.{room_stays, stands_on}
-use Rattle.mg_check.proofs.ListedLaws.{lists_long, terms_long}
 
--- ---- each term is in some document
-
-count_some : (t : List ℕ) (ds : List (List ℕ)) → list_any (bytes_eq t) (flat_map terms ds) ≡ true → 1 ≤ count_by (λ doc. list_any (same_term t) (terms doc)) ds
-count_some t [] h = absurd (false≢true h)
-count_some t (doc ∷ ds) h =
-    let step = sum_by-cons (λ d. cond (list_any (same_term t) (terms d)) 1 0) doc ds in
-    elim (or_cases (list_any (bytes_eq t) (terms doc)) (list_any (bytes_eq t) (flat_map terms ds)) (sym (list_any-append (bytes_eq t) (terms doc) (flat_map terms ds)) ∙ h)) [
-      | inl here ↦ omega (arith, step, ap {B = ℕ} (λ b. cond b 1 0) here)
-      | inr there ↦ omega (arith, step, count_some t ds there)
-    ]
-
-some_docs : (collection : List ℕ) (n : ℕ) → n < length (dictionary collection) → 1 ≤ docs collection (get_or (dictionary collection) n [])
-some_docs collection n lt =
-    let t = get_or (dictionary collection) n [] in
-    count_some t (documents collection) (sym (has-sorted (all_terms collection) t) ∙ has-from (dictionary collection) t (Contains-get_or (dictionary collection) n [] lt))
+-- ---- sizes
 
 most_docs : (collection t : List ℕ) → docs collection t ≤ length (documents collection)
 most_docs collection t = count_by-le-length (λ doc. list_any (same_term t) (terms doc)) (documents collection)
-
--- ---- sizes
 
 docs_at : (r : TextReading) (files : Option Files) (ts : List (List ℕ)) (sizes collection : List ℕ) (n : ℕ) → IsIndexOf r files ts sizes collection → n < length sizes → slice_index sizes n ≡ docs collection (get_or (dictionary collection) n [])
 docs_at r files ts sizes collection n is lt =

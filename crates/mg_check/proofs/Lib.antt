@@ -1,4 +1,5 @@
 mod ReadLaws
+mod UnreadLaws
 mod UseLaws
 mod CodeLaws
 mod LoadLaws

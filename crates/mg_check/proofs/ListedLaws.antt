@@ -2,11 +2,10 @@
 use Rattle.std.proofs.Common.{arith, ◌≡◌, ◌<◌, ◌≤◌, ◌+◌, ◌/◌, ◌^◌, ℕ, List, [], ◌∷◌, ◌++◌, length, take, drop, get_or, refl, sym, ap, subst, ◌∙◌, Some, length-append, length-drop}
 use Rattle.std.specs.Prelude.{slice_get}
 use Rattle.std.specs.declared.option.Option.{Option}
-use Rattle.std.specs.List.{enumerate_from, flat_map}
+use Rattle.std.specs.List.{flat_map}
 use Rattle.std.proofs.Math.Seq.{take-add}
 use Rattle.std.proofs.lemmas.Grind.{flat_map-append}
-use Rattle.std.proofs.lemmas.List.{get_or-drop, get_or-map, length-map, take_more}
-use Rattle.std.proofs.lemmas.List.FromFn.{get_or-enumerate_from, length-enumerate_from}
+use Rattle.std.proofs.lemmas.List.{get_or-drop, take_more}
 use Rattle.std.proofs.lemmas.Option.{get_or_from_slice_get}
 use Rattle.mg_dev.specs.Files.{Files}
 use Rattle.mg_defs.proofs.ListLaws.{list_rises}
@@ -16,52 +15,26 @@ use Rattle.mg_defs.proofs.StandRanges.{lists-append}
 use Rattle.mg_defs.specs.declared.Posting.{Posting}
 use Rattle.mg_defs.specs.CodedText.{as_bytes}
 use Rattle.mg_defs.specs.Lexicon.{TermInfo, info_of}
-use Rattle.mg_defs.specs.Lists.{Rises, entries_of_list, entry_bits, first_entry, inverted, list_byte, lists_bits, lists_entries, postings}
+use Rattle.mg_defs.specs.Lists.{Rises, entries_of_list, entry_bits, first_entry, inverted, list_byte, lists_bits, lists_entries}
 use Rattle.mg_defs.specs.Split.{documents}
 use Rattle.mg_defs.specs.Terms.{dictionary}
+use Rattle.mg_laws.proofs.TermLaws.{list_of_term, lists_long}
 use Rattle.mg_laws.proofs.WholeBytes.{entries_sized, lists_are_whole, whole_long}
+use Rattle.mg_lex.proofs.CallerLemmas.{terms_more}
 use Rattle.mg_lex.specs.Terms.{Term, terms_of}
 use Rattle.mg_lex.specs.Writing.{LexWriting, TookTerms}
 use Rattle.mg_post.specs.Writing.{Listing, Took}
 use Rattle.mg_check.specs.declared.lists.Places.{Places}
 use Rattle.mg_check.specs.Listing.{ArePlacesOf, HasCompared, HasListed, IsRangeOf, Ranged, list_at, lists_of, room_at, skip_upto}
 
--- ---- terms in a row
-
-pub terms_long : (collection : List ℕ) → length (terms_of collection) ≡ length (dictionary collection)
-unfolding terms_of
-terms_long collection = length-map (enumerate_from 0 (dictionary collection)) (λ (t : ℕ × List ℕ). record { string = t.1; info = info_of collection t.0 t.1 }) ∙ length-enumerate_from 0 (dictionary collection)
-
-term_at : (collection : List ℕ) (n : ℕ) (d : Term) → n < length (dictionary collection) → get_or (terms_of collection) n d ≡ record { string = get_or (dictionary collection) n []; info = info_of collection n (get_or (dictionary collection) n []) }
-unfolding terms_of
-term_at collection n d lt =
-    let f : ℕ × List ℕ → Term = λ t. record { string = t.1; info = info_of collection t.0 t.1 } in
-    let none : ℕ × List ℕ = (0, []) in
-    let at : 0 + n ≡ n = omega arith in
-    get_or-map f (enumerate_from 0 (dictionary collection)) n none d (omega (arith, lt, length-enumerate_from 0 (dictionary collection)))
-    ∙ ap f (get_or-enumerate_from 0 (dictionary collection) n none lt)
-    ∙ ap (λ k. f (k, get_or (dictionary collection) n [])) at
-
-pub terms_more : (collection : List ℕ) (n : ℕ) → n < length (dictionary collection) →
-    take (n + 1) (terms_of collection) ≡ take n (terms_of collection) ++ record { string = get_or (dictionary collection) n []; info = info_of collection n (get_or (dictionary collection) n []) } ∷ []
-terms_more collection n lt =
-    let none : Term = record { string = []; info = record { docs = 0; post_at = 0; skip_at = 0 } } in
-    take_more (terms_of collection) n none (omega (arith, lt, terms_long collection)) ∙ ap (λ t. take n (terms_of collection) ++ t ∷ []) (term_at collection n none lt)
-
 -- ---- lists in a row
-
-pub lists_long : (collection : List ℕ) → length (inverted collection) ≡ length (dictionary collection)
-lists_long collection = length-map (dictionary collection) (postings collection)
-
-list_is : (collection : List ℕ) (n : ℕ) → n < length (dictionary collection) → get_or (inverted collection) n [] ≡ lists_of collection n
-list_is collection n lt = get_or-map (postings collection) (dictionary collection) n [] [] lt
 
 -- one list more behind those from one on
 pub lists_more : (collection : List ℕ) (first n : ℕ) → first + n < length (dictionary collection) →
     take (n + 1) (drop first (inverted collection)) ≡ take n (drop first (inverted collection)) ++ lists_of collection (first + n) ∷ []
 lists_more collection first n lt =
     take_more (drop first (inverted collection)) n [] (omega (arith, length-drop first (inverted collection), lists_long collection, lt))
-    ∙ ap (λ ps. take n (drop first (inverted collection)) ++ ps ∷ []) (get_or-drop first (inverted collection) n [] ∙ list_is collection (first + n) lt)
+    ∙ ap (λ ps. take n (drop first (inverted collection)) ++ ps ∷ []) (get_or-drop first (inverted collection) n [] ∙ list_of_term collection (first + n) lt)
 
 -- where a list begins, as bytes of the lists before a range and bits of those of the range
 list_behind : (all : ℕ) (before some : List (List Posting)) → length (as_bytes (lists_bits all before)) + length (lists_bits all some) / 8 ≡ length (lists_bits all (before ++ some)) / 8

@@ -52,8 +52,8 @@ ok-so P (Err refusal) so = tt
 -- ---- a document that was decoded
 
 -- the most bytes are enough for the next document
-pub room-for : (collection : List ℕ) (n bytes all most : ℕ) → bytes + length (get_or (documents collection) n []) ≤ all → most ≡ all - bytes → length (get_or (documents collection) (n + 1 - 1) []) ≤ most
-room-for collection n bytes all most short is =
+pub room-for : (collection : List ℕ) (n left most : ℕ) → length (get_or (documents collection) n []) ≤ left → most ≡ left → length (get_or (documents collection) (n + 1 - 1) []) ≤ most
+room-for collection n left most short is =
     let same : n + 1 - 1 ≡ n = omega arith in
     subst (λ (m : ℕ). length (get_or (documents collection) m []) ≤ most) (sym same) (omega (arith, short, is))
 

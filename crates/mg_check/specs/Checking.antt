@@ -20,9 +20,10 @@ use Rattle.mg_layout.specs.HeadAnswers.{fields_of}
 use Rattle.mg_layout.specs.Stands.{parts_at}
 use Rattle.mg_layout.specs.declared.head.Head.{Head}
 use Rattle.mg_text.specs.Places.{place_width}
-use Rattle.mg_text.specs.Reading.{IsTextReader, TextReading}
+use Rattle.mg_text.specs.Reading.{IsTextReader, TextReading, TextStands}
 use Rattle.mg_text.specs.Writing.{starts}
 use Rattle.mg_check.specs.Decoding.{AreCounts, Counted, IsUsed}
+use Rattle.mg_check.specs.Documents.{doc_at}
 use Rattle.mg_check.specs.declared.progress.Progress.{Progress}
 
 -- where a refusal says that a part is bad
@@ -37,6 +38,11 @@ OnBad (Err refusal) then = IfBad refusal then
 
 -- ---- the head and the codes
 
+-- The files are told, and this is the head of the set.
+pub record HasHead (files : Option Files) (base : List ℕ) (head : Head) : Type 0 where
+  pub told : IsSome files
+  pub is : defs.IsHead 1 2 (parts_at files base).head (fields_of head)
+
 -- The files are told, and their parts tell this head and the codes of this reader; Text and Places have the sizes that follow.
 pub record IsLoaded (files : Option Files) (base : List ℕ) (head : Head) (r : TextReading) : Type 0 where
   pub told : IsSome files
@@ -48,6 +54,11 @@ pub record IsLoaded (files : Option Files) (base : List ℕ) (head : Head) (r : 
   pub places : length (parts_at files base).places ≡ place_width head.version * (head.documents + 1)
 
 -- ---- documents so far
+
+-- The reader reads the text of this collection, whose document at a place, from 0, has at most so many bytes.
+pub record HasDoc (r : TextReading) (files : Option Files) (collection : List ℕ) (place most : ℕ) : Type 0 where
+  pub stands : TextStands r files collection
+  pub short : length (doc_at collection place) ≤ most
 
 -- where each of these documents begins
 abbrev pub docs_places : ℕ → TextCode → List (List ℕ) → List ℕ

@@ -96,6 +96,10 @@ pub record RunReading : Type 0 where
   pub part : Comparing
   pub pool : Pooled
 
+-- the bytes of a run in a store of its own
+abbrev pub run_bytes : Option Files → List ℕ
+run_bytes files = bytes_at files (full_name [] part.Run)
+
 -- the bytes of the run that a pool's entries make
 abbrev pub run_of_pool : Pooled → List ℕ
 run_of_pool pool = as_bytes (runs_bits (gathered pool.entries ∷ []))

@@ -4,4 +4,5 @@ pub mod Checking
 pub mod Counting
 pub mod Listing
 pub mod Rest
+pub mod Reads
 pub mod Found

@@ -16,6 +16,8 @@ use Rattle.mg_defs.specs.Split.{documents}
 use Rattle.mg_defs.specs.Stands.{post_part}
 use Rattle.mg_defs.specs.Terms.{dictionary, docs}
 use Rattle.mg_layout.specs.Contents.{StandAt}
+use Rattle.mg_layout.specs.Infos.{info_of}
+use Rattle.mg_layout.specs.declared.term_info.TermInfo.{TermInfo}
 use Rattle.mg_lex.specs.Terms.{Term, terms_of}
 use Rattle.mg_lex.specs.Writing.{LexWriting, TookTerms}
 use Rattle.mg_post.specs.Writing.{Listing, Took}
@@ -115,6 +117,10 @@ IsNotDevice Memory = Unit {0}
 IsNotDevice (Bad bad) = Unit {0}
 
 -- ---- what is written anew
+
+-- what is to stand of a term
+abbrev pub term_of : List ℕ → TermInfo → Term
+term_of t info = record { string = t; info = info_of info }
 
 -- so many postings more of the list that was begun were pushed
 pub record PushedMore (old new : Listing) (count : ℕ) : Type 0 where

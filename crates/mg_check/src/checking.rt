@@ -1,14 +1,15 @@
 //! A set whose head is known against the one collection that it can stand for.
 ghost use Rattle.std.specs.Prelude.{◌≡◌, ◌<◌, ◌^◌, ℕ, List, IfErr, IsSome, OnOk};
 ghost use Rattle.mg_dev.specs.PartCauses.{HasPartCause};
-ghost use Rattle.mg_defs.specs.Heads.{IsHead, IsWithin};
+ghost use Rattle.mg_defs.specs.Heads.{IsWithin};
 ghost use Rattle.mg_defs.specs.Means.{StandForNone};
 ghost use Rattle.mg_layout.specs.HeadAnswers.{fields_of};
 ghost use Rattle.mg_layout.specs.Stands.{parts_at};
 ghost use Rattle.mg_text.specs.Reading.{TextFits, TextStands};
-ghost use Rattle.mg_check.specs.Checking.{OnBad};
+ghost use Rattle.mg_check.specs.Checking.{HasHead, OnBad};
 ghost use Rattle.mg_check.specs.Found.{StandsWith};
 ghost use Rattle.mg_check.specs.Listing.{Refutes};
+ghost use Rattle.mg_check.specs.Reads.{reads_outside};
 ghost use Rattle.mg_check.specs.Rest.{HaveSizes, RestStands};
 
 use crate::counting::check_terms;
@@ -64,6 +65,7 @@ fn expect_sizes<S: Store>(store: &mut S, base: &str, head: &Head) -> Result<(), 
     ensures sizes { IsSome (S.files store.old) → OnOk result (HaveSizes (parts_at (S.files store.old) base.now) head.now) }
     ensures other { IsSome (S.files store.old) → IfErr result (Refutes (HaveSizes (parts_at (S.files store.old) base.now) head.now)) }
     ensures files { S.files store.new ≡ S.files store.old }
+    ensures unread { reads_outside (S.reads store.new) ≡ reads_outside (S.reads store.old) }
     ensures cause { HasPartCause (S.faults store.old) (S.faults store.new) result }
 {
     let post = FileRef {
@@ -96,9 +98,12 @@ fn check_rest<S: Store>(
     requires within { IsWithin (fields_of head.now) }
     requires fits { TextFits reader.old (S.files store.old) }
     requires documents { reader.old.documents ≡ head.now.documents }
-    ensures stand { (collection : List ℕ) → TextStands reader.old (S.files store.old) collection → OnOk result (RestStands (S.files store.old) base.now head.now collection) }
-    ensures other { (collection : List ℕ) → TextStands reader.old (S.files store.old) collection → IfErr result (Refutes (RestStands (S.files store.old) base.now head.now collection)) }
+    ensures stand { (collection : List ℕ) → TextStands reader.old (S.files store.old) collection →
+        OnOk result (RestStands (S.files store.old) base.now head.now collection) }
+    ensures other { (collection : List ℕ) → TextStands reader.old (S.files store.old) collection →
+        IfErr result (Refutes (RestStands (S.files store.old) base.now head.now collection)) }
     ensures files { S.files store.new ≡ S.files store.old }
+    ensures unread { reads_outside (S.reads store.new) ≡ reads_outside (S.reads store.old) }
     ensures cause { HasPartCause (S.faults store.old) (S.faults store.new) result }
 {
     let table = match TermTable::of(alloc, reader.model()) {
@@ -137,9 +142,11 @@ pub(crate) fn check_set<S: Store>(
     head: &Head,
 ) -> Result<(), PartErr>
     requires within { IsWithin (fields_of head.now) }
-    ensures stands { IsSome (S.files store.old) → IsHead 1 2 (parts_at (S.files store.old) base.now).head (fields_of head.now) → OnOk result (StandsWith (S.files store.old) base.now head.now.documents head.now.collection) }
-    ensures none { IsSome (S.files store.old) → IsHead 1 2 (parts_at (S.files store.old) base.now).head (fields_of head.now) → OnBad result (StandForNone (parts_at (S.files store.old) base.now)) }
+    ensures stands { HasHead (S.files store.old) base.now head.now →
+        OnOk result (StandsWith (S.files store.old) base.now head.now.documents head.now.collection) }
+    ensures none { HasHead (S.files store.old) base.now head.now → OnBad result (StandForNone (parts_at (S.files store.old) base.now)) }
     ensures files { S.files store.new ≡ S.files store.old }
+    ensures unread { reads_outside (S.reads store.new) ≡ reads_outside (S.reads store.old) }
     ensures cause { HasPartCause (S.faults store.old) (S.faults store.new) result }
 {
     let mut reader = match load_text(alloc, store, base, head) {

@@ -15,6 +15,7 @@ ghost use Rattle.std.specs.List.{AllByRecursion};
 ghost use Rattle.mg_defs.specs.Parse.{parse};
 ghost use Rattle.mg_check.specs.Decoding.{HasRoom, IsCodedAs, PutPairs, PutPiece, WhereCoded, WherePut, WhereUnknown};
 
+use crate::recent::Recent;
 use crate::uses::{Uses, count_use};
 use mg_dev::{PutErr, Store, SureStore};
 use mg_model::{Stream, TextModel, symbol_and_piece};
@@ -54,18 +55,20 @@ fn put_piece<S: Store>(
     stream: Stream,
     piece: &[u8],
     counts: &mut Vec<u64>,
+    recent: &mut Recent,
 ) -> Result<Option<()>, PutErr>
     requires took { (bits : Bits) × IsOnText writer.old (S.files store.old) [] bits }
     requires more { 0 < writer.old.left }
     requires turn { stream ≡ turn writer.old.left }
     requires keeps { IsStreamCode (code_of stream model.now) }
     requires room { HasRoom (code_of stream model.now) counts.old.items 1 }
-    ensures put { WherePut result (PutPiece (code_of stream model.now) piece.now writer.old writer.new (S.files store.old) (S.files store.new) counts.old.items counts.new.items) }
+    ensures put { WherePut result
+        (PutPiece (code_of stream model.now) piece.now writer.old writer.new (S.files store.old) (S.files store.new) counts.old.items counts.new.items) }
     ensures unknown { WhereUnknown result (Contains (code_of stream model.now).pieces piece.now → ⊥) }
 {
     // Laws of symbols.
     symbol_and_piece();
-    let symbol = match model.symbol(stream, piece) {
+    let symbol = match recent.symbol(model, stream, piece) {
         Some(symbol) => symbol,
         None => return Ok(None),
     };
@@ -90,7 +93,8 @@ fn put_pair<S: Store>(
     requires model { IsModel model.now }
     requires words { HasRoom model.now.words uses.old.words.items 1 }
     requires others { HasRoom model.now.others uses.old.others.items 1 }
-    ensures put { WherePut result (PutPairs model.now (pair_of pair.entry ∷ []) writer.old writer.new (S.files store.old) (S.files store.new) uses.old uses.new) }
+    ensures put { WherePut result
+        (PutPairs model.now (pair_of pair.entry ∷ []) writer.old writer.new (S.files store.old) (S.files store.new) uses.old uses.new) }
     ensures unknown { WhereUnknown result (HasCodewords model.now (pair_of pair.entry) → ⊥) }
 {
     match put_piece(
@@ -100,6 +104,7 @@ fn put_pair<S: Store>(
         Stream::Words,
         pair.word,
         &mut uses.words,
+        &mut uses.recent_words,
     ) {
         Ok(Some(())) => {}
         Ok(None) => return Ok(None),
@@ -112,6 +117,7 @@ fn put_pair<S: Store>(
         Stream::Others,
         pair.other,
         &mut uses.others,
+        &mut uses.recent_others,
     )
 }
 
@@ -161,7 +167,8 @@ fn code_into<S: Store>(
     requires model { IsModel model.now }
     requires words { HasRoom model.now.words uses.old.words.items (length doc.now) }
     requires others { HasRoom model.now.others uses.old.others.items (length doc.now) }
-    ensures coded { WherePut result (IsSome (S.files store.old) → IsCodedAs model.now doc.now (bytes_at (S.files store.new) (full_name [] part.Text)) uses.old uses.new) }
+    ensures coded { WherePut result (IsSome (S.files store.old) →
+        IsCodedAs model.now doc.now (bytes_at (S.files store.new) (full_name [] part.Text)) uses.old uses.new) }
     ensures unknown { WhereUnknown result (IsCodable model.now doc.now → ⊥) }
 {
     let count = count_pairs(doc);
@@ -189,7 +196,8 @@ pub(crate) fn code_doc(
     requires model { IsModel model.now }
     requires words { HasRoom model.now.words uses.old.words.items (length doc.now) }
     requires others { HasRoom model.now.others uses.old.others.items (length doc.now) }
-    ensures coded { WhereCoded result (λ coded. IsCodedAs model.now doc.now (bytes_at (⟦<SureStore as Store>⟧.files coded.store) (full_name [] part.Text)) uses.old uses.new) }
+    ensures coded { WhereCoded result
+        (λ coded. IsCodedAs model.now doc.now (bytes_at (⟦<SureStore as Store>⟧.files coded.store) (full_name [] part.Text)) uses.old uses.new) }
     ensures unknown { WhereUnknown result (IsCodable model.now doc.now → ⊥) }
 {
     let mut store = SureStore::new(alloc);

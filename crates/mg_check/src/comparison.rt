@@ -1,9 +1,10 @@
 //! A part that is compared with the bytes that it is to have, as they come.
-ghost use Rattle.std.specs.Prelude.{◌≡◌, ◌≢◌, ◌+◌, ◌≤◌, ◌^◌, ◌++◌, ℕ, List, [], length, Err, IsSome, OnOk};
+ghost use Rattle.std.specs.Prelude.{◌≡◌, ◌≢◌, ◌+◌, ◌≤◌, ◌^◌, ◌++◌, ℕ, List, [], length, true, Err, IsSome, OnOk};
 ghost use Rattle.mg_dev.specs.Files.{bytes_at};
 ghost use Rattle.mg_dev.specs.Names.{full_name};
 ghost use Rattle.mg_dev.specs.PartCauses.{HasPartCause};
 ghost use Rattle.mg_check.specs.Counting.{HasBegun, WhereBad};
+ghost use Rattle.mg_check.specs.Reads.{is_of_set, reads_outside};
 
 use mg_dev::{FileRef, Part, PartErr, Store};
 use mg_layout::{expect_bytes, expect_size};
@@ -18,17 +19,22 @@ pub(crate) struct Comparison<'a> {
 }
 
 impl<'a> Model for Comparison<'a> {
+    ghost use Rattle.std.specs.Prelude.{◌≡◌, true};
     ghost use Rattle.mg_dev.specs.Names.{full_name};
     ghost use Rattle.mg_check.specs.Counting.{Comparing};
+    ghost use Rattle.mg_check.specs.Reads.{is_of_set};
 
     ghost Value = { Comparing };
 
     ghost view = { λ c. record { name = full_name c.base.now c.part; at = c.at } };
+
+    ghost invariant = { λ c. is_of_set c.part ≡ true };
 }
 
 impl<'a> Comparison<'a> {
     /// No byte of a part was compared.
     pub(crate) fn new(base: &'a str, part: Part) -> Self
+        requires { is_of_set part ≡ true }
         ensures name { result.name ≡ full_name base.entry.now part }
         ensures at { result.at ≡ 0 }
     {
@@ -38,12 +44,15 @@ impl<'a> Comparison<'a> {
     /// Compares the next bytes of the part with these.
     pub(crate) fn expect<S: Store>(&mut self, store: &mut S, wanted: &[u8]) -> Result<(), PartErr>
         requires place { self.old.at + length wanted.now ≤ 2 ^ 63 }
-        ensures begun { OnOk result ((done : List ℕ) → HasBegun self.old (S.files store.old) done → HasBegun self.new (S.files store.new) (done ++ wanted.now)) }
-        ensures bad { IsSome (S.files store.old) → WhereBad ((done rest : List ℕ) → HasBegun self.old (S.files store.old) done → bytes_at (S.files store.old) self.old.name ≢ done ++ (wanted.now ++ rest)) result }
+        ensures begun { OnOk result ((done : List ℕ) → HasBegun self.old (S.files store.old) done →
+            HasBegun self.new (S.files store.new) (done ++ wanted.now)) }
+        ensures bad { IsSome (S.files store.old) → WhereBad ((done rest : List ℕ) → HasBegun self.old (S.files store.old) done →
+            bytes_at (S.files store.old) self.old.name ≢ done ++ (wanted.now ++ rest)) result }
         ensures at { OnOk result (self.new.at ≡ self.old.at + length wanted.now) }
         ensures name { self.new.name ≡ self.old.name }
         ensures memory { result ≢ Err PartErr.Memory }
         ensures files { S.files store.new ≡ S.files store.old }
+        ensures unread { reads_outside (S.reads store.new) ≡ reads_outside (S.reads store.old) }
         ensures cause { HasPartCause (S.faults store.old) (S.faults store.new) result }
     {
         let file = FileRef {
@@ -60,10 +69,13 @@ impl<'a> Comparison<'a> {
 
     /// Refuses a part that has more bytes than were compared.
     pub(crate) fn finish<S: Store>(&self, store: &mut S) -> Result<(), PartErr>
-        ensures done { IsSome (S.files store.old) → OnOk result ((done : List ℕ) → HasBegun self.now (S.files store.old) done → bytes_at (S.files store.old) self.now.name ≡ done) }
-        ensures bad { IsSome (S.files store.old) → WhereBad ((done : List ℕ) → HasBegun self.now (S.files store.old) done → bytes_at (S.files store.old) self.now.name ≢ done) result }
+        ensures done { IsSome (S.files store.old) →
+            OnOk result ((done : List ℕ) → HasBegun self.now (S.files store.old) done → bytes_at (S.files store.old) self.now.name ≡ done) }
+        ensures bad { IsSome (S.files store.old) →
+            WhereBad ((done : List ℕ) → HasBegun self.now (S.files store.old) done → bytes_at (S.files store.old) self.now.name ≢ done) result }
         ensures memory { result ≢ Err PartErr.Memory }
         ensures files { S.files store.new ≡ S.files store.old }
+        ensures unread { reads_outside (S.reads store.new) ≡ reads_outside (S.reads store.old) }
         ensures cause { HasPartCause (S.faults store.old) (S.faults store.new) result }
     {
         let file = FileRef {

@@ -11,6 +11,7 @@ ghost use Rattle.mg_model.specs.Terms.{terms_and_numbers};
 ghost use Rattle.mg_text.specs.Reading.{SameText, TextFits, TextStands};
 ghost use Rattle.mg_check.specs.Counting.{AreOwn, SameParts, TalliedText, TermsStand, WhereBad};
 ghost use Rattle.mg_check.specs.Listing.{Refutes};
+ghost use Rattle.mg_check.specs.Reads.{reads_outside};
 
 use crate::doc_terms::DocTerms;
 use crate::held::Held;
@@ -63,8 +64,10 @@ fn count_document<S: Store>(
     ensures most { held.new.most ≡ held.old.most }
     ensures tallied { OnOk result (TalliedText tally.new (S.files store.new) table.now.terms (before + 1) reader.old) }
     ensures parts { SameParts tally.old tally.new }
-    ensures other { (collection : List ℕ) → TextStands reader.old (S.files store.old) collection → WhereBad (AreOwn tally.old (S.files store.old) collection → ⊥) result }
+    ensures other { (collection : List ℕ) → TextStands reader.old (S.files store.old) collection →
+        WhereBad (AreOwn tally.old (S.files store.old) collection → ⊥) result }
     ensures files { S.files store.new ≡ S.files store.old }
+    ensures unread { reads_outside (S.reads store.new) ≡ reads_outside (S.reads store.old) }
     ensures cause { HasPartCause (S.faults store.old) (S.faults store.new) result }
 {
     let number = before + 1;
@@ -104,8 +107,10 @@ fn count_documents<S: Store>(
     ensures same { SameText reader.old reader.new }
     ensures tallied { OnOk result (TalliedText tally.new (S.files store.new) table.now.terms documents reader.old) }
     ensures parts { SameParts tally.old tally.new }
-    ensures other { (collection : List ℕ) → TextStands reader.old (S.files store.old) collection → WhereBad (AreOwn tally.old (S.files store.old) collection → ⊥) result }
+    ensures other { (collection : List ℕ) → TextStands reader.old (S.files store.old) collection →
+        WhereBad (AreOwn tally.old (S.files store.old) collection → ⊥) result }
     ensures files { S.files store.new ≡ S.files store.old }
+    ensures unread { reads_outside (S.reads store.new) ≡ reads_outside (S.reads store.old) }
     ensures cause { HasPartCause (S.faults store.old) (S.faults store.new) result }
 {
     for before in 0..documents {
@@ -135,11 +140,16 @@ pub(crate) fn check_terms<S: Store>(
     requires most { cap ≤ 89478485 }
     ensures fits { TextFits reader.new (S.files store.new) }
     ensures same { SameText reader.old reader.new }
-    ensures stand { (collection : List ℕ) → TextStands reader.old (S.files store.old) collection → OnOk result (TermsStand base.entry.now (S.files store.old) cap collection) }
-    ensures docs { (collection : List ℕ) → TextStands reader.old (S.files store.old) collection → IfOk result (λ counts. counts.docs.items ≡ map (docs collection) (dictionary collection)) }
-    ensures occurrences { (collection : List ℕ) → TextStands reader.old (S.files store.old) collection → IfOk result (λ counts. counts.occurrences ≡ length (occurrences collection)) }
-    ensures other { (collection : List ℕ) → TextStands reader.old (S.files store.old) collection → IfErr result (Refutes (TermsStand base.entry.now (S.files store.old) cap collection)) }
+    ensures stand { (collection : List ℕ) → TextStands reader.old (S.files store.old) collection →
+        OnOk result (TermsStand base.entry.now (S.files store.old) cap collection) }
+    ensures docs { (collection : List ℕ) → TextStands reader.old (S.files store.old) collection →
+        IfOk result (λ counts. counts.docs.items ≡ map (docs collection) (dictionary collection)) }
+    ensures occurrences { (collection : List ℕ) → TextStands reader.old (S.files store.old) collection →
+        IfOk result (λ counts. counts.occurrences ≡ length (occurrences collection)) }
+    ensures other { (collection : List ℕ) → TextStands reader.old (S.files store.old) collection →
+        IfErr result (Refutes (TermsStand base.entry.now (S.files store.old) cap collection)) }
     ensures files { S.files store.new ≡ S.files store.old }
+    ensures unread { reads_outside (S.reads store.new) ≡ reads_outside (S.reads store.old) }
     ensures cause { HasPartCause (S.faults store.old) (S.faults store.new) result }
 {
     let mut tally = match Tally::new(alloc, base, table.count(), cap) {
@@ -147,7 +157,10 @@ pub(crate) fn check_terms<S: Store>(
         Err(_) => return Err(PartErr::Memory),
     };
     let mut held = Held::new(alloc, (1 << 32) - 1);
-    let mut terms = DocTerms::new(alloc);
+    let mut terms = match DocTerms::new(alloc) {
+        Ok(terms) => terms,
+        Err(AllocError) => return Err(PartErr::Memory),
+    };
     match count_documents(
         store, reader, table, documents, &mut held, &mut terms, &mut tally,
     ) {

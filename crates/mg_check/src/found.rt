@@ -7,6 +7,7 @@ ghost use Rattle.mg_dev.specs.declared.fault.Fault.TheVariants as fault;
 ghost use Rattle.mg_dev.specs.declared.part.Part.TheVariants as part;
 ghost use Rattle.mg_layout.specs.Stands.{Stands};
 ghost use Rattle.mg_check.specs.Found.{CheckStops, StandsWith, TellsOutside};
+ghost use Rattle.mg_check.specs.Reads.{ReadsSet, reads_outside};
 
 use crate::checking::check_set;
 use mg_dev::{Fault, Store};
@@ -42,9 +43,12 @@ pub fn check<S: Store>(alloc: Global, store: &mut S, base: &str) -> Result<Found
         (result ≡ Err fault.NotBuilt) ⊎ (result ≡ Err fault.StoreFault) ⊎ (result ≡ Err fault.Memory) }
     ensures early { IsSome (S.files store.old) → bytes_at (S.files store.old) (full_name base.now part.Head) ≡ [] → result ≢ Err fault.Memory }
     // Where the files stand and the store does not fail, the answer is yes, or memory is wanting.
-    ensures complete { (collection : List ℕ) → Stands (S.files store.old) base.now collection → ¬ Rose (S.faults store.old) (S.faults store.new) → IfErr result (λ refusal. refusal ≡ fault.Memory) }
+    ensures complete { (collection : List ℕ) → Stands (S.files store.old) base.now collection → ¬ Rose (S.faults store.old) (S.faults store.new) →
+        IfErr result (λ refusal. refusal ≡ fault.Memory) }
     // No file changes.
     ensures files { S.files store.new ≡ S.files store.old }
+    // No part is read but those of a set: not those that a merge of runs works with, and not the plain text.
+    ensures unread { ReadsSet (S.reads store.old) (S.reads store.new) }
     ensures later { S.faults store.old ≤ S.faults store.new }
 {
     check_files(alloc, store, base)
@@ -56,6 +60,7 @@ fn check_files<S: Store>(alloc: Global, store: &mut S, base: &str) -> Result<Fou
     ensures cause { IfErr result (CheckStops (Rose (S.faults store.old) (S.faults store.new)) (S.files store.old) base.now) }
     ensures early { IsSome (S.files store.old) → bytes_at (S.files store.old) (full_name base.now part.Head) ≡ [] → result ≢ Err fault.Memory }
     ensures files { S.files store.new ≡ S.files store.old }
+    ensures unread { reads_outside (S.reads store.new) ≡ reads_outside (S.reads store.old) }
     ensures later { S.faults store.old ≤ S.faults store.new }
 {
     let loaded = match Head::load(store, base) {

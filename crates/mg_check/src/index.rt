@@ -9,6 +9,7 @@ ghost use Rattle.mg_defs.specs.Terms.{dictionary};
 ghost use Rattle.mg_model.specs.Terms.{terms_and_numbers};
 ghost use Rattle.mg_text.specs.Reading.{SameText, TextFits};
 ghost use Rattle.mg_check.specs.Listing.{AreRooms, AreSizes, CanCompare, HasCompared, IndexStands, IsIndexOf, IsLaidOut, IsRangeOf, ListsAgree, ListsStand, Refutes};
+ghost use Rattle.mg_check.specs.Reads.{reads_outside};
 
 use crate::doc_terms::DocTerms;
 use crate::held::Held;
@@ -68,6 +69,7 @@ fn read_range<S: Store>(
     ensures never_bad { (collection : List ℕ) → IsIndexOf reader.old (S.files store.old) table.now.terms docs.now collection →
         IfErr result (λ refusal. IsNotBad refusal) }
     ensures files { S.files store.new ≡ S.files store.old }
+    ensures unread { reads_outside (S.reads store.new) ≡ reads_outside (S.reads store.old) }
     ensures cause { HasPartCause (S.faults store.old) (S.faults store.new) result }
 {
     let end = range_end(docs, first);
@@ -76,7 +78,10 @@ fn read_range<S: Store>(
         Err(AllocError) => return Err(PartErr::Memory),
     };
     let mut held = Held::new(alloc, MOST_BYTES);
-    let mut terms = DocTerms::new(alloc);
+    let mut terms = match DocTerms::new(alloc) {
+        Ok(terms) => terms,
+        Err(AllocError) => return Err(PartErr::Memory),
+    };
     match read_postings(
         store, reader, table, documents, &mut held, &mut terms, &mut lists,
     ) {
@@ -117,6 +122,7 @@ fn check_ranges<S: Store>(
         compared.old.places compared.old.lexicon.writer (⟦<SureStore as Store>⟧.files compared.old.lexicon.store) →
         IfErr result (Refutes (ListsStand (S.files store.old) base.now collection)) }
     ensures files { S.files store.new ≡ S.files store.old }
+    ensures unread { reads_outside (S.reads store.new) ≡ reads_outside (S.reads store.old) }
     ensures cause { HasPartCause (S.faults store.old) (S.faults store.new) result }
 {
     let terms = table.count();
@@ -144,6 +150,7 @@ fn expect_ends<S: Store>(store: &mut S, base: &str, ends: Places) -> Result<(), 
         ListsAgree (S.files store.old) base.now collection (length (dictionary collection)) ends →
         IfErr result (Refutes (ListsStand (S.files store.old) base.now collection)) }
     ensures files { S.files store.new ≡ S.files store.old }
+    ensures unread { reads_outside (S.reads store.new) ≡ reads_outside (S.reads store.old) }
     ensures cause { HasPartCause (S.faults store.old) (S.faults store.new) result }
 {
     let lists = FileRef {
@@ -185,6 +192,7 @@ pub(crate) fn check_index<S: Store>(
     ensures other { (collection : List ℕ) → IsIndexOf reader.old (S.files store.old) table.now.terms docs.now collection →
         IfErr result (Refutes (IndexStands (S.files store.old) base.now collection)) }
     ensures files { S.files store.new ≡ S.files store.old }
+    ensures unread { reads_outside (S.reads store.new) ≡ reads_outside (S.reads store.old) }
     ensures cause { HasPartCause (S.faults store.old) (S.faults store.new) result }
 {
     if documents > MOST_DOCUMENTS || !are_sizes(docs, table.count(), documents) {

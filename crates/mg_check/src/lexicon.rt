@@ -5,10 +5,10 @@ ghost use Rattle.std.specs.List.Sorted.{IsStrictlySortedBy};
 ghost use Rattle.std.specs.Ordering.{nat_cmp};
 ghost use Rattle.mg_dev.specs.PartCauses.{HasPartCause};
 ghost use Rattle.mg_defs.specs.Terms.{dictionary};
-ghost use Rattle.mg_layout.specs.Infos.{info_of};
 ghost use Rattle.mg_lex.specs.Terms.{Term, terms_of};
 ghost use Rattle.mg_lex.specs.Writing.{TookTerms};
-ghost use Rattle.mg_check.specs.Listing.{CanPush, LexiconStands, Refutes};
+ghost use Rattle.mg_check.specs.Listing.{CanPush, LexiconStands, Refutes, term_of};
+ghost use Rattle.mg_check.specs.Reads.{reads_outside};
 
 use crate::wanted::{expect_whole, wanted};
 use mg_dev::{FileRef, Part, PartErr, Store, SureStore};
@@ -45,8 +45,9 @@ impl<'a> Lexicon<'a> {
         requires few { length table.now.terms ≤ 2 ^ 22 }
         requires rising { IsStrictlySortedBy (slice_cmp nat_cmp) table.now.terms }
         ensures can { OnOk result (CanPush table.now.terms (info.now.number + 1) self.new.writer (⟦<SureStore as Store>⟧.files self.new.store)) }
-        ensures took { (ts : List Term) (t : List ℕ) → slice_get table.now.terms info.now.number ≡ Some t → TookTerms self.old.writer (⟦<SureStore as Store>⟧.files self.old.store) ts →
-            OnOk result (TookTerms self.new.writer (⟦<SureStore as Store>⟧.files self.new.store) (ts ++ record { string = t; info = info_of info.now } ∷ [])) }
+        ensures took { (ts : List Term) (t : List ℕ) → slice_get table.now.terms info.now.number ≡ Some t →
+            TookTerms self.old.writer (⟦<SureStore as Store>⟧.files self.old.store) ts →
+            OnOk result (TookTerms self.new.writer (⟦<SureStore as Store>⟧.files self.new.store) (ts ++ term_of t info.now ∷ [])) }
         ensures base { self.new.writer.base ≡ self.old.writer.base }
     {
         match self
@@ -62,11 +63,14 @@ impl<'a> Lexicon<'a> {
     pub(crate) fn check<S: Store>(&mut self, store: &mut S, base: &str) -> Result<(), PartErr>
         requires can { (terms : List (List ℕ)) × (number : ℕ) × CanPush terms number self.old.writer (⟦<SureStore as Store>⟧.files self.old.store) }
         requires base { self.old.writer.base ≡ codes "new" }
-        ensures stand { (collection : List ℕ) → IsSome (S.files store.old) → TookTerms self.old.writer (⟦<SureStore as Store>⟧.files self.old.store) (terms_of collection) →
+        ensures stand { (collection : List ℕ) → IsSome (S.files store.old) →
+            TookTerms self.old.writer (⟦<SureStore as Store>⟧.files self.old.store) (terms_of collection) →
             OnOk result (LexiconStands (S.files store.old) base.now collection) }
-        ensures other { (collection : List ℕ) → IsSome (S.files store.old) → TookTerms self.old.writer (⟦<SureStore as Store>⟧.files self.old.store) (terms_of collection) →
+        ensures other { (collection : List ℕ) → IsSome (S.files store.old) →
+            TookTerms self.old.writer (⟦<SureStore as Store>⟧.files self.old.store) (terms_of collection) →
             IfErr result (Refutes (LexiconStands (S.files store.old) base.now collection)) }
         ensures files { S.files store.new ≡ S.files store.old }
+        ensures unread { reads_outside (S.reads store.new) ≡ reads_outside (S.reads store.old) }
         ensures cause { HasPartCause (S.faults store.old) (S.faults store.new) result }
     {
         // By this law the entries of a collection's terms are its lexicon.

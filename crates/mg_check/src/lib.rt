@@ -21,6 +21,7 @@ mod progress;
 mod ranges;
 mod read_doc;
 mod read_text;
+mod recent;
 mod run_part;
 mod tally;
 mod uses;

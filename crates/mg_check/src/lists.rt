@@ -15,6 +15,7 @@ ghost use Rattle.mg_defs.specs.Lists.{Rises, lists_bits, lists_entries};
 ghost use Rattle.mg_post.specs.Writing.{Pushed, SameFiles, Took};
 ghost use Rattle.mg_layout.specs.Infos.{info_of};
 ghost use Rattle.mg_check.specs.Listing.{AreBehind, ArePlaces, AreRooms, CanCompare, CanList, CanPush, HasCompared, HasListed, IsLaidOut, IsNotDevice, IsRangeOf, ListsFollow, ListsStand, PushedMore, Refutes};
+ghost use Rattle.mg_check.specs.Reads.{reads_outside};
 
 use crate::lexicon::Lexicon;
 use crate::postings::RangeLists;
@@ -101,7 +102,8 @@ impl<'a> NewLists<'a> {
         requires all { self.old.writer.all ≡ all }
         requires more { self.old.writer.pushed < self.old.writer.docs }
         requires total { self.old.writer.total < 2 ^ 32 }
-        ensures took { OnOk result ((done : List (List Posting)) (ps : List Posting) → Took self.old.writer (⟦<SureStore as Store>⟧.files self.old.store) done ps →
+        ensures took { OnOk result ((done : List (List Posting)) (ps : List Posting) →
+            Took self.old.writer (⟦<SureStore as Store>⟧.files self.old.store) done ps →
             Took self.new.writer (⟦<SureStore as Store>⟧.files self.new.store) done (ps ++ posting ∷ [])) }
         ensures pushed { OnOk result (Pushed self.old.writer self.new.writer posting.doc) }
         ensures within { OnOk result (posting.doc ≤ all) }
@@ -297,6 +299,7 @@ impl<'a> NewLists<'a> {
             IfOk result (λ after. AreBehind self.old.writer.all done before after) }
         ensures places { IfOk result (λ after. ArePlaces after) }
         ensures files { S.files store.new ≡ S.files store.old }
+        ensures unread { reads_outside (S.reads store.new) ≡ reads_outside (S.reads store.old) }
         ensures cause { HasPartCause (S.faults store.old) (S.faults store.new) result }
     {
         match self.writer.finish(&mut self.store) {
@@ -359,6 +362,7 @@ pub(crate) fn check_lists<S: Store>(
         compared.old.places compared.old.lexicon.writer (⟦<SureStore as Store>⟧.files compared.old.lexicon.store) →
         IfErr result (Refutes (ListsStand (S.files store.old) base.now collection)) }
     ensures files { S.files store.new ≡ S.files store.old }
+    ensures unread { reads_outside (S.reads store.new) ≡ reads_outside (S.reads store.old) }
     ensures cause { HasPartCause (S.faults store.old) (S.faults store.new) result }
 {
     let before = compared.places;

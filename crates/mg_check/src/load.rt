@@ -1,12 +1,13 @@
 //! The codes and the text of a set whose head is known.
-ghost use Rattle.std.specs.Prelude.{◌≡◌, IsSome, IfOk};
+ghost use Rattle.std.specs.Prelude.{◌≡◌, IfOk};
 ghost use Rattle.mg_dev.specs.PartCauses.{HasPartCause};
-ghost use Rattle.mg_defs.specs.Heads.{IsHead, IsWithin};
+ghost use Rattle.mg_defs.specs.Heads.{IsWithin};
 ghost use Rattle.mg_defs.specs.Means.{IsModel, StandForNone};
 ghost use Rattle.mg_layout.specs.HeadAnswers.{fields_of};
 ghost use Rattle.mg_layout.specs.Stands.{parts_at};
 ghost use Rattle.mg_text.specs.Reading.{IsTextReader, TextFits};
-ghost use Rattle.mg_check.specs.Checking.{IsLoaded, OnBad};
+ghost use Rattle.mg_check.specs.Checking.{HasHead, IsLoaded, OnBad};
+ghost use Rattle.mg_check.specs.Reads.{reads_outside};
 
 use mg_dev::{PartErr, Store};
 use mg_layout::Head;
@@ -33,9 +34,10 @@ pub(crate) fn load_text<'a, S: Store>(
     ensures fits { IfOk result (λ r. TextFits r (S.files store.new)) }
     ensures reader { IfOk result (λ r. IsTextReader r base.entry.now head.now) }
     ensures model { IfOk result (λ r. IsModel r.code) }
-    ensures told { IsSome (S.files store.old) → IsHead 1 2 (parts_at (S.files store.old) base.entry.now).head (fields_of head.now) → IfOk result (λ r. IsLoaded (S.files store.old) base.entry.now head.now r) }
-    ensures none { IsSome (S.files store.old) → IsHead 1 2 (parts_at (S.files store.old) base.entry.now).head (fields_of head.now) → OnBad result (StandForNone (parts_at (S.files store.old) base.entry.now)) }
+    ensures told { HasHead (S.files store.old) base.entry.now head.now → IfOk result (λ r. IsLoaded (S.files store.old) base.entry.now head.now r) }
+    ensures none { HasHead (S.files store.old) base.entry.now head.now → OnBad result (StandForNone (parts_at (S.files store.old) base.entry.now)) }
     ensures files { S.files store.new ≡ S.files store.old }
+    ensures unread { reads_outside (S.reads store.new) ≡ reads_outside (S.reads store.old) }
     ensures cause { HasPartCause (S.faults store.old) (S.faults store.new) result }
 {
     let reader = match TextReader::load(alloc, store, base, head) {

@@ -10,6 +10,7 @@ ghost use Rattle.mg_layout.specs.HeadAnswers.{fields_of};
 ghost use Rattle.mg_layout.specs.Stands.{parts_at};
 ghost use Rattle.mg_text.specs.Reading.{SameText, TextFits};
 ghost use Rattle.mg_check.specs.Checking.{EndNumbers, FoundDocs, FoundText, IsAtEnd, IsInRange, IsLoaded, OnBad};
+ghost use Rattle.mg_check.specs.Reads.{reads_outside};
 
 use crate::held::Held;
 use crate::next_doc::{expect_place, next_doc};
@@ -45,6 +46,7 @@ fn read_docs<S: Store>(
     ensures found { IsSome (S.files store.old) → IfOk result (λ p. FoundDocs (parts_at (S.files store.old) base.now) head.now.version reader.old.code p) }
     ensures none { IsLoaded (S.files store.old) base.now head.now reader.old → OnBad result (StandForNone (parts_at (S.files store.old) base.now)) }
     ensures files { S.files store.new ≡ S.files store.old }
+    ensures unread { reads_outside (S.reads store.new) ≡ reads_outside (S.reads store.old) }
     ensures cause { HasPartCause (S.faults store.old) (S.faults store.new) result }
 {
     let mut held = Held::new(alloc, head.collection);
@@ -117,6 +119,7 @@ fn expect_end<S: Store>(
     ensures ends { IsSome (S.files store.old) → OnOk result (IsAtEnd (parts_at (S.files store.old) base.now) head.now model.now progress.now) }
     ensures other { IsSome (S.files store.old) → OnBad result (IsAtEnd (parts_at (S.files store.old) base.now) head.now model.now progress.now → ⊥) }
     ensures files { S.files store.new ≡ S.files store.old }
+    ensures unread { reads_outside (S.reads store.new) ≡ reads_outside (S.reads store.old) }
     ensures cause { HasPartCause (S.faults store.old) (S.faults store.new) result }
 {
     match expect_numbers(head, progress) {
@@ -160,9 +163,11 @@ pub(crate) fn read_text<S: Store>(
     requires model { IsModel reader.old.code }
     ensures fits { TextFits reader.new (S.files store.new) }
     ensures same { SameText reader.old reader.new }
-    ensures found { IsLoaded (S.files store.old) base.now head.now reader.old → OnOk result (FoundText (parts_at (S.files store.old) base.now) (fields_of head.now) reader.old.code) }
+    ensures found { IsLoaded (S.files store.old) base.now head.now reader.old →
+        OnOk result (FoundText (parts_at (S.files store.old) base.now) (fields_of head.now) reader.old.code) }
     ensures none { IsLoaded (S.files store.old) base.now head.now reader.old → OnBad result (StandForNone (parts_at (S.files store.old) base.now)) }
     ensures files { S.files store.new ≡ S.files store.old }
+    ensures unread { reads_outside (S.reads store.new) ≡ reads_outside (S.reads store.old) }
     ensures cause { HasPartCause (S.faults store.old) (S.faults store.new) result }
 {
     let progress = match read_docs(alloc, store, base, head, reader) {

@@ -9,7 +9,8 @@ ghost use Rattle.mg_dev.specs.PartCauses.{HasPartCause};
 ghost use Rattle.mg_dev.specs.declared.part.Part.TheVariants as part;
 ghost use Rattle.mg_runs.specs.Bytes.{AreEntries};
 ghost use Rattle.mg_runs.specs.Fed.{cap_of};
-ghost use Rattle.mg_check.specs.Counting.{HasBegun, HasTaken, WhereBad, run_of_pool, run_part_of};
+ghost use Rattle.mg_check.specs.Counting.{HasBegun, HasTaken, WhereBad, run_bytes, run_of_pool, run_part_of};
+ghost use Rattle.mg_check.specs.Reads.{reads_outside};
 
 use crate::comparison::Comparison;
 use crate::wanted::wanted;
@@ -51,8 +52,8 @@ fn write_into<S: Store>(alloc: Global, store: &mut S, pool: &mut Pool) -> Result
     requires some { 1 ≤ length pool.old.entries }
     requires many { length pool.old.entries ≤ 2 ^ 32 }
     requires entries { AreEntries pool.old.entries }
-    ensures bytes { IsSome (S.files store.old) → OnOk result (bytes_at (S.files store.new) (full_name [] part.Run) ≡ run_of_pool pool.old) }
-    ensures few { IsSome (S.files store.old) → OnOk result (length (bytes_at (S.files store.new) (full_name [] part.Run)) ≤ 16 + 32 * length pool.old.entries) }
+    ensures bytes { IsSome (S.files store.old) → OnOk result (run_bytes (S.files store.new) ≡ run_of_pool pool.old) }
+    ensures few { IsSome (S.files store.old) → OnOk result (length (run_bytes (S.files store.new)) ≤ 16 + 32 * length pool.old.entries) }
     ensures empty { OnOk result (pool.new.entries ≡ []) }
     ensures slots { OnOk result (pool.old.slots ≡ [] → pool.new.slots ≡ []) }
     ensures limit { pool.new.limit ≡ pool.old.limit }
@@ -80,8 +81,8 @@ fn write_run(alloc: Global, pool: &mut Pool) -> Result<SureStore, AllocError>
     requires some { 1 ≤ length pool.old.entries }
     requires many { length pool.old.entries ≤ 2 ^ 32 }
     requires entries { AreEntries pool.old.entries }
-    ensures bytes { IfOk result (λ store. bytes_at (⟦<SureStore as Store>⟧.files store) (full_name [] part.Run) ≡ run_of_pool pool.old) }
-    ensures few { IfOk result (λ store. length (bytes_at (⟦<SureStore as Store>⟧.files store) (full_name [] part.Run)) ≤ 16 + 32 * length pool.old.entries) }
+    ensures bytes { IfOk result (λ store. run_bytes (⟦<SureStore as Store>⟧.files store) ≡ run_of_pool pool.old) }
+    ensures few { IfOk result (λ store. length (run_bytes (⟦<SureStore as Store>⟧.files store)) ≤ 16 + 32 * length pool.old.entries) }
     ensures empty { OnOk result (pool.new.entries ≡ []) }
     ensures slots { OnOk result (pool.old.slots ≡ [] → pool.new.slots ≡ []) }
     ensures limit { pool.new.limit ≡ pool.old.limit }
@@ -97,7 +98,7 @@ fn write_run(alloc: Global, pool: &mut Pool) -> Result<SureStore, AllocError>
 // The bytes of a run that was written so.
 #[tactic(auto, unfolding(mg_dev::specs::Names::full_name))]
 fn run_in(store: &SureStore) -> &[u8]
-    ensures { result.now ≡ bytes_at (⟦<SureStore as Store>⟧.files store.now) (full_name [] part.Run) }
+    ensures { result.now ≡ run_bytes (⟦<SureStore as Store>⟧.files store.now) }
 {
     wanted(store, RUN)
 }
@@ -136,6 +137,7 @@ impl<'a> RunPart<'a> {
         ensures limit { self.new.pool.limit ≡ self.old.pool.limit }
         ensures name { self.new.part.name ≡ self.old.part.name }
         ensures files { S.files store.new ≡ S.files store.old }
+        ensures unread { reads_outside (S.reads store.new) ≡ reads_outside (S.reads store.old) }
         ensures cause { HasPartCause (S.faults store.old) (S.faults store.new) result }
     {
         let written = match write_run(self.alloc, &mut self.pool) {
@@ -164,6 +166,7 @@ impl<'a> RunPart<'a> {
         ensures limit { self.new.pool.limit ≡ self.old.pool.limit }
         ensures name { self.new.part.name ≡ self.old.part.name }
         ensures files { S.files store.new ≡ S.files store.old }
+        ensures unread { reads_outside (S.reads store.new) ≡ reads_outside (S.reads store.old) }
         ensures cause { HasPartCause (S.faults store.old) (S.faults store.new) result }
     {
         // By this law runs are bytes one after the other.
@@ -189,11 +192,13 @@ impl<'a> RunPart<'a> {
         requires doc { 1 ≤ doc }
         ensures taken { OnOk result ((fed : List (ℕ × ℕ)) → length fed + length numbers.now < 2 ^ 32 → HasTaken self.old (S.files store.old) fed →
             HasTaken self.new (S.files store.new) (fed ++ map (λ n. (n, doc)) numbers.now)) }
-        ensures bad { IsSome (S.files store.old) → WhereBad ((fed rest : List (ℕ × ℕ)) → length fed + length numbers.now < 2 ^ 32 → HasTaken self.old (S.files store.old) fed →
+        ensures bad { IsSome (S.files store.old) →
+            WhereBad ((fed rest : List (ℕ × ℕ)) → length fed + length numbers.now < 2 ^ 32 → HasTaken self.old (S.files store.old) fed →
             bytes_at (S.files store.old) self.old.part.name ≢ run_part_of self.old (fed ++ (map (λ n. (n, doc)) numbers.now ++ rest))) result }
         ensures limit { self.new.pool.limit ≡ self.old.pool.limit }
         ensures name { self.new.part.name ≡ self.old.part.name }
         ensures files { S.files store.new ≡ S.files store.old }
+        ensures unread { reads_outside (S.reads store.new) ≡ reads_outside (S.reads store.old) }
         ensures cause { HasPartCause (S.faults store.old) (S.faults store.new) result }
     {
         for number in numbers {
@@ -214,6 +219,7 @@ impl<'a> RunPart<'a> {
             bytes_at (S.files store.old) self.old.part.name ≢ run_part_of self.old fed) result }
         ensures name { self.new.part.name ≡ self.old.part.name }
         ensures files { S.files store.new ≡ S.files store.old }
+        ensures unread { reads_outside (S.reads store.new) ≡ reads_outside (S.reads store.old) }
         ensures cause { HasPartCause (S.faults store.old) (S.faults store.new) result }
     {
         // By this law runs are bytes one after the other.
@@ -235,6 +241,7 @@ impl<'a> RunPart<'a> {
         ensures bad { IsSome (S.files store.old) → WhereBad ((fed : List (ℕ × ℕ)) → HasTaken self.old (S.files store.old) fed →
             bytes_at (S.files store.old) self.old.part.name ≢ run_part_of self.old fed) result }
         ensures files { S.files store.new ≡ S.files store.old }
+        ensures unread { reads_outside (S.reads store.new) ≡ reads_outside (S.reads store.old) }
         ensures cause { HasPartCause (S.faults store.old) (S.faults store.new) result }
     {
         match self.compare_rest(store) {

@@ -6,6 +6,7 @@ ghost use Rattle.mg_dev.specs.PartCauses.{HasPartCause};
 ghost use Rattle.mg_dev.specs.declared.part.Part.TheVariants as part;
 ghost use Rattle.mg_runs.specs.Fed.{cap_of};
 ghost use Rattle.mg_check.specs.Counting.{AreTermsOf, CanAdd, HasTallied, HaveTallied, IsCounted, NoneGoesOn, NotTallied, SameParts, WhereBad, one_more_each};
+ghost use Rattle.mg_check.specs.Reads.{reads_outside};
 
 use crate::doc_terms::{DocTerms, weight_of};
 use crate::run_part::RunPart;
@@ -97,6 +98,7 @@ impl<'a> Tally<'a> {
         ensures bad { IsSome (S.files store.old) → WhereBad (NoneGoesOn self.old (S.files store.old) number terms.now) result }
         ensures same { SameParts self.old self.new }
         ensures files { S.files store.new ≡ S.files store.old }
+        ensures unread { reads_outside (S.reads store.new) ≡ reads_outside (S.reads store.old) }
         ensures cause { HasPartCause (S.faults store.old) (S.faults store.new) result }
     {
         // By this law there are no more occurrences than bytes.
@@ -127,6 +129,7 @@ impl<'a> Tally<'a> {
         ensures docs { self.new.docs ≡ self.old.docs }
         ensures occurrences { self.new.occurrences ≡ self.old.occurrences }
         ensures files { S.files store.new ≡ S.files store.old }
+        ensures unread { reads_outside (S.reads store.new) ≡ reads_outside (S.reads store.old) }
         ensures cause { HasPartCause (S.faults store.old) (S.faults store.new) result }
     {
         match self.weights.finish(store) {

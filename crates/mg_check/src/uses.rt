@@ -9,16 +9,19 @@ ghost use Rattle.mg_defs.specs.Means.{IsModel};
 ghost use Rattle.mg_check.specs.Checking.{OnBad};
 ghost use Rattle.mg_check.specs.Decoding.{AreCounts, IsUsed};
 
+use crate::recent::Recent;
 use mg_canon::Canon;
 use mg_dev::{Bad, Part, PartErr};
 use mg_model::{Stream, TextModel};
 use std::alloc::{AllocError, Global};
 
-/// How often the piece of each symbol came, in both streams.
+/// How often the piece of each symbol came, in both streams, and the symbols that were looked up last.
 #[derive(Drop)]
 pub(crate) struct Uses {
     pub words: Vec<u64>,
     pub others: Vec<u64>,
+    pub recent_words: Recent,
+    pub recent_others: Recent,
 }
 
 impl Uses {
@@ -35,6 +38,8 @@ impl Uses {
         Ok(Uses {
             words: vec![in alloc; 0; words]?,
             others: vec![in alloc; 0; others]?,
+            recent_words: Recent::new(alloc)?,
+            recent_others: Recent::new(alloc)?,
         })
     }
 }

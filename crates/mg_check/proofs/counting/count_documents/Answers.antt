@@ -27,6 +27,7 @@ loop-before-preserved g c =
       tallied = text_same c.count_document.new.tally (g.S.Store.files c.count_document.new.store) c.args.table.now.terms (c.loop-before.before + 1) c.loop-before.reader c.args.reader.now (same_back _ _ inv.same) c.in-Ok.ensures.tallied;
       parts = parts_more _ _ _ inv.parts c.count_document.ensures.parts;
       files = c.count_document.ensures.files ∙ inv.files;
+      unread = c.count_document.ensures.unread ∙ inv.unread;
       later = omega (arith, inv.later, c.count_document.ensures.cause.later);
     }
 

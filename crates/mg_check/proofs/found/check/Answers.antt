@@ -1,5 +1,6 @@
 use Rattle.mg_dev.specs.Causes.{Rose}
 use Rattle.mg_check.proofs.FoundLaws.{completes, refused-unbuilt, tells-outside}
+use Rattle.mg_check.proofs.UnreadLaws.{set_read}
 use Rattle.mg_check.proofs.found.check.Goals as goal
 
 pub returns-clause-outside : goal.returns-clause-outside
@@ -12,3 +13,6 @@ returns-clause-not_built g c = λ told none.
 pub returns-clause-complete : goal.returns-clause-complete
 returns-clause-complete g c = λ collection stands fine.
     completes (Rose (g.S.Store.faults c.args.store.now) (g.S.Store.faults c.check_files.new.store)) (g.S.Store.files c.args.store.now) c.args.base.now collection c.check_files.result c.check_files.ensures.cause stands fine
+
+pub returns-clause-unread : goal.returns-clause-unread
+returns-clause-unread g c = set_read _ _ c.check_files.ensures.unread

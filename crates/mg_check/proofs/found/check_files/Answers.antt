@@ -1,9 +1,11 @@
+use Rattle.std.proofs.Common.{◌∙◌}
 use Rattle.mg_dev.specs.Files.{bytes_at}
 use Rattle.mg_dev.specs.Names.{full_name}
 use Rattle.mg_dev.specs.declared.part.Part.TheVariants as part
 use Rattle.mg_layout.specs.HeadAnswers.{fields_of}
 use Rattle.mg_check.proofs.DocumentLaws.{caused_more}
 use Rattle.mg_check.proofs.FoundLaws.{early-err, head-refused, loaded-head, no-head, set-found, set-none-here, set-refused, some-head}
+use Rattle.mg_check.proofs.UnreadLaws.{head_read}
 use Rattle.mg_check.proofs.found.check_files.Goals as goal
 
 pub returns-in-Err-clause-cause : goal.returns-in-Err-clause-cause
@@ -17,14 +19,14 @@ returns-in-None-clause-cause g c = λ told. no-head (bytes_at (g.S.Store.files c
 
 pub returns-in-Ok-check_set-clause-stands : goal.returns-in-Ok-check_set-clause-stands
 returns-in-Ok-check_set-clause-stands g c = λ told.
-    set-found (g.S.Store.files c.args.store.now) (g.S.Store.files c.load.new.store) c.args.base.now c.in-Some.head c.in-Some.head.documents c.in-Some.head.collection c.load.ensures.files c.in-Ok-check_set.ensures.stands told
+    set-found (g.S.Store.files c.args.store.now) (g.S.Store.files c.load.new.store) c.args.base.now c.in-Some.head c.in-Some.head.documents c.in-Some.head.collection c.load.ensures.files (λ some is. c.in-Ok-check_set.ensures.stands (record { told = some; is = is })) told
     (loaded-head (bytes_at (g.S.Store.files c.args.store.now) (full_name c.args.base.now part.Head)) c.in-Ok.loaded c.in-Some.head c.in-Some.is (c.in-Ok.ensures.answer told))
 
 pub returns-in-Err-check_set-clause-cause : goal.returns-in-Err-check_set-clause-cause
 returns-in-Err-check_set-clause-cause g c =
     rw c.from-in-Err-check_set.ensures (set-refused (g.S.Store.files c.args.store.now) c.args.base.now c.in-Some.head c.in-Err-check_set.refusal _ _
     (λ told. loaded-head (bytes_at (g.S.Store.files c.args.store.now) (full_name c.args.base.now part.Head)) c.in-Ok.loaded c.in-Some.head c.in-Some.is (c.in-Ok.ensures.answer told))
-    (λ told. set-none-here (g.S.Store.files c.args.store.now) (g.S.Store.files c.load.new.store) c.args.base.now c.in-Some.head c.in-Err-check_set.refusal c.load.ensures.files c.in-Err-check_set.ensures.none told
+    (λ told. set-none-here (g.S.Store.files c.args.store.now) (g.S.Store.files c.load.new.store) c.args.base.now c.in-Some.head c.in-Err-check_set.refusal c.load.ensures.files (λ some is. c.in-Err-check_set.ensures.none (record { told = some; is = is })) told
     (loaded-head (bytes_at (g.S.Store.files c.args.store.now) (full_name c.args.base.now part.Head)) c.in-Ok.loaded c.in-Some.head c.in-Some.is (c.in-Ok.ensures.answer told)))
     (caused_more _ (g.S.Store.faults c.load.new.store) _ _ c.in-Ok.ensures.cause.later c.in-Err-check_set.ensures.cause))
 
@@ -32,3 +34,15 @@ pub returns-in-Err-check_set-clause-early : goal.returns-in-Err-check_set-clause
 returns-in-Err-check_set-clause-early g c = λ told none.
     absurd (some-head (bytes_at (g.S.Store.files c.args.store.now) (full_name c.args.base.now part.Head)) (fields_of c.in-Some.head)
     (loaded-head (bytes_at (g.S.Store.files c.args.store.now) (full_name c.args.base.now part.Head)) c.in-Ok.loaded c.in-Some.head c.in-Some.is (c.in-Ok.ensures.answer told)) none)
+
+pub returns-in-Err-clause-unread : goal.returns-in-Err-clause-unread
+returns-in-Err-clause-unread g c = head_read _ _ c.load.ensures.reads
+
+pub returns-in-None-clause-unread : goal.returns-in-None-clause-unread
+returns-in-None-clause-unread g c = head_read _ _ c.load.ensures.reads
+
+pub returns-in-Ok-check_set-clause-unread : goal.returns-in-Ok-check_set-clause-unread
+returns-in-Ok-check_set-clause-unread g c = c.check_set.ensures.unread ∙ head_read _ _ c.load.ensures.reads
+
+pub returns-in-Err-check_set-clause-unread : goal.returns-in-Err-check_set-clause-unread
+returns-in-Err-check_set-clause-unread g c = c.check_set.ensures.unread ∙ head_read _ _ c.load.ensures.reads

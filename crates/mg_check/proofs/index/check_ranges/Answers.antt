@@ -42,6 +42,7 @@ loop-first-preserved g c =
           compared_on now old c.args.base.now collection _ _ _ _ _ (sym files) next
           (c.in-Ok-check_lists.ensures.agree collection (subst IsSome (sym files) is.stands.told) (c.in-Ok.ensures.held collection there) so_far);
       files = c.check_lists.ensures.files ∙ files;
+      unread = c.check_lists.ensures.unread ∙ c.read_range.ensures.unread ∙ inv.unread;
       later = omega (arith, inv.later, c.read_range.ensures.cause.later, c.check_lists.ensures.cause.later);
     }
 

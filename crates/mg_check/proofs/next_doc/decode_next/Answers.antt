@@ -4,15 +4,15 @@ use Rattle.mg_check.proofs.NextLaws.{doc-fine, ok-so, room-for}
 use Rattle.mg_check.proofs.next_doc.decode_next.Goals as goal
 
 pub returns-in-Err-clause-never_bad : goal.returns-in-Err-clause-never_bad
-returns-in-Err-clause-never_bad g c = λ collection stand short.
-    c.in-Err.ensures.never_bad collection stand (room-for collection c.args.progress.now.documents c.args.progress.now.bytes c.args.head.now.collection _ short c.set_most.ensures.most)
+returns-in-Err-clause-never_bad g c = λ collection has.
+    c.in-Err.ensures.never_bad collection (record { stands = has.stands; short = room-for collection c.args.progress.now.documents _ _ has.short c.set_most.ensures.most })
 
 pub returns-clause-own : goal.returns-clause-own
-returns-clause-own g c = λ collection stand short.
-    let fits = room-for collection c.args.progress.now.documents c.args.progress.now.bytes c.args.head.now.collection _ short c.set_most.ensures.most in
-    ok-so _ _ (doc_of_reader collection c.args.progress.now.documents _ _ (c.in-Ok.ensures.own collection stand fits) refl)
+returns-clause-own g c = λ collection has.
+    let short = room-for collection c.args.progress.now.documents _ _ has.short c.set_most.ensures.most in
+    ok-so _ _ (doc_of_reader collection c.args.progress.now.documents _ _ (c.in-Ok.ensures.own collection (record { stands = has.stands; short = short })) refl)
 
 pub returns-clause-never_bad : goal.returns-clause-never_bad
-returns-clause-never_bad g c = λ collection stand short.
-    let fits = room-for collection c.args.progress.now.documents c.args.progress.now.bytes c.args.head.now.collection _ short c.set_most.ensures.most in
-    doc-fine collection c.args.progress.now.documents c.bytes.result.now _ (doc_of_reader collection c.args.progress.now.documents _ _ (c.in-Ok.ensures.own collection stand fits) c.bytes.ensures) (omega (arith, c.requires.more, stand.documents)) c.expect_document.ensures.other
+returns-clause-never_bad g c = λ collection has.
+    let short = room-for collection c.args.progress.now.documents _ _ has.short c.set_most.ensures.most in
+    doc-fine collection c.args.progress.now.documents c.bytes.result.now _ (doc_of_reader collection c.args.progress.now.documents _ _ (c.in-Ok.ensures.own collection (record { stands = has.stands; short = short })) c.bytes.ensures) (omega (arith, c.requires.more, has.stands.documents)) c.expect_document.ensures.other

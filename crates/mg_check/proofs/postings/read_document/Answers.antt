@@ -7,12 +7,12 @@ use Rattle.mg_check.proofs.postings.read_document.Goals as goal
 pub returns-in-Err-clause-never_bad : goal.returns-in-Err-clause-never_bad
 returns-in-Err-clause-never_bad g c = λ collection stand holds room.
     let short : length (get_or (documents collection) (c.args.before + 1 - 1) []) ≤ c.args.held.now.most = omega (arith, doc_short collection (c.args.before + 1 - 1) stand.few, c.requires.most) in
-    c.in-Err.ensures.never_bad collection stand short
+    c.in-Err.ensures.never_bad collection (record { stands = stand; short = short })
 
 pub returns-in-Ok-false-clause-never_bad : goal.returns-in-Ok-false-clause-never_bad
 returns-in-Ok-false-clause-never_bad g c = λ collection stand holds room.
     let short : length (get_or (documents collection) (c.args.before + 1 - 1) []) ≤ c.args.held.now.most = omega (arith, doc_short collection (c.args.before + 1 - 1) stand.few, c.requires.most) in
-    let doc = doc_of_reader collection c.args.before _ _ (c.in-Ok.ensures.own collection stand short) c.bytes.ensures in
+    let doc = doc_of_reader collection c.args.before _ _ (c.in-Ok.ensures.own collection (record { stands = stand; short = short })) c.bytes.ensures in
     let codable = known_is _ c.read_doc.new.reader _ _ _ collection c.args.before c.in-Ok.ensures.same c.model.ensures doc c.requires.within stand in
     let known = c.in-Ok-false.ensures.known codable in
     search rules
@@ -20,7 +20,7 @@ returns-in-Ok-false-clause-never_bad g c = λ collection stand holds room.
 pub returns-then-not-add_document-clause-never_bad : goal.returns-then-not-add_document-clause-never_bad
 returns-then-not-add_document-clause-never_bad g c = λ collection stand holds room.
     let short : length (get_or (documents collection) (c.args.before + 1 - 1) []) ≤ c.args.held.now.most = omega (arith, doc_short collection (c.args.before + 1 - 1) stand.few, c.requires.most) in
-    let doc = doc_of_reader collection c.args.before _ _ (c.in-Ok.ensures.own collection stand short) c.bytes.ensures in
+    let doc = doc_of_reader collection c.args.before _ _ (c.in-Ok.ensures.own collection (record { stands = stand; short = short })) c.bytes.ensures in
     let counted = counted_is _ c.args.table.now _ collection c.args.before _ _ _ doc c.requires.table stand (c.in-Ok-true.ensures.counted (search rules)) c.counted.ensures in
     let lt : c.args.before < length (documents collection) = omega (arith, c.requires.within, stand.documents) in
     let range = range_in c.args.lists.now c.args.table.now _ _ collection c.requires.table stand c.requires.range in
@@ -31,7 +31,7 @@ returns-then-not-add_document-clause-never_bad g c = λ collection stand holds r
 pub returns-clause-held : goal.returns-clause-held
 returns-clause-held g c = λ collection stand holds room.
     let short : length (get_or (documents collection) (c.args.before + 1 - 1) []) ≤ c.args.held.now.most = omega (arith, doc_short collection (c.args.before + 1 - 1) stand.few, c.requires.most) in
-    let doc = doc_of_reader collection c.args.before _ _ (c.in-Ok.ensures.own collection stand short) c.bytes.ensures in
+    let doc = doc_of_reader collection c.args.before _ _ (c.in-Ok.ensures.own collection (record { stands = stand; short = short })) c.bytes.ensures in
     let counted = counted_is _ c.args.table.now _ collection c.args.before _ _ _ doc c.requires.table stand (c.in-Ok-true.ensures.counted (search rules)) c.counted.ensures in
     let lt : c.args.before < length (documents collection) = omega (arith, c.requires.within, stand.documents) in
     let range = range_in c.args.lists.now c.args.table.now _ _ collection c.requires.table stand c.requires.range in

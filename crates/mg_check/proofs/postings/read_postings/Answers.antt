@@ -23,6 +23,7 @@ loop-before-preserved g c =
           c.in-Ok.ensures.held collection (stands_on _ _ _ _ collection inv.same inv.files stand) (inv.held collection stand room)
           (room_for_all c.loop-before.lists collection (c.loop-before.before + 1) (omega (arith, c.loop-before-test.true, c.requires.all, stand.documents)) (room_stays _ _ collection inv.rooms room).each);
       files = c.read_document.ensures.files ∙ inv.files;
+      unread = c.read_document.ensures.unread ∙ inv.unread;
       later = omega (arith, inv.later, c.read_document.ensures.cause.later);
     }
 

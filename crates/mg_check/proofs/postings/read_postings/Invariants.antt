@@ -1,6 +1,7 @@
 use Rattle.std.proofs.Common.{◌≡◌, ◌≤◌, ◌^◌, ◌-◌, ℕ, List}
 use Rattle.mg_text.specs.Reading.{SameText, TextFits, TextStands}
 use Rattle.mg_check.specs.Listing.{HasRoomForAll, HoldsLists, IsLaidOut, SameRooms, lists_upto}
+use Rattle.mg_check.specs.Reads.{reads_outside}
 use Rattle.mg_check.proofs.postings.read_postings.Given as goal
 
 abbrev pub invariant-loop-before : goal.invariant-loop-before
@@ -12,5 +13,6 @@ invariant-loop-before g l = record {
   rooms : SameRooms l.initial.lists l.lists;
   held : (collection : List ℕ) → TextStands l.initial.reader (g.S.Store.files l.initial.store) collection → HasRoomForAll l.initial.lists collection → HoldsLists l.lists (lists_upto l.before collection);
   files : g.S.Store.files l.store ≡ g.S.Store.files l.initial.store;
+  unread : reads_outside (g.S.Store.reads l.store) ≡ reads_outside (g.S.Store.reads l.initial.store);
   later : g.S.Store.faults l.initial.store ≤ g.S.Store.faults l.store;
 }

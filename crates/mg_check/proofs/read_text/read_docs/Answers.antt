@@ -20,6 +20,7 @@ loop-number-init g c = record {
   count = sym (c.in-Ok.ensures.none (parts_at (g.S.Store.files c.args.store.now) c.args.base.now) c.args.head.now.version).count;
   found = λ told. none-yet (parts_at (g.S.Store.files c.args.store.now) c.args.base.now) c.args.head.now.version c.args.reader.now.code c.model.result.now c.in-Ok.progress c.model.ensures (c.in-Ok.ensures.none (parts_at (g.S.Store.files c.args.store.now) c.args.base.now) c.args.head.now.version);
   files = refl;
+  unread = refl;
   later = omega arith;
 }
 
@@ -34,6 +35,7 @@ loop-number-preserved g c =
           docs-more (g.S.Store.files c.args.store.now) (g.S.Store.files c.loop-number.store) c.args.base.now c.args.head.now.version c.args.reader.now.code c.loop-number.reader.code c.loop-number.progress c.next_doc.new.progress inv.files inv.same.code (inv.found told)
           (c.in-Ok-next_doc.ensures.found (subst (λ f. IsSome f) (sym inv.files) told));
       files = c.next_doc.ensures.files ∙ inv.files;
+      unread = c.next_doc.ensures.unread ∙ inv.unread;
       later = omega (arith, inv.later, c.next_doc.ensures.cause.later);
     }
 

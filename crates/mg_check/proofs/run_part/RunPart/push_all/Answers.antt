@@ -21,6 +21,7 @@ loop-number-preserved g c =
       limit = c.push.ensures.limit ∙ inv.limit;
       name = c.push.ensures.name ∙ inv.name;
       files = c.push.ensures.files ∙ inv.files;
+      unread = c.push.ensures.unread ∙ inv.unread;
       later = omega (arith, inv.later, c.push.ensures.cause.later);
     }
 

@@ -1,5 +1,6 @@
 use Rattle.std.proofs.Common.{◌≡◌, ◌<◌, ◌≤◌, ◌+◌, ◌^◌, ◌++◌, ℕ, List, length, map, take}
 use Rattle.mg_check.specs.Counting.{HasTaken}
+use Rattle.mg_check.specs.Reads.{reads_outside}
 use Rattle.mg_check.proofs.run_part.RunPart.push_all.Given as goal
 
 abbrev pub invariant-loop-number : goal.invariant-loop-number
@@ -8,5 +9,6 @@ invariant-loop-number g l = record {
   limit : l.self.pool.limit ≡ l.initial.self.pool.limit;
   name : l.self.part.name ≡ l.initial.self.part.name;
   files : g.S.Store.files l.store ≡ g.S.Store.files l.initial.store;
+  unread : reads_outside (g.S.Store.reads l.store) ≡ reads_outside (g.S.Store.reads l.initial.store);
   later : g.S.Store.faults l.initial.store ≤ g.S.Store.faults l.store;
 }

@@ -1,0 +1,5 @@
+use Rattle.mg_check.proofs.UnreadLaws.{none_read}
+use Rattle.mg_check.proofs.comparison.Comparison.finish.Goals as goal
+
+pub returns-clause-unread : goal.returns-clause-unread
+returns-clause-unread g c = none_read _ _ c.expect_size.ensures.reads
