@@ -20,7 +20,6 @@ pub mod WildStopLaws
 pub mod MarkLaws
 pub mod WildListLaws
 pub mod WildTextLaws
-mod Endings
 mod QueriedLaws
 mod PhrasedLaws
 mod MatchedLaws

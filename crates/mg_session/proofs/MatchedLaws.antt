@@ -17,12 +17,11 @@ use Rattle.mg_defs.specs.Terms.{dictionary}
 use Rattle.mg_defs.specs.WildSession.{wild_session}
 use Rattle.mg_layout.specs.Stands.{Stands}
 use Rattle.mg_reply.specs.Served.{LeftEnough}
-use Rattle.mg_session.specs.Serves.{RefusedFor}
 use Rattle.mg_session.specs.WildAnswers.{NeverReadByPatterns}
 use Rattle.mg_session.specs.WildServes.{IsFirst, WildStops}
-use Rattle.mg_dev.specs.Runs.{IfStopped, Run, StoreFailed, InputFailed, OutputFailed, Stops, status_of}
+use Rattle.mg_dev.specs.Runs.{IfStopped, InputFailed, OutputFailed, RefusedFor, Run, Stops, StoreFailed, status_of}
 use Rattle.mg_session.specs.Matched.{Matched}
-use Rattle.mg_session.proofs.Endings.{when_ok, err_by, stopped_by, unless_by}
+use Rattle.mg_dev.proofs.CallerLemmas.{when_ok, err_by, stopped_by, unless_by}
 use Rattle.mg_session.proofs.StopLaws.{head_there}
 
 true_is_not_false : true ≡ false → ⊥

@@ -18,10 +18,10 @@ use Rattle.mg_layout.specs.declared.head.Head.{Head}
 use Rattle.mg_reply.specs.Served.{LeftEnough}
 use Rattle.mg_session.specs.Parts.{NeverRead}
 use Rattle.mg_session.specs.PhraseAnswers.{ReadsPhrases}
-use Rattle.mg_session.specs.Serves.{RefusedFor, StopsFor}
-use Rattle.mg_dev.specs.Runs.{IfStopped, Run, StoreFailed, InputFailed, OutputFailed, status_of}
+use Rattle.mg_session.specs.Serves.{StopsFor}
+use Rattle.mg_dev.specs.Runs.{IfStopped, InputFailed, OutputFailed, RefusedFor, Run, StoreFailed, status_of}
 use Rattle.mg_session.specs.Phrased.{Phrased}
-use Rattle.mg_session.proofs.Endings.{when_ok, err_by, stopped_by, unless_by}
+use Rattle.mg_dev.proofs.CallerLemmas.{when_ok, err_by, stopped_by, unless_by}
 use Rattle.mg_session.proofs.QueriedLaws.{done_or}
 
 module _ (base : List ℕ) (run : Run) (r : Result (Unit {0}) Fault) (is : run.status ≡ status_of r)

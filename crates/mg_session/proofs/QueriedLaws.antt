@@ -20,11 +20,11 @@ use Rattle.mg_layout.specs.declared.head.Head.{Head}
 use Rattle.mg_reply.specs.Served.{LeftEnough}
 use Rattle.mg_session.specs.Parts.{NeverRead, is_of_text}
 use Rattle.mg_session.specs.Searching.{AskForNoText}
-use Rattle.mg_session.specs.Serves.{ReadsWithin, RefusedFor, StopsFor}
-use Rattle.mg_dev.specs.Runs.{IfStopped, Run, StoreFailed, InputFailed, OutputFailed, Stops, status_of}
+use Rattle.mg_session.specs.Serves.{ReadsWithin, StopsFor}
+use Rattle.mg_dev.specs.Runs.{IfStopped, InputFailed, OutputFailed, RefusedFor, Run, Stops, StoreFailed, status_of}
 use Rattle.mg_session.specs.Queried.{Queried}
 use Rattle.mg_session.proofs.StopLaws.{head_there}
-use Rattle.mg_session.proofs.Endings.{when_ok, err_by, stopped_by, unless_by}
+use Rattle.mg_dev.proofs.CallerLemmas.{when_ok, err_by, stopped_by, unless_by}
 
 true_is_not_false : true ≡ false → ⊥
 true_is_not_false e = cc

@@ -23,7 +23,8 @@ use Rattle.mg_wild.specs.Loading.{AnswersRotated, IsBeyond}
 use Rattle.mg_wild.specs.Terms.{LexTerms}
 use Rattle.mg_wild.specs.declared.rotated.RotErr.{RotErr}
 use Rattle.mg_wild.specs.declared.rotated.RotErr.TheVariants as rot
-use Rattle.mg_session.specs.Serves.{RefusedFor, Stops, StopsFor}
+use Rattle.mg_dev.specs.Runs.{RefusedFor}
+use Rattle.mg_session.specs.Serves.{Stops, StopsFor}
 use Rattle.mg_session.specs.WildServes.{AreRotationsBy, IsFirst, StandsByNone, WildSetStops, WildStops, WildStopsBy, fault_of_rotated}
 use Rattle.mg_session.proofs.SetLaws.{set_lexicon}
 use Rattle.mg_session.proofs.StopLaws.{stops_wider}

@@ -1,8 +1,7 @@
 -- Why a session over files stops, and what it reads.
-use Rattle.std.specs.Prelude.{◌≡◌, ◌⊎◌, ℕ, ◌+◌, ◌≤◌, true, List, [], IsSome, Err}
+use Rattle.std.specs.Prelude.{◌≡◌, ◌⊎◌, ℕ, ◌+◌, ◌≤◌, true, List, [], IsSome}
 use Rattle.std.specs.Option.{ForSome}
 use Rattle.std.specs.declared.option.Option.{Option}
-use Rattle.std.specs.declared.result.Result.{Result}
 use Rattle.mg_dev.specs.Files.{Files, Reads, bytes_at}
 use Rattle.mg_dev.specs.Names.{full_name}
 use Rattle.mg_dev.specs.declared.part.Part.TheVariants as part
@@ -31,10 +30,6 @@ Stops store_rose input_rose output_rose unbuilt damaged input _ = ⊥
 -- the same by the files under a base
 abbrev pub StopsFor : Type 0 → Type 0 → Type 0 → Option Files → List ℕ → Option (List ℕ) → Fault → Type 0
 StopsFor store_rose input_rose output_rose files base input fault = Stops store_rose input_rose output_rose (IsSome files → bytes_at files (full_name base part.Head) ≡ []) (StandsForNone files base) input fault
-
--- this refusal, unless the store fails or memory lacks
-abbrev pub RefusedFor : {T : Type 0} → Result T Fault → Fault → Type 0
-RefusedFor result fault = (result ≡ Err fault) ⊎ ((result ≡ Err StoreFault) ⊎ (result ≡ Err Memory))
 
 -- no more pages are read than the bounds of the query lines add up to
 pub record ReadsWithin (code : TextCode) (collection given : List ℕ) (before now : Reads) : Type 0 where

@@ -50,7 +50,8 @@ impl HeldDocument {
         requires within { number ≤ text.old.documents }
         ensures fits { TextFits text.new (S.files store.new) }
         ensures same { SameText text.old text.new }
-        ensures content { (collection : List ℕ) → TextStands text.old (S.files store.old) collection → OnOk result (self.new.bytes.items ≡ document collection number) }
+        ensures content { (collection : List ℕ) → TextStands text.old (S.files store.old) collection →
+            OnOk result (self.new.bytes.items ≡ document collection number) }
         ensures pages { (collection : List ℕ) → TextStands text.old (S.files store.old) collection →
             S.reads store.new part.Text ≤ S.reads store.old part.Text + doc_pages text.old.code collection (plain number) }
         ensures sound { (collection : List ℕ) → TextStands text.old (S.files store.old) collection → ShowIsNotBad result }

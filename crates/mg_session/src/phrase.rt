@@ -5,7 +5,7 @@ ghost use Rattle.mg_dev.specs.Causes.{Rose};
 ghost use Rattle.mg_dev.specs.Files.{bytes_at};
 ghost use Rattle.mg_dev.specs.Moments.{SinkAt};
 ghost use Rattle.mg_dev.specs.Names.{full_name};
-ghost use Rattle.mg_dev.specs.Runs.{status_of};
+ghost use Rattle.mg_dev.specs.Runs.{RefusedFor, status_of};
 ghost use Rattle.mg_dev.specs.Streams.{appended, GrewByPrefix};
 ghost use Rattle.mg_dev.specs.declared.part.Part.{Part};
 ghost use Rattle.mg_dev.specs.declared.part.Part.TheVariants as part;
@@ -20,7 +20,7 @@ ghost use Rattle.mg_session.specs.Parts.{NeverRead};
 ghost use Rattle.mg_session.specs.PhraseAnswers.{ReadsPhrases};
 ghost use Rattle.mg_session.specs.PhraseSearching.{PartsFit, PartsOver};
 ghost use Rattle.mg_session.specs.Phrased.{Phrased};
-ghost use Rattle.mg_session.specs.Serves.{RefusedFor, Stops, StopsFor};
+ghost use Rattle.mg_session.specs.Serves.{Stops, StopsFor};
 
 use crate::phrase_searcher::PhraseSearcher;
 use crate::session::fault_of;

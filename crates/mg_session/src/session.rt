@@ -5,7 +5,7 @@ ghost use Rattle.mg_dev.specs.Causes.{Rose};
 ghost use Rattle.mg_dev.specs.Files.{bytes_at};
 ghost use Rattle.mg_dev.specs.Moments.{SinkAt};
 ghost use Rattle.mg_dev.specs.Names.{full_name};
-ghost use Rattle.mg_dev.specs.Runs.{status_of};
+ghost use Rattle.mg_dev.specs.Runs.{RefusedFor, status_of};
 ghost use Rattle.mg_dev.specs.Streams.{appended, GrewByPrefix};
 ghost use Rattle.mg_dev.specs.declared.part.Part.{Part};
 ghost use Rattle.mg_dev.specs.declared.part.Part.TheVariants as part;
@@ -20,7 +20,7 @@ ghost use Rattle.mg_reply.specs.Served.{LeftEnough};
 ghost use Rattle.mg_session.specs.Parts.{NeverRead, is_of_text};
 ghost use Rattle.mg_session.specs.Queried.{Queried};
 ghost use Rattle.mg_session.specs.Searching.{AskForNoText, OpenedOver, SearchFits};
-ghost use Rattle.mg_session.specs.Serves.{ReadsWithin, RefusedFor, Stops, StopsFor, fault_of_serve};
+ghost use Rattle.mg_session.specs.Serves.{ReadsWithin, Stops, StopsFor, fault_of_serve};
 
 use crate::searcher::Searcher;
 use mg_dev::{Fault, Sink, Source, Store};
