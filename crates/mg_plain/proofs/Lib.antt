@@ -9,6 +9,5 @@ mod ScoreLaws
 mod RankedLaws
 mod RankingLaws
 mod ScannerLaws
-mod Endings
 mod Complete
 mod ScannedLaws

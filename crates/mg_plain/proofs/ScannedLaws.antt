@@ -16,7 +16,7 @@ use Rattle.mg_plain.specs.Scans.{StopsFor, LeftEnough}
 use Rattle.mg_dev.specs.Runs.{IfStopped, Run, StoreFailed, InputFailed, OutputFailed, Stops, status_of}
 use Rattle.mg_plain.specs.Scanned.{Scanned}
 use Rattle.mg_plain.proofs.Complete.{only_memory}
-use Rattle.mg_plain.proofs.Endings.{when_ok, err_by, stopped_by, unless_by}
+use Rattle.mg_dev.proofs.CallerLemmas.{when_ok, err_by, stopped_by, unless_by}
 
 done_or : (name bytes given : List ℕ) (run : Run) (r : Result (Unit {0}) Fault) → run.status ≡ status_of r
     → IfErr r (StopsFor (StoreFailed run) (InputFailed run) (OutputFailed run) run.store.files name run.input.left)

@@ -28,7 +28,8 @@ fn count_word(word: &[u8], terms: &[Term], counts: &mut [u32])
     requires size { length counts.old ≡ length terms.now }
     requires small { (k : ℕ) → k < length terms.now → get_or counts.old k 0 < 2 ^ 31 }
     ensures size { length counts.new ≡ length terms.now }
-    ensures each { (k : ℕ) → k < length terms.now → get_or counts.new k 0 ≡ get_or counts.old k 0 + cond (same_term (get_or terms.now k []) (folded word.now)) 1 0 }
+    ensures each { (k : ℕ) → k < length terms.now →
+        get_or counts.new k 0 ≡ get_or counts.old k 0 + cond (same_term (get_or terms.now k []) (folded word.now)) 1 0 }
 {
     for (i, term) in terms.iter().enumerate() {
         if is_term(word, term.as_bytes()) {

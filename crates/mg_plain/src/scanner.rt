@@ -91,15 +91,20 @@ fn scan_text<S: Store, I: Source, O: Sink>(
 ) -> Result<(), Fault>
     ensures files { S.files store.new ≡ S.files store.old }
     ensures reads { (p : Part) → p ≢ Plain → S.reads store.new p ≡ S.reads store.old p }
-    ensures all { IsSome (S.files store.old) → ForSome (I.left input.old) (λ given. OnOk result (O.written out.new ≡ appended (O.written out.old) (session (bytes_at (S.files store.old) name.now) given))) }
+    ensures all { IsSome (S.files store.old) → ForSome (I.left input.old) (λ given. OnOk result (O.written out.new
+        ≡ appended (O.written out.old) (session (bytes_at (S.files store.old) name.now) given))) }
     ensures left { ForSome (I.left input.old) (λ given. OnOk result (LeftEnough given (I.left input.new))) }
     ensures within { ForSome (I.left input.old) (λ given. OnOk result (is_too_much input_limit given ≡ false)) }
-    ensures prefix { IsSome (S.files store.old) → ForSome (I.left input.old) (λ given. GrewByPrefix (O.written out.old) (O.written out.new) (session (bytes_at (S.files store.old) name.now) given)) }
+    ensures prefix { IsSome (S.files store.old) →
+        ForSome (I.left input.old) (λ given. GrewByPrefix (O.written out.old) (O.written out.new) (session (bytes_at (S.files store.old) name.now) given)) }
     ensures silent { IsErrOf result NoCollection → O.written out.new ≡ O.written out.old }
     ensures silent_large { (size most : ℕ) → IsErrOf result (TooLarge size most) → O.written out.new ≡ O.written out.old }
-    ensures cause { IfErr result (StopsFor (Rose (S.faults store.old) (S.faults store.new)) (Rose (I.faults input.old) (I.faults input.new)) (Rose (O.faults out.old) (O.faults out.new)) (S.files store.old) name.now (I.left input.old)) }
-    ensures missing { IsSome (S.files store.old) → file_at (S.files store.old) name.now ≡ None → (result ≡ Err NoCollection) ⊎ (result ≡ Err StoreFault) ⊎ (result ≡ Err Memory) }
-    ensures large { IsSome (S.files store.old) → 2 ^ 28 < length (bytes_at (S.files store.old) name.now) → (result ≡ Err (TooLarge (length (bytes_at (S.files store.old) name.now)) (2 ^ 28))) ⊎ (result ≡ Err StoreFault) ⊎ (result ≡ Err Memory) }
+    ensures cause { IfErr result (StopsFor (Rose (S.faults store.old) (S.faults store.new)) (Rose (I.faults input.old) (I.faults input.new))
+        (Rose (O.faults out.old) (O.faults out.new)) (S.files store.old) name.now (I.left input.old)) }
+    ensures missing { IsSome (S.files store.old) → file_at (S.files store.old) name.now ≡ None →
+        (result ≡ Err NoCollection) ⊎ (result ≡ Err StoreFault) ⊎ (result ≡ Err Memory) }
+    ensures large { IsSome (S.files store.old) → 2 ^ 28 < length (bytes_at (S.files store.old) name.now) →
+        (result ≡ Err (TooLarge (length (bytes_at (S.files store.old) name.now)) (2 ^ 28))) ⊎ (result ≡ Err StoreFault) ⊎ (result ≡ Err Memory) }
     ensures store_later { S.faults store.old ≤ S.faults store.new }
 {
     let text = match PlainText::load(alloc, store, name) {

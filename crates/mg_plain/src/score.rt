@@ -52,7 +52,8 @@ pub(crate) fn document_score<'a>(
     requires same { length weights.now ≡ length counts.now }
     requires few { length counts.now ≤ 2 ^ 10 }
     requires light { (k : ℕ) → k < length weights.now → get_or weights.now k 0 < 2 ^ 14 }
-    ensures { IfOk result (λ s. (collection : List ℕ) (query : List (List ℕ)) → AreCounts (freq_in doc.now) query counts.now → AreCounts (wt collection) query weights.now → s ≡ score_spec collection query doc.now) }
+    ensures { IfOk result (λ s. (collection : List ℕ) (query : List (List ℕ)) → AreCounts (freq_in doc.now) query counts.now →
+        AreCounts (wt collection) query weights.now → s ≡ score_spec collection query doc.now) }
 {
     let weight = document_weight(doc, words)?;
     Ok(score(sum_of_products(counts, weights), weight))
