@@ -88,7 +88,8 @@ pub fn plain_build(words: &[String]) -> Option<Task<'_>>
 fn build_with_one<'a>(a: &'a str, b: &'a str, c: &'a str) -> Option<Task<'a>>
     ensures within { IfSome result (λ q. IsWithin (as_task q)) }
     ensures is { option_map as_task result ≡ option_or (plain_names_spec b.entry.now c.entry.now (budget_in_one_spec a.entry.now))
-        (option_or (plain_names_spec a.entry.now c.entry.now (budget_in_one_spec b.entry.now)) (plain_names_spec a.entry.now b.entry.now (budget_in_one_spec c.entry.now))) }
+        (option_or (plain_names_spec a.entry.now c.entry.now (budget_in_one_spec b.entry.now))
+        (plain_names_spec a.entry.now b.entry.now (budget_in_one_spec c.entry.now))) }
 {
     if let Some(task) = plain_names(b, c, budget_in_one(a)) {
         return Some(task);
@@ -102,7 +103,8 @@ fn build_with_one<'a>(a: &'a str, b: &'a str, c: &'a str) -> Option<Task<'a>>
 fn build_with_two<'a>(a: &'a str, b: &'a str, c: &'a str, d: &'a str) -> Option<Task<'a>>
     ensures within { IfSome result (λ q. IsWithin (as_task q)) }
     ensures is { option_map as_task result ≡ option_or (plain_names_spec c.entry.now d.entry.now (budget_in_two_spec a.entry.now b.entry.now))
-        (option_or (plain_names_spec a.entry.now d.entry.now (budget_in_two_spec b.entry.now c.entry.now)) (plain_names_spec a.entry.now b.entry.now (budget_in_two_spec c.entry.now d.entry.now))) }
+        (option_or (plain_names_spec a.entry.now d.entry.now (budget_in_two_spec b.entry.now c.entry.now))
+        (plain_names_spec a.entry.now b.entry.now (budget_in_two_spec c.entry.now d.entry.now))) }
 {
     if let Some(task) = plain_names(c, d, budget_in_two(a, b)) {
         return Some(task);

@@ -34,7 +34,8 @@ fn read_build<'a>(
     words: &'a [String],
 ) -> Result<Option<Task<'a>>, AllocError>
     ensures refused { result ≡ Ok None → IsRefusedBy build_app (codes "collection" ∷ codes "name" ∷ []) (map string_bytes words.entry.now) }
-    ensures is { IfOk result (λ r. option_map as_task r ≡ option_or (plain_build_spec (map string_bytes rest.entry.now)) (if_taken build_app (map string_bytes words.entry.now) build_in)) }
+    ensures is { IfOk result (λ r. option_map as_task r
+        ≡ option_or (plain_build_spec (map string_bytes rest.entry.now)) (if_taken build_app (map string_bytes words.entry.now) build_in)) }
     ensures within { IfOk result (λ r. IfSome r (λ q. IsWithin (as_task q))) }
 {
     if let Some(task) = plain_build(rest) {
@@ -84,7 +85,8 @@ fn read_scan<'a>(
     words: &'a [String],
 ) -> Result<Option<Task<'a>>, AllocError>
     requires { map string_bytes words.now ≡ tool.now ∷ map string_bytes rest.now }
-    ensures refused { result ≡ Ok None → IsRefusedBy (name_app tool.entry.now (codes "collection")) (codes "collection" ∷ []) (map string_bytes words.entry.now) }
+    ensures refused { result ≡ Ok None →
+        IsRefusedBy (name_app tool.entry.now (codes "collection")) (codes "collection" ∷ []) (map string_bytes words.entry.now) }
     ensures is { IfOk result (λ r. option_map as_task r ≡ option_map scan (name_asked (codes "collection") tool.entry.now (map string_bytes rest.entry.now))) }
     ensures within { IfOk result (λ r. IfSome r (λ q. IsWithin (as_task q))) }
 {
@@ -100,7 +102,8 @@ fn read_trial<'a>(
     words: &'a [String],
 ) -> Result<Option<Task<'a>>, AllocError>
     ensures refused { result ≡ Ok None → IsRefusedBy trial_app [] (map string_bytes words.entry.now) }
-    ensures is { IfOk result (λ r. option_map as_task r ≡ option_or (plain_trial_spec (map string_bytes rest.entry.now)) (if_taken trial_app (map string_bytes words.entry.now) trial_in)) }
+    ensures is { IfOk result (λ r. option_map as_task r
+        ≡ option_or (plain_trial_spec (map string_bytes rest.entry.now)) (if_taken trial_app (map string_bytes words.entry.now) trial_in)) }
     ensures within { IfOk result (λ r. IfSome r (λ q. IsWithin (as_task q))) }
 {
     if let Some(task) = plain_trial(rest) {
@@ -115,7 +118,8 @@ fn read_migrate<'a>(
     words: &'a [String],
 ) -> Result<Option<Task<'a>>, AllocError>
     ensures refused { result ≡ Ok None → IsRefusedBy migrate_app (codes "name" ∷ codes "new" ∷ []) (map string_bytes words.entry.now) }
-    ensures is { IfOk result (λ r. option_map as_task r ≡ option_or (plain_migrate_spec (map string_bytes rest.entry.now)) (if_taken migrate_app (map string_bytes words.entry.now) migrate_in)) }
+    ensures is { IfOk result (λ r. option_map as_task r
+        ≡ option_or (plain_migrate_spec (map string_bytes rest.entry.now)) (if_taken migrate_app (map string_bytes words.entry.now) migrate_in)) }
     ensures within { IfOk result (λ r. IfSome r (λ q. IsWithin (as_task q))) }
 {
     if let Some(task) = plain_migrate(rest) {
@@ -181,7 +185,8 @@ fn read_merge<'a>(
     words: &'a [String],
 ) -> Result<Option<Task<'a>>, AllocError>
     ensures refused { result ≡ Ok None → IsRefusedBy merge_app (codes "first" ∷ codes "second" ∷ codes "new" ∷ []) (map string_bytes words.entry.now) }
-    ensures is { IfOk result (λ r. option_map as_task r ≡ option_or (plain_merge_spec (map string_bytes rest.entry.now)) (if_taken merge_app (map string_bytes words.entry.now) merge_in)) }
+    ensures is { IfOk result (λ r. option_map as_task r
+        ≡ option_or (plain_merge_spec (map string_bytes rest.entry.now)) (if_taken merge_app (map string_bytes words.entry.now) merge_in)) }
     ensures within { IfOk result (λ r. IfSome r (λ q. IsWithin (as_task q))) }
 {
     if let Some(task) = plain_merge(rest) {

@@ -47,7 +47,8 @@ pub fn name_taken<'a>(
     words: &'a [String],
 ) -> Result<Option<&'a str>, AllocError>
     requires { IsOwnId id.now }
-    ensures is { IfOk result (λ r. option_copied r ≡ if_taken (name_app tool.entry.now id.entry.now) (map string_bytes words.entry.now) (name_in id.entry.now)) }
+    ensures is { IfOk result (λ r. option_copied r
+        ≡ if_taken (name_app tool.entry.now id.entry.now) (map string_bytes words.entry.now) (name_in id.entry.now)) }
     ensures refused { result ≡ Ok None → IsRefusedBy (name_app tool.entry.now id.entry.now) (id.entry.now ∷ []) (map string_bytes words.entry.now) }
 {
     let command = name_command(alloc, tool, id)?;
@@ -74,7 +75,8 @@ pub fn build_taken<'a>(alloc: Global, words: &'a [String]) -> Result<Option<Task
 
 fn build_of<'a>(matches: &ArgMatches<'a>) -> Option<Task<'a>>
     requires { (text : List ℕ) → one_of (codes "budget") (rows_of (found_of matches.now)) ≡ Some text → IsUnsignedIn 4096 1073741824 text }
-    ensures empty { result ≡ None → is_some (first_value (found_of matches.now) (codes "collection")) ≡ true → is_some (first_value (found_of matches.now) (codes "name")) ≡ true
+    ensures empty { result ≡ None → is_some (first_value (found_of matches.now) (codes "collection")) ≡ true →
+        is_some (first_value (found_of matches.now) (codes "name")) ≡ true
         → HasEmpty (codes "collection" ∷ codes "name" ∷ []) (rows_of (found_of matches.now)) }
     ensures is { option_map as_task result ≡ build_in (rows_of (found_of matches.now)) }
     ensures within { IfSome result (λ q. IsWithin (as_task q)) }
@@ -113,7 +115,8 @@ pub fn trial_taken<'a>(alloc: Global, words: &'a [String]) -> Result<Option<Task
 fn trial_of<'a>(matches: &ArgMatches<'a>) -> Option<Task<'a>>
     requires seed { (text : List ℕ) → one_of (codes "seed") (rows_of (found_of matches.now)) ≡ Some text → IsUnsignedIn 0 18446744073709551615 text }
     requires docs { (text : List ℕ) → one_of (codes "docs") (rows_of (found_of matches.now)) ≡ Some text → IsUnsignedIn 1 20000 text }
-    ensures there { is_some (first_value (found_of matches.now) (codes "seed")) ≡ true → is_some (first_value (found_of matches.now) (codes "docs")) ≡ true → result ≢ None }
+    ensures there { is_some (first_value (found_of matches.now) (codes "seed")) ≡ true →
+        is_some (first_value (found_of matches.now) (codes "docs")) ≡ true → result ≢ None }
     ensures is { option_map as_task result ≡ trial_in (rows_of (found_of matches.now)) }
     ensures within { IfSome result (λ q. IsWithin (as_task q)) }
 {
@@ -144,7 +147,8 @@ pub fn migrate_taken<'a>(alloc: Global, words: &'a [String]) -> Result<Option<Ta
 }
 
 fn migrate_of<'a>(matches: &ArgMatches<'a>) -> Option<Task<'a>>
-    ensures empty { result ≡ None → is_some (first_value (found_of matches.now) (codes "name")) ≡ true → is_some (first_value (found_of matches.now) (codes "new")) ≡ true
+    ensures empty { result ≡ None → is_some (first_value (found_of matches.now) (codes "name")) ≡ true →
+        is_some (first_value (found_of matches.now) (codes "new")) ≡ true
         → HasEmpty (codes "name" ∷ codes "new" ∷ []) (rows_of (found_of matches.now)) }
     ensures is { option_map as_task result ≡ migrate_in (rows_of (found_of matches.now)) }
     ensures within { IfSome result (λ q. IsWithin (as_task q)) }
@@ -173,7 +177,8 @@ pub fn merge_taken<'a>(alloc: Global, words: &'a [String]) -> Result<Option<Task
 }
 
 fn merge_of<'a>(matches: &ArgMatches<'a>) -> Option<Task<'a>>
-    ensures empty { result ≡ None → is_some (first_value (found_of matches.now) (codes "first")) ≡ true → is_some (first_value (found_of matches.now) (codes "second")) ≡ true
+    ensures empty { result ≡ None → is_some (first_value (found_of matches.now) (codes "first")) ≡ true →
+        is_some (first_value (found_of matches.now) (codes "second")) ≡ true
         → is_some (first_value (found_of matches.now) (codes "new")) ≡ true
         → HasEmpty (codes "first" ∷ codes "second" ∷ codes "new" ∷ []) (rows_of (found_of matches.now)) }
     ensures is { option_map as_task result ≡ merge_in (rows_of (found_of matches.now)) }
