@@ -18,9 +18,8 @@ use Rattle.mg_make.specs.declared.summary.Summary.{Summary}
 use Rattle.mg_build.specs.Building as building
 use Rattle.mg_build.specs.Building.{IsEarly}
 use Rattle.mg_build.specs.Made.{Made}
-use Rattle.mg_build.specs.Outcomes.{StoppedFor}
-use Rattle.mg_build.proofs.CallerLemmas.{put_grew}
-use Rattle.mg_dev.specs.Runs.{IfStopped, Run, StoreFailed, OutputFailed, SaysNothing, Stops}
+use Rattle.mg_dev.proofs.CallerLemmas.{put_grew}
+use Rattle.mg_dev.specs.Runs.{IfStopped, OutputFailed, Run, SaysNothing, StoppedFor, Stops, StoreFailed}
 use Rattle.mg_top.specs.Built.{Built, BuildStops, collection_of}
 use Rattle.mg_top.specs.Lines.{pool_line, summary_lines}
 

@@ -17,9 +17,10 @@ use Rattle.mg_dev.specs.Runs.{IfStopped, KeepsFiles, Run, SaysNothing, StoreFail
 use Rattle.mg_defs.specs.Split.{documents}
 use Rattle.mg_defs.specs.Stands.{Parts, Stand}
 use Rattle.mg_layout.specs.Stands.{Stands, StandsForNone, parts_at}
-use Rattle.mg_build.proofs.CallerLemmas.{put_grew}
+use Rattle.mg_dev.proofs.CallerLemmas.{put_grew}
 use Rattle.mg_check.specs.Found as found
 use Rattle.mg_check.specs.Found.{IsDamagedSet, StandsWith}
+use Rattle.mg_check.specs.Reads.{ReadsSet}
 use Rattle.mg_top.specs.Checked.{Checked, CheckStops, TellsDamage, standing_line}
 use Rattle.mg_top.specs.Lines.{stands_line}
 use Rattle.mg_top.proofs.BuiltLaws.{same_fault, not_done, put_done_or, put_when_done, status_of_put}
@@ -97,7 +98,7 @@ tells_damage run name SameName is told some cause = absurd cause
 tells_damage run name (TooManyRotations count) is told some cause = absurd cause
 
 module _ (name : List ℕ) (run : Run) (f : Fault) (is : run.status ≡ Stopped f)
-    (out : run.out_now ≡ run.out) (input : run.input_now ≡ run.input) (files : KeepsFiles run)
+    (out : run.out_now ≡ run.out) (input : run.input_now ≡ run.input) (files : KeepsFiles run) (unread : ReadsSet run.store.reads run.store_now.reads)
     (cause : found.CheckStops (StoreFailed run) run.store.files name f)
     (not_built : IsSome run.store.files → bytes_at run.store.files (full_name name part.Head) ≡ [] → (f ≡ NotBuilt) ⊎ (f ≡ StoreFault) ⊎ (f ≡ Memory))
     (complete : (collection : List ℕ) → Stands run.store.files name collection → ¬ StoreFailed run → f ≡ Memory) where
@@ -122,6 +123,7 @@ module _ (name : List ℕ) (run : Run) (f : Fault) (is : run.status ≡ Stopped 
     not_built = λ told none. unless (not_built told none);
     complete = λ c stands no_store no_output. inr (stops Memory (complete c stands no_store));
     files = files;
+    unread = unread;
     input = input;
   }
 
@@ -134,6 +136,7 @@ put_stops (Err put.Failed) s files name before now has = has.failed refl
 put_stops (Err put.Memory) s files name before now has = tt
 
 module _ (name : List ℕ) (run : Run) (n m : ℕ) (w : Result (Unit {0}) PutErr) (is : run.status ≡ status_of_put w) (input : run.input_now ≡ run.input) (files : KeepsFiles run)
+    (unread : ReadsSet run.store.reads run.store_now.reads)
     (one : (c d : List ℕ) → Stands run.store.files name c → Stands run.store.files name d → c ≡ d)
     (stands : IsSome run.store.files → StandsWith run.store.files name n m)
     (not_built : IsSome run.store.files → bytes_at run.store.files (full_name name part.Head) ≡ [] → ⊥)
@@ -157,5 +160,6 @@ module _ (name : List ℕ) (run : Run) (n m : ℕ) (w : Result (Unit {0}) PutErr
     not_built = λ told none. absurd (not_built told none);
     complete = λ c it no_store no_output. put_done_or w run is put no_output;
     files = files;
+    unread = unread;
     input = input;
   }

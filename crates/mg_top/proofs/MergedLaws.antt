@@ -19,7 +19,7 @@ use Rattle.mg_make.specs.declared.summary.Summary.{Summary}
 use Rattle.mg_merge.specs.Merging as merging
 use Rattle.mg_merge.specs.Joined.{Joined}
 use Rattle.mg_merge.specs.Merging.{IsEarly, budget_of}
-use Rattle.mg_build.proofs.CallerLemmas.{put_grew}
+use Rattle.mg_dev.proofs.CallerLemmas.{put_grew}
 use Rattle.mg_top.specs.Lines.{summary_lines}
 use Rattle.mg_top.specs.Merged.{MergeStops, Merged}
 use Rattle.mg_dev.specs.Runs.{IfStopped, Run, OutputFailed, SaysNothing, StoreFailed}

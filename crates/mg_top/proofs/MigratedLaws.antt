@@ -17,7 +17,7 @@ use Rattle.mg_layout.specs.Stands.{Stands}
 use Rattle.mg_build.specs.MadeAnew.{MadeAnew}
 use Rattle.mg_build.specs.Migrating as migrating
 use Rattle.mg_build.specs.Migrating.{ComesFirst}
-use Rattle.mg_build.proofs.CallerLemmas.{put_grew}
+use Rattle.mg_dev.proofs.CallerLemmas.{put_grew}
 use Rattle.mg_top.specs.Migrated.{MigrateStops, Migrated, documents_line}
 use Rattle.mg_dev.specs.Runs.{IfStopped, Run, OutputFailed, SaysNothing, StoreFailed}
 use Rattle.mg_top.proofs.BuiltLaws.{never_stopped, never_refused, not_done, put_done_or, put_when_done, same_fault, status_of_put}

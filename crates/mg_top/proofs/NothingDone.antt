@@ -175,6 +175,7 @@ module _ (run : Run) (stops : Stops run Memory) (store : run.store_now ≡ run.s
     not_built = λ told none. inr (inr stops);
     complete = λ c stands no_store no_output. inr stops;
     files = files;
+    unread = record { merge_a = same_reads part.MergeA; merge_b = same_reads part.MergeB; plain = same_reads part.Plain };
     input = input;
   }
 

@@ -21,8 +21,8 @@ use Rattle.mg_make.specs.Summaries.{summary_of}
 use Rattle.mg_make.specs.declared.summary.Summary.{Summary}
 use Rattle.mg_build.specs.Building as building
 use Rattle.mg_build.specs.Made.{Made}
-use Rattle.mg_build.specs.Outcomes.{IsDone, RefusedFor, StoppedFor}
-use Rattle.mg_build.specs.Sources.{most_bytes}
+use Rattle.mg_dev.specs.Runs.{IsDone, RefusedFor, StoppedFor}
+use Rattle.mg_make.specs.Outcomes.{most_bytes}
 use Rattle.mg_top.specs.Trials.{IsBuilt, Lacks, TrialStops, WorkEnds, replies_of, set_name, text_name, trial_summary}
 use Rattle.mg_top.specs.declared.comparing.Replies.{Replies}
 use Rattle.mg_top.proofs.BuiltLaws.{never_refused, never_stopped}

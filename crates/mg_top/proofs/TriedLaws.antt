@@ -15,13 +15,12 @@ use Rattle.mg_defs.specs.Generator.{made_collection}
 use Rattle.mg_defs.specs.Limits.{IsWithinLimits, held_bytes, version_2}
 use Rattle.mg_defs.specs.Marks.{PassesFirst, start, piece}
 use Rattle.mg_defs.specs.Summaries.{trial_lines, trial_text}
-use Rattle.mg_build.specs.Outcomes.{IsDone, RefusedFor}
 use Rattle.mg_top.specs.Lines.{bytes_line, compared_line, trial_summary_lines}
-use Rattle.mg_dev.specs.Runs.{IfStopped, Run, OutputFailed, Stops, status_of}
+use Rattle.mg_dev.specs.Runs.{IfStopped, IsDone, OutputFailed, RefusedFor, Run, Stops, status_of}
 use Rattle.mg_top.specs.Trials.{SilentAfter, TrialStops, trial_summary}
 use Rattle.mg_top.specs.Tried.{Tried}
 use Rattle.mg_top.specs.declared.trial_summary.TrialSummary.{TrialSummary}
-use Rattle.mg_build.proofs.CallerLemmas.{only_lacks, put_grew, stopped_by}
+use Rattle.mg_dev.proofs.CallerLemmas.{only_lacks, put_grew, stopped_by}
 use Rattle.mg_top.proofs.TrialLaws.{no_refusal}
 
 text_of_trial : (docs : ℕ) (collection input : List ℕ) → trial_summary_lines (trial_summary docs collection input) ≡ trial_lines docs collection input

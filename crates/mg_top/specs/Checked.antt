@@ -13,6 +13,7 @@ use Rattle.mg_defs.specs.Split.{documents}
 use Rattle.mg_layout.specs.Stands.{Stands, StandsForNone}
 use Rattle.mg_check.specs.Found as found
 use Rattle.mg_check.specs.Found.{IsDamagedSet}
+use Rattle.mg_check.specs.Reads.{ReadsSet}
 use Rattle.mg_dev.specs.Runs.{IfStopped, Run, StoreFailed, OutputFailed, SaysNothing, KeepsFiles, Stops, StopsUnless}
 use Rattle.mg_top.specs.Lines.{stands_line}
 
@@ -49,6 +50,7 @@ pub record Checked (name : List ℕ) (run : Run) : Type 0 where
   -- where the files stand and no device fails, it is done, or memory is wanting
   pub complete : (collection : List ℕ) → Stands run.store.files name collection → ¬ StoreFailed run → ¬ OutputFailed run
       → (run.status ≡ Done) ⊎ Stops run Memory
-  -- no file changes, and the input is not read
+  -- no file changes, no part is read but those of a set, and the input is not read
   pub files : KeepsFiles run
+  pub unread : ReadsSet run.store.reads run.store_now.reads
   pub input : run.input_now ≡ run.input

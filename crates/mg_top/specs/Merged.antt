@@ -13,9 +13,9 @@ use Rattle.mg_defs.specs.Marks.{PassesFirst, start, piece}
 use Rattle.mg_defs.specs.Summaries.{summary_text}
 use Rattle.mg_layout.specs.Stands.{Stands, StandsIn}
 use Rattle.mg_make.specs.Putting.{OthersSame}
-use Rattle.mg_merge.specs.Joined.{AreJoined}
 use Rattle.mg_merge.specs.Merging as merging
-use Rattle.mg_merge.specs.Merging.{BothStand, IsEarly, IsSizeByHeads, Left, budget_of, most_bytes}
+use Rattle.mg_make.specs.Outcomes.{AreMadeAnew, Left, most_bytes}
+use Rattle.mg_merge.specs.Merging.{BothStand, IsEarly, IsSizeByHeads, budget_of}
 use Rattle.mg_merge.specs.Stops.{IsMissing}
 use Rattle.mg_dev.specs.Runs.{IfStopped, Run, StoreFailed, OutputFailed, SaysNothing, KeepsFiles, Stops, StopsUnless}
 
@@ -28,7 +28,7 @@ MergeStops store_rose output_rose files first second new fault = merging.MergeSt
 pub record Merged (first second new : List ℕ) (run : Run) : Type 0 where
   -- status 0: the new set is made of both in one, with as many occurrences to a run as the first has, and its summary is printed
   pub done : (version cap : ℕ) (a b : List ℕ) → StandsIn version cap run.store.files first a → Stands run.store.files second b → run.status ≡ Done
-      → AreJoined run.store_now.files new (join a b) cap
+      → AreMadeAnew run.store_now.files new (join a b) cap
   pub printed : (version cap : ℕ) (a b : List ℕ) → StandsIn version cap run.store.files first a → Stands run.store.files second b → run.status ≡ Done
       → run.out_now.written ≡ appended run.out.written (summary_text (join a b) (budget_of cap))
   -- every status: a prefix of the summary is printed; after the statuses 16, 5 and 8 to 10 nothing, and no file changes
@@ -38,7 +38,7 @@ pub record Merged (first second new : List ℕ) (run : Run) : Type 0 where
   pub unchanged : (fault : Fault) → IsEarly fault → Stops run fault → KeepsFiles run
   -- where the summary could not be written the new set is made
   pub kept : (version cap : ℕ) (a b : List ℕ) → StandsIn version cap run.store.files first a → Stands run.store.files second b → Stops run WriteFault
-      → AreJoined run.store_now.files new (join a b) cap
+      → AreMadeAnew run.store_now.files new (join a b) cap
   -- every status: all files are as before, or the new set stands for none, or for both collections in one; no file but its own changes
   pub left : (a b : List ℕ) → BothStand run.store.files first second a b → Left new run.store.files run.store_now.files (join a b)
   pub others : OthersSame new run.store.files run.store_now.files

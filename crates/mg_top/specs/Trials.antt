@@ -13,7 +13,7 @@ use Rattle.mg_defs.specs.Occurrences.{occurrences}
 use Rattle.mg_defs.specs.Replies.{session}
 use Rattle.mg_defs.specs.Terms.{dictionary}
 use Rattle.mg_layout.specs.Stands.{Stands}
-use Rattle.mg_build.specs.Outcomes.{IsDone, RefusedFor}
+use Rattle.mg_dev.specs.Runs.{IsDone, RefusedFor}
 use Rattle.mg_top.specs.declared.comparing.Replies.{Replies}
 use Rattle.mg_top.specs.declared.trial_summary.TrialSummary.{TrialSummary}
 

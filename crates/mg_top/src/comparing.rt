@@ -96,7 +96,8 @@ pub(crate) struct Replies {
 
 /// Asks the questions of a trial of the set and of the collection's text.
 pub(crate) fn ask_both<S: Store>(alloc: Global, store: &mut S, seed: u64) -> Result<Replies, Fault>
-    ensures replies { (collection : List ℕ) → IsBuilt (S.files store.old) collection → IfOk result (λ replies. replies ≡ replies_of collection (made_session seed)) }
+    ensures replies { (collection : List ℕ) → IsBuilt (S.files store.old) collection →
+        IfOk result (λ replies. replies ≡ replies_of collection (made_session seed)) }
     ensures cause { (collection : List ℕ) → IsBuilt (S.files store.old) collection → IfErr result (Lacks (Rose (S.faults store.old) (S.faults store.new))) }
     ensures later { S.faults store.old ≤ S.faults store.new }
 {

@@ -9,7 +9,7 @@ ghost use Rattle.mg_defs.specs.Generator.{made_collection, made_session};
 ghost use Rattle.mg_defs.specs.Limits.{IsWithinLimits, held_bytes, version_2};
 ghost use Rattle.mg_defs.specs.Marks.{PassesFirst, start as start_mark, piece as piece_mark};
 ghost use Rattle.mg_defs.specs.Summaries.{trial_text};
-ghost use Rattle.mg_build.specs.Outcomes.{IsDone, RefusedFor};
+ghost use Rattle.mg_dev.specs.Runs.{IsDone, RefusedFor};
 ghost use Rattle.mg_top.specs.Trials.{Lacks, SilentAfter, TrialStops, WorkEnds, text_name};
 
 use crate::comparing::{ask_both, is_decoded};
@@ -132,11 +132,13 @@ pub fn trial<S: Store, O: Sink>(
     ensures text { AfterPut (O.written out.old) (O.written out.new) (trial_text seed docs) result }
     ensures silent { IfErr result (SilentAfter (O.written out.old) (O.written out.new) (O.lacks out.old) (O.lacks out.new)) }
     // The cause of each refusal.
-    ensures cause { IfErr result (TrialStops (Rose (S.faults store.old) (S.faults store.new)) (Rose (O.faults out.old) (O.faults out.new)) (made_collection seed docs)) }
+    ensures cause { IfErr result
+        (TrialStops (Rose (S.faults store.old) (S.faults store.new)) (Rose (O.faults out.old) (O.faults out.new)) (made_collection seed docs)) }
     ensures later { S.faults store.old ≤ S.faults store.new }
     // What the collection has too much of is told, in this order.
     ensures large { held_bytes < length (made_collection seed docs) → RefusedFor result (fault.TooLarge (length (made_collection seed docs)) held_bytes) }
-    ensures documents { length (made_collection seed docs) ≤ held_bytes → PassesFirst version_2 (made_collection seed docs) start_mark → RefusedFor result fault.TooManyDocuments }
+    ensures documents { length (made_collection seed docs) ≤ held_bytes → PassesFirst version_2 (made_collection seed docs) start_mark →
+        RefusedFor result fault.TooManyDocuments }
     ensures pieces { (stream : Kind) (piece : List ℕ) → length (made_collection seed docs) ≤ held_bytes →
         PassesFirst version_2 (made_collection seed docs) (piece_mark stream piece) → RefusedFor result (fault.TooManyPieces stream) }
     // Within the limits it is done, or memory lacks.
