@@ -1,8 +1,8 @@
 -- A writer of a lexicon: what contracts see of it, and which terms it took.
-use Rattle.std.specs.Prelude.{◌≡◌, ℕ, List, Some}
+use Rattle.std.specs.Prelude.{◌≡◌, ℕ, List, [], Some}
 use Rattle.std.specs.declared.option.Option.{Option}
 use Rattle.std.specs.Option.{option_map}
-use Rattle.mg_dev.specs.Files.{Files, bytes_at}
+use Rattle.mg_dev.specs.Files.{Files, bytes_at, written}
 use Rattle.mg_dev.specs.Names.{full_name}
 use Rattle.mg_dev.specs.declared.part.Part.TheVariants.{Lex, LexAt}
 use Rattle.mg_defs.specs.Front.{front, whole_at}
@@ -12,6 +12,10 @@ use Rattle.mg_lex.specs.Terms.{Term, entries_of}
 pub record LexWriting : Type 0 where
   pub base : List ℕ
   pub front : Fronting
+
+-- the files with both parts of a lexicon there and empty
+abbrev pub with_empty_lexicon : Option Files → List ℕ → Option Files
+with_empty_lexicon files base = written (written files (full_name base Lex) []) (full_name base LexAt) []
 
 -- the names of the writer's files, where they are asked for
 abbrev pub places_name : Fronting → Option (List ℕ)

@@ -40,7 +40,12 @@ impl<'a, S> Model for Lex<'a, S> {
 
 impl<'a, S: Store> Lex<'a, S> {
     /// A reader of the lexicon under this base, with as many terms as the head says. It compares
-    /// the size of the places with that number before anything is reserved.
+    /// the size of the places with that number before anything is reserved, and reads no part.
+    ///
+    /// # Errors
+    ///
+    /// `Bad` where LexAt has another size than 4 bytes for each four terms and for the rest of them;
+    /// `Device` where the store failed; `Memory` where a page wants it.
     pub fn load(alloc: Global, store: &mut S, base: &'a str, head: &Head) -> Result<Self, PartErr>
         ensures fits { IfOk result (λ lex. FrontFits lex (S.files store.new)) }
         ensures lex { IfOk result
@@ -70,7 +75,15 @@ impl<'a, S: Store> Lex<'a, S> {
     }
 
     /// What stands of a term: its number, how many documents have it, and where its list and its first
-    /// skip entry stand. None where no document has it.
+    /// skip entry stand. None where no document has it; any bytes may be asked for.
+    ///
+    /// Of n blocks of four terms it looks at log2(n + 1) of them, rounded up, and at one more. Each
+    /// takes at most a page of LexAt and two of Lex. The reader stays of use whatever it answers.
+    ///
+    /// # Errors
+    ///
+    /// `Bad` where LexAt lacks a place or Lex has no entry where one is to stand, so only where the
+    /// parts are damaged; `Device` where the store failed; never `Memory`.
     pub fn find(&mut self, store: &mut S, term: &[u8]) -> Result<Option<TermInfo>, PartErr>
         requires fits { FrontFits self.old (S.files store.old) }
         ensures fits { FrontFits self.new (S.files store.new) }

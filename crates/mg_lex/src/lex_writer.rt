@@ -8,7 +8,7 @@ ghost use Rattle.mg_dev.specs.declared.part.Part.TheVariants as part;
 ghost use Rattle.mg_defs.specs.Front.{is_below};
 ghost use Rattle.mg_layout.specs.Infos.{info_of};
 ghost use Rattle.mg_lex.specs.Terms.{Term};
-ghost use Rattle.mg_lex.specs.Writing.{TermsStand, TookTerms};
+ghost use Rattle.mg_lex.specs.Writing.{TermsStand, TookTerms, with_empty_lexicon};
 
 use mg_dev::{FileRef, Part, PutErr, Store};
 use mg_front::FrontWriter;
@@ -17,6 +17,9 @@ use std::alloc::Global;
 use std::marker::Model;
 
 /// Writes the lexicon of terms that come in the order of their bytes.
+///
+/// It holds back up to a page of each of its two parts, and writes no other file. Behind a refused
+/// call it is of no further use, and nothing is promised of the two parts.
 #[derive(Drop)]
 pub struct LexWriter<'a> {
     base: &'a str,
@@ -32,9 +35,15 @@ impl<'a> Model for LexWriter<'a> {
 }
 
 impl<'a> LexWriter<'a> {
-    /// A writer of a lexicon under this base, whose two parts it empties.
+    /// A writer of a lexicon under this base, to which no term was pushed. Both parts are there and
+    /// empty then.
+    ///
+    /// # Errors
+    ///
+    /// `Failed` where the store failed; `Memory` where the store or a page that is held back wants it.
     pub fn start<S: Store>(alloc: Global, store: &mut S, base: &'a str) -> Result<Self, PutErr>
         ensures took { IfOk result (λ writer. TookTerms writer (S.files store.new) []) }
+        ensures empty { OnOk result (S.files store.new ≡ with_empty_lexicon (S.files store.old) base.entry.now) }
         ensures base { IfOk result (λ writer. writer.base ≡ base.entry.now) }
         ensures others { (n : List ℕ) → n ≢ full_name base.entry.now part.Lex → n ≢ full_name base.entry.now part.LexAt →
             file_at (S.files store.new) n ≡ file_at (S.files store.old) n }
@@ -55,7 +64,11 @@ impl<'a> LexWriter<'a> {
     }
 
     /// Writes what stands of one term more, of at most 255 bytes and above the last one. Its
-    /// number is the count of those before.
+    /// number is the count of those before, and there are at most 2^22 terms.
+    ///
+    /// # Errors
+    ///
+    /// The store's: `Failed` where it failed, `Memory` where it wants memory.
     pub fn push<S: Store>(
         &mut self,
         store: &mut S,
@@ -82,6 +95,10 @@ impl<'a> LexWriter<'a> {
     }
 
     /// Writes what is held. Then the parts are the lexicon of the terms that were pushed.
+    ///
+    /// # Errors
+    ///
+    /// The store's: `Failed` where it failed, `Memory` where it wants memory.
     pub fn finish<S: Store>(&mut self, store: &mut S) -> Result<(), PutErr>
         requires took { (ts : List Term) × TookTerms self.old (S.files store.old) ts }
         ensures finished { OnOk result ((ts : List Term) → TookTerms self.old (S.files store.old) ts → IsSome (S.files store.old) →
