@@ -3,7 +3,7 @@ use Rattle.std.specs.Prelude.{◌≡◌, ◌≤◌, ◌+◌, ◌-◌, ◌*◌, �
 use Rattle.std.specs.List.{flat_map}
 use Rattle.std.specs.Option.{IsSome}
 use Rattle.std.specs.declared.option.Option.{Option}
-use Rattle.mg_dev.specs.Files.{Files, bytes_at}
+use Rattle.mg_dev.specs.Files.{Files, bytes_at, written}
 use Rattle.mg_dev.specs.Names.{full_name}
 use Rattle.mg_dev.specs.declared.part.Part.TheVariants.{Text, Places}
 use Rattle.mg_bits.specs.Writer.{Writing, put_to}
@@ -26,6 +26,10 @@ pub record TextWriting : Type 0 where
   pub is_open : Bool
   -- how many of its pieces are still to come
   pub left : ℕ
+
+-- the files with both parts of a text there and empty
+abbrev pub with_empty_text : Option Files → List ℕ → Option Files
+with_empty_text files base = written (written files (full_name base Text) []) (full_name base Places) []
 
 -- the stream of the next piece where so many are still to come: a document has as many words as others, and they alternate
 abbrev pub turn : ℕ → Stream

@@ -30,7 +30,11 @@ impl Model for ShowBuffer {
 }
 
 impl ShowBuffer {
-    /// A buffer that holds no byte; it takes no memory afterwards.
+    /// A buffer that holds no byte. It takes room for 16,384 of them, and no memory afterwards.
+    ///
+    /// # Errors
+    ///
+    /// Want of memory.
     pub fn new(alloc: Global) -> Result<Self, AllocError>
         ensures { IfOk result (λ b. b ≡ []) }
     {
@@ -48,7 +52,12 @@ impl ShowBuffer {
     }
 
     /// Adds the bytes of a piece of at most 255. What was held before goes to the sink where there
-    /// is no room.
+    /// is no room. What the sink took and what is held together grow by the piece; after a refusal
+    /// the sink took a prefix of both.
+    ///
+    /// # Errors
+    ///
+    /// The sink's: `Failed` where it failed, `Memory` where it lacked memory.
     #[inline]
     pub fn put<O: Sink>(&mut self, out: &mut O, piece: &[u8]) -> Result<(), PutErr>
         requires short { length piece.now ≤ 255 }
@@ -81,7 +90,12 @@ impl ShowBuffer {
         self.used = end;
     }
 
-    /// Puts what is held to the sink.
+    /// Puts what is held to the sink, and then holds nothing. After a refusal the sink took a prefix
+    /// of it.
+    ///
+    /// # Errors
+    ///
+    /// The sink's: `Failed` where it failed, `Memory` where it lacked memory.
     pub fn flush<O: Sink>(&mut self, out: &mut O) -> Result<(), PutErr>
         ensures content { AfterPut (O.written out.old) (O.written out.new) self.old result }
         ensures shown { (before : Option (List ℕ)) (bytes : List ℕ) → Shown before (O.written out.old) self.old bytes →

@@ -10,7 +10,7 @@ ghost use Rattle.mg_defs.specs.PagesOf.{pages};
 ghost use Rattle.mg_defs.specs.Split.{documents};
 ghost use Rattle.mg_front.specs.Reading.{IsNotBad, LookedAt};
 ghost use Rattle.mg_text.specs.Decoding.{Added, Gathers, IsShowCaused, Shown};
-ghost use Rattle.mg_text.specs.Reading.{AnswersDoc, AnswersGathered, AnswersReader, AnswersTextSizes, IsText, IsTextReader, SameText, ShowIsNotBad, TextFits, TextStands, stored_at};
+ghost use Rattle.mg_text.specs.Reading.{AnswersDoc, AnswersGathered, AnswersReader, AnswersTextSizes, HasSizes, IsText, IsTextReader, SameText, ShowIsNotBad, TextFits, TextStands, stored_at};
 
 use crate::decoder::{gather_doc, show_doc};
 use crate::places::{first_byte, width_of};
@@ -78,16 +78,24 @@ fn expect_sizes<S: Store>(store: &mut S, base: &str, head: &Head) -> Result<(), 
 }
 
 impl<'a, S: Store> TextReader<'a, S> {
-    /// A reader of the text under this base, which the head tells of. It compares the sizes of Text
-    /// and of Places, in this order, with those of the head before it reads or reserves anything,
-    /// and then loads the models; the first that is refused is told. So memory is wanted only where
-    /// both sizes are right, and Words is no shorter than twice the head's number of words.
+    /// A reader of the text under this base, which the head tells of; each stream has at most 2^22
+    /// pieces. It compares the sizes of Text and of Places, in this order, with those of the head
+    /// before it reads or reserves anything, and then loads the models, from Words and Nonwords. The
+    /// first that is refused is told.
+    ///
+    /// # Errors
+    ///
+    /// `Bad` where Text or Places has another size than the head says, or where Words or Nonwords is
+    /// damaged; `Device` where the store failed; `Memory` where it is wanted, and that only where both
+    /// sizes are right and Words is no shorter than twice the head's number of words.
     pub fn load(alloc: Global, store: &mut S, base: &'a str, head: &Head) -> Result<Self, PartErr>
         requires words { head.now.words ≤ 2 ^ 22 }
         requires others { head.now.others ≤ 2 ^ 22 }
         ensures fits { IfOk result (λ r. TextFits r (S.files store.new)) }
         ensures reader { IfOk result (λ r. IsTextReader r base.entry.now head.now) }
         ensures answer { IsSome (S.files store.old) → AnswersReader (stored_at (S.files store.old) base.entry.now head.now) result }
+        ensures unread { IsSome (S.files store.old) → ¬ HasSizes (stored_at (S.files store.old) base.entry.now head.now) →
+            SameReads (S.reads store.old) (S.reads store.new) }
         ensures stands { (code : TextCode) (collection : List ℕ) → IsText base.entry.now (S.files store.old) head.now code collection →
             IfOk result (λ r. TextStands r (S.files store.new) collection) }
         ensures code { (code : TextCode) (collection : List ℕ) → IsText base.entry.now (S.files store.old) head.now code collection →
@@ -140,7 +148,15 @@ impl<'a, S: Store> TextReader<'a, S> {
     }
 
     /// Writes the bytes of a document, from 1 to the number of documents, to a sink, and no byte
-    /// behind them. After a refusal a prefix of them was written, where the parts stand.
+    /// behind them. It reads at most one page of Places. Where the parts stand, it reads no more pages
+    /// of Text than the document's bits lie on, and after a refusal a prefix of the bytes was written.
+    /// The reader stays of use whatever it answers.
+    ///
+    /// # Errors
+    ///
+    /// `Part` where the store failed, or with `Bad` where the place or the bits of the document are
+    /// damaged, and never for want of memory; `Write` where the sink failed; `Memory` where the sink
+    /// lacked it.
     pub fn doc<O: Sink>(&mut self, store: &mut S, number: u32, out: &mut O) -> Result<(), ShowErr>
         requires fits { TextFits self.old (S.files store.old) }
         requires some { 1 ≤ number }
@@ -166,6 +182,11 @@ impl<'a, S: Store> TextReader<'a, S> {
     /// as the buffer has no room for. What the sink took and what the buffer holds together grow by
     /// the document; after a refusal the sink took a prefix, where the parts stand. Whoever shows
     /// many documents one after the other makes few puts this way, and flushes the buffer at last.
+    /// The number is one from 1 to the number of documents.
+    ///
+    /// # Errors
+    ///
+    /// Those of [`TextReader::doc`].
     pub fn gather<O: Sink>(
         &mut self,
         store: &mut S,
@@ -194,7 +215,7 @@ impl<'a, S: Store> TextReader<'a, S> {
         self.gather_behind(store, number, buffer, out)
     }
 
-    /// The models of both streams.
+    /// The models of both streams, as they were loaded.
     pub fn model(&self) -> &TextModel
         ensures { result.now ≡ self.now.code }
     {

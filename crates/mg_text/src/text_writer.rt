@@ -11,7 +11,7 @@ ghost use Rattle.mg_defs.specs.Canon.{codeword};
 ghost use Rattle.mg_defs.specs.Codes.{gamma};
 ghost use Rattle.mg_defs.specs.Numbers.{eight};
 ghost use Rattle.mg_defs.specs.Marks.{code_of};
-ghost use Rattle.mg_text.specs.Writing.{Began, Ended, IsOnText, PutOne, DocumentsStand, text_bytes, turn};
+ghost use Rattle.mg_text.specs.Writing.{Began, Ended, IsOnText, PutOne, DocumentsStand, text_bytes, turn, with_empty_text};
 
 use mg_bits::{BitWriter, PageWriter};
 use mg_codes::put_gamma;
@@ -27,7 +27,8 @@ use std::marker::Model;
 /// A document is begun with the number of its pairs; then its pieces are put, a word and what
 /// follows it in turn, and the document is ended. It holds back up to a page of each part and keeps
 /// nothing of what was put but a few numbers. A call refuses where the store does, or where it wants
-/// memory; then what stands in the two parts is no text, and no other file was changed.
+/// memory; behind that the writer is of no further use, nothing is promised of the two parts, and no
+/// other file was changed.
 #[derive(Drop)]
 pub struct TextWriter<'a> {
     base: &'a str,
@@ -58,9 +59,15 @@ fn put_place<S: Store>(places: &mut PageWriter<'_>, store: &mut S, place: u64) -
 }
 
 impl<'a> TextWriter<'a> {
-    /// A writer of the text under this base, whose two parts it empties.
+    /// A writer of the text under this base, to which no document was put. Both parts are there and
+    /// empty then.
+    ///
+    /// # Errors
+    ///
+    /// `Failed` where the store failed; `Memory` where the store or a page that is held back wants it.
     pub fn start<S: Store>(alloc: Global, store: &mut S, base: &'a str) -> Result<Self, PutErr>
         ensures took { IfOk result (λ writer. IsOnText writer (S.files store.new) [] []) }
+        ensures empty { OnOk result (S.files store.new ≡ with_empty_text (S.files store.old) base.entry.now) }
         ensures base { IfOk result (λ writer. writer.base ≡ base.entry.now) }
         ensures docs { IfOk result (λ writer. writer.docs ≡ 0) }
         ensures pairs { IfOk result (λ writer. writer.pairs ≡ 0) }
@@ -100,6 +107,10 @@ impl<'a> TextWriter<'a> {
 
     /// Begins a document of so many pairs: writes its place and the number. There are at most 2^24
     /// documents, and at most 2^32 - 1 pairs in all of them together.
+    ///
+    /// # Errors
+    ///
+    /// The store's: `Failed` where it failed, `Memory` where it wants memory.
     pub fn begin_doc<S: Store>(&mut self, store: &mut S, pairs: u32) -> Result<(), PutErr>
         requires took { (docs : List Bits) × IsOnText self.old (S.files store.old) docs [] }
         requires closed { self.old.is_open ≡ false }
@@ -128,6 +139,10 @@ impl<'a> TextWriter<'a> {
     /// Writes the codeword of one piece more of the document. Words and others alternate, the first
     /// is a word, and there are twice as many pieces as pairs; a symbol is below the number of its
     /// stream's pieces.
+    ///
+    /// # Errors
+    ///
+    /// The store's: `Failed` where it failed, `Memory` where it wants memory.
     #[inline]
     pub fn put_piece<S: Store>(
         &mut self,
@@ -155,6 +170,10 @@ impl<'a> TextWriter<'a> {
     }
 
     /// Ends the document, all of whose pieces were put: zero-bits fill its last byte.
+    ///
+    /// # Errors
+    ///
+    /// The store's: `Failed` where it failed, `Memory` where it wants memory.
     pub fn end_doc<S: Store>(&mut self, store: &mut S) -> Result<(), PutErr>
         requires took { (docs : List Bits) × (bits : Bits) × IsOnText self.old (S.files store.old) docs bits }
         requires begun { self.old.is_open ≡ true }
@@ -174,7 +193,11 @@ impl<'a> TextWriter<'a> {
     }
 
     /// Writes the last place and what is held. Then the parts hold the documents and their places.
-    /// Answers the bytes of Text.
+    /// Answers how many bytes Text has.
+    ///
+    /// # Errors
+    ///
+    /// The store's: `Failed` where it failed, `Memory` where it wants memory.
     pub fn finish<S: Store>(&mut self, store: &mut S) -> Result<u64, PutErr>
         requires took { (docs : List Bits) × IsOnText self.old (S.files store.old) docs [] }
         requires closed { self.old.is_open ≡ false }
