@@ -1,6 +1,7 @@
 -- Documents rise over any parts.
-use Rattle.std.proofs.Common.{arith, ◌≡◌, ◌+◌, ◌≤◌, ◌<◌, ℕ, List, [], ◌∷◌, length, drop, Option, Some, None, Ok, Err, IfOk, IfSome, refl, sym, ◌∙◌, ap, subst, ◌⊎◌, inl, inr}
+use Rattle.std.proofs.Common.{arith, ◌≡◌, ◌+◌, ◌*◌, ◌≤◌, ◌<◌, ℕ, Bool, true, false, List, [], ◌∷◌, length, drop, Option, Some, None, Ok, Err, IfOk, IfSome, refl, sym, ◌∙◌, ap, subst, ◌⊎◌, inl, inr}
 use Rattle.std.specs.Prelude.{Result}
+use Rattle.mg_dev.specs.declared.part.Part.{Part}
 use Rattle.mg_dev.specs.declared.part.Part.TheVariants.{Post, Skip}
 use Rattle.mg_dev.specs.declared.part_err.PartErr.{PartErr}
 use Rattle.mg_dev.specs.declared.part_err.PartErr.TheVariants as err
@@ -9,8 +10,10 @@ use Rattle.mg_defs.specs.Lists.{last_doc, Rises, Follows, from_doc}
 use Rattle.mg_defs.proofs.ListLaws.{from_here, from_next, last_above}
 use Rattle.mg_post.specs.declared.refusal.Refusal.{Refusal}
 use Rattle.mg_post.specs.declared.refusal.Refusal.TheVariants.{Device, Damaged}
-use Rattle.mg_post.specs.Answers.{IsRefused}
-use Rattle.mg_post.specs.Cursor.{GoesOn, HeldRises, IsFrom, NamesItsPart, head_of, next_doc}
+use Rattle.mg_post.specs.Answers.{IsRefused, OrDevice}
+use Rattle.mg_post.specs.Cursor.{GoesOn, HeldRises, IsFrom, NamesItsPart, StandsOn, head_of, next_doc}
+use Rattle.mg_post.specs.Damages.{NamesPart}
+use Rattle.mg_post.proofs.FindLaws.{doc_within}
 
 order : (a b : ℕ) → (a < b) ⊎ (b ≤ a)
 order a b = grind arith
@@ -141,7 +144,7 @@ names_skip Device err.Memory is = tt
 names_skip Device (err.Bad bad) is = absurd cc
 names_skip (Damaged at) err.Device is = tt
 names_skip (Damaged at) err.Memory is = tt
-names_skip (Damaged at) (err.Bad bad) is = inr is.part_is
+names_skip (Damaged at) (err.Bad bad) is = (inr is.part_is, record { part_is = refl; at_is = refl; low_is = is.low_is; high_is = is.high_is; found_is = is.found_is })
 
 pub names_post : (refusal : Refusal) (e : PartErr) → IsRefused refusal Post e → NamesItsPart e
 names_post Device err.Device is = tt
@@ -149,4 +152,22 @@ names_post Device err.Memory is = tt
 names_post Device (err.Bad bad) is = absurd cc
 names_post (Damaged at) err.Device is = tt
 names_post (Damaged at) err.Memory is = tt
-names_post (Damaged at) (err.Bad bad) is = inl is.part_is
+names_post (Damaged at) (err.Bad bad) is = (inl is.part_is, record { part_is = refl; at_is = refl; low_is = is.low_is; high_is = is.high_is; found_is = is.found_is })
+
+pub names_own : (refusal : Refusal) (own : Part) (e : PartErr) → IsRefused refusal own e → NamesPart own e
+names_own Device own err.Device is = tt
+names_own Device own err.Memory is = tt
+names_own Device own (err.Bad bad) is = absurd cc
+names_own (Damaged at) own err.Device is = tt
+names_own (Damaged at) own err.Memory is = tt
+names_own (Damaged at) own (err.Bad bad) is = record { part_is = is.part_is; at_is = refl; low_is = is.low_is; high_is = is.high_is; found_is = is.found_is }
+
+-- a device's failure names no part
+pub names_none : {A : Type 0} (refusal : Refusal) (own named : Part) (e : PartErr) (fact : A → Type 0) → IsRefused refusal own e → OrDevice {T = A} (Err refusal) fact → NamesPart named e
+names_none Device own named e fact is got = subst (NamesPart named) (sym is) tt
+names_none (Damaged at) own named e fact is got = absurd got
+
+-- where the entries stand, the last document of the blocks that were passed is one of the list
+pub last_small : (b : Bool) (all : ℕ) (ps : List Posting) (reached last : ℕ) (held left : List Posting) → b ≡ false → Rises all 0 ps → StandsOn b ps reached last held left → last ≤ all
+last_small true all ps reached last held left is rises stands = absurd cc
+last_small false all ps reached last held left is rises stands = rw stands.last_is (doc_within all (64 * reached) ps rises)

@@ -1,9 +1,9 @@
 -- What the reading calls answer.
 use Rattle.std.specs.Prelude.{◌≡◌, ℕ, Ok, Err}
 use Rattle.std.specs.declared.result.Result.{Result}
+use Rattle.mg_dev.specs.Bads.{IsBad}
 use Rattle.mg_dev.specs.Causes.{Rose}
 use Rattle.mg_dev.specs.declared.part.Part.{Part}
-use Rattle.mg_dev.specs.declared.bad.Bad as declared
 use Rattle.mg_dev.specs.declared.part_err.PartErr.{PartErr}
 use Rattle.mg_dev.specs.declared.part_err.PartErr.TheVariants as part
 use Rattle.mg_bits.specs.declared.bit_err.BitErr.{BitErr}
@@ -47,19 +47,12 @@ RefusalCause (Ok value) before now = Unit {0}
 RefusalCause (Err Device) before now = Rose before now
 RefusalCause (Err (Damaged at)) before now = Unit {0}
 
-pub record IsBad (bad : declared.Bad) (part : Part) (at : ℕ) : Type 0 where
-  pub part_is : bad.part ≡ part
-  pub at_is : bad.at ≡ at
-  pub low_is : bad.low ≡ 1
-  pub high_is : bad.high ≡ 1
-  pub found_is : bad.found ≡ 0
-
 -- a refusal, told of its part
 abbrev pub IsRefused : Refusal → Part → PartErr → Type 0
 IsRefused Device own e = e ≡ part.Device
 IsRefused (Damaged at) own part.Device = ⊥
 IsRefused (Damaged at) own part.Memory = ⊥
-IsRefused (Damaged at) own (part.Bad bad) = IsBad bad own at
+IsRefused (Damaged at) own (part.Bad bad) = IsBad bad own at 1 1 0
 
 -- where the parts stand: this fact on the answer, or a device's failure, and never that a part is bad
 abbrev pub AnswersList : {T : Type 0} → Result T PartErr → (T → Type 0) → Type 0

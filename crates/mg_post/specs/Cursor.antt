@@ -1,5 +1,6 @@
 -- A cursor over a list: what contracts see of it, and where it stands in its list.
 use Rattle.std.specs.Prelude.{◌≡◌, ◌≢◌, ℕ, ◌+◌, ◌-◌, ◌*◌, ◌/◌, ◌^◌, ◌<◌, ◌≤◌, ◌⊎◌, Bool, true, false, List, [], ◌∷◌, ◌++◌, length, take, drop, min, Option, Some, None, Result, Ok, Err}
+use Rattle.mg_dev.specs.Bads.{IsBad}
 use Rattle.mg_dev.specs.Files.{Files, Reads}
 use Rattle.mg_dev.specs.declared.part.Part.{Part}
 use Rattle.mg_dev.specs.declared.part.Part.TheVariants as part
@@ -150,11 +151,11 @@ pub record HeldRises (all last : ℕ) (held : List Posting) : Type 0 where
   pub rises : Rises all 0 held
   pub within : last_doc 0 held ≤ last
 
--- the part that a refusal names is one of the two
+-- a damage is one of Post or Skip: nothing of what is to stand at a bit of it was found there
 abbrev pub NamesItsPart : PartErr → Type 0
 NamesItsPart err.Device = Unit {0}
 NamesItsPart err.Memory = Unit {0}
-NamesItsPart (err.Bad bad) = (bad.part ≡ part.Post) ⊎ (bad.part ≡ part.Skip)
+NamesItsPart (err.Bad bad) = ((bad.part ≡ part.Post) ⊎ (bad.part ≡ part.Skip)) × IsBad bad bad.part bad.at 1 1 0
 
 -- ---- what a call reads
 

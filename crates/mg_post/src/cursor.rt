@@ -10,6 +10,7 @@ ghost use Rattle.mg_defs.specs.Lists.{from_doc};
 ghost use Rattle.mg_defs.specs.PageBounds.{pages_for};
 ghost use Rattle.mg_defs.specs.Split.{documents};
 ghost use Rattle.mg_post.specs.Answers.{AnswersList};
+ghost use Rattle.mg_post.specs.Damages.{EntriesStand, NamesPart};
 ghost use Rattle.mg_post.specs.Finding.{entries_pages};
 ghost use Rattle.mg_post.specs.Cursor.{head_of, after, next_doc, blocks_of, post_pages, entered_pages, skip_pages, CursorFits, CursorStands, SameList, SamePlace, StandsAt, IsFrom, IsOver, NamesItsPart, ReadsTwo, Enters};
 ghost use Rattle.mg_post.specs.TermLists.{AnswersAsk, CursorFor, IsInfoOf, MayAsk, PagesWithin, ReadsLists};
@@ -162,6 +163,7 @@ impl<'a, S: Store> Cursor<'a, S> {
         ensures stays { (p : Posting) → head_of self.old.held ≡ Some p → doc ≤ p.doc → (result ≡ Ok (Some p)) × SamePlace self.old self.new }
         ensures forward { self.old.reached ≤ self.new.reached }
         ensures part { IfErr result NamesItsPart }
+        ensures post { (ps left : List Posting) → EntriesStand self.old (S.files store.old) ps → StandsAt self.old ps left → IfErr result (NamesPart part.Post) }
         ensures kept { OnErr result (SamePlace self.old self.new) }
         ensures files { S.files store.new ≡ S.files store.old }
         ensures memory { result ≢ Err PartErr.Memory }
@@ -198,6 +200,7 @@ impl<'a, S: Store> Cursor<'a, S> {
         ensures sound { IfOk result (λ found. IfSome found (IsFrom doc self.old.all)) }
         ensures forward { self.old.reached ≤ self.new.reached }
         ensures part { IfErr result NamesItsPart }
+        ensures post { (ps left : List Posting) → EntriesStand self.old (S.files store.old) ps → StandsAt self.old ps left → IfErr result (NamesPart part.Post) }
         ensures kept { OnErr result (SamePlace self.old self.new) }
         ensures files { S.files store.new ≡ S.files store.old }
         ensures memory { result ≢ Err PartErr.Memory }
@@ -270,6 +273,7 @@ impl<'a, S: Store> Cursor<'a, S> {
         ensures sound { IfOk result (λ found. IfSome found (IsFrom (next_doc self.old.held) self.old.all)) }
         ensures forward { self.old.reached ≤ self.new.reached }
         ensures part { IfErr result NamesItsPart }
+        ensures post { (ps left : List Posting) → EntriesStand self.old (S.files store.old) ps → StandsAt self.old ps left → IfErr result (NamesPart part.Post) }
         ensures kept { OnErr result (SamePlace self.old self.new) }
         ensures files { S.files store.new ≡ S.files store.old }
         ensures memory { result ≢ Err PartErr.Memory }
@@ -313,6 +317,7 @@ impl<'a, S: Store> Cursor<'a, S> {
         ensures reads { ReadsLists (S.reads store.old) (S.reads store.new) }
         ensures sound { IfOk result (λ found. IfSome found (IsFrom doc self.old.all)) }
         ensures part { IfErr result NamesItsPart }
+        ensures post { (ps left : List Posting) → EntriesStand self.old (S.files store.old) ps → StandsAt self.old ps left → IfErr result (NamesPart part.Post) }
         ensures files { S.files store.new ≡ S.files store.old }
         ensures memory { result ≢ Err PartErr.Memory }
         ensures cause { HasPartCause (S.faults store.old) (S.faults store.new) result }

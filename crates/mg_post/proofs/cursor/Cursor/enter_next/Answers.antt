@@ -1,11 +1,12 @@
 use Rattle.std.proofs.Common.{arith, ◌≡◌, ◌+◌, ◌-◌, ◌*◌, ◌^◌, ◌≤◌, ◌<◌, false, min, refl, sym, ◌∙◌, ap, subst, Some, None}
+use Rattle.mg_dev.specs.declared.part.Part.TheVariants.{Post, Skip}
 use Rattle.mg_bits.specs.Feed.{told_at}
 use Rattle.mg_bits.specs.Pages.{Paging}
 use Rattle.mg_defs.specs.Lists.{bits_after, block_pages}
 use Rattle.mg_post.specs.Stands.{Shows, SkipStands}
 use Rattle.mg_post.specs.Finding.{IsFound}
 use Rattle.mg_post.proofs.CursorLaws.{walks_of, at_end, on_block, same_file, refused_answer, raised_by, raised_most}
-use Rattle.mg_post.proofs.SoundLaws.{nothing_held}
+use Rattle.mg_post.proofs.SoundLaws.{names_none, names_own, nothing_held}
 use Rattle.mg_post.proofs.cursor.Cursor.enter_next.Goals as goal
 
 pub returns-in-Err-clause-same : goal.returns-in-Err-clause-same
@@ -134,3 +135,15 @@ invariant_of-self-in-Ok-None g c =
       nothing_held c.self.inside.all c.self.inside.last c.clear.new.self c.clear.ensures,
       i.9,
     )
+
+pub returns-in-Err-clause-post : goal.returns-in-Err-clause-post
+returns-in-Err-clause-post g c =
+    let on : c.self.inside.ended ≡ false = rw (← c.self.view_is) at c.requires.on in
+    rw (← c.self.view_is)
+    (λ ps left stands at.
+    let entries : SkipStands c.self.inside.all c.self.inside.parameter (told_at (g.S.Store.files c.args.store.now) c.self.inside.skip.feed.name) c.self.inside.skip_at c.count_blocks-blocks.result ps = rw c.count_blocks-blocks.ensures stands.entries in
+    let w = walks_of c.self.inside.ended ps c.self.inside.reached c.self.inside.last c.self.inside.block left on at.on in
+    names_none c.in-Err.refusal Skip Post _ _ c.refused_part.ensures (c.in-Err.ensures.told ps c.self.inside.parameter entries w.last_is))
+
+pub returns-in-Err-enter-clause-post : goal.returns-in-Err-enter-clause-post
+returns-in-Err-enter-clause-post g c = λ ps left stands at. names_own c.in-Err-enter.refusal Post _ c.refused_part-in-Err-enter.ensures

@@ -1,7 +1,7 @@
 use Rattle.std.proofs.Common.{arith, refl, sym, ◌∙◌}
 use Rattle.mg_post.proofs.CursorLaws.{next_within, next_low, next_beyond}
 use Rattle.std.proofs.lemmas.Bool.{false≢true}
-use Rattle.mg_post.proofs.SoundLaws.{next_held, next_sound, step_rises}
+use Rattle.mg_post.proofs.SoundLaws.{last_small, next_held, next_sound, step_rises}
 use Rattle.mg_post.proofs.cursor.Cursor.next.Goals as goal
 
 pub returns-in-Some-clause-answer : goal.returns-in-Some-clause-answer
@@ -62,3 +62,16 @@ pub returns-else-last-clause-sound : goal.returns-else-last-clause-sound
 returns-else-last-clause-sound g c =
     let step = c.in-None.ensures in
     rw (← c.self.view_is) (next_sound c.self.inside.all c.self.inside.last c.self.inside.block c.advance_to.result c.self.invariant.8 step.0 c.advance_to.ensures.sound)
+
+pub returns-then-last-clause-post : goal.returns-then-last-clause-post
+returns-then-last-clause-post g c =
+    rw (← c.self.view_is)
+    (λ ps left stands at.
+    let low = last_small c.self.inside.ended c.self.inside.all ps c.self.inside.reached c.self.inside.last c.self.inside.block left c.if-self.false stands.entries.rises at.on in
+    absurd (omega (arith, low, stands.few, c.if-last.true)))
+
+pub returns-else-last-clause-post : goal.returns-else-last-clause-post
+returns-else-last-clause-post g c =
+    let step = c.in-None.ensures in
+    let post = rw step.1 at c.advance_to.ensures.post in
+    rw (← c.self.view_is) (λ ps left stands at. post ps left stands at)
