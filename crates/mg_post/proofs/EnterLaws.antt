@@ -9,7 +9,7 @@ use Rattle.mg_defs.specs.PagesOf.{pages}
 use Rattle.mg_defs.proofs.ListLaws.{bits_append, rises_left, rises_right, rest_stands, from_some, block_last}
 use Rattle.mg_bits.specs.Feed.{Feeding, Device as Seen, ReadsWithin, to_read}
 use Rattle.mg_post.specs.declared.refusal.Refusal.{Refusal}
-use Rattle.mg_post.specs.Stands.{Shows}
+use Rattle.mg_post.specs.Stands.{BlockStands, Shows}
 use Rattle.mg_post.specs.Finding.{IsFoundAt}
 use Rattle.mg_post.specs.Cursor.{Entered, head_of}
 use Rattle.mg_post.specs.Answers.{OrDevice}
@@ -126,3 +126,23 @@ refused_pages told f0 f1 d0 d1 post_at all b place before count docs k ps page c
     answers (drop (64 * k) ps) (rw from (rest_rises all (64 * k) ps rises)) (omega (arith, length-drop (64 * k) ps)) (rw from (omega (arith, parted_length b (64 * k) ps))) (rw from (rest_shown told post_at place b (64 * k) ps at shows)) in
     let most : f1.count ≤ f0.count + pages place (place + length (bits_after b before (take count (drop (64 * k) ps)))) = count_most f0 f1 d0 d1 place _ page within in
     omega (arith, most, pages_is b post_at place (place + length (bits_after b before (take count (drop (64 * k) ps)))) k before ps (take count (drop (64 * k) ps)) (block_is count docs k ps counted whole) from at refl)
+
+-- ---- one block alone
+
+whole_front : (n : ℕ) (ps : List Posting) → length ps ≡ n → take n ps ≡ ps
+whole_front n [] is = grind (arith, common_steps)
+whole_front zero (p ∷ ps) is = absurd (omega (arith, is))
+whole_front (suc n) (p ∷ ps) is = ap (λ l. p ∷ l) (whole_front n ps (omega (arith, is)))
+
+-- the answer of the read of a block that stands
+pub block_filled : (told : Option (List ℕ)) (all b at count before last place : ℕ) (ps held : List Posting) (result : Result ℕ Refusal) → BlockStands all b told at count before last ps → place ≡ at →
+    ((qs : List Posting) → Rises all before qs → count ≤ length qs → place + length (bits_after b before qs) ≤ 2 ^ 63 → Shows told place (bits_after b before qs) → OrDevice result (λ u. held ≡ take count qs)) →
+    OrDevice result (λ u. held ≡ ps)
+block_filled told all b at count before last place ps held result stands is answers =
+    let got : OrDevice result (λ u. held ≡ take count ps) =
+    answers ps stands.rises (omega (arith, stands.count_is)) (omega (arith, is, stands.small)) (subst (λ n. Shows told n (bits_after b before ps)) (sym is) stands.bits) in
+    subst (λ l. OrDevice result (λ u. held ≡ l)) (whole_front count ps stands.count_is) got
+
+-- it has a posting from a document of its range on
+pub filled_some : (told : Option (List ℕ)) (all b at count before last doc : ℕ) (ps : List Posting) → before < doc → doc ≤ last → BlockStands all b told at count before last ps → 0 < length (from_doc doc ps)
+filled_some told all b at count before last doc ps after within stands = from_some all before doc ps stands.rises after (omega (arith, within, stands.last_is))

@@ -1,5 +1,5 @@
 -- What stands where a skip entry is read.
-use Rattle.std.proofs.Common.{arith, ◌≡◌, ◌+◌, ◌-◌, ◌*◌, ◌^◌, ◌%◌, ◌≤◌, ◌<◌, ℕ, List, ◌++◌, length, take, drop, Option, Some, None, Result, Ok, Err, sym, ◌∙◌, ap, subst, length-append, IfOk, ◌⊎◌, inl, inr}
+use Rattle.std.proofs.Common.{arith, ◌≡◌, ◌+◌, ◌-◌, ◌*◌, ◌^◌, ◌%◌, ◌≤◌, ◌<◌, ℕ, List, ◌++◌, length, take, drop, Option, Some, None, Result, Ok, Err, refl, sym, ◌∙◌, ap, subst, length-append, IfOk, ◌⊎◌, inl, inr}
 use Rattle.std.proofs.lemmas.List.{take-append-drop}
 use Rattle.mg_defs.specs.declared.Posting.{Posting}
 use Rattle.mg_defs.specs.Bits.{Bits, Begins, FromPlace, digits}
@@ -15,7 +15,7 @@ use Rattle.mg_bits.specs.declared.bit_err.BitErr.{BitErr}
 use Rattle.mg_bits.specs.declared.bit_err.BitErr.TheVariants as bits
 use Rattle.mg_post.specs.declared.refusal.Refusal.{Refusal}
 use Rattle.mg_post.specs.Stands.{Shows, SkipStands}
-use Rattle.mg_post.specs.Finding.{ReadTo, SkipReads, entry_page, entries_pages}
+use Rattle.mg_post.specs.Finding.{ReadTo, SkipReads, TellsBefore, TellsBlock, TellsLast, entry_page, entries_pages}
 use Rattle.mg_post.specs.Answers.{IsNumber, OrDevice, of_bits}
 use Rattle.mg_post.proofs.ReadLaws.{shows_left, shows_right}
 
@@ -159,3 +159,34 @@ count_same count now h p held is same step =
     let there : now ≤ count + lacks (Some h) p = subst (λ x. now ≤ count + lacks x p) is step in
     let l : lacks (Some h) p ≡ 0 = lacks_next h p (omega (arith, same)) (omega (arith, same)) ∙ omega (arith, same) in
     omega (arith, there, l)
+
+-- ---- what the entries tell
+
+pub tells_first : (skip : Option (List ℕ)) (skip_at low known : ℕ) → TellsBefore skip skip_at low known low known
+tells_first skip skip_at low known = record { first = λ is. refl; later = λ lt. absurd (omega (arith, lt)) }
+
+-- the block behind one whose entry was read
+pub tells_next : (skip : Option (List ℕ)) (skip_at low known block last : ℕ) → low ≤ block → TellsLast skip skip_at block last → TellsBefore skip skip_at low known (block + 1) last
+tells_next skip skip_at low known block last le tells =
+    let e : block ≡ block + 1 - 1 = omega arith in
+    record { first = λ is. absurd (omega (arith, is, le)); later = λ lt. subst (λ k. TellsLast skip skip_at k last) e tells }
+
+-- of a search that went on from a later block
+pub tells_on : (skip : Option (List ℕ)) (skip_at reached low known before block here last at : ℕ) → reached ≤ low → low ≤ block → TellsBefore skip skip_at reached known low before → TellsBlock skip skip_at low before block here last at →
+    TellsBlock skip skip_at reached known block here last at
+tells_on skip skip_at reached low known before block here last at from more told tells = record {
+  before_is = record {
+    first = λ is. (let e : block ≡ low = omega (arith, is, from, more) in tells.before_is.first e ∙ told.first (omega (arith, is, e)));
+    later = λ lt. elim (order low block) [
+      | inl below ↦ tells.before_is.later below
+      | inr above ↦ (let e : block ≡ low = omega (arith, above, more) in
+          let same : here ≡ before = tells.before_is.first e in
+          subst (λ k. TellsLast skip skip_at (k - 1) here) (sym e) (subst (TellsLast skip skip_at (low - 1)) (sym same) (told.later (omega (arith, lt, e)))))
+    ];
+  };
+  last_is = tells.last_is;
+  at_is = tells.at_is;
+}
+  where
+    order : (a b : ℕ) → (a < b) ⊎ (b ≤ a)
+    order a b = grind arith

@@ -1,6 +1,7 @@
 -- Documents rise over any parts.
 use Rattle.std.proofs.Common.{arith, ◌≡◌, ◌+◌, ◌*◌, ◌≤◌, ◌<◌, ℕ, Bool, true, false, List, [], ◌∷◌, length, drop, Option, Some, None, Ok, Err, IfOk, IfSome, refl, sym, ◌∙◌, ap, subst, ◌⊎◌, inl, inr}
 use Rattle.std.specs.Prelude.{Result}
+use Rattle.mg_dev.specs.Files.{Files}
 use Rattle.mg_dev.specs.declared.part.Part.{Part}
 use Rattle.mg_dev.specs.declared.part.Part.TheVariants.{Post, Skip}
 use Rattle.mg_dev.specs.declared.part_err.PartErr.{PartErr}
@@ -11,8 +12,8 @@ use Rattle.mg_defs.proofs.ListLaws.{from_here, from_next, last_above}
 use Rattle.mg_post.specs.declared.refusal.Refusal.{Refusal}
 use Rattle.mg_post.specs.declared.refusal.Refusal.TheVariants.{Device, Damaged}
 use Rattle.mg_post.specs.Answers.{IsRefused, OrDevice}
-use Rattle.mg_post.specs.Cursor.{GoesOn, HeldRises, IsFrom, NamesItsPart, StandsOn, head_of, next_doc}
-use Rattle.mg_post.specs.Damages.{NamesPart}
+use Rattle.mg_post.specs.Cursor.{Cursoring, GoesOn, HeldRises, IsFrom, NamesItsPart, StandsOn, head_of, next_doc}
+use Rattle.mg_post.specs.Damages.{BlockIsMissing, HasPostCause, NamesPart}
 use Rattle.mg_post.proofs.FindLaws.{doc_within}
 
 order : (a b : ℕ) → (a < b) ⊎ (b ≤ a)
@@ -171,3 +172,15 @@ names_none (Damaged at) own named e fact is got = absurd got
 pub last_small : (b : Bool) (all : ℕ) (ps : List Posting) (reached last : ℕ) (held left : List Posting) → b ≡ false → Rises all 0 ps → StandsOn b ps reached last held left → last ≤ all
 last_small true all ps reached last held left is rises stands = absurd cc
 last_small false all ps reached last held left is rises stands = rw stands.last_is (doc_within all (64 * reached) ps rises)
+
+pub skip_cause : (refusal : Refusal) (e : PartErr) (c : Cursoring) (files : Option Files) (doc : ℕ) → IsRefused refusal Skip e → HasPostCause c files doc e
+skip_cause refusal err.Device c files doc is = tt
+skip_cause refusal err.Memory c files doc is = tt
+skip_cause Device (err.Bad bad) c files doc is = absurd cc
+skip_cause (Damaged at) (err.Bad bad) c files doc is = λ post. (let e : Skip ≡ Post = sym is.part_is ∙ post in absurd cc)
+
+pub post_cause : (refusal : Refusal) (e : PartErr) (c : Cursoring) (files : Option Files) (doc : ℕ) → IsRefused refusal Post e → ((at : ℕ) → refusal ≡ Damaged at → BlockIsMissing c files doc) → HasPostCause c files doc e
+post_cause refusal err.Device c files doc is missing = tt
+post_cause refusal err.Memory c files doc is missing = tt
+post_cause Device (err.Bad bad) c files doc is missing = absurd cc
+post_cause (Damaged at) (err.Bad bad) c files doc is missing = λ post. missing at refl

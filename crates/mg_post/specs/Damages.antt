@@ -1,14 +1,16 @@
 -- Which part a damage names.
-use Rattle.std.specs.Prelude.{◌-◌, ◌^◌, ◌<◌, List, Option}
+use Rattle.std.specs.Prelude.{ℕ, ◌≡◌, ◌+◌, ◌-◌, ◌*◌, ◌^◌, ◌<◌, ◌≤◌, List, Option, min}
 use Rattle.mg_dev.specs.Bads.{IsBad}
 use Rattle.mg_dev.specs.Files.{Files}
 use Rattle.mg_dev.specs.declared.part.Part.{Part}
+use Rattle.mg_dev.specs.declared.part.Part.TheVariants.{Post}
 use Rattle.mg_dev.specs.declared.part_err.PartErr.{PartErr}
 use Rattle.mg_dev.specs.declared.part_err.PartErr.TheVariants.{Device, Memory, Bad}
 use Rattle.mg_bits.specs.Feed.{told_at}
 use Rattle.mg_defs.specs.declared.Posting.{Posting}
 use Rattle.mg_post.specs.Cursor.{Cursoring, blocks_of}
-use Rattle.mg_post.specs.Stands.{SkipStands}
+use Rattle.mg_post.specs.Finding.{TellsBlock}
+use Rattle.mg_post.specs.Stands.{BlockStands, SkipStands}
 
 -- a damage is one of this part: nothing of what is to stand at a bit of it was found there
 abbrev pub NamesPart : Part → PartErr → Type 0
@@ -20,3 +22,23 @@ NamesPart own (Bad bad) = IsBad bad own bad.at 1 1 0
 pub record EntriesStand (c : Cursoring) (files : Option Files) (ps : List Posting) : Type 0 where
   pub entries : SkipStands c.all c.parameter (told_at files c.skip.name) c.skip_at (blocks_of c.docs) ps
   pub few : c.all < 2 ^ 32 - 1
+
+-- the skip entries lead from where the cursor stands to a block whose range holds the document, and no such block stands in Post
+pub record BlockIsMissing (c : Cursoring) (files : Option Files) (doc : ℕ) : Type 0 where
+  pub block : ℕ
+  pub before : ℕ
+  pub last : ℕ
+  pub bits : ℕ
+  pub from : c.reached ≤ block
+  pub there : block < blocks_of c.docs
+  pub after : before < doc
+  pub within : doc ≤ last
+  pub most : last ≤ c.all
+  pub told : TellsBlock (told_at files c.skip.name) c.skip_at c.reached c.last block before last bits
+  pub missing : (ps : List Posting) → BlockStands c.all c.parameter (told_at files c.post.name) (8 * c.post_at + bits) (min (c.docs - 64 * block) 64) before last ps → ⊥
+
+-- a damage of Post has a cause: the block is missing
+abbrev pub HasPostCause : Cursoring → Option Files → ℕ → PartErr → Type 0
+HasPostCause c files doc Device = Unit {0}
+HasPostCause c files doc Memory = Unit {0}
+HasPostCause c files doc (Bad bad) = bad.part ≡ Post → BlockIsMissing c files doc

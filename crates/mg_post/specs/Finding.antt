@@ -1,5 +1,6 @@
 -- The block whose range holds a document, and the pages of the skip entries that were read for it.
 use Rattle.std.specs.Prelude.{◌≡◌, ℕ, ◌+◌, ◌-◌, ◌*◌, ◌/◌, ◌<◌, ◌≤◌, List, Option, Some, None}
+use Rattle.mg_defs.specs.Bits.{Begins, FromPlace, digits}
 use Rattle.mg_defs.specs.declared.Posting.{Posting}
 use Rattle.mg_defs.specs.Lists.{InRange, doc_before, bits_before}
 use Rattle.mg_defs.specs.PagesOf.{pages}
@@ -25,6 +26,29 @@ pub record IsSound (low high all doc : ℕ) (f : Found) : Type 0 where
   pub below : f.before < doc
   pub within : doc ≤ f.last
   pub most : f.last ≤ all
+
+-- ---- what the entries tell, where the bytes of Skip are known
+
+-- the last document of a block, by its entry
+abbrev pub TellsLast : Option (List ℕ) → ℕ → ℕ → ℕ → Type 0
+TellsLast skip skip_at block last = FromPlace skip (128 * (skip_at + block)) (Begins (digits 64 last))
+
+-- the bits of a list before a block, by the block's entry
+abbrev pub TellsBits : Option (List ℕ) → ℕ → ℕ → ℕ → Type 0
+TellsBits skip skip_at block bits = FromPlace skip (128 * (skip_at + block) + 64) (Begins (digits 64 bits))
+
+-- the last document before a block, by the entry before it; of the block where the search began it is known
+pub record TellsBefore (skip : Option (List ℕ)) (skip_at reached known block before : ℕ) : Type 0 where
+  pub first : block ≡ reached → before ≡ known
+  pub later : reached < block → TellsLast skip skip_at (block - 1) before
+
+-- what was found of a block
+pub record TellsBlock (skip : Option (List ℕ)) (skip_at reached known block before last at : ℕ) : Type 0 where
+  pub before_is : TellsBefore skip skip_at reached known block before
+  pub last_is : TellsLast skip skip_at block last
+  pub at_is : TellsBits skip skip_at block at
+
+-- ---- the pages of the entries
 
 -- the page of Skip on which the entry of a number lies
 abbrev pub entry_page : ℕ → ℕ

@@ -2,7 +2,7 @@
 use Rattle.std.specs.Prelude.{◌≡◌, ℕ, ◌+◌, ◌-◌, ◌*◌, ◌^◌, ◌<◌, ◌≤◌, List, length, drop, Option, Some, None}
 use Rattle.mg_defs.specs.declared.Posting.{Posting}
 use Rattle.mg_defs.specs.Bits.{Bits, bits_of, Begins}
-use Rattle.mg_defs.specs.Lists.{bits_after, Rises, entry_of, entry_bits}
+use Rattle.mg_defs.specs.Lists.{bits_after, last_doc, Rises, entry_of, entry_bits}
 
 -- these bits stand at this place of bytes that are told
 abbrev pub Shows : Option (List ℕ) → ℕ → Bits → Type 0
@@ -24,3 +24,11 @@ pub record ListStands (all b : ℕ) (post skip : Option (List ℕ)) (post_at ski
   pub small : post_at + length (bits_after b 0 ps) ≤ 2 ^ 63
   pub whole : docs ≡ length ps
   pub few : all < 2 ^ 32 - 1
+
+-- a block of so many postings stands from a bit of Post on: they follow a document, and end with a last one
+pub record BlockStands (all b : ℕ) (post : Option (List ℕ)) (at count before last : ℕ) (ps : List Posting) : Type 0 where
+  pub count_is : length ps ≡ count
+  pub rises : Rises all before ps
+  pub last_is : last_doc before ps ≡ last
+  pub small : at + length (bits_after b before ps) ≤ 2 ^ 63
+  pub bits : Shows post at (bits_after b before ps)

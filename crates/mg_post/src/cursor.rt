@@ -10,7 +10,7 @@ ghost use Rattle.mg_defs.specs.Lists.{from_doc};
 ghost use Rattle.mg_defs.specs.PageBounds.{pages_for};
 ghost use Rattle.mg_defs.specs.Split.{documents};
 ghost use Rattle.mg_post.specs.Answers.{AnswersList};
-ghost use Rattle.mg_post.specs.Damages.{EntriesStand, NamesPart};
+ghost use Rattle.mg_post.specs.Damages.{EntriesStand, HasPostCause, NamesPart};
 ghost use Rattle.mg_post.specs.Finding.{entries_pages};
 ghost use Rattle.mg_post.specs.Cursor.{head_of, after, next_doc, blocks_of, post_pages, entered_pages, skip_pages, CursorFits, CursorStands, SameList, SamePlace, StandsAt, IsFrom, IsOver, NamesItsPart, ReadsTwo, Enters};
 ghost use Rattle.mg_post.specs.TermLists.{AnswersAsk, CursorFor, IsInfoOf, MayAsk, PagesWithin, ReadsLists};
@@ -37,6 +37,10 @@ use std::mem::swap;
 /// Contracts see three numbers: the pages of Post that were read, the pages of the blocks that were
 /// entered, and the pages of Skip that were read. Of a block whose reading was refused, the second
 /// number has the pages that were read. After a refusal the cursor stands where it stood.
+///
+/// A damage is one of Skip or Post, told with the bit where nothing of what is to stand was found. It
+/// is one of Skip only where the entries are not those of a list, and one of Post only where they lead
+/// to a block that doesn't stand in Post.
 #[derive(Drop)]
 pub struct Cursor<'a, S: Store> {
     post: BitReader<PageFeed<'a, S>>,
@@ -163,7 +167,9 @@ impl<'a, S: Store> Cursor<'a, S> {
         ensures stays { (p : Posting) → head_of self.old.held ≡ Some p → doc ≤ p.doc → (result ≡ Ok (Some p)) × SamePlace self.old self.new }
         ensures forward { self.old.reached ≤ self.new.reached }
         ensures part { IfErr result NamesItsPart }
-        ensures post { (ps left : List Posting) → EntriesStand self.old (S.files store.old) ps → StandsAt self.old ps left → IfErr result (NamesPart part.Post) }
+        ensures post { (ps left : List Posting) → EntriesStand self.old (S.files store.old) ps → StandsAt self.old ps left →
+            IfErr result (NamesPart part.Post) }
+        ensures block { IfErr result (HasPostCause self.old (S.files store.old) doc) }
         ensures kept { OnErr result (SamePlace self.old self.new) }
         ensures files { S.files store.new ≡ S.files store.old }
         ensures memory { result ≢ Err PartErr.Memory }
@@ -200,7 +206,9 @@ impl<'a, S: Store> Cursor<'a, S> {
         ensures sound { IfOk result (λ found. IfSome found (IsFrom doc self.old.all)) }
         ensures forward { self.old.reached ≤ self.new.reached }
         ensures part { IfErr result NamesItsPart }
-        ensures post { (ps left : List Posting) → EntriesStand self.old (S.files store.old) ps → StandsAt self.old ps left → IfErr result (NamesPart part.Post) }
+        ensures post { (ps left : List Posting) → EntriesStand self.old (S.files store.old) ps → StandsAt self.old ps left →
+            IfErr result (NamesPart part.Post) }
+        ensures block { IfErr result (HasPostCause self.old (S.files store.old) doc) }
         ensures kept { OnErr result (SamePlace self.old self.new) }
         ensures files { S.files store.new ≡ S.files store.old }
         ensures memory { result ≢ Err PartErr.Memory }
@@ -273,7 +281,9 @@ impl<'a, S: Store> Cursor<'a, S> {
         ensures sound { IfOk result (λ found. IfSome found (IsFrom (next_doc self.old.held) self.old.all)) }
         ensures forward { self.old.reached ≤ self.new.reached }
         ensures part { IfErr result NamesItsPart }
-        ensures post { (ps left : List Posting) → EntriesStand self.old (S.files store.old) ps → StandsAt self.old ps left → IfErr result (NamesPart part.Post) }
+        ensures post { (ps left : List Posting) → EntriesStand self.old (S.files store.old) ps → StandsAt self.old ps left →
+            IfErr result (NamesPart part.Post) }
+        ensures block { IfErr result (HasPostCause self.old (S.files store.old) (self.old.last + 1)) }
         ensures kept { OnErr result (SamePlace self.old self.new) }
         ensures files { S.files store.new ≡ S.files store.old }
         ensures memory { result ≢ Err PartErr.Memory }
@@ -317,7 +327,9 @@ impl<'a, S: Store> Cursor<'a, S> {
         ensures reads { ReadsLists (S.reads store.old) (S.reads store.new) }
         ensures sound { IfOk result (λ found. IfSome found (IsFrom doc self.old.all)) }
         ensures part { IfErr result NamesItsPart }
-        ensures post { (ps left : List Posting) → EntriesStand self.old (S.files store.old) ps → StandsAt self.old ps left → IfErr result (NamesPart part.Post) }
+        ensures post { (ps left : List Posting) → EntriesStand self.old (S.files store.old) ps → StandsAt self.old ps left →
+            IfErr result (NamesPart part.Post) }
+        ensures block { IfErr result (HasPostCause self.old (S.files store.old) doc) }
         ensures files { S.files store.new ≡ S.files store.old }
         ensures memory { result ≢ Err PartErr.Memory }
         ensures cause { HasPartCause (S.faults store.old) (S.faults store.new) result }

@@ -1,10 +1,10 @@
 // Entering a block.
-ghost use Rattle.std.specs.Prelude.{◌≡◌, ◌+◌, ◌-◌, ◌*◌, ◌<◌, ◌≤◌, ◌^◌, ℕ, List, [], ◌++◌, length, IfOk, OnOk, OnErr, Some};
+ghost use Rattle.std.specs.Prelude.{◌≡◌, ◌+◌, ◌-◌, ◌*◌, ◌<◌, ◌≤◌, ◌^◌, ℕ, List, [], ◌++◌, length, min, IfOk, OnOk, OnErr, Some};
 ghost use Rattle.mg_bits.specs.Feed.{Calm};
 ghost use Rattle.mg_defs.specs.PagesOf.{pages};
 ghost use Rattle.mg_defs.specs.declared.Posting.{Posting};
 ghost use Rattle.mg_defs.specs.Lists.{bits_after, Rises, from_doc, block_pages};
-ghost use Rattle.mg_post.specs.Stands.{Shows};
+ghost use Rattle.mg_post.specs.Stands.{BlockStands, Shows};
 ghost use Rattle.mg_post.specs.Finding.{IsFoundAt};
 ghost use Rattle.mg_post.specs.Cursor.{head_of, Entered, IsFrom, IsPlace, HeldRises};
 ghost use Rattle.mg_post.specs.Answers.{OrDevice, RefusalCause};
@@ -73,6 +73,10 @@ pub fn enter<F: Feed>(
         Shows ((F.feeding r.old.feed).source (F.device dev.old).files) (8 * post_at) (bits_after parameter 0 ps) →
         8 * post_at + length (bits_after parameter 0 ps) ≤ 2 ^ 63 → IsFoundAt parameter ps blocks doc found.block found.before found.last found.at →
         OrDevice result (λ i. Entered parameter ps (8 * post_at) found.block doc i.posting block.new i.pages) }
+    ensures block { (ps : List Posting) → found.before < doc → doc ≤ found.last →
+        BlockStands all parameter ((F.feeding r.old.feed).source (F.device dev.old).files) (8 * post_at + found.at)
+        (min (docs - 64 * found.block) 64) found.before found.last ps →
+        OrDevice result (λ _. Unit {0}) }
     ensures most { (ps : List Posting) (blocks : ℕ) → Rises all 0 ps → docs ≡ length ps →
         Shows ((F.feeding r.old.feed).source (F.device dev.old).files) (8 * post_at) (bits_after parameter 0 ps) →
         8 * post_at + length (bits_after parameter 0 ps) ≤ 2 ^ 63 → IsFoundAt parameter ps blocks doc found.block found.before found.last found.at →

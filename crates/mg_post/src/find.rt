@@ -5,11 +5,11 @@
 // cursor's life the reads of Skip are at most the pages of the list's entries.
 ghost use Rattle.std.specs.Prelude.{◌≡◌, ◌+◌, ◌-◌, ◌*◌, ◌/◌, ◌%◌, ◌<◌, ◌≤◌, ◌^◌, ℕ, List, ◌++◌, length, Some, IfOk, OnOk, OnErr, IfSome};
 ghost use Rattle.mg_bits.specs.Feed.{Calm, Read, lacks};
-ghost use Rattle.mg_defs.specs.Bits.{digits};
+ghost use Rattle.mg_defs.specs.Bits.{Begins, FromPlace, digits};
 ghost use Rattle.mg_defs.specs.declared.Posting.{Posting};
 ghost use Rattle.mg_defs.specs.Lists.{SkipEntry, entry_bits, doc_before};
 ghost use Rattle.mg_post.specs.Stands.{Shows, SkipStands};
-ghost use Rattle.mg_post.specs.Finding.{IsFound, IsFoundAt, IsSound, SkipReads, blocks_after, entries_pages, entry_page};
+ghost use Rattle.mg_post.specs.Finding.{IsFound, IsFoundAt, IsSound, SkipReads, TellsBits, TellsBlock, TellsLast, blocks_after, entries_pages, entry_page};
 ghost use Rattle.mg_post.specs.Answers.{OrDevice, RefusalCause};
 
 use crate::refusal::{Refusal, refused_bits};
@@ -35,6 +35,7 @@ fn number_at<F: Feed>(r: &mut BitReader<F>, dev: &mut F::Dev, place: u64) -> Res
     ensures calm { Calm (F.feeding r.old.feed) (F.feeding r.new.feed) (F.device dev.old) (F.device dev.new) }
     ensures count { (F.feeding r.new.feed).count ≤ (F.feeding r.old.feed).count + lacks (F.feeding r.old.feed).held (place / 32768) }
     ensures held { OnOk result ((F.feeding r.new.feed).held ≡ Some (place / 32768)) }
+    ensures shows { IfOk result (λ x. FromPlace ((F.feeding r.old.feed).source (F.device dev.old).files) place (Begins (digits 64 x))) }
     ensures told { (y : ℕ) → y < 2 ^ 64 → Shows ((F.feeding r.old.feed).source (F.device dev.old).files) place (digits 64 y) → OrDevice result (λ x. x ≡ y) }
     ensures cause { RefusalCause result (F.device dev.old).faults (F.device dev.new).faults }
 {
@@ -67,6 +68,7 @@ fn last_of<F: Feed>(
     ensures count { (F.feeding r.new.feed).count ≤ (F.feeding r.old.feed).count + lacks (F.feeding r.old.feed).held (entry_page (skip_at + block)) }
     ensures held { OnOk result ((F.feeding r.new.feed).held ≡ Some (entry_page (skip_at + block))) }
     ensures within { IfOk result (λ last. last ≤ all) }
+    ensures tells { IfOk result (TellsLast ((F.feeding r.old.feed).source (F.device dev.old).files) skip_at block) }
     ensures told { (e : SkipEntry) → e.last ≤ all → Shows ((F.feeding r.old.feed).source (F.device dev.old).files) (128 * (skip_at + block)) (entry_bits e) →
         OrDevice result (λ last. last ≡ e.last) }
     ensures cause { RefusalCause result (F.device dev.old).faults (F.device dev.new).faults }
@@ -96,6 +98,7 @@ fn bits_of<F: Feed>(
     ensures calm { Calm (F.feeding r.old.feed) (F.feeding r.new.feed) (F.device dev.old) (F.device dev.new) }
     ensures count { (F.feeding r.new.feed).count ≤ (F.feeding r.old.feed).count + lacks (F.feeding r.old.feed).held (entry_page (skip_at + block)) }
     ensures held { OnOk result ((F.feeding r.new.feed).held ≡ Some (entry_page (skip_at + block))) }
+    ensures tells { IfOk result (TellsBits ((F.feeding r.old.feed).source (F.device dev.old).files) skip_at block) }
     ensures told { (e : SkipEntry) → e.bits < 2 ^ 64 → Shows ((F.feeding r.old.feed).source (F.device dev.old).files) (128 * (skip_at + block)) (entry_bits e) →
         OrDevice result (λ bits. bits ≡ e.bits) }
     ensures cause { RefusalCause result (F.device dev.old).faults (F.device dev.new).faults }
@@ -145,6 +148,8 @@ fn search_page<F: Feed>(
     ensures count { (F.feeding r.new.feed).count ≤ (F.feeding r.old.feed).count }
     ensures held { OnOk result ((F.feeding r.new.feed).held ≡ Some (entry_page (skip_at + high))) }
     ensures found { IfOk result (IsSound low (high + 1) all doc) }
+    ensures tells { TellsLast ((F.feeding r.old.feed).source (F.device dev.old).files) skip_at high last →
+        IfOk result (λ f. TellsBlock ((F.feeding r.old.feed).source (F.device dev.old).files) skip_at low before f.block f.before f.last f.at) }
     ensures told { (ps : List Posting) (b blocks : ℕ) →
         SkipStands all b ((F.feeding r.old.feed).source (F.device dev.old).files) skip_at blocks ps → high < blocks →
         before ≡ doc_before (64 * low) ps → last ≡ doc_before (64 * (high + 1)) ps →
@@ -205,6 +210,8 @@ pub fn find_block<F: Feed>(
     ensures reads { IfOk result (λ found. SkipReads skip_at (blocks_after blocks found) (F.feeding r.new.feed).held (F.feeding r.new.feed).count) }
     ensures most { (F.feeding r.new.feed).count ≤ entries_pages skip_at blocks }
     ensures found { IfOk result (λ found. IfSome found (IsSound reached blocks all doc)) }
+    ensures tells { IfOk result (λ found. IfSome found (λ f.
+        TellsBlock ((F.feeding r.old.feed).source (F.device dev.old).files) skip_at reached last f.block f.before f.last f.at)) }
     ensures told { (ps : List Posting) (b : ℕ) → SkipStands all b ((F.feeding r.old.feed).source (F.device dev.old).files) skip_at blocks ps →
         last ≡ doc_before (64 * reached) ps → OrDevice result (IsFound b ps blocks doc) }
     ensures cause { RefusalCause result (F.device dev.old).faults (F.device dev.new).faults }

@@ -1,8 +1,8 @@
 use Rattle.std.proofs.Common.{arith, ◌≡◌, ◌+◌, ◌*◌, length, sym, ◌∙◌, ap, Ok, Err}
-use Rattle.mg_defs.specs.Lists.{from_doc, block_of, bits_before}
+use Rattle.mg_defs.specs.Lists.{from_doc, block_of, bits_before, last_doc}
 use Rattle.mg_post.proofs.FindLaws.{bits_fit}
 use Rattle.mg_post.proofs.ReadLaws.{any_refused}
-use Rattle.mg_post.proofs.EnterLaws.{block_answer, block_ends, head_none, found_some, entered, count_most, refused_pages}
+use Rattle.mg_post.proofs.EnterLaws.{block_answer, block_ends, block_filled, filled_some, head_none, found_some, entered, count_most, refused_pages}
 use Rattle.mg_post.proofs.SoundLaws.{block_held, from_held}
 use Rattle.mg_post.proofs.enter.enter.Goals as goal
 
@@ -66,3 +66,27 @@ returns-in-Err-clause-most g c = λ ps blocks rises whole shows small found.
     let at : c.seek.new.self.place ≡ 8 * c.args.post_at + bits_before c.args.parameter (64 * c.args.found.block) ps = c.seek.ensures.place ∙ (let h = c.in-Some.ensures in omega (arith, found.bits, c.in-Some.ensures)) in
     let most = refused_pages _ _ _ _ _ (8 * c.args.post_at) c.args.all c.args.parameter c.seek.new.self.place c.args.found.before _ c.args.docs c.args.found.block ps (rw c.seek.ensures.feed c.requires.page) c.min.ensures whole found.from at rises (rw (← c.seek.ensures.feed) at shows) small c.in-Err.ensures.pages in
     rw (← c.seek.ensures.feed) most
+
+-- ---- where the block alone stands
+
+pub returns-in_default-clause-block : goal.returns-in_default-clause-block
+returns-in_default-clause-block g c = λ ps after within stands. absurd (omega (arith, stands.small, c.in_default.ensures))
+
+pub returns-then-last-found-clause-block : goal.returns-then-last-found-clause-block
+returns-then-last-found-clause-block g c = λ ps after within stands.
+    let at : c.seek.new.self.place ≡ 8 * c.args.post_at + c.args.found.at = c.seek.ensures.place ∙ c.in-Some.ensures in
+    let got : c.fill.new.self ≡ ps = block_filled _ c.args.all c.args.parameter (8 * c.args.post_at + c.args.found.at) c.min.result c.args.found.before c.args.found.last c.seek.new.self.place ps c.fill.new.self (Ok c.in-Ok.last) (rw (c.min.ensures, c.seek.ensures.feed) stands) at c.in-Ok.ensures.told in
+    absurd (c.if-last-found.true (c.in-Ok.ensures.last ∙ ap (last_doc c.args.found.before) got ∙ stands.last_is))
+
+pub returns-in-None-clause-block : goal.returns-in-None-clause-block
+returns-in-None-clause-block g c = λ ps after within stands.
+    let at : c.seek.new.self.place ≡ 8 * c.args.post_at + c.args.found.at = c.seek.ensures.place ∙ c.in-Some.ensures in
+    let got : c.fill.new.self ≡ ps = block_filled _ c.args.all c.args.parameter (8 * c.args.post_at + c.args.found.at) c.min.result c.args.found.before c.args.found.last c.seek.new.self.place ps c.fill.new.self (Ok c.in-Ok.last) (rw (c.min.ensures, c.seek.ensures.feed) stands) at c.in-Ok.ensures.told in
+    let none : length c.forward.new.self ≡ 0 = head_none c.forward.new.self (sym c.in-None.ensures) in
+    let same : length c.forward.new.self ≡ length (from_doc c.args.doc ps) = ap length (c.forward.ensures ∙ ap (from_doc c.args.doc) got) in
+    absurd (omega (arith, none, same, filled_some _ c.args.all c.args.parameter _ _ c.args.found.before c.args.found.last c.args.doc ps after within stands))
+
+pub returns-in-Err-clause-block : goal.returns-in-Err-clause-block
+returns-in-Err-clause-block g c = λ ps after within stands.
+    let at : c.seek.new.self.place ≡ 8 * c.args.post_at + c.args.found.at = c.seek.ensures.place ∙ c.in-Some.ensures in
+    any_refused c.in-Err.refusal _ _ (block_filled _ c.args.all c.args.parameter (8 * c.args.post_at + c.args.found.at) c.min.result c.args.found.before c.args.found.last c.seek.new.self.place ps c.fill.new.self (Err c.in-Err.refusal) (rw (c.min.ensures, c.seek.ensures.feed) stands) at c.in-Err.ensures.told)

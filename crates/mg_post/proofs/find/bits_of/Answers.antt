@@ -5,3 +5,6 @@ use Rattle.mg_post.proofs.find.bits_of.Goals as goal
 pub returns-clause-told : goal.returns-clause-told
 returns-clause-told g c = λ e small shows.
     c.number_at.ensures.told e.bits small (bits_shown _ _ _ e (ap (λ n. n + 64) c.entry_place-place.ensures.value) shows)
+
+pub returns-clause-tells : goal.returns-clause-tells
+returns-clause-tells g c = rw c.entry_place-place.ensures.value at c.number_at.ensures.shows

@@ -2,8 +2,9 @@ use Rattle.std.proofs.Common.{arith, ◌≡◌, ◌+◌, ◌*◌, sym, ◌∙◌
 use Rattle.mg_bits.proofs.CallerLemmas.{calm_more, same_told}
 use Rattle.mg_defs.specs.Lists.{doc_before}
 use Rattle.mg_post.specs.Stands.{SkipStands}
+use Rattle.mg_post.specs.Finding.{TellsBlock, TellsLast}
 use Rattle.mg_post.proofs.ReadLaws.{any_refused}
-use Rattle.mg_post.proofs.FindLaws.{last_answer, page_between, reads_now, reads_to, reads_same, within_entries, reads_within}
+use Rattle.mg_post.proofs.FindLaws.{last_answer, page_between, reads_now, reads_to, reads_same, tells_next, tells_on, within_entries, reads_within}
 use Rattle.mg_post.proofs.find.find_block.Goals as goal
 
 pub returns-in-Err-clause-told : goal.returns-in-Err-clause-told
@@ -20,6 +21,7 @@ loop-low-preserved g c = record {
   there = omega (arith, c.page_end-high.ensures.there);
   known = c.in-Ok.ensures.within;
   below = omega (arith, c.if-doc-end.false);
+  before_is = tells_next _ c.args.skip_at c.args.reached c.args.last c.page_end-high.result c.in-Ok.end (omega (arith, c.loop-low.invariant.from, c.page_end-high.ensures.from)) (rw (same_told _ _ _ _ c.loop-low.invariant.calm) at c.in-Ok.ensures.tells);
   told = λ ps b stands last.
       last_answer c.args.all b _ _ c.args.skip_at c.args.blocks c.page_end-high.result ps (Ok c.in-Ok.end) (same_told _ _ _ _ c.loop-low.invariant.calm) stands c.page_end-high.ensures.there c.in-Ok.ensures.told;
 }
@@ -70,3 +72,11 @@ returns-in-Err-clause-most g c =
 
 pub returns-clause-most : goal.returns-clause-most
 returns-clause-most g c = reads_within c.args.skip_at c.loop-low.low c.args.blocks _ _ c.loop-low.invariant.reads c.loop-low.invariant.there
+
+pub returns-in-Ok-search_page-clause-tells : goal.returns-in-Ok-search_page-clause-tells
+returns-in-Ok-search_page-clause-tells g c =
+    let calm = calm_more _ _ _ _ _ _ c.loop-low.invariant.calm c.in-Ok.ensures.calm in
+    let end : TellsLast ((g.F.Feed.feeding c.args.r.now.feed).source (g.F.Feed.device c.args.dev.now).files) c.args.skip_at c.page_end-high.result c.in-Ok.end = rw (same_told _ _ _ _ c.loop-low.invariant.calm) at c.in-Ok.ensures.tells in
+    let found : TellsBlock ((g.F.Feed.feeding c.args.r.now.feed).source (g.F.Feed.device c.args.dev.now).files) c.args.skip_at c.loop-low.low c.loop-low.before c.in-Ok-search_page.found.block c.in-Ok-search_page.found.before c.in-Ok-search_page.found.last c.in-Ok-search_page.found.at =
+    (rw (same_told _ _ _ _ calm) at c.in-Ok-search_page.ensures.tells) end in
+    tells_on _ c.args.skip_at c.args.reached c.loop-low.low c.args.last c.loop-low.before _ _ _ _ c.loop-low.invariant.from c.in-Ok-search_page.ensures.found.from c.loop-low.invariant.before_is found

@@ -3,7 +3,7 @@ use Rattle.mg_bits.specs.Feed.{Calm}
 use Rattle.mg_defs.specs.declared.Posting.{Posting}
 use Rattle.mg_defs.specs.Lists.{doc_before}
 use Rattle.mg_post.specs.Stands.{SkipStands}
-use Rattle.mg_post.specs.Finding.{SkipReads}
+use Rattle.mg_post.specs.Finding.{SkipReads, TellsBefore}
 use Rattle.mg_post.proofs.find.find_block.Given as goal
 
 abbrev pub invariant-loop-low : goal.invariant-loop-low
@@ -15,6 +15,7 @@ invariant-loop-low g l = record {
   there : l.low ≤ l.blocks;
   known : l.before ≤ l.all;
   below : l.before < l.doc;
+  before_is : TellsBefore ((g.F.Feed.feeding l.fn.r.feed).source (g.F.Feed.device l.fn.dev).files) l.skip_at l.reached l.last l.low l.before;
   told : (ps : List Posting) (b : ℕ) → SkipStands l.all b ((g.F.Feed.feeding l.fn.r.feed).source (g.F.Feed.device l.fn.dev).files) l.skip_at l.blocks ps →
       l.last ≡ doc_before (64 * l.reached) ps → l.before ≡ doc_before (64 * l.low) ps;
 }

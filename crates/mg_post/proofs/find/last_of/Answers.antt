@@ -15,3 +15,6 @@ returns-else-last-from-clause-told g c = λ e most shows.
 pub returns-in-Err-clause-told : goal.returns-in-Err-clause-told
 returns-in-Err-clause-told g c = λ e most shows.
     any_refused c.in-Err.refusal _ _ (c.in-Err.ensures.told e.last (omega arith) (last_shown _ _ _ e c.entry_place-place.ensures.value shows))
+
+pub returns-else-last-from-clause-tells : goal.returns-else-last-from-clause-tells
+returns-else-last-from-clause-tells g c = rw c.entry_place-place.ensures.value at c.in-Ok.ensures.shows

@@ -2,6 +2,9 @@ use Rattle.std.proofs.Common.{Ok, Err}
 use Rattle.mg_post.proofs.FindLaws.{told_number, refused_number}
 use Rattle.mg_post.proofs.find.number_at.Goals as goal
 
+pub returns-in-Ok-clause-shows : goal.returns-in-Ok-clause-shows
+returns-in-Ok-clause-shows g c = rw (c.seek.ensures.feed, c.seek.ensures.place) at c.in-Ok.ensures.told
+
 pub returns-in-Ok-clause-told : goal.returns-in-Ok-clause-told
 returns-in-Ok-clause-told g c = λ y small shows.
     told_number _ (Ok c.in-Ok.number) c.args.place y c.in-Ok.ensures.below small shows (rw (c.seek.ensures.feed, c.seek.ensures.place) at c.in-Ok.ensures.told)

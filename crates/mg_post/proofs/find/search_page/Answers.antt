@@ -1,9 +1,9 @@
-use Rattle.std.proofs.Common.{arith, ◌≡◌, ◌+◌, ◌*◌, ◌<◌, ◌∙◌, ap, Some, Ok, Err}
+use Rattle.std.proofs.Common.{arith, ◌≡◌, ◌+◌, ◌*◌, ◌<◌, ◌∙◌, ap, subst, Some, Ok, Err}
 use Rattle.mg_bits.proofs.CallerLemmas.{calm_more, same_told}
 use Rattle.mg_defs.specs.Lists.{doc_before, bits_before}
-use Rattle.mg_post.specs.Finding.{entry_page}
+use Rattle.mg_post.specs.Finding.{TellsBefore, TellsBits, TellsLast, entry_page}
 use Rattle.mg_post.proofs.ReadLaws.{any_refused}
-use Rattle.mg_post.proofs.FindLaws.{last_answer, bits_answer, page_between, count_same}
+use Rattle.mg_post.proofs.FindLaws.{last_answer, bits_answer, page_between, count_same, tells_next}
 use Rattle.mg_post.proofs.find.search_page.Goals as goal
 use Rattle.mg_post.proofs.find.search_page.Goals.{then-doc-here, else-doc-here}
 
@@ -25,6 +25,7 @@ loop-from-preserved g c =
     let page : entry_page (c.args.skip_at + c.loop-from.middle) ≡ entry_page (c.args.skip_at + c.args.high) =
     page_between c.args.skip_at c.args.low c.loop-from.middle c.args.high c.requires.one_page (omega (arith, c.loop-from.invariant.low, c.loop-from.invariant.middle)) (omega (arith, inside, c.loop-from.invariant.high)) in
     let step = count_same _ _ _ _ _ c.loop-from.invariant.held page c.in-Ok.ensures.count in
+    let here : TellsLast ((g.F.Feed.feeding c.args.r.now.feed).source (g.F.Feed.device c.args.dev.now).files) c.args.skip_at c.loop-from.middle c.in-Ok.here = rw (same_told _ _ _ _ c.loop-from.invariant.calm) at c.in-Ok.ensures.tells in
     elim c.if-doc-here.branch [
       | then-doc-here w ↦ record {
         fits = c.in-Ok.ensures.fits;
@@ -40,6 +41,8 @@ loop-from-preserved g c =
         below = omega (arith, w.passed-is, c.loop-from.invariant.below);
         within = omega (arith, w.end-is, w.if-doc-here.true);
         most = omega (arith, w.end-is, c.in-Ok.ensures.within);
+        passed_is = rw (w.from-is, w.passed-is) c.loop-from.invariant.passed_is;
+        end_is = λ last. rw (w.to-is, w.end-is) here;
         told = λ ps b blocks stands lt before last.
             let old = c.loop-from.invariant.told ps b blocks stands lt before last in
             let got : c.in-Ok.here ≡ doc_before (64 * (c.loop-from.middle + 1)) ps =
@@ -60,6 +63,8 @@ loop-from-preserved g c =
         below = omega (arith, w.passed-is, w.if-doc-here.false);
         within = omega (arith, w.end-is, c.loop-from.invariant.within);
         most = omega (arith, w.end-is, c.loop-from.invariant.most);
+        passed_is = rw (w.from-is, w.passed-is) (tells_next _ c.args.skip_at c.args.low c.args.before c.loop-from.middle c.in-Ok.here (omega (arith, c.loop-from.invariant.low, c.loop-from.invariant.middle)) here);
+        end_is = λ last. rw (w.to-is, w.end-is) (c.loop-from.invariant.end_is last);
         told = λ ps b blocks stands lt before last.
             let old = c.loop-from.invariant.told ps b blocks stands lt before last in
             let got : c.in-Ok.here ≡ doc_before (64 * (c.loop-from.middle + 1)) ps =
@@ -88,3 +93,13 @@ pub returns-in-Err-bits_of-clause-told : goal.returns-in-Err-bits_of-clause-told
 returns-in-Err-bits_of-clause-told g c = λ ps b blocks stands lt before last.
     any_refused c.in-Err-bits_of.refusal _ _
     (bits_answer c.args.all b _ _ c.args.skip_at blocks c.loop-from.to ps (Err c.in-Err-bits_of.refusal) (same_told _ _ _ _ c.loop-from.invariant.calm) stands (omega (arith, c.loop-from.invariant.high, lt)) c.in-Err-bits_of.ensures.told)
+
+pub returns-in-Ok-bits_of-clause-tells : goal.returns-in-Ok-bits_of-clause-tells
+returns-in-Ok-bits_of-clause-tells g c = λ last.
+    let e : c.loop-from.from ≡ c.loop-from.to = omega (arith, c.loop-from-test.false, c.loop-from.invariant.order) in
+    let bits : TellsBits ((g.F.Feed.feeding c.args.r.now.feed).source (g.F.Feed.device c.args.dev.now).files) c.args.skip_at c.loop-from.to c.in-Ok-bits_of.at = rw (same_told _ _ _ _ c.loop-from.invariant.calm) at c.in-Ok-bits_of.ensures.tells in
+    record {
+      before_is = subst (λ k. TellsBefore ((g.F.Feed.feeding c.args.r.now.feed).source (g.F.Feed.device c.args.dev.now).files) c.args.skip_at c.args.low c.args.before k c.loop-from.passed) e c.loop-from.invariant.passed_is;
+      last_is = c.loop-from.invariant.end_is last;
+      at_is = bits;
+    }

@@ -3,7 +3,7 @@ use Rattle.mg_bits.specs.Feed.{Calm}
 use Rattle.mg_defs.specs.declared.Posting.{Posting}
 use Rattle.mg_defs.specs.Lists.{doc_before}
 use Rattle.mg_post.specs.Stands.{SkipStands}
-use Rattle.mg_post.specs.Finding.{entry_page}
+use Rattle.mg_post.specs.Finding.{TellsBefore, TellsLast, entry_page}
 use Rattle.mg_post.proofs.find.search_page.Given as goal
 
 abbrev pub invariant-loop-from : goal.invariant-loop-from
@@ -21,6 +21,9 @@ invariant-loop-from g l = record {
   below : l.passed < l.doc;
   within : l.doc ≤ l.end;
   most : l.end ≤ l.all;
+  passed_is : TellsBefore ((g.F.Feed.feeding l.fn.r.feed).source (g.F.Feed.device l.fn.dev).files) l.skip_at l.low l.before l.from l.passed;
+  end_is : TellsLast ((g.F.Feed.feeding l.fn.r.feed).source (g.F.Feed.device l.fn.dev).files) l.skip_at l.high l.last →
+      TellsLast ((g.F.Feed.feeding l.fn.r.feed).source (g.F.Feed.device l.fn.dev).files) l.skip_at l.to l.end;
   told : (ps : List Posting) (b blocks : ℕ) → SkipStands l.all b ((g.F.Feed.feeding l.fn.r.feed).source (g.F.Feed.device l.fn.dev).files) l.skip_at blocks ps → l.high < blocks →
       l.before ≡ doc_before (64 * l.low) ps → l.last ≡ doc_before (64 * (l.high + 1)) ps → (l.passed ≡ doc_before (64 * l.from) ps) × (l.end ≡ doc_before (64 * (l.to + 1)) ps);
 }

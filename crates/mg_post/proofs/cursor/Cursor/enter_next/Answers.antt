@@ -1,12 +1,12 @@
 use Rattle.std.proofs.Common.{arith, ◌≡◌, ◌+◌, ◌-◌, ◌*◌, ◌^◌, ◌≤◌, ◌<◌, false, min, refl, sym, ◌∙◌, ap, subst, Some, None}
-use Rattle.mg_dev.specs.declared.part.Part.TheVariants.{Post, Skip}
+use Rattle.mg_dev.specs.declared.part.Part.TheVariants.{Post}
 use Rattle.mg_bits.specs.Feed.{told_at}
 use Rattle.mg_bits.specs.Pages.{Paging}
 use Rattle.mg_defs.specs.Lists.{bits_after, block_pages}
-use Rattle.mg_post.specs.Stands.{Shows, SkipStands}
+use Rattle.mg_post.specs.Stands.{BlockStands, Shows, SkipStands}
 use Rattle.mg_post.specs.Finding.{IsFound}
 use Rattle.mg_post.proofs.CursorLaws.{walks_of, at_end, on_block, same_file, refused_answer, raised_by, raised_most}
-use Rattle.mg_post.proofs.SoundLaws.{names_none, names_own, nothing_held}
+use Rattle.mg_post.proofs.SoundLaws.{names_none, names_own, nothing_held, post_cause, skip_cause}
 use Rattle.mg_post.proofs.cursor.Cursor.enter_next.Goals as goal
 
 pub returns-in-Err-clause-same : goal.returns-in-Err-clause-same
@@ -143,7 +143,33 @@ returns-in-Err-clause-post g c =
     (λ ps left stands at.
     let entries : SkipStands c.self.inside.all c.self.inside.parameter (told_at (g.S.Store.files c.args.store.now) c.self.inside.skip.feed.name) c.self.inside.skip_at c.count_blocks-blocks.result ps = rw c.count_blocks-blocks.ensures stands.entries in
     let w = walks_of c.self.inside.ended ps c.self.inside.reached c.self.inside.last c.self.inside.block left on at.on in
-    names_none c.in-Err.refusal Skip Post _ _ c.refused_part.ensures (c.in-Err.ensures.told ps c.self.inside.parameter entries w.last_is))
+    names_none c.in-Err.refusal _ Post _ _ c.refused_part.ensures (c.in-Err.ensures.told ps c.self.inside.parameter entries w.last_is))
 
 pub returns-in-Err-enter-clause-post : goal.returns-in-Err-enter-clause-post
 returns-in-Err-enter-clause-post g c = λ ps left stands at. names_own c.in-Err-enter.refusal Post _ c.refused_part-in-Err-enter.ensures
+
+pub returns-in-Err-clause-block : goal.returns-in-Err-clause-block
+returns-in-Err-clause-block g c = skip_cause c.in-Err.refusal _ _ _ _ c.refused_part.ensures
+
+pub returns-in-Err-enter-clause-block : goal.returns-in-Err-enter-clause-block
+returns-in-Err-enter-clause-block g c =
+    let sound = rw c.in-Ok-Some.field-0-is at c.in-Ok-Some.ensures.found in
+    let tells = rw c.in-Ok-Some.field-0-is at c.in-Ok-Some.ensures.tells in
+    rw (← c.self.view_is)
+    (post_cause c.in-Err-enter.refusal _ _ _ _ c.refused_part-in-Err-enter.ensures
+    (λ at is. record {
+      block = c.in-Ok-Some.found.block;
+      before = c.in-Ok-Some.found.before;
+      last = c.in-Ok-Some.found.last;
+      bits = c.in-Ok-Some.found.at;
+      from = sound.from;
+      there = omega (arith, sound.there, c.count_blocks-blocks.ensures);
+      after = sound.below;
+      within = sound.within;
+      most = sound.most;
+      told = tells;
+      missing = λ ps stands.
+          let answer = c.in-Err-enter.ensures.block ps sound.below sound.within
+          (subst (λ f. BlockStands c.self.inside.all c.self.inside.parameter (told_at f c.self.inside.post.feed.name) (8 * c.self.inside.post_at + c.in-Ok-Some.found.at) (min (c.self.inside.docs - 64 * c.in-Ok-Some.found.block) 64) c.in-Ok-Some.found.before c.in-Ok-Some.found.last ps) (sym c.in-Ok-Some.ensures.calm.files) stands) in
+          rw is at answer;
+    }))

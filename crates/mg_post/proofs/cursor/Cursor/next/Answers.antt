@@ -75,3 +75,12 @@ returns-else-last-clause-post g c =
     let step = c.in-None.ensures in
     let post = rw step.1 at c.advance_to.ensures.post in
     rw (← c.self.view_is) (λ ps left stands at. post ps left stands at)
+
+pub returns-then-last-clause-block : goal.returns-then-last-clause-block
+returns-then-last-clause-block g c = λ post. absurd cc
+
+pub returns-else-last-clause-block : goal.returns-else-last-clause-block
+returns-else-last-clause-block g c =
+    let step = c.in-None.ensures in
+    let block = rw step.1 at c.advance_to.ensures.block in
+    rw (← c.self.view_is) block
