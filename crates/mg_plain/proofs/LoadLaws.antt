@@ -6,7 +6,9 @@ use Rattle.std.proofs.Math.Seq.{take-length}
 use Rattle.std.proofs.lemmas.List.{take_all, take-append-le}
 use Rattle.mg_dev.specs.Files.{Files, file_at, bytes_at}
 use Rattle.mg_dev.specs.Laws.{read_count, size_is}
-use Rattle.mg_plain.specs.Loaded.{HasSize}
+use Rattle.mg_defs.specs.Replies.{session, reply}
+use Rattle.mg_defs.specs.Session.{session_of}
+use Rattle.mg_plain.specs.Stops.{HasSize}
 
 -- a file that is told to have a size is there
 there : (o : Option (List ℕ)) (size : ℕ) → ◌≡◌ {A = Option ℕ} (Some size) (option_map length o) → (b : List ℕ) × (o ≡ Some b)
@@ -44,3 +46,8 @@ none_there files name full same missing told = subst (λ x. file_at files x ≡ 
 -- what stands in a vector after a write to all of its places
 pub vec_front : {X : Type 0} (n : ℕ) (buf items : List X) → n ≡ length buf → take n (buf ++ drop (length buf) items) ≡ buf
 vec_front n buf items e = ap (λ k. take k (buf ++ drop (length buf) items)) e ∙ take-append-le (length buf) buf (drop (length buf) items) (omega arith) ∙ take-length buf
+
+-- the session over a file is that over its bytes
+pub session_over : (files : Option Files) (name text given : List ℕ) → file_at files name ≡ Some text → session (bytes_at files name) given ≡ session_of (reply text) given
+unfolding session
+session_over files name text given there = ap (λ o. session_of (reply (unwrap_or o [])) given) there

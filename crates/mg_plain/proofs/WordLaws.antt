@@ -15,7 +15,7 @@ use Rattle.std.proofs.lemmas.Map.Text.{is_eq-slice_cmp}
 use Rattle.std.specs.Str.{bytes_eq}
 use Rattle.mg_defs.specs.Parse.{Pair, parse}
 use Rattle.mg_defs.specs.Terms.{folded, is_empty, terms}
-use Rattle.mg_plain.specs.Runs.{terms_of, terms_in, Ascends, goes_on}
+use Rattle.mg_plain.specs.EqualTerms.{terms_of, terms_in, Ascends, goes_on}
 
 -- ---- two words are compared
 

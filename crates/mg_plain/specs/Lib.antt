@@ -1,11 +1,9 @@
 pub mod Inside
 pub mod Counts
-pub mod Scanning
-pub mod Loaded
-pub mod Runs
-pub mod Rows
-pub mod Ranked
+pub mod BooleanUnderWay
+pub mod EqualTerms
+pub mod RankedRows
 pub mod Products
-pub mod Ranking
-pub mod Scans
+pub mod RankingUnderWay
+pub mod Stops
 pub mod Scanned

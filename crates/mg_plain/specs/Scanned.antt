@@ -8,7 +8,8 @@ use Rattle.mg_dev.specs.declared.fault.Fault.TheVariants.{NoCollection, TooLarge
 use Rattle.mg_dev.specs.declared.status.Status.TheVariants.{Done}
 use Rattle.mg_defs.specs.Replies.{session}
 use Rattle.mg_defs.specs.Limit.{is_too_much, input_limit}
-use Rattle.mg_plain.specs.Scans.{StopsFor, LeftEnough}
+use Rattle.mg_reply.specs.Served.{LeftEnough}
+use Rattle.mg_plain.specs.Stops.{ScanStops}
 use Rattle.mg_dev.specs.Runs.{IfStopped, Run, StoreFailed, InputFailed, OutputFailed, SaysNothing, KeepsFiles, Stops, StopsUnless}
 
 -- of the collection of this name, where the store tells its files, and for each input that the source tells
@@ -24,7 +25,7 @@ pub record Scanned (name : List ℕ) (run : Run) : Type 0 where
   pub silent : Stops run NoCollection → SaysNothing run
   pub silent_large : (size most : ℕ) → Stops run (TooLarge size most) → SaysNothing run
   -- the cause of every other status; 7 and 8 come exactly where they have it, unless the store fails or memory is wanting
-  pub cause : IfStopped run.status (StopsFor (StoreFailed run) (InputFailed run) (OutputFailed run) run.store.files name run.input.left)
+  pub cause : IfStopped run.status (ScanStops (StoreFailed run) (InputFailed run) (OutputFailed run) run.store.files name run.input.left)
   pub missing : IsSome run.store.files → file_at run.store.files name ≡ None
       → StopsUnless run NoCollection
   pub large : IsSome run.store.files → 2 ^ 28 < length (bytes_at run.store.files name)

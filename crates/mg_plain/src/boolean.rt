@@ -1,20 +1,23 @@
 // Boolean lines.
-ghost use Rattle.std.specs.Prelude.{◌≡◌, ◌≤◌, ◌^◌, length, vec_len, IfOk};
+ghost use Rattle.std.specs.Prelude.{◌≡◌, ◌≤◌, ◌^◌, length, vec_len, IfOk, IfErr, IsErrOf};
 ghost use Rattle.mg_defs.specs.Sat.{satisfies};
 ghost use Rattle.mg_defs.specs.QueryTerms.{query_terms};
-ghost use Rattle.mg_dev.specs.Causes.{HasPutCause};
+ghost use Rattle.mg_dev.specs.Causes.{HasPutCause, HasLack, Rose};
 ghost use Rattle.mg_dev.specs.Streams.{AfterPut};
 ghost use Rattle.mg_defs.specs.Reply.{satisfying, answer_text};
 ghost use Rattle.mg_defs.specs.Replies.{boolean_reply};
 ghost use Rattle.mg_defs.specs.Read.{boolean};
 ghost use Rattle.mg_query.specs.QueryOf.{query_of};
+ghost use Rattle.mg_plain.specs.Stops.{AnswerStops};
 
 use crate::counts::{count_terms, mark_counted};
 use crate::docs::Docs;
+use crate::hit::pass_hit;
+use crate::refusal::answer_refused;
 use mg_defs::Settings;
-use mg_dev::{PutErr, Sink};
+use mg_dev::{PartErr, PutErr, ShowErr, Sink};
 use mg_query::{Query, Terms, parse_boolean};
-use mg_reply::{Pending, pass_hit, put_refused};
+use mg_reply::Pending;
 use std::alloc::{AllocError, Global};
 
 /// Whether a document satisfies a query with these terms. What is counted and what is there is left
@@ -53,32 +56,35 @@ fn none_there(alloc: Global, terms: &Terms) -> Result<Vec<bool>, AllocError>
     vec![in alloc; false; terms.len()]
 }
 
-/// Writes the reply to a query: the documents that satisfy it, rising.
-#[tactic(auto, using(mg_dev::specs::StreamLaws::stream_laws))]
-pub(crate) fn answer_query<O: Sink>(
-    alloc: Global,
+/// Writes the documents that satisfy a query with these terms, rising, and how many they are. What is
+/// counted and what is there is left from the last document.
+fn put_found<O: Sink>(
     bytes: &[u8],
     query: &Query,
+    terms: &Terms,
+    counts: &mut Vec<u32>,
+    there: &mut Vec<bool>,
     now: &Settings,
     out: &mut O,
 ) -> Result<(), PutErr>
-    requires { length bytes.now ≤ 2 ^ 28 }
+    requires small { length bytes.now ≤ 2 ^ 28 }
+    requires terms { terms.now ≡ query_terms (query_of query.now) }
+    requires size { vec_len counts.old ≡ length (query_terms (query_of query.now)) }
+    requires there { vec_len there.old ≡ length (query_terms (query_of query.now)) }
     ensures content { AfterPut (O.written out.old) (O.written out.new) (answer_text bytes.now now.now (satisfying bytes.now (query_of query.now))) result }
     ensures cause { HasPutCause (O.faults out.old) (O.faults out.new) result }
+    ensures lack { HasLack (O.lacks out.old) (O.lacks out.new) result }
 {
-    let terms = query.terms(alloc)?;
-    let mut counts = no_counts(alloc, &terms)?;
-    let mut there = none_there(alloc, &terms)?;
     let mut pending = Pending::new();
     let mut docs = Docs::new(bytes);
     let mut number = 0u32;
     let mut total = 0u32;
     'docs: while let Some(doc) = docs.next_doc() {
         number += 1;
-        if !is_satisfied(query, doc, &terms, &mut counts, &mut there) {
+        if !is_satisfied(query, doc, terms, counts, there) {
             continue;
         }
-        match pass_hit(&mut pending, out, now, total, number, None, doc) {
+        match pass_hit(&mut pending, out, now, total, number, doc) {
             Ok(()) => {}
             Err(error) => return Err(error),
         }
@@ -90,6 +96,30 @@ pub(crate) fn answer_query<O: Sink>(
     }
 }
 
+/// Writes the reply to a query: the documents that satisfy it, rising, and how many they are.
+#[tactic(auto, using(mg_dev::specs::StreamLaws::stream_laws))]
+fn answer_query<O: Sink>(
+    alloc: Global,
+    bytes: &[u8],
+    query: &Query,
+    now: &Settings,
+    out: &mut O,
+) -> Result<(), ShowErr>
+    requires { length bytes.now ≤ 2 ^ 28 }
+    ensures content { AfterPut (O.written out.old) (O.written out.new) (answer_text bytes.now now.now (satisfying bytes.now (query_of query.now))) result }
+    ensures later { O.faults out.old ≤ O.faults out.new }
+    ensures cause { IfErr result (AnswerStops (Rose (O.faults out.old) (O.faults out.new)) (Rose (O.lacks out.old) (O.lacks out.new))) }
+    ensures silent { IsErrOf result (ShowErr.Part PartErr.Memory) → O.written out.new ≡ O.written out.old }
+{
+    let terms = query.terms(alloc)?;
+    let mut counts = no_counts(alloc, &terms)?;
+    let mut there = none_there(alloc, &terms)?;
+    match put_found(bytes, query, &terms, &mut counts, &mut there, now, out) {
+        Ok(()) => Ok(()),
+        Err(error) => Err(ShowErr::from(error)),
+    }
+}
+
 /// Writes the reply to a Boolean line.
 pub(crate) fn answer_boolean<O: Sink>(
     alloc: Global,
@@ -97,14 +127,16 @@ pub(crate) fn answer_boolean<O: Sink>(
     line: &[u8],
     now: &Settings,
     out: &mut O,
-) -> Result<(), PutErr>
+) -> Result<(), ShowErr>
     requires small { length bytes.now ≤ 2 ^ 28 }
     requires short { length line.now ≤ 1024 }
     ensures content { AfterPut (O.written out.old) (O.written out.new) (boolean_reply bytes.now now.now (boolean line.now)) result }
-    ensures cause { HasPutCause (O.faults out.old) (O.faults out.new) result }
+    ensures later { O.faults out.old ≤ O.faults out.new }
+    ensures cause { IfErr result (AnswerStops (Rose (O.faults out.old) (O.faults out.new)) (Rose (O.lacks out.old) (O.lacks out.new))) }
+    ensures silent { IsErrOf result (ShowErr.Part PartErr.Memory) → O.written out.new ≡ O.written out.old }
 {
     match parse_boolean(alloc, line) {
         Ok(query) => answer_query(alloc, bytes, &query, now, out),
-        Err(why) => put_refused(out, why),
+        Err(why) => answer_refused(out, why),
     }
 }

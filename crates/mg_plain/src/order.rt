@@ -3,7 +3,7 @@ ghost use Rattle.std.specs.Prelude.{◌≡◌};
 ghost use Rattle.std.specs.List.Sorted.{IsPermutation};
 ghost use Rattle.mg_defs.specs.Order.{AreRising};
 ghost use Rattle.mg_defs.specs.Weights.{by_score};
-ghost use Rattle.mg_plain.specs.Rows.{hits_of};
+ghost use Rattle.mg_plain.specs.RankedRows.{hits_of};
 
 /// A document of a ranked answer.
 #[derive(Clone, Copy, Debug, PartialEq, Eq)]

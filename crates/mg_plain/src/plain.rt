@@ -1,18 +1,18 @@
 // A collection that is held as it is.
-ghost use Rattle.std.specs.Prelude.{◌≡◌, ◌≤◌, ◌^◌, false, length, vec_len, IfOk, IfErr};
+ghost use Rattle.std.specs.Prelude.{◌≡◌, ◌≤◌, ◌^◌, false, length, vec_len, Some, IsSome, IfOk, IfErr, IsErrOf};
+ghost use Rattle.mg_dev.specs.Causes.{Rose};
 ghost use Rattle.mg_dev.specs.Files.{file_at};
 ghost use Rattle.mg_dev.specs.Names.{same_part};
 ghost use Rattle.mg_dev.specs.declared.part.Part.{Part};
 ghost use Rattle.mg_dev.specs.declared.part.Part.TheVariants.{Plain};
-ghost use Rattle.mg_plain.specs.Loaded.{AfterLoad, HasSize, IsAnswerFault};
 ghost use Rattle.mg_dev.specs.Streams.{AfterPut};
-ghost use Rattle.mg_defs.specs.Read.{boolean};
-ghost use Rattle.mg_defs.specs.Replies.{boolean_reply, reply};
+ghost use Rattle.mg_defs.specs.Replies.{reply};
+ghost use Rattle.mg_plain.specs.Stops.{AnswerStops, HasSize, LoadStops};
 
-use crate::answer::answer_query_line;
 use crate::boolean::answer_boolean;
+use crate::ranked::answer_ranked;
 use mg_defs::Settings;
-use mg_dev::{Fault, FileRef, Part, PutErr, Sink, Store, What};
+use mg_dev::{Fault, FileRef, Part, PartErr, ShowErr, Sink, Store, What};
 use std::alloc::{AllocError, Global};
 use std::marker::Model;
 
@@ -53,7 +53,8 @@ fn read_whole<S: Store>(
 ) -> Result<PlainText, Fault>
     requires small { size ≤ 2 ^ 28 }
     requires known { HasSize (S.files store.old) name.now size }
-    ensures content { AfterLoad (S.files store.old) name.now (S.faults store.old) (S.faults store.new) result }
+    ensures content { IsSome (S.files store.old) → IfOk result (λ text. file_at (S.files store.old) name.now ≡ Some text) }
+    ensures cause { IfErr result (LoadStops (Rose (S.faults store.old) (S.faults store.new)) (S.files store.old) name.now) }
     ensures files { S.files store.new ≡ S.files store.old }
     ensures reads { (p : Part) → same_part p Plain ≡ false → S.reads store.new p ≡ S.reads store.old p }
     ensures later { S.faults store.old ≤ S.faults store.new }
@@ -89,8 +90,9 @@ impl PlainText {
     /// `Changed` where it gave fewer bytes than its size.
     #[tactic(auto, using(mg_dev::specs::Laws::file_laws))]
     pub fn load<S: Store>(alloc: Global, store: &mut S, name: &str) -> Result<PlainText, Fault>
-        ensures content { AfterLoad (S.files store.old) name.now (S.faults store.old) (S.faults store.new) result }
+        ensures content { IsSome (S.files store.old) → IfOk result (λ text. file_at (S.files store.old) name.now ≡ Some text) }
         ensures small { IfOk result (λ text. length text ≤ 2 ^ 28) }
+        ensures cause { IfErr result (LoadStops (Rose (S.faults store.old) (S.faults store.new)) (S.files store.old) name.now) }
         ensures files { S.files store.new ≡ S.files store.old }
         ensures reads { (p : Part) → same_part p Plain ≡ false → S.reads store.new p ≡ S.reads store.old p }
         ensures later { S.faults store.old ≤ S.faults store.new }
@@ -110,59 +112,31 @@ impl PlainText {
         read_whole(alloc, store, name, size)
     }
 
-    /// Writes the reply to a Boolean line.
-    ///
-    /// # Errors
-    ///
-    /// `WriteFault` and `Memory`.
-    pub fn answer_boolean<O: Sink>(
-        &self,
-        alloc: Global,
-        line: &[u8],
-        now: &Settings,
-        out: &mut O,
-    ) -> Result<(), Fault>
-        requires { length line.now ≤ 1024 }
-        ensures content { AfterPut (O.written out.old) (O.written out.new) (boolean_reply self.now now.now (boolean line.now)) result }
-        ensures later { O.faults out.old ≤ O.faults out.new }
-        ensures cause { IfErr result (IsAnswerFault (O.faults out.old) (O.faults out.new)) }
-    {
-        match answer_boolean(alloc, &self.bytes, line, now, out) {
-            Ok(()) => Ok(()),
-            Err(PutErr::Failed) => Err(Fault::WriteFault),
-            Err(PutErr::Memory) => Err(Fault::Memory),
-        }
-    }
-
     /// Writes the reply to a query line, ranked or Boolean as the settings say.
     ///
     /// # Errors
     ///
-    /// `WriteFault` and `Memory`.
+    /// `Write` where the output failed and `Memory` where it lacked memory, behind a prefix of the
+    /// reply; `Part` with `PartErr::Memory` where the allocator lacked memory, before the first byte.
+    #[tactic(auto, unfolding(mg_defs::specs::Replies::reply))]
     pub fn answer<O: Sink>(
         &self,
         alloc: Global,
         line: &[u8],
         now: &Settings,
         out: &mut O,
-    ) -> Result<(), Fault>
+    ) -> Result<(), ShowErr>
         requires { length line.now ≤ 1024 }
         ensures content { AfterPut (O.written out.old) (O.written out.new) (reply self.now now.now line.now) result }
         ensures later { O.faults out.old ≤ O.faults out.new }
-        ensures cause { IfErr result (IsAnswerFault (O.faults out.old) (O.faults out.new)) }
+        ensures cause { IfErr result (AnswerStops (Rose (O.faults out.old) (O.faults out.new)) (Rose (O.lacks out.old) (O.lacks out.new))) }
+        // The allocator lacks memory only before anything is written.
+        ensures silent { IsErrOf result (ShowErr.Part PartErr.Memory) → O.written out.new ≡ O.written out.old }
     {
-        match answer_query_line(alloc, &self.bytes, line, now, out) {
-            Ok(()) => Ok(()),
-            Err(PutErr::Failed) => Err(Fault::WriteFault),
-            Err(PutErr::Memory) => Err(Fault::Memory),
+        if now.ranked {
+            answer_ranked(alloc, &self.bytes, line, now, out)
+        } else {
+            answer_boolean(alloc, &self.bytes, line, now, out)
         }
-    }
-
-    /// The bytes of the collection.
-    pub(crate) fn bytes(&self) -> &[u8]
-        ensures is { result.now ≡ self.now }
-        ensures small { length result.now ≤ 2 ^ 28 }
-    {
-        &self.bytes
     }
 }

@@ -1,24 +1,26 @@
 // Ranked lines.
-ghost use Rattle.std.specs.Prelude.{◌≡◌, ◌<◌, ◌≤◌, ◌^◌, length, take, drop, Some};
+ghost use Rattle.std.specs.Prelude.{◌≡◌, ◌<◌, ◌≤◌, ◌^◌, length, take, drop, Some, IfErr, IsErrOf};
 ghost use Rattle.std.specs.List.{All, prefix_len};
 ghost use Rattle.mg_defs.specs.Weights.{first};
 ghost use Rattle.mg_defs.specs.Read.{ranked};
 ghost use Rattle.mg_defs.specs.Reply.{ranking, answer_text, shown};
 ghost use Rattle.mg_defs.specs.Replies.{ranked_reply};
-ghost use Rattle.mg_dev.specs.Causes.{HasPutCause};
+ghost use Rattle.mg_dev.specs.Causes.{HasPutCause, HasLack, Rose};
 ghost use Rattle.mg_dev.specs.Streams.{AfterPut};
 ghost use Rattle.mg_reply.specs.Pending.{AfterPass};
 ghost use Rattle.mg_plain.specs.Inside.{is_inside};
-ghost use Rattle.mg_plain.specs.Rows.{IsPlaced};
-ghost use Rattle.mg_plain.specs.Ranked.{shown_of, shown_rows, rows_text};
+ghost use Rattle.mg_plain.specs.RankedRows.{IsPlaced, shown_of, shown_rows, rows_text};
+ghost use Rattle.mg_plain.specs.Stops.{AnswerStops};
 
 use crate::docs::doc_len;
+use crate::hit::pass_document;
 use crate::order::{Row, sort_rows};
+use crate::refusal::answer_refused;
 use crate::rows::rows_of;
 use mg_defs::{Mode, Settings};
-use mg_dev::{PutErr, Sink};
+use mg_dev::{PartErr, PutErr, ShowErr, Sink};
 use mg_query::{Terms, parse_ranked};
-use mg_reply::{Pending, pass_shown, put_refused};
+use mg_reply::Pending;
 use std::alloc::Global;
 
 /// The document that begins at a place.
@@ -41,13 +43,14 @@ fn put_row<O: Sink>(
     requires { IsPlaced bytes.now row }
     ensures content { AfterPass (O.written out.old) (O.written out.new) pending.old pending.new (shown bytes.now mode (shown_of row)) result }
     ensures cause { HasPutCause (O.faults out.old) (O.faults out.new) result }
+    ensures lack { HasLack (O.lacks out.old) (O.lacks out.new) result }
 {
     let doc = match mode {
         Mode::Text => document_at(bytes, row.place),
         Mode::Docnums => &[],
         Mode::Count => &[],
     };
-    pass_shown(pending, out, mode, row.number, Some(row.score), doc)
+    pass_document(pending, out, mode, row.number, Some(row.score), doc)
 }
 
 /// Passes on what a reply shows of rows, one after another.
@@ -61,6 +64,7 @@ fn put_rows<O: Sink>(
     requires { All (IsPlaced bytes.now) rows.now }
     ensures content { AfterPass (O.written out.old) (O.written out.new) pending.old pending.new (rows_text bytes.now mode rows.now) result }
     ensures cause { HasPutCause (O.faults out.old) (O.faults out.new) result }
+    ensures lack { HasLack (O.lacks out.old) (O.lacks out.new) result }
 {
     for row in rows {
         match put_row(pending, out, bytes, mode, *row) {
@@ -92,6 +96,7 @@ fn put_answer<O: Sink>(
     requires placed { All (IsPlaced bytes.now) rows.now }
     ensures content { AfterPut (O.written out.old) (O.written out.new) (answer_text bytes.now now.now (shown_rows rows.now)) result }
     ensures cause { HasPutCause (O.faults out.old) (O.faults out.new) result }
+    ensures lack { HasLack (O.lacks out.old) (O.lacks out.new) result }
 {
     let mut pending = Pending::new();
     let shown = first_rows(rows, now.most);
@@ -113,15 +118,20 @@ fn answer_terms<O: Sink>(
     terms: &Terms,
     now: &Settings,
     out: &mut O,
-) -> Result<(), PutErr>
+) -> Result<(), ShowErr>
     requires small { length bytes.now ≤ 2 ^ 28 }
     requires few { length terms.now ≤ 64 }
     ensures content { AfterPut (O.written out.old) (O.written out.new) (answer_text bytes.now now.now (ranking bytes.now terms.now)) result }
-    ensures cause { HasPutCause (O.faults out.old) (O.faults out.new) result }
+    ensures later { O.faults out.old ≤ O.faults out.new }
+    ensures cause { IfErr result (AnswerStops (Rose (O.faults out.old) (O.faults out.new)) (Rose (O.lacks out.old) (O.lacks out.new))) }
+    ensures silent { IsErrOf result (ShowErr.Part PartErr.Memory) → O.written out.new ≡ O.written out.old }
 {
     let mut rows = rows_of(alloc, bytes, terms)?;
     sort_rows(&mut rows);
-    put_answer(bytes, &rows, now, out)
+    match put_answer(bytes, &rows, now, out) {
+        Ok(()) => Ok(()),
+        Err(error) => Err(ShowErr::from(error)),
+    }
 }
 
 /// Writes the reply to a ranked line.
@@ -131,14 +141,16 @@ pub(crate) fn answer_ranked<O: Sink>(
     line: &[u8],
     now: &Settings,
     out: &mut O,
-) -> Result<(), PutErr>
+) -> Result<(), ShowErr>
     requires small { length bytes.now ≤ 2 ^ 28 }
     requires short { length line.now ≤ 1024 }
     ensures content { AfterPut (O.written out.old) (O.written out.new) (ranked_reply bytes.now now.now (ranked line.now)) result }
-    ensures cause { HasPutCause (O.faults out.old) (O.faults out.new) result }
+    ensures later { O.faults out.old ≤ O.faults out.new }
+    ensures cause { IfErr result (AnswerStops (Rose (O.faults out.old) (O.faults out.new)) (Rose (O.lacks out.old) (O.lacks out.new))) }
+    ensures silent { IsErrOf result (ShowErr.Part PartErr.Memory) → O.written out.new ≡ O.written out.old }
 {
     match parse_ranked(alloc, line) {
         Ok(terms) => answer_terms(alloc, bytes, &terms, now, out),
-        Err(why) => put_refused(out, why),
+        Err(why) => answer_refused(out, why),
     }
 }

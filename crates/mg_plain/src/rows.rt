@@ -5,7 +5,7 @@ ghost use Rattle.mg_defs.specs.Split.{documents};
 ghost use Rattle.mg_defs.specs.Terms.{docs};
 ghost use Rattle.mg_defs.specs.Weights.{hits, has_term, weight_of_term, wt, score};
 ghost use Rattle.mg_plain.specs.Counts.{AreCounts};
-ghost use Rattle.mg_plain.specs.Rows.{hits_of, IsPlaced};
+ghost use Rattle.mg_plain.specs.RankedRows.{hits_of, IsPlaced};
 
 use crate::counts::count_terms;
 use crate::docs::Docs;

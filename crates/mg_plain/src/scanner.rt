@@ -8,15 +8,16 @@ ghost use Rattle.mg_dev.specs.Streams.{appended, GrewByPrefix};
 ghost use Rattle.mg_dev.specs.declared.part.Part.{Part};
 ghost use Rattle.mg_dev.specs.declared.part.Part.TheVariants.{Plain};
 ghost use Rattle.mg_dev.specs.declared.fault.Fault.TheVariants.{NoCollection, TooLarge, StoreFault, Memory};
+ghost use Rattle.mg_dev.specs.declared.part_err.PartErr.TheVariants as part;
 ghost use Rattle.mg_defs.specs.Replies.{session, reply as reply_spec};
 ghost use Rattle.mg_defs.specs.Limit.{is_too_much, input_limit};
 ghost use Rattle.mg_dev.specs.Moments.{SinkAt};
 ghost use Rattle.mg_dev.specs.Runs.{status_of};
+ghost use Rattle.mg_reply.specs.Served.{LeftEnough};
 ghost use Rattle.mg_plain.specs.Scanned.{Scanned};
-ghost use Rattle.mg_plain.specs.Scans.{StopsFor, LeftEnough, fault_of_serve};
+ghost use Rattle.mg_plain.specs.Stops.{ScanStops, fault_of_serve};
 
 use crate::PlainText;
-use crate::answer::answer_query_line;
 use mg_defs::Settings;
 use mg_dev::{Fault, ShowErr, Sink, Source, Store};
 use mg_reply::{Answerer, Hearing, ServeErr, serve_lines};
@@ -46,7 +47,7 @@ impl Answerer for Scanner {
 
     ghost after = { λ s t _. t ≡ s };
 
-    ghost may_stop = { λ _ _ _. ⊥ };
+    ghost may_stop = { λ _ _ error. error ≡ part.Memory };
 
     fn answer_line<O: Sink>(
         &mut self,
@@ -55,10 +56,7 @@ impl Answerer for Scanner {
         now: &Settings,
         out: &mut O,
     ) -> Result<(), ShowErr> {
-        match answer_query_line(self.alloc, self.text.bytes(), line, now, out) {
-            Ok(()) => Ok(()),
-            Err(error) => Err(ShowErr::from(error)),
-        }
+        self.text.answer(self.alloc, line, now, out)
     }
 
     ghost after_none = { λ _. refl };
@@ -81,7 +79,7 @@ fn fault_of(error: ServeErr) -> Fault
     }
 }
 
-// Prints the session that the input asks of the collection of this name, and tells how each device stands then.
+/// Prints the session that the input asks of the collection of this name, and tells how each device stands then.
 fn scan_text<S: Store, I: Source, O: Sink>(
     alloc: Global,
     store: &mut S,
@@ -99,7 +97,7 @@ fn scan_text<S: Store, I: Source, O: Sink>(
         ForSome (I.left input.old) (λ given. GrewByPrefix (O.written out.old) (O.written out.new) (session (bytes_at (S.files store.old) name.now) given)) }
     ensures silent { IsErrOf result NoCollection → O.written out.new ≡ O.written out.old }
     ensures silent_large { (size most : ℕ) → IsErrOf result (TooLarge size most) → O.written out.new ≡ O.written out.old }
-    ensures cause { IfErr result (StopsFor (Rose (S.faults store.old) (S.faults store.new)) (Rose (I.faults input.old) (I.faults input.new))
+    ensures cause { IfErr result (ScanStops (Rose (S.faults store.old) (S.faults store.new)) (Rose (I.faults input.old) (I.faults input.new))
         (Rose (O.faults out.old) (O.faults out.new)) (S.files store.old) name.now (I.left input.old)) }
     ensures missing { IsSome (S.files store.old) → file_at (S.files store.old) name.now ≡ None →
         (result ≡ Err NoCollection) ⊎ (result ≡ Err StoreFault) ⊎ (result ≡ Err Memory) }

@@ -5,7 +5,7 @@ ghost use Rattle.std.specs.Ordering.{nat_cmp};
 ghost use Rattle.std.specs.List.Sorted.{IsPermutation};
 ghost use Rattle.mg_defs.specs.Terms.{folded, terms};
 ghost use Rattle.mg_defs.specs.Weights.{weight};
-ghost use Rattle.mg_plain.specs.Runs.{terms_of, Ascends, goes_on, square, squares};
+ghost use Rattle.mg_plain.specs.EqualTerms.{terms_of, Ascends, goes_on, square, squares};
 
 use mg_fixed::{doc_term_weight, isqrt};
 use mg_parse::Pairs;

@@ -1,17 +1,21 @@
-// Boolean lines over small collections.
+// Query lines over small collections, and why a load or an answer stops.
 ghost use Rattle.std.specs.Prelude.{None};
 
 use mg_defs::{Mode, Settings};
 use mg_dev::{
-    Failed, Fault, FileRef, MemSink, MemStore, Part, PutErr, Store, SureSink, SureStore, What,
+    Failed, Fault, FileRef, MemSink, MemStore, Part, PutErr, ShowErr, Sink, Store, SureSink,
+    SureStore, What,
 };
 use mg_plain::PlainText;
 use std::test::Fail;
 
 const K: &[u8; 39] = b"the cat sat\n\x02the dog\n\x02Cat, cat & dog!\n\x02";
 
+/// A word of one byte more than a query takes.
+const LONG: [u8; 256] = [b'x'; 256];
+
 #[test]
-fn boolean_lines_are_answered(rt: HostRuntime) -> Result<(), Fail> {
+fn lines_are_answered_in_both_languages(rt: HostRuntime) -> Result<(), Fail> {
     let mut store = SureStore::new(rt.alloc());
     store.put_file("k", K)?;
     store.put_file("empty", b"")?;
@@ -29,7 +33,24 @@ fn boolean_lines_are_answered(rt: HostRuntime) -> Result<(), Fail> {
         most: Some(1),
         ..start
     };
-    let rows: [(&str, Settings, &[u8], &[u8]); 14] = [
+    let ranked = Settings {
+        ranked: true,
+        ..start
+    };
+    let ranked_text = Settings {
+        ranked: true,
+        most: Some(1),
+        ..text
+    };
+    let ranked_count = Settings {
+        ranked: true,
+        ..count
+    };
+    let ranked_two = Settings {
+        most: Some(2),
+        ..ranked
+    };
+    let rows: [(&str, Settings, &[u8], &[u8]); 26] = [
         ("k", start, b"cat", b"1\n3\n= 2\n"),
         ("k", start, b"cat & !the", b"3\n= 1\n"),
         ("k", start, b"cat dog | sat", b"1\n3\n= 2\n"),
@@ -38,12 +59,34 @@ fn boolean_lines_are_answered(rt: HostRuntime) -> Result<(), Fail> {
         ("k", start, b"cat & (dog", b"? syntax at 10\n"),
         ("k", start, b"cat ) dog", b"? syntax at 4\n"),
         ("k", start, b", ,", b"? syntax at 3\n"),
+        ("k", start, &LONG, b"? word too long at 0\n"),
         ("k", start, b"CAT", b"1\n3\n= 2\n"),
         ("k", text, b"sat", b"-- 1\nthe cat sat\n\x02\n= 1\n"),
         ("k", count, b"cat", b"= 2\n"),
         ("k", one, b"!dog | dog", b"1\n= 3\n"),
         ("empty", start, b"!cat", b"= 0\n"),
         ("closed", start, b"!x", b"1\n2\n= 2\n"),
+        ("k", ranked, b"cat", b"3 77451\n1 50002\n= 2\n"),
+        (
+            "k",
+            ranked,
+            b"the cat",
+            b"1 100005\n3 77451\n2 61191\n= 3\n",
+        ),
+        ("k", ranked, b"Dog & !zebra", b"2 61191\n3 38725\n= 2\n"),
+        ("k", ranked, b"zebra", b"= 0\n"),
+        ("k", ranked, b", )", b"= 0\n"),
+        ("k", ranked, &LONG, b"? word too long at 0\n"),
+        (
+            "k",
+            ranked_text,
+            b"dog zebra",
+            b"-- 2 61191\nthe dog\n\x02\n= 2\n",
+        ),
+        ("k", ranked_count, b"the cat", b"= 3\n"),
+        ("k", ranked_two, b"the cat", b"1 100005\n3 77451\n= 3\n"),
+        ("empty", ranked, b"cat", b"= 0\n"),
+        ("closed", ranked, b"x", b"= 0\n"),
     ];
     for row in &rows {
         let plain = match PlainText::load(rt.alloc(), &mut store, row.0) {
@@ -52,41 +95,89 @@ fn boolean_lines_are_answered(rt: HostRuntime) -> Result<(), Fail> {
         };
         let mut out = SureSink::new(rt.alloc());
         if row.2.len() <= 1024 {
-            assert_eq!(rt;
-                plain.answer_boolean(rt.alloc(), row.2, &row.1, &mut out),
-                Ok(())
-            );
+            assert_eq!(rt; plain.answer(rt.alloc(), row.2, &row.1, &mut out), Ok(()));
         }
         assert!(rt; out.bytes() == row.3);
     }
     Ok(())
 }
 
+/// A sink that takes nothing, since it lacks memory, and counts how often.
+#[derive(Drop)]
+struct Lacking {
+    lacks: u64,
+}
+
+#[tactic(auto, using(mg_dev::specs::StreamLaws::stream_laws))]
+impl Sink for Lacking {
+    ghost written = { λ _. None };
+
+    ghost faults = { λ _. 0 };
+
+    ghost lacks = { λ s. s.lacks };
+
+    fn put(&mut self, _piece: &[u8]) -> Result<(), PutErr> {
+        self.lacks = self.lacks.saturating_add(1);
+        Err(PutErr::Memory)
+    }
+}
+
 #[test]
-fn refusals_have_their_cause(rt: HostRuntime) -> Result<(), Fail> {
+fn a_refused_answer_has_its_cause(rt: HostRuntime) -> Result<(), Fail> {
+    let mut store = SureStore::new(rt.alloc());
+    store.put_file("k", K)?;
+    let Ok(plain) = PlainText::load(rt.alloc(), &mut store, "k") else {
+        return Err(Fail::from("not loaded"));
+    };
+    // A line in a language, and what the output keeps that fails behind three bytes.
+    let rows: [(bool, &[u8], &[u8]); 4] = [
+        (false, b"cat", b"1\n3"),
+        (false, b"cat ) dog", b"? s"),
+        (true, b"cat", b"3 7"),
+        (true, &LONG, b"? w"),
+    ];
+    for row in &rows {
+        let now = Settings {
+            ranked: row.0,
+            ..Settings::start()
+        };
+        let mut failing = MemSink::new(rt.alloc());
+        failing.fail_at(0, 3)?;
+        let mut lacking = Lacking { lacks: 0 };
+        if row.1.len() <= 1024 {
+            assert_eq!(rt;
+                plain.answer(rt.alloc(), row.1, &now, &mut failing),
+                Err(ShowErr::Write)
+            );
+            assert_eq!(rt;
+                plain.answer(rt.alloc(), row.1, &now, &mut lacking),
+                Err(ShowErr::Memory)
+            );
+        }
+        assert!(rt; failing.bytes() == row.2);
+        assert_eq!(rt; lacking.lacks, 1);
+    }
+    Ok(())
+}
+
+#[test]
+fn a_refused_load_has_its_cause(rt: HostRuntime) -> Result<(), Fail> {
     let mut store = MemStore::new(rt.alloc());
     store.put_file("k", K)?;
     assert_eq!(rt;
         PlainText::load(rt.alloc(), &mut store, "n").err(),
         Some(Fault::NoCollection)
     );
-    store.fail_at(1, 0)?;
-    assert_eq!(rt;
-        PlainText::load(rt.alloc(), &mut store, "k").err(),
-        Some(Fault::StoreFault)
-    );
-    let Ok(plain) = PlainText::load(rt.alloc(), &mut store, "k") else {
-        return Err(Fail::from("not loaded"));
-    };
-    assert_eq!(rt; store.reads_of(Part::Plain), 1);
-    let mut out = MemSink::new(rt.alloc());
-    out.fail_at(0, 3)?;
-    let start = Settings::start();
-    assert_eq!(rt;
-        plain.answer_boolean(rt.alloc(), b"cat", &start, &mut out),
-        Err(Fault::WriteFault)
-    );
-    assert!(rt; out.bytes() == b"1\n3".as_slice());
+    // The store's second call asks for the size, and its fourth reads.
+    for call in [1, 3] {
+        store.fail_at(call, 0)?;
+        assert_eq!(rt;
+            PlainText::load(rt.alloc(), &mut store, "k").err(),
+            Some(Fault::StoreFault)
+        );
+    }
+    assert!(rt; PlainText::load(rt.alloc(), &mut store, "k").is_ok());
+    assert_eq!(rt; store.reads_of(Part::Plain), 2);
     Ok(())
 }
 

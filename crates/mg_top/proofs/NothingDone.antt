@@ -20,7 +20,7 @@ use Rattle.mg_make.specs.Putting.{OthersSame}
 use Rattle.mg_merge.specs.Merging.{budget_of}
 use Rattle.mg_session.specs.Serves as serves
 use Rattle.mg_session.specs.WildServes.{WildStops}
-use Rattle.mg_plain.specs.Scans.{StopsFor}
+use Rattle.mg_plain.specs.Stops.{ScanStops}
 use Rattle.mg_build.specs.Outcomes.{DecodeStops}
 use Rattle.mg_words.specs.Tasks.{Task, build, query, decode, scan, trial, migrate, check, wild, phrase, merge}
 use Rattle.mg_top.specs.Ends.{ToldWhy}
@@ -71,7 +71,7 @@ module _ (run : Run) (stops : Stops run Memory) (store : run.store_now ≡ run.s
     prefix = λ told given some. prefix (session (bytes_at run.store.files n) given);
     silent = λ is. silent;
     silent_large = λ size most is. silent;
-    cause = caused (StopsFor (StoreFailed run) (InputFailed run) (OutputFailed run) run.store.files n run.input.left) tt;
+    cause = caused (ScanStops (StoreFailed run) (InputFailed run) (OutputFailed run) run.store.files n run.input.left) tt;
     missing = λ told none. inr (inr stops);
     large = λ told more. inr (inr stops);
     complete = λ bytes given there small some short no_store no_input no_output. inr stops;

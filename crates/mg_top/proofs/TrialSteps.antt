@@ -6,6 +6,7 @@ use Rattle.std.specs.Str.{bytes_eq}
 use Rattle.std.proofs.lemmas.Slice.Eq.{bytes_eq-Decides}
 use Rattle.mg_dev.specs.Causes.{Rose}
 use Rattle.mg_dev.specs.Files.{Files, bytes_at, file_at}
+use Rattle.mg_dev.specs.Laws.{size_is}
 use Rattle.mg_dev.specs.Moments.{SinkAt, SourceAt}
 use Rattle.mg_dev.specs.Streams.{appended}
 use Rattle.mg_dev.specs.declared.fault.Fault.{Fault}
@@ -20,7 +21,7 @@ use Rattle.mg_dev.specs.declared.part.Part.TheVariants as part
 use Rattle.mg_layout.specs.Stands.{Stands, parts_at}
 use Rattle.mg_build.specs.Outcomes.{DecodeStops}
 use Rattle.mg_session.specs.Serves as serves
-use Rattle.mg_plain.specs.Scans as scans
+use Rattle.mg_plain.specs.Stops.{ScanStops}
 use Rattle.mg_top.specs.Trials.{IsBuilt, Lacks, set_name, text_name}
 
 pub bytes_there : (files : Option Files) (collection : List ℕ) → file_at files text_name ≡ Some collection → bytes_at files text_name ≡ collection
@@ -119,12 +120,12 @@ module _ (s i o : Type 0) (files : Option Files) (collection given : List ℕ) (
   serve_lacks SameName cause = cause
   serve_lacks (TooManyRotations count) cause = cause
 
-  pub scan_lacks : (f : Fault) → scans.StopsFor s i o files text_name left f → Lacks s f
+  pub scan_lacks : (f : Fault) → ScanStops s i o files text_name left f → Lacks s f
   scan_lacks StoreFault cause = cause
   scan_lacks ReadFault cause = no_input cause
   scan_lacks WriteFault cause = no_output cause
   scan_lacks NoCollection cause = absurd (let none : None ≡ Some collection = sym (cause are_told) ∙ built.text in cc)
-  scan_lacks (TooLarge size most) cause = absurd (let size_is : length collection ≡ size = ap length (sym bytes_are) ∙ cause.2 are_told in omega (arith, built.few, size_is, cause.1))
+  scan_lacks (TooLarge size most) cause = absurd (let long : length collection ≡ size = ap length (sym bytes_are) ∙ size_is files text_name size (cause.2 are_told) in omega (arith, built.few, long, cause.0, cause.1))
   scan_lacks (Changed what first second) cause = cause.2 are_told
   scan_lacks Memory cause = tt
   scan_lacks InputTooLong cause = too_much given short (cause given is)

@@ -2,7 +2,7 @@ use Rattle.std.proofs.Common.{rules, ◌≡◌}
 use Rattle.std.specs.Ordering.{is_lt}
 use Rattle.std.proofs.lemmas.Fn.{always_returns_same}
 use Rattle.std.proofs.lemmas.List.Sorted.{ranks_by}
-use Rattle.mg_plain.proofs.RowLaws.{is_above, row_total, ranking_from}
+use Rattle.mg_plain.proofs.RowOrderLaws.{is_above, row_total, ranking_from}
 use Rattle.mg_plain.proofs.order.sort_rows.Goals as goal
 
 pub returns-clause-sorted : goal.returns-clause-sorted

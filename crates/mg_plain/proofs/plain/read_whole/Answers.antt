@@ -12,8 +12,8 @@ returns-then-count-len-clause-reads g c = λ p apart. c.in-Ok-read_at.ensures.re
 pub returns-clause-reads : goal.returns-clause-reads
 returns-clause-reads g c = λ p apart. c.in-Ok-read_at.ensures.reads p ∙ with_read-other _ _ _ apart
 
-pub returns-then-count-len-clause-content : goal.returns-then-count-len-clause-content
-returns-then-count-len-clause-content g c =
+pub returns-then-count-len-clause-cause : goal.returns-then-count-len-clause-cause
+returns-then-count-len-clause-cause g c =
     let long : length c.read_at.new.buf ≡ c.args.size = omega arith in
     let within : c.in-Ok-read_at.count ≤ length c.read_at.new.buf = omega (arith, c.in-Ok-read_at.ensures.bound) in (
       refl,

@@ -1,15 +1,14 @@
 use Rattle.std.proofs.Common.{◌≡◌, ◌≤◌, ◌^◌, List, length, sym, ◌∙◌, ap, subst}
 use Rattle.std.specs.List.{All}
 use Rattle.std.proofs.lemmas.List.Sorted.{All-permutation}
-use Rattle.mg_dev.specs.Streams.{AfterPut}
+use Rattle.mg_dev.specs.Streams.{GrewByPrefix, appended}
 use Rattle.mg_defs.specs.Order.{AreRising}
 use Rattle.mg_defs.specs.Weights.{by_score}
 use Rattle.mg_defs.specs.Reply.{Shown, ranking, answer_text}
 use Rattle.mg_defs.proofs.TopLaws.{hits_rise}
 use Rattle.mg_plain.specs.declared.order.Row.{Row}
-use Rattle.mg_plain.specs.Rows.{IsPlaced, hits_of}
-use Rattle.mg_plain.specs.Ranked.{shown_rows}
-use Rattle.mg_plain.proofs.RankedLaws.{few_rows, ranking-is}
+use Rattle.mg_plain.specs.RankedRows.{IsPlaced, hits_of, shown_rows}
+use Rattle.mg_plain.proofs.RankedAnswerLaws.{few_rows, ranking-is}
 use Rattle.mg_plain.proofs.ranked.answer_terms.Goals as goal
 
 pub sort_rows-requires : goal.sort_rows-requires
@@ -23,7 +22,12 @@ pub put_answer-requires-clause-placed : goal.put_answer-requires-clause-placed
 put_answer-requires-clause-placed g c =
     subst (All (IsPlaced c.args.bytes.now)) (sym c.deref.ensures.value) (All-permutation (IsPlaced c.args.bytes.now) c.in_ok-rows.rows.items c.sort_rows.new.rows.items c.sort_rows.ensures.same c.in_ok-rows.ensures.placed)
 
+pub returns-in-Ok-clause-content : goal.returns-in-Ok-clause-content
+returns-in-Ok-clause-content g c =
+    let is : shown_rows c.deref.result.now ≡ ranking c.args.bytes.now c.args.terms.now = ranking-is c.args.bytes.now c.args.terms.now c.deref.result.now (ap hits_of c.deref.ensures.value ∙ c.sort_rows.ensures.sorted ∙ ap by_score c.in_ok-rows.ensures.hits) in
+    c.in-Ok.ensures.content ∙ ap (λ (answer : List Shown). appended (g.O.Sink.written c.args.out.now) (answer_text c.args.bytes.now c.args.now.now answer)) is
+
 pub returns-clause-content : goal.returns-clause-content
 returns-clause-content g c =
     let is : shown_rows c.deref.result.now ≡ ranking c.args.bytes.now c.args.terms.now = ranking-is c.args.bytes.now c.args.terms.now c.deref.result.now (ap hits_of c.deref.ensures.value ∙ c.sort_rows.ensures.sorted ∙ ap by_score c.in_ok-rows.ensures.hits) in
-    subst (λ (answer : List Shown). AfterPut (g.O.Sink.written c.args.out.now) (g.O.Sink.written c.put_answer.new.out) (answer_text c.args.bytes.now c.args.now.now answer) c.put_answer.result) is c.put_answer.ensures.content
+    subst (λ (answer : List Shown). GrewByPrefix (g.O.Sink.written c.args.out.now) (g.O.Sink.written c.put_answer.new.out) (answer_text c.args.bytes.now c.args.now.now answer)) is c.in-Err.ensures.content

@@ -1,4 +1,4 @@
-use Rattle.mg_plain.proofs.RankedLaws.{answer_put, answer_cut, answer_part}
+use Rattle.mg_plain.proofs.RankedAnswerLaws.{answer_put, answer_cut, answer_part}
 use Rattle.mg_plain.proofs.ranked.put_answer.Goals as goal
 
 pub returns-in-Err-clause-content : goal.returns-in-Err-clause-content

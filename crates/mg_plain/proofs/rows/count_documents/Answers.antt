@@ -1,5 +1,5 @@
 use Rattle.std.proofs.Common.{arith}
-use Rattle.mg_plain.proofs.RankingLaws.{tallied_start, tallied_more, tallied_all, tallied_found, tallied_small, next_small}
+use Rattle.mg_plain.proofs.RankingUnderWayLaws.{tallied_start, tallied_more, tallied_all, tallied_found, tallied_small, next_small}
 use Rattle.mg_plain.proofs.rows.count_documents.Goals as goal
 
 pub docs-init : goal.docs-init

@@ -1,5 +1,5 @@
 use Rattle.std.proofs.Common.{◌≡◌, ℕ, ◌<◌, length, get_or}
-use Rattle.mg_plain.specs.Ranking.{Tallied}
+use Rattle.mg_plain.specs.RankingUnderWay.{Tallied}
 use Rattle.mg_plain.proofs.rows.count_documents.Given as goal
 
 abbrev pub invariant-loop-one : goal.invariant-loop-one

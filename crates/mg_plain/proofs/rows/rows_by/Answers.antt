@@ -1,5 +1,5 @@
 use Rattle.std.proofs.Common.{arith}
-use Rattle.mg_plain.proofs.RankingLaws.{ranked_start, ranked_small, ranked_miss, ranked_hit, ranked_all}
+use Rattle.mg_plain.proofs.RankingUnderWayLaws.{ranked_start, ranked_small, ranked_miss, ranked_hit, ranked_all}
 use Rattle.mg_plain.proofs.rows.rows_by.Goals as goal
 use Rattle.mg_plain.proofs.rows.rows_by.Goals.{in-Some-2+in_ok-push, in_default-2}
 

@@ -1,5 +1,5 @@
 use Rattle.std.proofs.Common.{◌≡◌, length}
-use Rattle.mg_plain.specs.Ranking.{Ranked}
+use Rattle.mg_plain.specs.RankingUnderWay.{Ranked}
 use Rattle.mg_plain.proofs.rows.rows_by.Given as goal
 
 abbrev pub invariant-docs : goal.invariant-docs

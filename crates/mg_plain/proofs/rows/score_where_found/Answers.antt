@@ -1,7 +1,7 @@
 use Rattle.std.proofs.Common.{◌≡◌, true, sym, ◌∙◌}
 use Rattle.std.specs.List.{list_any}
 use Rattle.mg_defs.specs.Weights.{has_term}
-use Rattle.mg_plain.proofs.RankingLaws.{some-is, weighs}
+use Rattle.mg_plain.proofs.RankingUnderWayLaws.{some-is, weighs}
 use Rattle.mg_plain.proofs.rows.score_where_found.Goals as goal
 
 pub returns-then-not-has_some-clause-score : goal.returns-then-not-has_some-clause-score

@@ -1,5 +1,5 @@
 use Rattle.std.proofs.Common.{arith, get_or, []}
-use Rattle.mg_plain.proofs.RankingLaws.{docs-few, weights_are}
+use Rattle.mg_plain.proofs.RankingUnderWayLaws.{docs-few, weights_are}
 use Rattle.mg_plain.proofs.rows.weigh_terms.Goals as goal
 
 pub weigh_each-requires : goal.weigh_each-requires

@@ -1,6 +1,6 @@
 use Rattle.std.proofs.Common.{refl}
 use Rattle.mg_dev.specs.StreamLaws.{grew_nothing}
-use Rattle.mg_plain.proofs.ScannerLaws.{session_over}
+use Rattle.mg_plain.proofs.LoadLaws.{session_over}
 use Rattle.mg_plain.proofs.scanner.scan_text.Goals as goal
 
 pub returns-in-Err-clause-prefix : goal.returns-in-Err-clause-prefix

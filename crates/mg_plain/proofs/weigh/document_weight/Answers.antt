@@ -3,8 +3,8 @@ use Rattle.std.specs.List.Sorted.{IsPermutation}
 use Rattle.std.proofs.lemmas.List.Sorted.{IsPermutation-map, length_permutation}
 use Rattle.mg_defs.proofs.ListLaws.{terms_short}
 use Rattle.mg_defs.specs.Terms.{folded}
-use Rattle.mg_plain.specs.Runs.{terms_of, squares}
-use Rattle.mg_plain.proofs.RunLaws.{squares-weigh}
+use Rattle.mg_plain.specs.EqualTerms.{terms_of, squares}
+use Rattle.mg_plain.proofs.EqualTermLaws.{squares-weigh}
 use Rattle.mg_plain.proofs.WordLaws.{length-terms_of}
 use Rattle.mg_plain.proofs.weigh.document_weight.Goals as goal
 

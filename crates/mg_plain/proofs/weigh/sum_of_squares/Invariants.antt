@@ -1,5 +1,5 @@
 use Rattle.std.proofs.Common.{◌≡◌, ◌+◌, ◌*◌, ◌^◌, ◌≤◌, drop}
-use Rattle.mg_plain.specs.Runs.{terms_of, squares}
+use Rattle.mg_plain.specs.EqualTerms.{terms_of, squares}
 use Rattle.mg_plain.proofs.weigh.sum_of_squares.Given as goal
 
 abbrev pub invariant-loop-i : goal.invariant-loop-i

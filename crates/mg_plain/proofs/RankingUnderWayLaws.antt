@@ -17,8 +17,8 @@ use Rattle.mg_defs.proofs.ReplyLaws.{document_at}
 use Rattle.mg_plain.specs.declared.order.Row.{Row}
 use Rattle.mg_plain.specs.Inside.{is_inside}
 use Rattle.mg_plain.specs.Counts.{AreCounts}
-use Rattle.mg_plain.specs.Rows.{hit_of, hits_of, IsPlaced}
-use Rattle.mg_plain.specs.Ranking.{having, hits_from, Tallied, Ranked}
+use Rattle.mg_plain.specs.RankedRows.{hit_of, hits_of, IsPlaced}
+use Rattle.mg_plain.specs.RankingUnderWay.{having, hits_from, Tallied, Ranked}
 use Rattle.mg_plain.proofs.CountLaws.{some-freq}
 use Rattle.mg_plain.proofs.ScoreLaws.{weight-some}
 use Rattle.mg_plain.proofs.DocumentLaws.{first_document, few_documents, short_document}

@@ -18,7 +18,7 @@ use Rattle.mg_defs.specs.Sorted.{sorted_distinct}
 use Rattle.mg_defs.specs.Terms.{terms}
 use Rattle.mg_defs.specs.Weights.{weight}
 use Rattle.mg_defs.proofs.SortedLaws.{same-is, same-refl, sorted-rising, rising-unique, has-sorted}
-use Rattle.mg_plain.specs.Runs.{Ascends, goes_on, square, squares}
+use Rattle.mg_plain.specs.EqualTerms.{Ascends, goes_on, square, squares}
 
 abbrev order_of : List ℕ → List ℕ → Ordering
 order_of a b = slice_cmp nat_cmp a b

@@ -14,7 +14,7 @@ use Rattle.mg_defs.specs.Weights.{Hit, by_score}
 use Rattle.mg_defs.specs.Order.{IsBefore, AreSorted, AreRising}
 use Rattle.mg_defs.proofs.TopLaws.{order_is}
 use Rattle.mg_plain.specs.declared.order.Row.{Row}
-use Rattle.mg_plain.specs.Rows.{hit_of, hits_of}
+use Rattle.mg_plain.specs.RankedRows.{hit_of, hits_of}
 
 abbrev pub row_cmp : Row → Row → Ordering
 row_cmp = then_cmp (on (λ (r : Row). r.score) (flip_args nat_cmp)) (on (λ (r : Row). r.number) nat_cmp)

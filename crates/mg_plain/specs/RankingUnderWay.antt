@@ -5,7 +5,7 @@ use Rattle.mg_defs.specs.Split.{documents}
 use Rattle.mg_defs.specs.Terms.{docs}
 use Rattle.mg_defs.specs.Weights.{Hit, has_term, score, hits}
 use Rattle.mg_plain.specs.declared.order.Row.{Row}
-use Rattle.mg_plain.specs.Rows.{hits_of, IsPlaced}
+use Rattle.mg_plain.specs.RankedRows.{hits_of, IsPlaced}
 
 -- how many of these documents have the term
 unfoldable pub having : List ℕ → List (List ℕ) → ℕ

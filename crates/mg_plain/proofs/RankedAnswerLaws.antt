@@ -1,6 +1,6 @@
 -- Laws of a ranked answer.
-use Rattle.std.proofs.Common.{◌≡◌, ℕ, ◌+◌, ◌<◌, ◌≤◌, ◌^◌, List, [], ◌∷◌, ◌++◌, length, get_or, take, drop, Some, None, Err, map, filter, refl, sym, ◌∙◌, ap, subst, arith, add-one, length-append, append-nil, append_assoc}
-use Rattle.std.specs.Prelude.{nat_lt, nat_le, flat_map, IfSome}
+use Rattle.std.proofs.Common.{◌≡◌, ℕ, ◌+◌, ◌<◌, ◌≤◌, ◌^◌, List, [], ◌∷◌, ◌++◌, length, get_or, take, drop, Some, None, map, filter, refl, sym, ◌∙◌, ap, subst, arith, add-one, length-append, append-nil, append_assoc}
+use Rattle.std.specs.Prelude.{nat_lt, nat_le, flat_map}
 use Rattle.std.specs.List.{list_any, enumerate_from}
 use Rattle.std.specs.declared.option.Option.{Option}
 use Rattle.std.specs.declared.result.Result.{Result}
@@ -12,13 +12,6 @@ use Rattle.std.proofs.lemmas.List.{take-append-drop, take-map, length-map}
 use Rattle.std.proofs.lemmas.List.Sums.{length-filter, count_by-le-length}
 use Rattle.std.proofs.lemmas.List.FromFn.{length-enumerate_from}
 use Rattle.mg_dev.specs.Streams.{AfterPut, GrewByPrefix}
-use Rattle.mg_dev.specs.StreamLaws.{grew_nothing}
-use Rattle.mg_dev.specs.declared.device.PutErr.{PutErr}
-use Rattle.mg_dev.specs.declared.device.PutErr.TheVariants as put
-use Rattle.mg_query.specs.declared.query_err.QueryErr.{QueryErr}
-use Rattle.mg_query.specs.declared.query_err.QueryErr.TheVariants.{Syntax, TooDeep, TermTooLong, TooManyTerms, Memory}
-use Rattle.mg_query.specs.RefusalOf.{refusal_of}
-use Rattle.mg_defs.specs.Replies.{refusal, ranked_reply}
 use Rattle.mg_defs.specs.Tokens.{Token, Placed, word, bar, amp, bang, opening, closing, tokens}
 use Rattle.mg_defs.specs.Terms.{folded, same_term}
 use Rattle.mg_defs.specs.Read.{Reading, reads, refused, ranked_with, ranked_token, ranked_next, ranked_from, ranked}
@@ -31,8 +24,7 @@ use Rattle.mg_defs.specs.declared.session.Settings.{Settings}
 use Rattle.mg_reply.specs.Pending.{Passed}
 use Rattle.mg_reply.proofs.CallerLemmas.{pass_nothing, pass_both, pass_cut, pass_part, pass_put, pass_refused}
 use Rattle.mg_plain.specs.declared.order.Row.{Row}
-use Rattle.mg_plain.specs.Rows.{hit_of, hits_of}
-use Rattle.mg_plain.specs.Ranked.{shown_of, shown_rows, rows_text}
+use Rattle.mg_plain.specs.RankedRows.{hit_of, hits_of, shown_of, shown_rows, rows_text}
 use Rattle.mg_plain.proofs.DocumentLaws.{few_documents}
 
 -- ---- a ranked line has at most 64 terms
@@ -156,16 +148,3 @@ answer_cut collection now rows shown_too w0 w1 w2 p0 p1 none e passed grew =
 pub answer_part : (collection : List ℕ) (now : Settings) (rows shown_too : List Row) (w0 w1 : Option (List ℕ)) (p0 : List ℕ) → p0 ≡ [] → shown_too ≡ first now.most rows → GrewByPrefix w0 w1 (p0 ++ rows_text collection now.mode shown_too) → GrewByPrefix w0 w1 (answer_text collection now (shown_rows rows))
 answer_part collection now rows shown_too w0 w1 p0 none e grew =
     subst (GrewByPrefix w0 w1) (sym (text-answer collection now rows shown_too e)) (pass_refused w0 w1 p0 _ none (pass_part w0 w1 p0 _ _ grew))
-
--- ---- a line that has no terms
-
--- what was put for a refusal, or nothing at want of memory
-pub ranked_refused : (e : QueryErr) (line collection : List ℕ) (now : Settings) (w0 w1 : Option (List ℕ)) (r : Result (Unit {0}) PutErr) → IfSome (refusal_of e) (λ why. ranked line ≡ refused why) → IfSome (refusal_of e) (λ why. AfterPut w0 w1 (refusal why) r) → (e ≡ Memory → (r ≡ Err put.Memory) × (w1 ≡ w0)) → AfterPut w0 w1 (ranked_reply collection now (ranked line)) r
-ranked_refused (Syntax at) line collection now w0 w1 r is put none = subst (λ b. AfterPut w0 w1 (ranked_reply collection now b) r) (sym is) put
-ranked_refused (TooDeep at) line collection now w0 w1 r is put none = subst (λ b. AfterPut w0 w1 (ranked_reply collection now b) r) (sym is) put
-ranked_refused (TermTooLong at) line collection now w0 w1 r is put none = subst (λ b. AfterPut w0 w1 (ranked_reply collection now b) r) (sym is) put
-ranked_refused (TooManyTerms at) line collection now w0 w1 r is put none = subst (λ b. AfterPut w0 w1 (ranked_reply collection now b) r) (sym is) put
-ranked_refused Memory line collection now w0 w1 r is put none =
-    let m = none refl in
-    let text = ranked_reply collection now (ranked line) in
-    subst (AfterPut w0 w1 text) (sym m.0) (subst (λ w. GrewByPrefix w0 w text) (sym m.1) (grew_nothing w0 text))

@@ -1,4 +1,4 @@
--- A scan that is under way.
+-- A Boolean answer that is under way.
 use Rattle.std.specs.Prelude.{◌≡◌, ℕ, ◌+◌, List, [], ◌++◌, length, flat_map}
 use Rattle.std.specs.declared.option.Option.{Option}
 use Rattle.mg_defs.specs.Split.{documents}
@@ -9,7 +9,7 @@ use Rattle.mg_defs.specs.Reply.{Shown, found, shown}
 use Rattle.mg_reply.specs.Pending.{Passed}
 
 -- So many documents were read, and those of them that satisfy the query were shown.
-pub record Scanning (collection : List ℕ) (q : Query) (now : Settings) (before after : Option (List ℕ)) (waiting : List ℕ) (number total : ℕ) (rest : List (List ℕ)) : Type 0 where
+pub record FoundSoFar (collection : List ℕ) (q : Query) (now : Settings) (before after : Option (List ℕ)) (waiting : List ℕ) (number total : ℕ) (rest : List (List ℕ)) : Type 0 where
   pub front : List (List ℕ)
   pub docs_is : documents collection ≡ front ++ rest
   pub count : length front ≡ number
