@@ -16,9 +16,9 @@ use Rattle.mg_defs.specs.TextBits.{text_bits}
 use Rattle.mg_defs.proofs.TextBitsLaws.{text-within}
 use Rattle.mg_laws.proofs.FirstMarks.{first_is_beyond, one_first, within_from}
 use Rattle.mg_layout.specs.Stands.{StandsIn}
-use Rattle.mg_build.specs.Building.{BuildStops, IsEarly, IsPlanFor, PassStops, WriteStops}
+use Rattle.mg_build.specs.Building.{BuildStops, IsPlanFor, PassStops, WriteStops}
 use Rattle.mg_dev.specs.Runs.{IsDone, RefusedFor}
-use Rattle.mg_make.specs.Outcomes.{most_bytes}
+use Rattle.mg_make.specs.Outcomes.{IsEarly, most_bytes}
 use Rattle.mg_build.specs.Sources.{HasSize, OpenStops}
 use Rattle.mg_make.specs.Plans.{Plan}
 
@@ -189,12 +189,12 @@ write_late rose same cause.Usage stop early = early
 write_late rose same cause.StoreFault stop early = early
 write_late rose same cause.ReadFault stop early = early
 write_late rose same cause.WriteFault stop early = early
-write_late rose same cause.NotBuilt stop early = early
+write_late rose same cause.NotBuilt stop early = stop
 write_late rose same (cause.Damaged bad) stop early = early
 write_late rose same (cause.Changed what first second) stop early = early
 write_late rose same cause.Memory stop early = early
 write_late rose same cause.InputTooLong stop early = early
-write_late rose same cause.SameName stop early = early
+write_late rose same cause.SameName stop early = stop
 write_late rose same (cause.TooManyRotations count) stop early = early
 
 -- its cause is one of a build's

@@ -17,9 +17,9 @@ use Rattle.mg_defs.specs.Summaries.{run_cap}
 use Rattle.mg_defs.specs.TextBits.{text_bits}
 use Rattle.mg_layout.specs.Stands.{StandsIn}
 use Rattle.mg_make.specs.Putting.{IsApart, OthersSame}
-use Rattle.mg_build.specs.Building.{BuildStops, IsEarly}
+use Rattle.mg_build.specs.Building.{BuildStops}
 use Rattle.mg_build.specs.Made.{Made}
-use Rattle.mg_make.specs.Outcomes.{Left, most_bytes}
+use Rattle.mg_make.specs.Outcomes.{IsEarly, Left, most_bytes}
 use Rattle.mg_dev.proofs.CallerLemmas.{at_fault, done_or_lacks, stopped_by, stopped_for, when_ok}
 
 module _ {T : Type 0} (name base : List ℕ) (budget : ℕ) (store store_now : StoreAt) (r : Result T Fault)

@@ -48,11 +48,3 @@ BuildStops store_rose files name base Memory = Unit {0}
 BuildStops store_rose files name base (NameClash part) = (part ≢ Plain) × (name ≡ full_name base part)
 BuildStops store_rose files name base _ = ⊥
 
--- a refusal before the first write
-abbrev pub IsEarly : Fault → Type 0
-IsEarly NoCollection = Unit {0}
-IsEarly (TooLarge size most) = Unit {0}
-IsEarly TooManyDocuments = Unit {0}
-IsEarly (TooManyPieces stream) = Unit {0}
-IsEarly (NameClash part) = Unit {0}
-IsEarly _ = ⊥

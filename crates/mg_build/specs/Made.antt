@@ -19,8 +19,8 @@ use Rattle.mg_defs.specs.Summaries.{run_cap}
 use Rattle.mg_defs.specs.TextBits.{text_bits}
 use Rattle.mg_layout.specs.Stands.{StandsIn}
 use Rattle.mg_make.specs.Putting.{IsApart, OthersSame}
-use Rattle.mg_build.specs.Building.{BuildStops, IsEarly}
-use Rattle.mg_make.specs.Outcomes.{Left, most_bytes}
+use Rattle.mg_build.specs.Building.{BuildStops}
+use Rattle.mg_make.specs.Outcomes.{IsEarly, Left, most_bytes}
 
 -- The files of this base are what a build of the collection with this budget makes.
 pub record AreMade (files : Option Files) (base collection : List ℕ) (budget : ℕ) : Type 0 where

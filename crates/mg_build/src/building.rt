@@ -17,9 +17,9 @@ ghost use Rattle.mg_defs.specs.TextBits.{text_bits};
 ghost use Rattle.mg_layout.specs.Stands.{StandsIn};
 ghost use Rattle.mg_make.specs.Putting.{IsApart, OthersSame};
 ghost use Rattle.mg_make.specs.Summaries.{summary_of};
-ghost use Rattle.mg_build.specs.Building.{BuildStops, IsEarly};
+ghost use Rattle.mg_build.specs.Building.{BuildStops};
 ghost use Rattle.mg_build.specs.Made.{Made};
-ghost use Rattle.mg_make.specs.Outcomes.{Left, most_bytes};
+ghost use Rattle.mg_make.specs.Outcomes.{IsEarly, Left, most_bytes};
 
 use crate::names::part_named;
 use crate::passes::{count_all, write_set};

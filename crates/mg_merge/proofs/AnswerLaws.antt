@@ -15,8 +15,8 @@ use Rattle.mg_defs.specs.Marks.{PassesFirst, start, piece}
 use Rattle.mg_layout.specs.Stands.{Stands, StandsIn}
 use Rattle.mg_make.specs.Putting.{OthersSame}
 use Rattle.mg_merge.specs.Joined.{Joined}
-use Rattle.mg_make.specs.Outcomes.{Left, most_bytes}
-use Rattle.mg_merge.specs.Merging.{BothStand, IsEarly, IsSizeByHeads, MergeStops}
+use Rattle.mg_make.specs.Outcomes.{IsEarly, Left, most_bytes}
+use Rattle.mg_merge.specs.Merging.{BothStand, IsSizeByHeads, MergeStops}
 use Rattle.mg_merge.specs.Stops.{IsMissing}
 use Rattle.mg_dev.proofs.CallerLemmas.{at_fault, done_or_lacks, stopped_by, stopped_for, when_ok}
 

@@ -25,8 +25,8 @@ use Rattle.mg_layout.proofs.CallerLemmas.{in_stands, loaded_set}
 use Rattle.mg_make.specs.Plans.{IsPlanOf, Plan}
 use Rattle.mg_make.specs.Putting.{IsApart}
 use Rattle.mg_dev.specs.Runs.{IsDone, RefusedFor}
-use Rattle.mg_make.specs.Outcomes.{most_bytes}
-use Rattle.mg_merge.specs.Merging.{BothStand, IsEarly, IsSizeByHeads, MergeStops, budget_of, joined_size}
+use Rattle.mg_make.specs.Outcomes.{IsEarly, most_bytes}
+use Rattle.mg_merge.specs.Merging.{BothStand, IsSizeByHeads, MergeStops, budget_of, joined_size}
 use Rattle.mg_merge.specs.Passes.{AreApart, ArePlanned}
 use Rattle.mg_merge.specs.Stops.{AreHeads, CountingStops, ReadStops}
 use Rattle.mg_merge.specs.Texts.{AreSetsBy, AreTextsOf, TextsStand, TwoTexts}

@@ -16,8 +16,7 @@ use Rattle.mg_make.specs.Listing.{ListStops}
 use Rattle.mg_make.specs.Plans.{IsPlanOf, Plan}
 use Rattle.mg_make.specs.Putting.{HasPut, IsUnbuilt, OthersSame, Putting}
 use Rattle.mg_make.specs.Written.{SecondStops}
-use Rattle.mg_make.specs.Outcomes.{Left}
-use Rattle.mg_merge.specs.Merging.{IsEarly}
+use Rattle.mg_make.specs.Outcomes.{IsEarly, Left}
 use Rattle.mg_merge.specs.Stops.{CountingStops, Differ, IsDamaged, IsRetold, ReadStops}
 
 -- ---- counting

@@ -18,7 +18,8 @@ use Rattle.mg_defs.proofs.StandLaws.{stand-tells}
 use Rattle.mg_laws.proofs.FirstMarks.{first_is_beyond, one_first, within_from}
 use Rattle.mg_layout.specs.Stands.{Stands, parts_at}
 use Rattle.mg_dev.specs.Runs.{IsDone, RefusedFor}
-use Rattle.mg_merge.specs.Merging.{BothStand, IsEarly, IsSizeByHeads, MergeStops}
+use Rattle.mg_merge.specs.Merging.{BothStand, IsSizeByHeads, MergeStops}
+use Rattle.mg_make.specs.Outcomes.{IsEarly}
 use Rattle.mg_merge.specs.Stops.{AreHeads, CountingStops, HeadStops, IsMissing, ReadStops}
 
 -- the store failed and its failures rose, or memory lacks
@@ -178,13 +179,13 @@ read_late rose whole cause.ReadFault stop early = early
 read_late rose whole cause.WriteFault stop early = early
 read_late rose whole cause.NotBuilt stop early = stop
 read_late rose whole (cause.Damaged bad) stop early = early
-read_late rose whole cause.NoCollection stop early = early
+read_late rose whole cause.NoCollection stop early = stop
 read_late rose whole (cause.TooLarge bytes most) stop early = stop
 read_late rose whole cause.TooManyDocuments stop early = stop
 read_late rose whole (cause.TooManyPieces kind) stop early = stop
 read_late rose whole (cause.Changed what one two) stop early = early
 read_late rose whole cause.Memory stop early = early
-read_late rose whole (cause.NameClash part) stop early = early
+read_late rose whole (cause.NameClash part) stop early = stop
 read_late rose whole cause.InputTooLong stop early = early
 read_late rose whole cause.SameName stop early = stop
 read_late rose whole (cause.TooManyRotations count) stop early = early

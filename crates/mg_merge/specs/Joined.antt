@@ -13,8 +13,8 @@ use Rattle.mg_defs.specs.Limits.{IsWithinLimits, version_2}
 use Rattle.mg_defs.specs.Marks.{PassesFirst, start, piece}
 use Rattle.mg_layout.specs.Stands.{Stands, StandsIn}
 use Rattle.mg_make.specs.Putting.{OthersSame}
-use Rattle.mg_make.specs.Outcomes.{AreMadeAnew, Left, most_bytes}
-use Rattle.mg_merge.specs.Merging.{BothStand, IsEarly, IsSizeByHeads, MergeStops}
+use Rattle.mg_make.specs.Outcomes.{AreMadeAnew, IsEarly, Left, most_bytes}
+use Rattle.mg_merge.specs.Merging.{BothStand, IsSizeByHeads, MergeStops}
 use Rattle.mg_merge.specs.Stops.{IsMissing}
 
 -- of each two collections that the sets of these names stand for, in either version, by the store before the merge and after it, and its status

@@ -44,15 +44,6 @@ pub record IsSizeByHeads (files : Option Files) (first second : List ℕ) (size 
 
 -- ---- what it leaves
 
--- a refusal before the first write
-abbrev pub IsEarly : Fault → Type 0
-IsEarly NotBuilt = Unit {0}
-IsEarly (TooLarge size most) = Unit {0}
-IsEarly TooManyDocuments = Unit {0}
-IsEarly (TooManyPieces stream) = Unit {0}
-IsEarly SameName = Unit {0}
-IsEarly _ = ⊥
-
 -- ---- why it stops
 
 -- the cause of each refusal, by the files as it began and the three bases

@@ -16,7 +16,7 @@ use Rattle.mg_defs.specs.Summaries.{summary_text}
 use Rattle.mg_make.specs.Summaries.{summary_of}
 use Rattle.mg_make.specs.declared.summary.Summary.{Summary}
 use Rattle.mg_build.specs.Building as building
-use Rattle.mg_build.specs.Building.{IsEarly}
+use Rattle.mg_make.specs.Outcomes.{IsEarly}
 use Rattle.mg_build.specs.Made.{Made}
 use Rattle.mg_dev.proofs.CallerLemmas.{put_grew}
 use Rattle.mg_dev.specs.Runs.{IfStopped, OutputFailed, Run, SaysNothing, StoppedFor, Stops, StoreFailed}
@@ -99,7 +99,7 @@ never_refused g (inl e) = never_stopped g e
 never_refused g (inr (inl e)) = never_stopped StoreFault e
 never_refused g (inr (inr e)) = never_stopped Memory e
 
-never_early : (w : Result (Unit {0}) PutErr) (status : Status) (g : Fault) → status ≡ status_of_put w → IsEarly g → status ≡ Stopped g → ⊥
+pub never_early : (w : Result (Unit {0}) PutErr) (status : Status) (g : Fault) → status ≡ status_of_put w → IsEarly g → status ≡ Stopped g → ⊥
 never_early (Ok u) status g is soon end = absurd (not_done status g end is)
 never_early (Err put.Failed) status g is soon end = subst (λ (g : Fault). IsEarly g) (same_fault status g WriteFault end is) soon
 never_early (Err put.Memory) status g is soon end = subst (λ (g : Fault). IsEarly g) (same_fault status g Memory end is) soon

@@ -18,12 +18,12 @@ use Rattle.mg_make.specs.Summaries.{summary_of}
 use Rattle.mg_make.specs.declared.summary.Summary.{Summary}
 use Rattle.mg_merge.specs.Merging as merging
 use Rattle.mg_merge.specs.Joined.{Joined}
-use Rattle.mg_merge.specs.Merging.{IsEarly, budget_of}
+use Rattle.mg_merge.specs.Merging.{budget_of}
 use Rattle.mg_dev.proofs.CallerLemmas.{put_grew}
 use Rattle.mg_top.specs.Lines.{summary_lines}
 use Rattle.mg_top.specs.Merged.{MergeStops, Merged}
 use Rattle.mg_dev.specs.Runs.{IfStopped, Run, OutputFailed, SaysNothing, StoreFailed}
-use Rattle.mg_top.proofs.BuiltLaws.{never_stopped, never_refused, not_done, put_done_or, put_when_done, same_fault, status_of_put, text_of_summary}
+use Rattle.mg_top.proofs.BuiltLaws.{never_early, never_stopped, never_refused, not_done, put_done_or, put_when_done, same_fault, status_of_put, text_of_summary}
 
 -- ---- the merge was refused
 
@@ -76,11 +76,6 @@ module _ (first second new : List ℕ) (run : Run) (f : Fault) (is : run.status 
   }
 
 -- ---- the set was made
-
-never_early : (w : Result (Unit {0}) PutErr) (status : Status) (g : Fault) → status ≡ status_of_put w → IsEarly g → status ≡ Stopped g → ⊥
-never_early (Ok u) status g is soon end = absurd (not_done status g end is)
-never_early (Err put.Failed) status g is soon end = subst (λ (g : Fault). IsEarly g) (same_fault status g WriteFault end is) soon
-never_early (Err put.Memory) status g is soon end = subst (λ (g : Fault). IsEarly g) (same_fault status g Memory end is) soon
 
 put_stops : (w : Result (Unit {0}) PutErr) (store_rose : Type 0) (files : Option Files) (first second new : List ℕ) (before now : ℕ) → HasPutCause before now w
     → IfStopped (status_of_put w) (MergeStops store_rose (Rose before now) files first second new)

@@ -15,9 +15,8 @@ use Rattle.mg_defs.specs.Marks.{PassesFirst, start, piece}
 use Rattle.mg_defs.specs.Summaries.{summary_text}
 use Rattle.mg_make.specs.Putting.{IsApart, OthersSame}
 use Rattle.mg_build.specs.Building as building
-use Rattle.mg_build.specs.Building.{IsEarly}
 use Rattle.mg_build.specs.Made.{AreMade}
-use Rattle.mg_make.specs.Outcomes.{Left, most_bytes}
+use Rattle.mg_make.specs.Outcomes.{IsEarly, Left, most_bytes}
 use Rattle.mg_dev.specs.Runs.{IfStopped, Run, StoreFailed, OutputFailed, SaysNothing, KeepsFiles, Stops, StopsUnless}
 
 -- the bytes of the collection of this name, as the run begins

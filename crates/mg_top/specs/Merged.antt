@@ -14,8 +14,8 @@ use Rattle.mg_defs.specs.Summaries.{summary_text}
 use Rattle.mg_layout.specs.Stands.{Stands, StandsIn}
 use Rattle.mg_make.specs.Putting.{OthersSame}
 use Rattle.mg_merge.specs.Merging as merging
-use Rattle.mg_make.specs.Outcomes.{AreMadeAnew, Left, most_bytes}
-use Rattle.mg_merge.specs.Merging.{BothStand, IsEarly, IsSizeByHeads, budget_of}
+use Rattle.mg_make.specs.Outcomes.{AreMadeAnew, IsEarly, Left, most_bytes}
+use Rattle.mg_merge.specs.Merging.{BothStand, IsSizeByHeads, budget_of}
 use Rattle.mg_merge.specs.Stops.{IsMissing}
 use Rattle.mg_dev.specs.Runs.{IfStopped, Run, StoreFailed, OutputFailed, SaysNothing, KeepsFiles, Stops, StopsUnless}
 
