@@ -124,7 +124,11 @@ fn next_posting<F: Feed>(
         }
         None => {
             *ahead = Ahead::none();
-            read_posting(r, dev, parameter, before, all)
+            // Matched anew, so that the compiler keeps a posting of either way in registers.
+            match read_posting(r, dev, parameter, before, all) {
+                Ok(posting) => Ok(posting),
+                Err(refusal) => Err(refusal),
+            }
         }
     }
 }

@@ -22,5 +22,8 @@ pub returns-in-Some-clause-told : goal.returns-in-Some-clause-told
 returns-in-Some-clause-told g c = λ p follows small shows.
     one_posting _ c.args.r.now.place c.args.parameter c.args.before c.args.all _ _ _ _ c.in-Some.passed.posting p c.requires.code.some c.requires.code.small c.in-Some.ensures.takes (c.look-seen.ensures.told _ c.requires.fits) c.in-Some.ensures.follows follows shows
 
-pub returns-in-None-clause-ahead : goal.returns-in-None-clause-ahead
-returns-in-None-clause-ahead g c = nothing_ahead _ _ _ _ _ c.none.ensures.bits c.none.ensures.count
+pub returns-in-Ok-clause-ahead : goal.returns-in-Ok-clause-ahead
+returns-in-Ok-clause-ahead g c = nothing_ahead _ _ _ _ _ c.none.ensures.bits c.none.ensures.count
+
+pub returns-in-Err-clause-ahead : goal.returns-in-Err-clause-ahead
+returns-in-Err-clause-ahead g c = nothing_ahead _ _ _ _ _ c.none.ensures.bits c.none.ensures.count
