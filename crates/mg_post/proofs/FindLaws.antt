@@ -1,8 +1,8 @@
 -- What stands where a skip entry is read.
 use Rattle.std.proofs.Common.{arith, ◌≡◌, ◌+◌, ◌-◌, ◌*◌, ◌^◌, ◌%◌, ◌≤◌, ◌<◌, ℕ, List, ◌++◌, length, take, drop, Option, Some, None, Result, Ok, Err, refl, sym, ◌∙◌, ap, subst, length-append, IfOk, ◌⊎◌, inl, inr}
-use Rattle.std.proofs.lemmas.List.{take-append-drop}
+use Rattle.std.proofs.lemmas.List.{take-append-drop, length-drop}
 use Rattle.mg_defs.specs.declared.Posting.{Posting}
-use Rattle.mg_defs.specs.Bits.{Bits, Begins, FromPlace, digits}
+use Rattle.mg_defs.specs.Bits.{Bits, Begins, FromPlace, bits_of, digits}
 use Rattle.mg_defs.specs.Lists.{SkipEntry, bits_after, last_doc, Rises, doc_before, bits_before, entry_of, entry_bits}
 use Rattle.mg_defs.proofs.PageLaws.{pages_some}
 use Rattle.mg_defs.proofs.BitLaws.{length_digits, digits_same}
@@ -14,9 +14,10 @@ use Rattle.mg_bits.proofs.CallerLemmas.{lacks_next}
 use Rattle.mg_bits.specs.declared.bit_err.BitErr.{BitErr}
 use Rattle.mg_bits.specs.declared.bit_err.BitErr.TheVariants as bits
 use Rattle.mg_post.specs.declared.refusal.Refusal.{Refusal}
+use Rattle.mg_post.specs.declared.refusal.Refusal.TheVariants.{Device, Damaged}
 use Rattle.mg_post.specs.Stands.{Shows, SkipStands}
-use Rattle.mg_post.specs.Finding.{ReadTo, SkipReads, TellsBefore, TellsBlock, TellsLast, entry_page, entries_pages}
-use Rattle.mg_post.specs.Answers.{IsNumber, OrDevice, of_bits}
+use Rattle.mg_post.specs.Finding.{LacksAnEntry, ReadTo, SkipReads, TellsBefore, TellsBlock, TellsLast, entry_page, entries_pages}
+use Rattle.mg_post.specs.Answers.{IfDamaged, IsNumber, OnDamage, OrDevice, of_bits}
 use Rattle.mg_post.proofs.ReadLaws.{shows_left, shows_right}
 
 number_got : (result : Result ℕ BitErr) (place y : ℕ) (s : Bits) → IfOk result (λ v. v < 2 ^ 64) → y < 2 ^ 64 → Begins (digits 64 y) s → AnswersBits result place 64 s → IsNumber result y
@@ -190,3 +191,29 @@ tells_on skip skip_at reached low known before block here last at from more told
   where
     order : (a b : ℕ) → (a < b) ⊎ (b ≤ a)
     order a b = grind arith
+
+-- ---- entries that do not stand
+
+pub damaged_weaker : (refusal : Refusal) (one two : Type 0) → (one → two) → OnDamage refusal one → OnDamage refusal two
+damaged_weaker Device one two then h = tt
+damaged_weaker (Damaged at) one two then h = then h
+
+pub ends_number : (told : Option (List ℕ)) (refusal : BitErr) (place : ℕ) → FromPlace told place (AnswersBits (Err refusal) place 64) → OnDamage (of_bits refusal) (FromPlace told place (λ bits. length bits < 64))
+ends_number told bits.Device place answers = tt
+ends_number None (bits.End at) place answers = tt
+ends_number (Some bytes) (bits.End at) place answers = answers.0
+
+pub ends_first : (told : Option (List ℕ)) (place at : ℕ) → place ≡ at → FromPlace told place (λ bits. length bits < 64) → FromPlace told at (λ bits. length bits < 128)
+ends_first None place at is ends = tt
+ends_first (Some bytes) place at is ends = omega (arith, is, ends, length-drop place (bits_of bytes), length-drop at (bits_of bytes))
+
+pub ends_second : (told : Option (List ℕ)) (place at : ℕ) → place ≡ at + 64 → FromPlace told place (λ bits. length bits < 64) → FromPlace told at (λ bits. length bits < 128)
+ends_second None place at is ends = tt
+ends_second (Some bytes) place at is ends = omega (arith, is, ends, length-drop place (bits_of bytes), length-drop at (bits_of bytes))
+
+pub lacks_wider : (skip : Option (List ℕ)) (skip_at all low high from to : ℕ) → from ≤ low → high ≤ to → LacksAnEntry skip skip_at all low high → LacksAnEntry skip skip_at all from to
+lacks_wider skip skip_at all low high from to le most h = (h.0, omega (arith, le, h.1), omega (arith, most, h.2), h.3)
+
+pub damaged_either : {A : Type 0} (result : Result A Refusal) (one two : Type 0) → (one → two) → IfDamaged result one → IfDamaged result two
+damaged_either (Ok value) one two then h = tt
+damaged_either (Err refusal) one two then h = damaged_weaker refusal one two then h

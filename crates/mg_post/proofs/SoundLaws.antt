@@ -11,9 +11,9 @@ use Rattle.mg_defs.specs.Lists.{last_doc, Rises, Follows, from_doc}
 use Rattle.mg_defs.proofs.ListLaws.{from_here, from_next, last_above}
 use Rattle.mg_post.specs.declared.refusal.Refusal.{Refusal}
 use Rattle.mg_post.specs.declared.refusal.Refusal.TheVariants.{Device, Damaged}
-use Rattle.mg_post.specs.Answers.{IsRefused, OrDevice}
+use Rattle.mg_post.specs.Answers.{IsRefused, OnDamage, OrDevice}
 use Rattle.mg_post.specs.Cursor.{Cursoring, GoesOn, HeldRises, IsFrom, NamesItsPart, StandsOn, head_of, next_doc}
-use Rattle.mg_post.specs.Damages.{BlockIsMissing, HasPostCause, NamesPart}
+use Rattle.mg_post.specs.Damages.{BlockIsMissing, HasPostCause, IfNames, NamesPart}
 use Rattle.mg_post.proofs.FindLaws.{doc_within}
 
 order : (a b : ℕ) → (a < b) ⊎ (b ≤ a)
@@ -184,3 +184,15 @@ post_cause refusal err.Device c files doc is missing = tt
 post_cause refusal err.Memory c files doc is missing = tt
 post_cause Device (err.Bad bad) c files doc is missing = absurd cc
 post_cause (Damaged at) (err.Bad bad) c files doc is missing = λ post. missing at refl
+
+pub entry_cause : (refusal : Refusal) (e : PartErr) (fact : Type 0) → IsRefused refusal Skip e → OnDamage refusal fact → IfNames Skip e fact
+entry_cause refusal err.Device fact is lacks = tt
+entry_cause refusal err.Memory fact is lacks = tt
+entry_cause Device (err.Bad bad) fact is lacks = absurd cc
+entry_cause (Damaged at) (err.Bad bad) fact is lacks = λ skip. lacks
+
+pub no_entry_cause : (refusal : Refusal) (e : PartErr) (fact : Type 0) → IsRefused refusal Post e → IfNames Skip e fact
+no_entry_cause refusal err.Device fact is = tt
+no_entry_cause refusal err.Memory fact is = tt
+no_entry_cause Device (err.Bad bad) fact is = absurd cc
+no_entry_cause (Damaged at) (err.Bad bad) fact is = λ skip. (let e : Post ≡ Skip = sym is.part_is ∙ skip in absurd cc)

@@ -47,6 +47,15 @@ RefusalCause (Ok value) before now = Unit {0}
 RefusalCause (Err Device) before now = Rose before now
 RefusalCause (Err (Damaged at)) before now = Unit {0}
 
+-- this fact where something is damaged
+abbrev pub OnDamage : Refusal → Type 0 → Type 0
+OnDamage Device fact = Unit {0}
+OnDamage (Damaged at) fact = fact
+
+abbrev pub IfDamaged : {T : Type 0} → Result T Refusal → Type 0 → Type 0
+IfDamaged (Ok value) fact = Unit {0}
+IfDamaged (Err refusal) fact = OnDamage refusal fact
+
 -- a refusal, told of its part
 abbrev pub IsRefused : Refusal → Part → PartErr → Type 0
 IsRefused Device own e = e ≡ part.Device

@@ -3,13 +3,13 @@ use Rattle.std.specs.Prelude.{ℕ, ◌≡◌, ◌+◌, ◌-◌, ◌*◌, ◌^◌
 use Rattle.mg_dev.specs.Bads.{IsBad}
 use Rattle.mg_dev.specs.Files.{Files}
 use Rattle.mg_dev.specs.declared.part.Part.{Part}
-use Rattle.mg_dev.specs.declared.part.Part.TheVariants.{Post}
+use Rattle.mg_dev.specs.declared.part.Part.TheVariants.{Post, Skip}
 use Rattle.mg_dev.specs.declared.part_err.PartErr.{PartErr}
 use Rattle.mg_dev.specs.declared.part_err.PartErr.TheVariants.{Device, Memory, Bad}
 use Rattle.mg_bits.specs.Feed.{told_at}
 use Rattle.mg_defs.specs.declared.Posting.{Posting}
 use Rattle.mg_post.specs.Cursor.{Cursoring, blocks_of}
-use Rattle.mg_post.specs.Finding.{TellsBlock}
+use Rattle.mg_post.specs.Finding.{LacksAnEntry, TellsBlock}
 use Rattle.mg_post.specs.Stands.{BlockStands, SkipStands}
 
 -- a damage is one of this part: nothing of what is to stand at a bit of it was found there
@@ -17,6 +17,12 @@ abbrev pub NamesPart : Part → PartErr → Type 0
 NamesPart own Device = Unit {0}
 NamesPart own Memory = Unit {0}
 NamesPart own (Bad bad) = IsBad bad own bad.at 1 1 0
+
+-- this fact where a damage is one of this part
+abbrev pub IfNames : Part → PartErr → Type 0 → Type 0
+IfNames own Device fact = Unit {0}
+IfNames own Memory fact = Unit {0}
+IfNames own (Bad bad) fact = bad.part ≡ own → fact
 
 -- the skip entries of this list stand where the cursor reads them, whatever Post has
 pub record EntriesStand (c : Cursoring) (files : Option Files) (ps : List Posting) : Type 0 where
@@ -39,6 +45,8 @@ pub record BlockIsMissing (c : Cursoring) (files : Option Files) (doc : ℕ) : T
 
 -- a damage of Post has a cause: the block is missing
 abbrev pub HasPostCause : Cursoring → Option Files → ℕ → PartErr → Type 0
-HasPostCause c files doc Device = Unit {0}
-HasPostCause c files doc Memory = Unit {0}
-HasPostCause c files doc (Bad bad) = bad.part ≡ Post → BlockIsMissing c files doc
+HasPostCause c files doc refusal = IfNames Post refusal (BlockIsMissing c files doc)
+
+-- a damage of Skip has a cause: of a block from where the cursor stands on, no entry stands
+abbrev pub HasSkipCause : Cursoring → Option Files → PartErr → Type 0
+HasSkipCause c files refusal = IfNames Skip refusal (LacksAnEntry (told_at files c.skip.name) c.skip_at c.all c.reached (blocks_of c.docs))

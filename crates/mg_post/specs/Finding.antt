@@ -1,5 +1,5 @@
 -- The block whose range holds a document, and the pages of the skip entries that were read for it.
-use Rattle.std.specs.Prelude.{◌≡◌, ℕ, ◌+◌, ◌-◌, ◌*◌, ◌/◌, ◌<◌, ◌≤◌, List, Option, Some, None}
+use Rattle.std.specs.Prelude.{◌≡◌, ℕ, ◌+◌, ◌-◌, ◌*◌, ◌/◌, ◌<◌, ◌≤◌, ◌⊎◌, List, length, Option, Some, None}
 use Rattle.mg_defs.specs.Bits.{Begins, FromPlace, digits}
 use Rattle.mg_defs.specs.declared.Posting.{Posting}
 use Rattle.mg_defs.specs.Lists.{InRange, doc_before, bits_before}
@@ -47,6 +47,14 @@ pub record TellsBlock (skip : Option (List ℕ)) (skip_at reached known block be
   pub before_is : TellsBefore skip skip_at reached known block before
   pub last_is : TellsLast skip skip_at block last
   pub at_is : TellsBits skip skip_at block at
+
+-- no entry of a block among so many documents stands: Skip ends before its end, or its last document is beyond all
+abbrev pub LacksEntry : Option (List ℕ) → ℕ → ℕ → ℕ → Type 0
+LacksEntry skip skip_at all block = FromPlace skip (128 * (skip_at + block)) (λ bits. length bits < 128) ⊎ ((last : ℕ) × (all < last) × TellsLast skip skip_at block last)
+
+-- an entry does not stand of one of the blocks from a first one to before a last one
+abbrev pub LacksAnEntry : Option (List ℕ) → ℕ → ℕ → ℕ → ℕ → Type 0
+LacksAnEntry skip skip_at all low high = (block : ℕ) × (low ≤ block) × (block < high) × LacksEntry skip skip_at all block
 
 -- ---- the pages of the entries
 

@@ -10,7 +10,7 @@ ghost use Rattle.mg_defs.specs.Lists.{from_doc};
 ghost use Rattle.mg_defs.specs.PageBounds.{pages_for};
 ghost use Rattle.mg_defs.specs.Split.{documents};
 ghost use Rattle.mg_post.specs.Answers.{AnswersList};
-ghost use Rattle.mg_post.specs.Damages.{EntriesStand, HasPostCause, NamesPart};
+ghost use Rattle.mg_post.specs.Damages.{EntriesStand, HasPostCause, HasSkipCause, NamesPart};
 ghost use Rattle.mg_post.specs.Finding.{entries_pages};
 ghost use Rattle.mg_post.specs.Cursor.{head_of, after, next_doc, blocks_of, post_pages, entered_pages, skip_pages, CursorFits, CursorStands, SameList, SamePlace, StandsAt, IsFrom, IsOver, NamesItsPart, ReadsTwo, Enters};
 ghost use Rattle.mg_post.specs.TermLists.{AnswersAsk, CursorFor, IsInfoOf, MayAsk, PagesWithin, ReadsLists};
@@ -39,8 +39,8 @@ use std::mem::swap;
 /// number has the pages that were read. After a refusal the cursor stands where it stood.
 ///
 /// A damage is one of Skip or Post, told with the bit where nothing of what is to stand was found. It
-/// is one of Skip only where the entries are not those of a list, and one of Post only where they lead
-/// to a block that doesn't stand in Post.
+/// is one of Skip only where an entry from there on doesn't stand, and never where the entries are those
+/// of the list. It is one of Post only where the entries lead to a block that doesn't stand in Post.
 #[derive(Drop)]
 pub struct Cursor<'a, S: Store> {
     post: BitReader<PageFeed<'a, S>>,
@@ -170,6 +170,7 @@ impl<'a, S: Store> Cursor<'a, S> {
         ensures post { (ps left : List Posting) → EntriesStand self.old (S.files store.old) ps → StandsAt self.old ps left →
             IfErr result (NamesPart part.Post) }
         ensures block { IfErr result (HasPostCause self.old (S.files store.old) doc) }
+        ensures entry { IfErr result (HasSkipCause self.old (S.files store.old)) }
         ensures kept { OnErr result (SamePlace self.old self.new) }
         ensures files { S.files store.new ≡ S.files store.old }
         ensures memory { result ≢ Err PartErr.Memory }
@@ -209,6 +210,7 @@ impl<'a, S: Store> Cursor<'a, S> {
         ensures post { (ps left : List Posting) → EntriesStand self.old (S.files store.old) ps → StandsAt self.old ps left →
             IfErr result (NamesPart part.Post) }
         ensures block { IfErr result (HasPostCause self.old (S.files store.old) doc) }
+        ensures entry { IfErr result (HasSkipCause self.old (S.files store.old)) }
         ensures kept { OnErr result (SamePlace self.old self.new) }
         ensures files { S.files store.new ≡ S.files store.old }
         ensures memory { result ≢ Err PartErr.Memory }
@@ -284,6 +286,7 @@ impl<'a, S: Store> Cursor<'a, S> {
         ensures post { (ps left : List Posting) → EntriesStand self.old (S.files store.old) ps → StandsAt self.old ps left →
             IfErr result (NamesPart part.Post) }
         ensures block { IfErr result (HasPostCause self.old (S.files store.old) (self.old.last + 1)) }
+        ensures entry { self.old.last + 1 < 2 ^ 32 → IfErr result (HasSkipCause self.old (S.files store.old)) }
         ensures kept { OnErr result (SamePlace self.old self.new) }
         ensures files { S.files store.new ≡ S.files store.old }
         ensures memory { result ≢ Err PartErr.Memory }
@@ -330,6 +333,7 @@ impl<'a, S: Store> Cursor<'a, S> {
         ensures post { (ps left : List Posting) → EntriesStand self.old (S.files store.old) ps → StandsAt self.old ps left →
             IfErr result (NamesPart part.Post) }
         ensures block { IfErr result (HasPostCause self.old (S.files store.old) doc) }
+        ensures entry { IfErr result (HasSkipCause self.old (S.files store.old)) }
         ensures files { S.files store.new ≡ S.files store.old }
         ensures memory { result ≢ Err PartErr.Memory }
         ensures cause { HasPartCause (S.faults store.old) (S.faults store.new) result }

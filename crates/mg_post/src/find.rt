@@ -9,8 +9,8 @@ ghost use Rattle.mg_defs.specs.Bits.{Begins, FromPlace, digits};
 ghost use Rattle.mg_defs.specs.declared.Posting.{Posting};
 ghost use Rattle.mg_defs.specs.Lists.{SkipEntry, entry_bits, doc_before};
 ghost use Rattle.mg_post.specs.Stands.{Shows, SkipStands};
-ghost use Rattle.mg_post.specs.Finding.{IsFound, IsFoundAt, IsSound, SkipReads, TellsBits, TellsBlock, TellsLast, blocks_after, entries_pages, entry_page};
-ghost use Rattle.mg_post.specs.Answers.{OrDevice, RefusalCause};
+ghost use Rattle.mg_post.specs.Finding.{IsFound, IsFoundAt, IsSound, LacksAnEntry, LacksEntry, SkipReads, TellsBits, TellsBlock, TellsLast, blocks_after, entries_pages, entry_page};
+ghost use Rattle.mg_post.specs.Answers.{IfDamaged, OrDevice, RefusalCause};
 
 use crate::refusal::{Refusal, refused_bits};
 use mg_bits::{BitReader, Feed};
@@ -36,6 +36,7 @@ fn number_at<F: Feed>(r: &mut BitReader<F>, dev: &mut F::Dev, place: u64) -> Res
     ensures count { (F.feeding r.new.feed).count ≤ (F.feeding r.old.feed).count + lacks (F.feeding r.old.feed).held (place / 32768) }
     ensures held { OnOk result ((F.feeding r.new.feed).held ≡ Some (place / 32768)) }
     ensures shows { IfOk result (λ x. FromPlace ((F.feeding r.old.feed).source (F.device dev.old).files) place (Begins (digits 64 x))) }
+    ensures ends { IfDamaged result (FromPlace ((F.feeding r.old.feed).source (F.device dev.old).files) place (λ bits. length bits < 64)) }
     ensures told { (y : ℕ) → y < 2 ^ 64 → Shows ((F.feeding r.old.feed).source (F.device dev.old).files) place (digits 64 y) → OrDevice result (λ x. x ≡ y) }
     ensures cause { RefusalCause result (F.device dev.old).faults (F.device dev.new).faults }
 {
@@ -69,6 +70,7 @@ fn last_of<F: Feed>(
     ensures held { OnOk result ((F.feeding r.new.feed).held ≡ Some (entry_page (skip_at + block))) }
     ensures within { IfOk result (λ last. last ≤ all) }
     ensures tells { IfOk result (TellsLast ((F.feeding r.old.feed).source (F.device dev.old).files) skip_at block) }
+    ensures lacks { IfDamaged result (LacksEntry ((F.feeding r.old.feed).source (F.device dev.old).files) skip_at all block) }
     ensures told { (e : SkipEntry) → e.last ≤ all → Shows ((F.feeding r.old.feed).source (F.device dev.old).files) (128 * (skip_at + block)) (entry_bits e) →
         OrDevice result (λ last. last ≡ e.last) }
     ensures cause { RefusalCause result (F.device dev.old).faults (F.device dev.new).faults }
@@ -99,6 +101,8 @@ fn bits_of<F: Feed>(
     ensures count { (F.feeding r.new.feed).count ≤ (F.feeding r.old.feed).count + lacks (F.feeding r.old.feed).held (entry_page (skip_at + block)) }
     ensures held { OnOk result ((F.feeding r.new.feed).held ≡ Some (entry_page (skip_at + block))) }
     ensures tells { IfOk result (TellsBits ((F.feeding r.old.feed).source (F.device dev.old).files) skip_at block) }
+    ensures lacks { IfDamaged result
+        (FromPlace ((F.feeding r.old.feed).source (F.device dev.old).files) (128 * (skip_at + block)) (λ bits. length bits < 128)) }
     ensures told { (e : SkipEntry) → e.bits < 2 ^ 64 → Shows ((F.feeding r.old.feed).source (F.device dev.old).files) (128 * (skip_at + block)) (entry_bits e) →
         OrDevice result (λ bits. bits ≡ e.bits) }
     ensures cause { RefusalCause result (F.device dev.old).faults (F.device dev.new).faults }
@@ -150,6 +154,7 @@ fn search_page<F: Feed>(
     ensures found { IfOk result (IsSound low (high + 1) all doc) }
     ensures tells { TellsLast ((F.feeding r.old.feed).source (F.device dev.old).files) skip_at high last →
         IfOk result (λ f. TellsBlock ((F.feeding r.old.feed).source (F.device dev.old).files) skip_at low before f.block f.before f.last f.at) }
+    ensures lacks { IfDamaged result (LacksAnEntry ((F.feeding r.old.feed).source (F.device dev.old).files) skip_at all low (high + 1)) }
     ensures told { (ps : List Posting) (b blocks : ℕ) →
         SkipStands all b ((F.feeding r.old.feed).source (F.device dev.old).files) skip_at blocks ps → high < blocks →
         before ≡ doc_before (64 * low) ps → last ≡ doc_before (64 * (high + 1)) ps →
@@ -212,6 +217,7 @@ pub fn find_block<F: Feed>(
     ensures found { IfOk result (λ found. IfSome found (IsSound reached blocks all doc)) }
     ensures tells { IfOk result (λ found. IfSome found (λ f.
         TellsBlock ((F.feeding r.old.feed).source (F.device dev.old).files) skip_at reached last f.block f.before f.last f.at)) }
+    ensures lacks { IfDamaged result (LacksAnEntry ((F.feeding r.old.feed).source (F.device dev.old).files) skip_at all reached blocks) }
     ensures told { (ps : List Posting) (b : ℕ) → SkipStands all b ((F.feeding r.old.feed).source (F.device dev.old).files) skip_at blocks ps →
         last ≡ doc_before (64 * reached) ps → OrDevice result (IsFound b ps blocks doc) }
     ensures cause { RefusalCause result (F.device dev.old).faults (F.device dev.new).faults }

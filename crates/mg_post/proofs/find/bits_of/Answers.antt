@@ -1,5 +1,5 @@
 use Rattle.std.proofs.Common.{◌+◌, ap}
-use Rattle.mg_post.proofs.FindLaws.{bits_shown}
+use Rattle.mg_post.proofs.FindLaws.{bits_shown, damaged_either, ends_second}
 use Rattle.mg_post.proofs.find.bits_of.Goals as goal
 
 pub returns-clause-told : goal.returns-clause-told
@@ -8,3 +8,6 @@ returns-clause-told g c = λ e small shows.
 
 pub returns-clause-tells : goal.returns-clause-tells
 returns-clause-tells g c = rw c.entry_place-place.ensures.value at c.number_at.ensures.shows
+
+pub returns-clause-lacks : goal.returns-clause-lacks
+returns-clause-lacks g c = damaged_either c.number_at.result _ _ (ends_second _ _ _ (ap (λ n. n + 64) c.entry_place-place.ensures.value)) c.number_at.ensures.ends

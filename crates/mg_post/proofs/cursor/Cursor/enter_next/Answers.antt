@@ -6,7 +6,7 @@ use Rattle.mg_defs.specs.Lists.{bits_after, block_pages}
 use Rattle.mg_post.specs.Stands.{BlockStands, Shows, SkipStands}
 use Rattle.mg_post.specs.Finding.{IsFound}
 use Rattle.mg_post.proofs.CursorLaws.{walks_of, at_end, on_block, same_file, refused_answer, raised_by, raised_most}
-use Rattle.mg_post.proofs.SoundLaws.{names_none, names_own, nothing_held, post_cause, skip_cause}
+use Rattle.mg_post.proofs.SoundLaws.{entry_cause, names_none, names_own, no_entry_cause, nothing_held, post_cause, skip_cause}
 use Rattle.mg_post.proofs.cursor.Cursor.enter_next.Goals as goal
 
 pub returns-in-Err-clause-same : goal.returns-in-Err-clause-same
@@ -173,3 +173,11 @@ returns-in-Err-enter-clause-block g c =
           (subst (λ f. BlockStands c.self.inside.all c.self.inside.parameter (told_at f c.self.inside.post.feed.name) (8 * c.self.inside.post_at + c.in-Ok-Some.found.at) (min (c.self.inside.docs - 64 * c.in-Ok-Some.found.block) 64) c.in-Ok-Some.found.before c.in-Ok-Some.found.last ps) (sym c.in-Ok-Some.ensures.calm.files) stands) in
           rw is at answer;
     }))
+
+pub returns-in-Err-clause-entry : goal.returns-in-Err-clause-entry
+returns-in-Err-clause-entry g c =
+    let lacks = rw c.count_blocks-blocks.ensures at c.in-Err.ensures.lacks in
+    rw (← c.self.view_is) (entry_cause c.in-Err.refusal _ _ c.refused_part.ensures lacks)
+
+pub returns-in-Err-enter-clause-entry : goal.returns-in-Err-enter-clause-entry
+returns-in-Err-enter-clause-entry g c = no_entry_cause c.in-Err-enter.refusal _ _ c.refused_part-in-Err-enter.ensures

@@ -84,3 +84,12 @@ returns-else-last-clause-block g c =
     let step = c.in-None.ensures in
     let block = rw step.1 at c.advance_to.ensures.block in
     rw (← c.self.view_is) block
+
+pub returns-then-last-clause-entry : goal.returns-then-last-clause-entry
+returns-then-last-clause-entry g c = rw (← c.self.view_is) (λ small. absurd (omega (arith, small, c.if-last.true)))
+
+pub returns-else-last-clause-entry : goal.returns-else-last-clause-entry
+returns-else-last-clause-entry g c =
+    let step = c.in-None.ensures in
+    let entry = rw step.1 at c.advance_to.ensures.entry in
+    rw (← c.self.view_is) (λ small. entry)
