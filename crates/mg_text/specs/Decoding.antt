@@ -1,5 +1,5 @@
 -- What decoding the bits of a document does to the reader of bits, and to where the document's bytes go.
-use Rattle.std.specs.Prelude.{◌≡◌, ℕ, ◌≤◌, ◌++◌, List, drop, Some, None, Ok, Err, MatchResult}
+use Rattle.std.specs.Prelude.{◌≡◌, ℕ, ◌+◌, ◌^◌, ◌≤◌, ◌++◌, List, drop, length, Some, None, Ok, Err, MatchResult}
 use Rattle.std.specs.List.{AllByRecursion, flat_map}
 use Rattle.std.specs.declared.option.Option.{Option}
 use Rattle.std.specs.declared.result.Result.{Result}
@@ -11,6 +11,7 @@ use Rattle.mg_dev.specs.declared.part_err.PartErr.TheVariants.{Device, Memory, B
 use Rattle.mg_dev.specs.declared.show_err.ShowErr.{ShowErr}
 use Rattle.mg_dev.specs.declared.show_err.ShowErr.TheVariants as show
 use Rattle.mg_bits.specs.Feed.{Feeding, Device as Seen, Read, ReadsWithin}
+use Rattle.mg_bits.specs.Reading.{Reading}
 use Rattle.mg_defs.specs.Bits.{Bits, Begins, bits_of}
 use Rattle.mg_defs.specs.CodedText.{StreamCode, TextCode, coded_pair}
 use Rattle.mg_defs.specs.Parse.{Pair}
@@ -89,6 +90,22 @@ Ends (Err (show.Part Memory)) whole part = ⊥
 Ends (Err (show.Part (Bad bad))) whole part = ⊥
 Ends (Err show.Write) whole part = part
 Ends (Err show.Memory) whole part = part
+
+-- where a number's code stands at a reader's place: the number is read, and the reader stands behind the code
+abbrev pub ReadsCode : {Fed Dev : Type 0} → (Fed → Feeding) → (Dev → Seen) → Reading Fed → Reading Fed → Dev → Dev → Bits → ℕ → Result ℕ PartErr → Type 0
+ReadsCode feeding device r r_now d d_now bits number result =
+    r.place + length bits ≤ 2 ^ 63 → Shows ((feeding r.feed).source (device d).files) r.place bits →
+    Takes result
+    (λ n. (n ≡ number) × (r_now.place ≡ r.place + length bits) × Read (feeding r.feed) (feeding r_now.feed) (device d) (device d_now) r.place (r.place + length bits))
+    (ReadsWithin (feeding r.feed) (feeding r_now.feed) (device d) (device d_now) r.place (r.place + length bits))
+
+-- where bits stand at a reader's place and bytes were shown or are held: then those of the bits are so too and the reader stands behind them, or it stopped within them
+abbrev pub Decodes : {Fed Dev : Type 0} → (Fed → Feeding) → (Dev → Seen) → Reading Fed → Reading Fed → Dev → Dev → Bits → Option (List ℕ) → Option (List ℕ) → Option (List ℕ) → List ℕ → List ℕ → List ℕ → List ℕ → Result (Unit {0}) ShowErr → Type 0
+Decodes feeding device r r_now d d_now bits before sent sent_now held held_now bytes bytes_now result =
+    r.place + length bits ≤ 2 ^ 63 → Shows ((feeding r.feed).source (device d).files) r.place bits → Shown before sent held bytes →
+    Ends result
+    (Decoded (feeding r.feed) (feeding r_now.feed) (device d) (device d_now) r.place (r.place + length bits) r_now.place before sent_now held_now bytes_now)
+    (Stopped (feeding r.feed) (feeding r_now.feed) (device d) (device d_now) r.place (r.place + length bits) before sent_now bytes_now)
 
 -- ---- causes
 

@@ -5,7 +5,7 @@ ghost use Rattle.mg_dev.specs.Faults.{show_of_put};
 ghost use Rattle.mg_defs.specs.CodedText.{codeword_of, coded_doc, coded_pair};
 ghost use Rattle.mg_defs.specs.Parse.{Pair, parse, text};
 ghost use Rattle.mg_defs.specs.Marks.{code_of};
-ghost use Rattle.mg_text.specs.Decoding.{Added, Decoded, Ends, IsIn, IsShowCaused, PairIn, PairsIn, Shows, Shown, Stopped, WholeDoc, coded_pairs};
+ghost use Rattle.mg_text.specs.Decoding.{Added, Decodes, Ends, IsIn, IsShowCaused, PairIn, PairsIn, Shows, Stopped, WholeDoc, coded_pairs};
 
 use crate::show_buffer::ShowBuffer;
 use crate::symbols::{get_count, get_symbol};
@@ -34,14 +34,8 @@ fn show_piece<F: Feed, O: Sink>(
     ensures fits { F.fits r.new.feed (F.device dev.new).files }
     ensures calm { Calm (F.feeding r.old.feed) (F.feeding r.new.feed) (F.device dev.old) (F.device dev.new) }
     ensures told { (before : Option (List ℕ)) (bytes piece : List ℕ) → IsIn (code_of stream model.now) piece →
-        r.old.place + length (codeword_of (code_of stream model.now) piece) ≤ 2 ^ 63 →
-        Shows ((F.feeding r.old.feed).source (F.device dev.old).files) r.old.place (codeword_of (code_of stream model.now) piece) →
-        Shown before (O.written out.old) buffer.old bytes →
-        Ends result
-        (Decoded (F.feeding r.old.feed) (F.feeding r.new.feed) (F.device dev.old) (F.device dev.new) r.old.place
-        (r.old.place + length (codeword_of (code_of stream model.now) piece)) r.new.place before (O.written out.new) buffer.new (bytes ++ piece))
-        (Stopped (F.feeding r.old.feed) (F.feeding r.new.feed) (F.device dev.old) (F.device dev.new) r.old.place
-        (r.old.place + length (codeword_of (code_of stream model.now) piece)) before (O.written out.new) (bytes ++ piece)) }
+        Decodes F.feeding F.device r.old r.new dev.old dev.new (codeword_of (code_of stream model.now) piece) before (O.written out.old) (O.written out.new)
+        buffer.old buffer.new bytes (bytes ++ piece) result }
     ensures added { Added (O.written out.old) (O.written out.new) (O.faults out.old) (O.faults out.new) (O.lacks out.old) (O.lacks out.new) }
     ensures cause { IsShowCaused result (F.device dev.old).faults (F.device dev.new).faults (O.faults out.old) (O.faults out.new)
         (O.lacks out.old) (O.lacks out.new) }
@@ -66,14 +60,9 @@ fn show_pair<F: Feed, O: Sink>(
     requires fits { F.fits r.old.feed (F.device dev.old).files }
     ensures fits { F.fits r.new.feed (F.device dev.new).files }
     ensures calm { Calm (F.feeding r.old.feed) (F.feeding r.new.feed) (F.device dev.old) (F.device dev.new) }
-    ensures told { (before : Option (List ℕ)) (bytes : List ℕ) (p : Pair) → PairIn model.now p → r.old.place + length (coded_pair model.now p) ≤ 2 ^ 63 →
-        Shows ((F.feeding r.old.feed).source (F.device dev.old).files) r.old.place (coded_pair model.now p) →
-        Shown before (O.written out.old) buffer.old bytes →
-        Ends result
-        (Decoded (F.feeding r.old.feed) (F.feeding r.new.feed) (F.device dev.old) (F.device dev.new) r.old.place
-        (r.old.place + length (coded_pair model.now p)) r.new.place before (O.written out.new) buffer.new (bytes ++ (p.word ++ p.other)))
-        (Stopped (F.feeding r.old.feed) (F.feeding r.new.feed) (F.device dev.old) (F.device dev.new) r.old.place
-        (r.old.place + length (coded_pair model.now p)) before (O.written out.new) (bytes ++ (p.word ++ p.other))) }
+    ensures told { (before : Option (List ℕ)) (bytes : List ℕ) (p : Pair) → PairIn model.now p →
+        Decodes F.feeding F.device r.old r.new dev.old dev.new (coded_pair model.now p) before (O.written out.old) (O.written out.new)
+        buffer.old buffer.new bytes (bytes ++ (p.word ++ p.other)) result }
     ensures added { Added (O.written out.old) (O.written out.new) (O.faults out.old) (O.faults out.new) (O.lacks out.old) (O.lacks out.new) }
     ensures cause { IsShowCaused result (F.device dev.old).faults (F.device dev.new).faults (O.faults out.old) (O.faults out.new)
         (O.lacks out.old) (O.lacks out.new) }
@@ -101,14 +90,8 @@ fn show_pairs<F: Feed, O: Sink>(
     ensures fits { F.fits r.new.feed (F.device dev.new).files }
     ensures calm { Calm (F.feeding r.old.feed) (F.feeding r.new.feed) (F.device dev.old) (F.device dev.new) }
     ensures told { (before : Option (List ℕ)) (bytes : List ℕ) (ps : List Pair) → PairsIn model.now ps → count ≡ length ps →
-        r.old.place + length (coded_pairs model.now ps) ≤ 2 ^ 63 →
-        Shows ((F.feeding r.old.feed).source (F.device dev.old).files) r.old.place (coded_pairs model.now ps) →
-        Shown before (O.written out.old) buffer.old bytes →
-        Ends result
-        (Decoded (F.feeding r.old.feed) (F.feeding r.new.feed) (F.device dev.old) (F.device dev.new) r.old.place
-        (r.old.place + length (coded_pairs model.now ps)) r.new.place before (O.written out.new) buffer.new (bytes ++ text ps))
-        (Stopped (F.feeding r.old.feed) (F.feeding r.new.feed) (F.device dev.old) (F.device dev.new) r.old.place
-        (r.old.place + length (coded_pairs model.now ps)) before (O.written out.new) (bytes ++ text ps)) }
+        Decodes F.feeding F.device r.old r.new dev.old dev.new (coded_pairs model.now ps) before (O.written out.old) (O.written out.new)
+        buffer.old buffer.new bytes (bytes ++ text ps) result }
     ensures added { Added (O.written out.old) (O.written out.new) (O.faults out.old) (O.faults out.new) (O.lacks out.old) (O.lacks out.new) }
     ensures cause { IsShowCaused result (F.device dev.old).faults (F.device dev.new).faults (O.faults out.old) (O.faults out.new)
         (O.lacks out.old) (O.lacks out.new) }
@@ -134,14 +117,8 @@ pub fn gather_doc<F: Feed, O: Sink>(
     ensures fits { F.fits r.new.feed (F.device dev.new).files }
     ensures calm { Calm (F.feeding r.old.feed) (F.feeding r.new.feed) (F.device dev.old) (F.device dev.new) }
     ensures told { (before : Option (List ℕ)) (bytes doc : List ℕ) → PairsIn model.now (parse doc) → length (parse doc) < 2 ^ 32 →
-        r.old.place + length (coded_doc model.now doc) ≤ 2 ^ 63 →
-        Shows ((F.feeding r.old.feed).source (F.device dev.old).files) r.old.place (coded_doc model.now doc) →
-        Shown before (O.written out.old) buffer.old bytes →
-        Ends result
-        (Decoded (F.feeding r.old.feed) (F.feeding r.new.feed) (F.device dev.old) (F.device dev.new) r.old.place
-        (r.old.place + length (coded_doc model.now doc)) r.new.place before (O.written out.new) buffer.new (bytes ++ doc))
-        (Stopped (F.feeding r.old.feed) (F.feeding r.new.feed) (F.device dev.old) (F.device dev.new) r.old.place
-        (r.old.place + length (coded_doc model.now doc)) before (O.written out.new) (bytes ++ doc)) }
+        Decodes F.feeding F.device r.old r.new dev.old dev.new (coded_doc model.now doc) before (O.written out.old) (O.written out.new)
+        buffer.old buffer.new bytes (bytes ++ doc) result }
     ensures added { Added (O.written out.old) (O.written out.new) (O.faults out.old) (O.faults out.new) (O.lacks out.old) (O.lacks out.new) }
     ensures cause { IsShowCaused result (F.device dev.old).faults (F.device dev.new).faults (O.faults out.old) (O.faults out.new)
         (O.lacks out.old) (O.lacks out.new) }

@@ -1,9 +1,9 @@
 //! The numbers that are read of a document: how many pairs it has, and the symbols of its pieces.
-ghost use Rattle.std.specs.Prelude.{◌≡◌, ◌+◌, ◌≤◌, ◌<◌, ◌^◌, ℕ, IfOk, length};
-ghost use Rattle.mg_bits.specs.Feed.{Calm, Read, ReadsWithin};
+ghost use Rattle.std.specs.Prelude.{◌≡◌, ◌+◌, ◌<◌, ◌^◌, ℕ, IfOk, length};
+ghost use Rattle.mg_bits.specs.Feed.{Calm};
 ghost use Rattle.mg_defs.specs.Canon.{codeword};
 ghost use Rattle.mg_defs.specs.Codes.{gamma};
-ghost use Rattle.mg_text.specs.Decoding.{IsReadCaused, Shows, Takes};
+ghost use Rattle.mg_text.specs.Decoding.{IsReadCaused, ReadsCode};
 ghost use Rattle.mg_text.specs.Refusals.{IsRefused, IsDamaged};
 
 use mg_bits::{BitReader, CodeErr, Feed};
@@ -52,12 +52,8 @@ pub fn get_symbol<F: Feed>(
     ensures fits { F.fits r.new.feed (F.device dev.new).files }
     ensures calm { Calm (F.feeding r.old.feed) (F.feeding r.new.feed) (F.device dev.old) (F.device dev.new) }
     ensures symbol { IfOk result (λ s. s < length canon.now) }
-    ensures told { (s : ℕ) → s < length canon.now → r.old.place + length (codeword canon.now s) ≤ 2 ^ 63 →
-        Shows ((F.feeding r.old.feed).source (F.device dev.old).files) r.old.place (codeword canon.now s) →
-        Takes result (λ t. (t ≡ s) × (r.new.place ≡ r.old.place + length (codeword canon.now s)) ×
-        Read (F.feeding r.old.feed) (F.feeding r.new.feed) (F.device dev.old) (F.device dev.new) r.old.place (r.old.place + length (codeword canon.now s)))
-        (ReadsWithin (F.feeding r.old.feed) (F.feeding r.new.feed) (F.device dev.old) (F.device dev.new) r.old.place
-        (r.old.place + length (codeword canon.now s))) }
+    ensures told { (s : ℕ) → s < length canon.now →
+        ReadsCode F.feeding F.device r.old r.new dev.old dev.new (codeword canon.now s) s result }
     ensures cause { IsReadCaused result (F.device dev.old).faults (F.device dev.new).faults }
 {
     let at = r.place();
@@ -75,11 +71,7 @@ pub fn get_count<F: Feed>(r: &mut BitReader<F>, dev: &mut F::Dev) -> Result<u32,
     requires fits { F.fits r.old.feed (F.device dev.old).files }
     ensures fits { F.fits r.new.feed (F.device dev.new).files }
     ensures calm { Calm (F.feeding r.old.feed) (F.feeding r.new.feed) (F.device dev.old) (F.device dev.new) }
-    ensures told { (n : ℕ) → n < 2 ^ 32 → r.old.place + length (gamma (n + 1)) ≤ 2 ^ 63 →
-        Shows ((F.feeding r.old.feed).source (F.device dev.old).files) r.old.place (gamma (n + 1)) →
-        Takes result (λ m. (m ≡ n) × (r.new.place ≡ r.old.place + length (gamma (n + 1))) ×
-        Read (F.feeding r.old.feed) (F.feeding r.new.feed) (F.device dev.old) (F.device dev.new) r.old.place (r.old.place + length (gamma (n + 1))))
-        (ReadsWithin (F.feeding r.old.feed) (F.feeding r.new.feed) (F.device dev.old) (F.device dev.new) r.old.place (r.old.place + length (gamma (n + 1)))) }
+    ensures told { (n : ℕ) → n < 2 ^ 32 → ReadsCode F.feeding F.device r.old r.new dev.old dev.new (gamma (n + 1)) n result }
     ensures cause { IsReadCaused result (F.device dev.old).faults (F.device dev.new).faults }
 {
     let at = r.place();
