@@ -47,4 +47,3 @@ BuildStops store_rose files name base (Changed what first second) = (first ≢ s
 BuildStops store_rose files name base Memory = Unit {0}
 BuildStops store_rose files name base (NameClash part) = (part ≢ Plain) × (name ≡ full_name base part)
 BuildStops store_rose files name base _ = ⊥
-
