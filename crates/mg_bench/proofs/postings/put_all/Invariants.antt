@@ -1,0 +1,11 @@
+use Rattle.std.proofs.Common.{◌≡◌, ◌*◌, ◌^◌, ◌≤◌, List, []}
+use Rattle.mg_defs.specs.declared.Posting.{Posting}
+use Rattle.mg_post.specs.Writing.{Took}
+use Rattle.mg_bench.proofs.postings.put_all.Given as goal
+
+abbrev pub invariant-loop-i : goal.invariant-loop-i
+invariant-loop-i g l = record {
+  took : (lists : List (List Posting)) × Took l.writer (g.S.Store.files l.store) lists [];
+  all : l.writer.all ≡ l.all;
+  total : l.writer.total ≤ 2 ^ 20 * l.i;
+}
