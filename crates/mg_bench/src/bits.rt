@@ -47,8 +47,10 @@ fn ones<F: Feed>(reader: &mut BitReader<F>, dev: &mut F::Dev, bits: u64) -> Resu
 {
     let mut total = 0u64;
     for done in 0..bits {
-        let bit = reader.bit(dev)?;
-        total = total.wrapping_add(u64::from(bit));
+        match reader.bit(dev) {
+            Ok(bit) => total = total.wrapping_add(u64::from(bit)),
+            Err(refusal) => return Err(refusal),
+        }
     }
     Ok(total)
 }

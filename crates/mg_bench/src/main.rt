@@ -6,6 +6,7 @@ mod lists;
 mod postings;
 mod random;
 mod table;
+mod text;
 
 use anyhow::{Result, bail};
 use std::alloc::Global;
@@ -13,7 +14,7 @@ use std::env;
 use std::rt::Clock;
 
 /// The words, and what each asks for.
-const WORDS: [(&str, &str); 2] = [
+const WORDS: [(&str, &str); 3] = [
     (
         "bits",
         "bits and numbers of 13 bits, read from memory and through pages, and written",
@@ -21,6 +22,10 @@ const WORDS: [(&str, &str); 2] = [
     (
         "lists",
         "inverted lists of a million postings: gone over, and documents sought in them",
+    ),
+    (
+        "text",
+        "a coded text of 4,000 documents: written, and shown",
     ),
 ];
 
@@ -36,6 +41,7 @@ fn time(rt: &(impl Clock + Print), alloc: Global, word: &str) -> Result<()> {
     match word {
         "bits" => bits::time(rt, alloc),
         "lists" => lists::time(rt, alloc),
+        "text" => text::time(rt, alloc),
         _ => {
             print_words(rt)?;
             bail!("no part is named {word}")
