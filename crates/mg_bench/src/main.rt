@@ -3,6 +3,7 @@
 
 mod bits;
 mod lists;
+mod models;
 mod postings;
 mod random;
 mod table;
@@ -13,8 +14,9 @@ use std::alloc::Global;
 use std::env;
 use std::rt::Clock;
 
-/// The words, and what each asks for.
-const WORDS: [(&str, &str); 3] = [
+/// The words, and what each asks for. The first ones print a table; the last ones do one thing once,
+/// for whoever measures the memory of the process.
+const WORDS: [(&str, &str); 6] = [
     (
         "bits",
         "bits and numbers of 13 bits, read from memory and through pages, and written",
@@ -27,24 +29,50 @@ const WORDS: [(&str, &str); 3] = [
         "text",
         "a coded text of 4,000 documents: written, and shown",
     ),
+    (
+        "models",
+        "pieces counted; a text model of a million words made, looked up in, written and loaded",
+    ),
+    ("vocabulary COUNT", "counts so many words once"),
+    (
+        "small-model",
+        "makes, writes and loads a small model once, and tells how many terms it has",
+    ),
 ];
 
 fn print_words(rt: &impl Print) -> Result<()> {
     for (word, what) in WORDS {
-        println!(rt; "{word:<8} {what}")?;
+        println!(rt; "{word:<16} {what}")?;
     }
     Ok(())
 }
 
-/// Times the part of a word.
-fn time(rt: &(impl Clock + Print), alloc: Global, word: &str) -> Result<()> {
+/// Does what a word alone asks for.
+fn run_word(rt: &(impl Clock + Print), alloc: Global, word: &str) -> Result<()> {
     match word {
         "bits" => bits::time(rt, alloc),
         "lists" => lists::time(rt, alloc),
         "text" => text::time(rt, alloc),
+        "models" => models::time(rt, alloc),
+        "small-model" => models::print_small(rt, alloc),
         _ => {
             print_words(rt)?;
-            bail!("no part is named {word}")
+            bail!("no word is {word}")
+        }
+    }
+}
+
+/// Does what the words ask for; without words it prints them.
+fn run(rt: &(impl Clock + Print), alloc: Global, words: &[String]) -> Result<()> {
+    match words {
+        [] => print_words(rt),
+        [word] => run_word(rt, alloc, word.as_str()),
+        [word, count] if word.as_str() == "vocabulary" => {
+            models::hold(rt, alloc, count.as_str().parse::<u32>()?)
+        }
+        _ => {
+            print_words(rt)?;
+            bail!("too many words")
         }
     }
 }
@@ -52,8 +80,5 @@ fn time(rt: &(impl Clock + Print), alloc: Global, word: &str) -> Result<()> {
 fn main(rt: HostRuntime) -> Result<()> {
     let alloc = rt.alloc();
     let words: Vec<String> = env::args(&rt)?.skip(1).collect(alloc)?;
-    match words.first() {
-        None => print_words(&rt),
-        Some(word) => time(&rt, alloc, word.as_str()),
-    }
+    run(&rt, alloc, &words)
 }

@@ -5,7 +5,7 @@ use anyhow::{Result, bail, ensure};
 use std::alloc::Global;
 use std::fmt::Debug;
 use std::rt::Clock;
-use std::time::{Duration, Instant};
+use std::time::Instant;
 
 /// How many turns of each work are timed.
 pub const TURNS: u32 = 7;
@@ -26,9 +26,11 @@ impl Times {
         }
     }
 
-    /// Adds the time of a turn, and a sum over what its calls answered, which has to be the same in
-    /// each turn: so each turn is seen to have done the work, and no compiler leaves one out.
-    pub fn add(&mut self, time: Duration, sum: u64) -> Result<()> {
+    /// Adds a turn that began then and ends now, and a sum over what its calls answered, which has to
+    /// be the same in each turn: so each turn is seen to have done the work, and no compiler leaves one
+    /// out.
+    pub fn add(&mut self, rt: &impl Clock, begun: Instant, sum: u64) -> Result<()> {
+        let time = begun.elapsed(rt)?;
         let first = self.sum.unwrap_or(sum);
         ensure!(sum == first, "a turn gave {sum}, and the first one {first}");
         self.sum = Some(first);
@@ -93,7 +95,7 @@ pub fn print_times<W: FnMut() -> Result<u64>>(
     for _number in 0..TURNS {
         let begun = Instant::now(rt)?;
         let sum = turn()?;
-        times.add(begun.elapsed(rt)?, sum)?;
+        times.add(rt, begun, sum)?;
     }
     times.print(rt, work, count)
 }
