@@ -2,7 +2,7 @@
 use Rattle.std.proofs.Common.{◌≡◌, ℕ, List, [], ◌∷◌, refl, map, ◌==◌}
 use Rattle.std.specs.Prelude.{codes}
 use Rattle.mg_defs.specs.Bits.{Bits, digits}
-use Rattle.mg_defs.specs.Canon.{codeword, kraft, first}
+use Rattle.mg_defs.specs.Canon.{codeword, kraft, first_codeword}
 use Rattle.mg_defs.specs.Cost.{huffman_cost, cost_of}
 
 -- bits from their digits
@@ -16,7 +16,7 @@ codewords = refl
 one_codeword : codeword (1 ∷ []) 0 ≡ bits (codes "0")
 one_codeword = refl
 
-firsts : map (λ l. first l (3 ∷ 2 ∷ 2 ∷ 3 ∷ 2 ∷ [])) (1 ∷ 2 ∷ 3 ∷ 4 ∷ []) ≡ 2 ∷ 1 ∷ 0 ∷ 0 ∷ []
+firsts : map (λ l. first_codeword l (3 ∷ 2 ∷ 2 ∷ 3 ∷ 2 ∷ [])) (1 ∷ 2 ∷ 3 ∷ 4 ∷ []) ≡ 2 ∷ 1 ∷ 0 ∷ 0 ∷ []
 firsts = refl
 
 full : kraft (3 ∷ 2 ∷ 2 ∷ 3 ∷ 2 ∷ []) ≡ 281474976710656

@@ -7,7 +7,7 @@ use Rattle.std.proofs.lemmas.List.{take-append-le}
 use Rattle.std.proofs.Math.Nat.{div-div-eq-div-mul, pow-succ', mod-eq_of_lt}
 use Rattle.std.specs.Prelude.{◌==◌}
 use Rattle.mg_defs.specs.Bits.{Bits, digits, Begins}
-use Rattle.mg_defs.specs.Canon.{kraft, first, count_of, AreWithin, AreGood, codeword_value, codeword, longer}
+use Rattle.mg_defs.specs.Canon.{kraft, first_codeword, count_of, AreCodeLengths, AreGood, codeword_value, codeword, longer}
 use Rattle.mg_defs.specs.Answers.{Below, IsPrefixFree}
 use Rattle.mg_defs.proofs.BitLaws.{length_digits, digits_same}
 use Rattle.mg_defs.proofs.FrontLaws.{begins_append, begins_first}
@@ -47,7 +47,7 @@ count_of-shorter l [] = omega arith
 count_of-shorter l (k ∷ lengths) = omega (arith, count_of-cons l k lengths, taken-count l k, count_of-shorter l lengths)
 
 -- a number in the range of its length fits it
-pub fits_length : (l v : ℕ) (lengths : List ℕ) → l ≤ 48 → kraft lengths ≡ 2 ^ 48 → v < first l lengths + count_of l lengths → v < 2 ^ l
+pub fits_length : (l v : ℕ) (lengths : List ℕ) → l ≤ 48 → kraft lengths ≡ 2 ^ 48 → v < first_codeword l lengths + count_of l lengths → v < 2 ^ l
 fits_length l v lengths h full lt = omega (arith, first-exact l lengths h full, count_of-shorter l lengths)
 
 begins_shorter : (l n v w : ℕ) → Begins (digits l v) (digits n w) → l ≤ n
@@ -63,7 +63,7 @@ shifted (suc j) l n c e h =
     let g : c < 2 ^ suc (j + l) = subst (λ k. c < 2 ^ k) m h in
     subst (λ k. k < 2 ^ l) (half_parts j c) (shifted j l (j + l) (c / 2) refl (omega arith))
 
-pub within_short : (lengths : List ℕ) (s : ℕ) → AreWithin lengths → s < length lengths → (1 ≤ get_or lengths s 0) × (get_or lengths s 0 ≤ 48)
+pub within_short : (lengths : List ℕ) (s : ℕ) → AreCodeLengths lengths → s < length lengths → (1 ≤ get_or lengths s 0) × (get_or lengths s 0 ≤ 48)
 within_short [] s all h = absurd (omega arith)
 within_short (l ∷ lengths) zero all h = all.0
 within_short (l ∷ lengths) (suc s) all h = within_short lengths s all.1 (omega arith)
@@ -73,7 +73,7 @@ codeword-many [] s h = absurd (omega arith)
 codeword-many (l ∷ []) s h = absurd (omega arith)
 codeword-many (l ∷ m ∷ lengths) s h = refl
 
-pub good_within : (lengths : List ℕ) → AreGood lengths → 2 ≤ length lengths → AreWithin lengths
+pub good_within : (lengths : List ℕ) → AreGood lengths → 2 ≤ length lengths → AreCodeLengths lengths
 good_within [] good h = absurd (omega arith)
 good_within (l ∷ []) good h = absurd (omega arith)
 good_within (l ∷ m ∷ lengths) good h = good.0
@@ -101,7 +101,7 @@ zero_bit l v =
 
 -- ---- two or more lengths, which fill the whole
 
-module _ (lengths : List ℕ) (within : AreWithin lengths) (full : kraft lengths ≡ 2 ^ 48) where
+module _ (lengths : List ℕ) (within : AreCodeLengths lengths) (full : kraft lengths ≡ 2 ^ 48) where
   abbrev pub code : ℕ → Bits
   code s = digits (get_or lengths s 0) (codeword_value lengths s)
 
@@ -134,13 +134,13 @@ module _ (lengths : List ℕ) (within : AreWithin lengths) (full : kraft lengths
       let o : n ≡ 0 + l = omega arith in
       let v = front_value s t h k begins 0 o in
       let w : codeword_value lengths t ≡ codeword_value lengths s = sym (one_part (codeword_value lengths t)) ∙ v in
-      let f = ap (λ i. first i lengths + count_of i (take t lengths)) e in
+      let f = ap (λ i. first_codeword i lengths + count_of i (take t lengths)) e in
       nth-once lengths l s t h k refl e (omega arith))
       (cases_lt l n)
 
   -- a number below the first codeword of its length begins a longer codeword
-  pub goes_on_to : (k l v : ℕ) → k + l ≡ 48 → v < first l lengths → (s : ℕ) × (s < length lengths) × (l < get_or lengths s 0) × Begins (digits l v) (code s)
-  goes_on_to zero l v e lt = absurd (let m : l ≡ 48 = omega arith in omega (arith, first-last lengths within, ap (λ n. first n lengths) m))
+  pub goes_on_to : (k l v : ℕ) → k + l ≡ 48 → v < first_codeword l lengths → (s : ℕ) × (s < length lengths) × (l < get_or lengths s 0) × Begins (digits l v) (code s)
+  goes_on_to zero l v e lt = absurd (let m : l ≡ 48 = omega arith in omega (arith, first-last lengths within, ap (λ n. first_codeword n lengths) m))
   goes_on_to (suc k) l v e lt =
       let step = first-step l lengths (omega arith) full in
       let bit = zero_bit l v in
@@ -150,13 +150,13 @@ module _ (lengths : List ℕ) (within : AreWithin lengths) (full : kraft lengths
       let longer : l < get_or lengths r.0 0 = omega (arith, r.2) in
       (r.0, r.1, longer, begins_first (digits l v) (false ∷ []) (code r.0) (subst (λ w. Begins w (code r.0)) bit r.3)))
       (λ stop.
-      let r = nth lengths (suc l) (2 * v - first (suc l) lengths) (omega arith) in
+      let r = nth lengths (suc l) (2 * v - first_codeword (suc l) lengths) (omega arith) in
       let n : get_or lengths r.0 0 ≡ suc l = r.2 in
-      let c : codeword_value lengths r.0 ≡ 2 * v = ap (λ i. first i lengths + count_of i (take r.0 lengths)) n ∙ (let p = r.3 in omega arith) in
+      let c : codeword_value lengths r.0 ≡ 2 * v = ap (λ i. first_codeword i lengths + count_of i (take r.0 lengths)) n ∙ (let p = r.3 in omega arith) in
       let w : code r.0 ≡ digits l v ++ false ∷ [] = ap (λ i. digits i (codeword_value lengths r.0)) n ∙ ap (digits (suc l)) c ∙ bit in
       let longer : l < get_or lengths r.0 0 = omega arith in
       (r.0, r.1, longer, front_of (digits l v) (false ∷ []) (code r.0) w))
-      (cases_lt (2 * v) (first (suc l) lengths))
+      (cases_lt (2 * v) (first_codeword (suc l) lengths))
 
 one_symbol : (lengths : List ℕ) → AreGood lengths → (s t : ℕ) → s < length lengths → t < length lengths → Begins (codeword lengths s) (codeword lengths t) → s ≡ t
 one_symbol [] good s t h k begins = absurd (omega arith)
@@ -167,5 +167,5 @@ pub codewords_free : (lengths : List ℕ) → AreGood lengths → IsPrefixFree (
 codewords_free lengths good = record { one = one_symbol lengths good }
 
 -- the division that gives the first codeword of a length leaves nothing over
-pub first-whole : (lengths : List ℕ) (l : ℕ) → AreGood lengths → 2 ≤ length lengths → l ≤ 48 → first l lengths * 2 ^ (48 - l) ≡ longer l lengths
+pub first-whole : (lengths : List ℕ) (l : ℕ) → AreGood lengths → 2 ≤ length lengths → l ≤ 48 → first_codeword l lengths * 2 ^ (48 - l) ≡ longer l lengths
 first-whole lengths l good many h = longer-whole l lengths h (good_full lengths good many)

@@ -6,7 +6,7 @@ use Rattle.std.proofs.lemmas.Bool.Decides.{nat_tests}
 use Rattle.std.proofs.lemmas.Bool.{cases_lt, cases_eq}
 use Rattle.std.proofs.lemmas.List.Sums.{sum_by-cons}
 use Rattle.std.proofs.lemmas.Nat.{pow_pos, pow-add}
-use Rattle.mg_defs.specs.Canon.{kraft, longer, first, count_of, AreWithin, codeword_value}
+use Rattle.mg_defs.specs.Canon.{kraft, longer, first_codeword, count_of, AreCodeLengths, codeword_value}
 
 -- of the symbols of at most l bits, in units of 2 ^ (48 - l)
 abbrev pub taken : ℕ → ℕ → ℕ
@@ -70,34 +70,34 @@ in_units l lengths h full =
     let e : l + (48 - l) ≡ 48 = omega arith in
     split l lengths h ∙ full ∙ ap (λ n. 2 ^ n) (sym e) ∙ pow-add 2 l (48 - l)
 
-pub longer-whole : (l : ℕ) (lengths : List ℕ) → l ≤ 48 → kraft lengths ≡ 2 ^ 48 → first l lengths * 2 ^ (48 - l) ≡ longer l lengths
+pub longer-whole : (l : ℕ) (lengths : List ℕ) → l ≤ 48 → kraft lengths ≡ 2 ^ 48 → first_codeword l lengths * 2 ^ (48 - l) ≡ longer l lengths
 longer-whole l lengths h full = whole_part (longer l lengths) (shorter l lengths) (2 ^ l) (2 ^ (48 - l)) (pow_pos (48 - l)) (in_units l lengths h full)
 
 -- the first number of a length is exact
-pub first-exact : (l : ℕ) (lengths : List ℕ) → l ≤ 48 → kraft lengths ≡ 2 ^ 48 → first l lengths + shorter l lengths ≡ 2 ^ l
+pub first-exact : (l : ℕ) (lengths : List ℕ) → l ≤ 48 → kraft lengths ≡ 2 ^ 48 → first_codeword l lengths + shorter l lengths ≡ 2 ^ l
 first-exact l lengths h full =
     exact (longer l lengths) (shorter l lengths) (2 ^ l) (2 ^ (48 - l)) (pow_pos (48 - l)) (in_units l lengths h full)
 
-pub first-step : (l : ℕ) (lengths : List ℕ) → l < 48 → kraft lengths ≡ 2 ^ 48 → first (suc l) lengths + count_of (suc l) lengths ≡ 2 * first l lengths
+pub first-step : (l : ℕ) (lengths : List ℕ) → l < 48 → kraft lengths ≡ 2 ^ 48 → first_codeword (suc l) lengths + count_of (suc l) lengths ≡ 2 * first_codeword l lengths
 first-step l lengths h full =
     omega (arith, first-exact l lengths (omega arith) full, first-exact (suc l) lengths (omega arith) full, shorter-step l lengths, pow-suc 2 l)
 
-shorter-zero : (lengths : List ℕ) → AreWithin lengths → shorter 0 lengths ≡ 0
+shorter-zero : (lengths : List ℕ) → AreCodeLengths lengths → shorter 0 lengths ≡ 0
 shorter-zero [] all = refl
 shorter-zero (k ∷ lengths) all = let p : 1 ≤ k = all.0.0 in let r = shorter-zero lengths all.1 in grind (arith, nat_tests)
 
-pub first-zero : (lengths : List ℕ) → AreWithin lengths → kraft lengths ≡ 2 ^ 48 → first 0 lengths ≡ 1
+pub first-zero : (lengths : List ℕ) → AreCodeLengths lengths → kraft lengths ≡ 2 ^ 48 → first_codeword 0 lengths ≡ 1
 first-zero lengths all full = omega (arith, first-exact 0 lengths (omega arith) full, shorter-zero lengths all)
 
-longer-last : (lengths : List ℕ) → AreWithin lengths → longer 48 lengths ≡ 0
+longer-last : (lengths : List ℕ) → AreCodeLengths lengths → longer 48 lengths ≡ 0
 longer-last [] all = refl
 longer-last (k ∷ lengths) all = let p : k ≤ 48 = all.0.1 in let r = longer-last lengths all.1 in let c = longer-cons 48 k lengths in grind (arith, nat_tests)
 
-pub first-last : (lengths : List ℕ) → AreWithin lengths → first 48 lengths ≡ 0
+pub first-last : (lengths : List ℕ) → AreCodeLengths lengths → first_codeword 48 lengths ≡ 0
 first-last lengths all = ap (λ n. n / 2 ^ (48 - 48)) (longer-last lengths all)
 
 -- a code of a later length goes on past each earlier one
-pub goes_on : (l v : ℕ) (lengths : List ℕ) → l < 48 → kraft lengths ≡ 2 ^ 48 → v < first (suc l) lengths + count_of (suc l) lengths → v / 2 < first l lengths
+pub goes_on : (l v : ℕ) (lengths : List ℕ) → l < 48 → kraft lengths ≡ 2 ^ 48 → v < first_codeword (suc l) lengths + count_of (suc l) lengths → v / 2 < first_codeword l lengths
 goes_on l v lengths h full lt = omega (arith, first-step l lengths h full)
 
 -- the symbol that is the r-th of its length
@@ -137,18 +137,18 @@ count_of-below [] l s h e = absurd (omega arith)
 count_of-below (k ∷ lengths) l zero h e = omega (arith, count_of-same k lengths l e)
 count_of-below (k ∷ lengths) l (suc s) h e = omega (arith, count_of-cons l k lengths, count_of-cons l k (take s lengths), count_of-below lengths l s (omega arith) e)
 
-pub value-below : (lengths : List ℕ) (s : ℕ) → s < length lengths → codeword_value lengths s < first (get_or lengths s 0) lengths + count_of (get_or lengths s 0) lengths
+pub value-below : (lengths : List ℕ) (s : ℕ) → s < length lengths → codeword_value lengths s < first_codeword (get_or lengths s 0) lengths + count_of (get_or lengths s 0) lengths
 value-below lengths s h = omega (arith, count_of-below lengths (get_or lengths s 0) s h refl)
 
 -- the front of a longer code does not stop: its first l bits lie below the first number of l bits
-pub goes_far : (j l n v : ℕ) (lengths : List ℕ) → n ≡ suc j + l → n ≤ 48 → kraft lengths ≡ 2 ^ 48 → v < first n lengths + count_of n lengths → v / 2 ^ suc j < first l lengths
+pub goes_far : (j l n v : ℕ) (lengths : List ℕ) → n ≡ suc j + l → n ≤ 48 → kraft lengths ≡ 2 ^ 48 → v < first_codeword n lengths + count_of n lengths → v / 2 ^ suc j < first_codeword l lengths
 goes_far zero l n v lengths e h full lt =
     let m : n ≡ suc l = omega arith in
-    let g = goes_on l v lengths (omega arith) full (subst (λ k. v < first k lengths + count_of k lengths) m lt) in
+    let g = goes_on l v lengths (omega arith) full (subst (λ k. v < first_codeword k lengths + count_of k lengths) m lt) in
     g
 goes_far (suc j) l n v lengths e h full lt =
     let m : n ≡ suc (suc j + l) = omega arith in
-    let one = goes_on (suc j + l) v lengths (omega arith) full (subst (λ k. v < first k lengths + count_of k lengths) m lt) in
+    let one = goes_on (suc j + l) v lengths (omega arith) full (subst (λ k. v < first_codeword k lengths + count_of k lengths) m lt) in
     let far = goes_far j l (suc j + l) (v / 2) lengths refl (omega arith) full (omega arith) in
     let d : v / 2 / 2 ^ suc j ≡ v / 2 ^ suc (suc j) = div-div-eq-div-mul v 2 (2 ^ suc j) ∙ ap (λ k. v / k) (sym (pow-succ' 2 (suc j))) in
-    subst (λ k. k < first l lengths) d far
+    subst (λ k. k < first_codeword l lengths) d far

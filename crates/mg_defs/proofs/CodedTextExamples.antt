@@ -3,12 +3,12 @@ use Rattle.std.proofs.Common.{◌≡◌, ℕ, List, [], ◌∷◌, ◌++◌, tru
 use Rattle.std.specs.Prelude.{codes}
 use Rattle.mg_defs.specs.declared.Stream.TheVariants.{Words, Others}
 use Rattle.mg_defs.specs.Parse.{parse}
-use Rattle.mg_defs.specs.Bits.{digits, number}
+use Rattle.mg_defs.specs.Bits.{digits, number, as_bytes}
 use Rattle.mg_defs.specs.Codes.{gamma, unary, ones}
 use Rattle.mg_defs.specs.Front.{front_from, entry_bytes, shared}
 use Rattle.mg_defs.specs.Numbers.{four, eight}
 use Rattle.mg_defs.specs.Vocabulary.{sorted_pieces}
-use Rattle.mg_defs.specs.CodedText.{TextCode, IsTextCode, codeword_of, pieces_part, coded_doc, as_bytes, text_of, places, places_of, doc_range}
+use Rattle.mg_defs.specs.CodedText.{TextCode, IsTextCode, codeword_of, pieces_part, coded_doc, text_part, places, places_part, doc_range}
 use Rattle.mg_defs.proofs.CollectionExamples.{k}
 
 -- ---- eight bytes and an open end: each stream has one piece
@@ -27,11 +27,11 @@ repeats_words : (pieces_part repeats_code.words ≡ 1 ∷ 97 ∷ 1 ∷ []) × (p
 unfolding front_from entry_bytes
 repeats_words = (refl, refl)
 
-repeats_text : (coded_doc repeats_code repeats ≡ true ∷ true ∷ false ∷ false ∷ true ∷ replicate 8 false) × (text_of repeats_code repeats ≡ 200 ∷ 0 ∷ [])
+repeats_text : (coded_doc repeats_code repeats ≡ true ∷ true ∷ false ∷ false ∷ true ∷ replicate 8 false) × (text_part repeats_code repeats ≡ 200 ∷ 0 ∷ [])
 unfolding parse gamma unary ones digits as_bytes number
 repeats_text = (refl, refl)
 
-repeats_places : (places_of 1 repeats_code repeats ≡ 0 ∷ 0 ∷ 0 ∷ 0 ∷ 0 ∷ 0 ∷ 0 ∷ 2 ∷ []) × (places_of 2 repeats_code repeats ≡ replicate 8 0 ++ replicate 7 0 ++ 2 ∷ []) × (doc_range repeats_code repeats 1 ≡ record { from = 0; to = 16 })
+repeats_places : (places_part 1 repeats_code repeats ≡ 0 ∷ 0 ∷ 0 ∷ 0 ∷ 0 ∷ 0 ∷ 0 ∷ 2 ∷ []) × (places_part 2 repeats_code repeats ≡ replicate 8 0 ++ replicate 7 0 ++ 2 ∷ []) × (doc_range repeats_code repeats 1 ≡ record { from = 0; to = 16 })
 unfolding parse gamma unary ones digits as_bytes number four eight
 repeats_places = (refl, refl, refl)
 
@@ -40,14 +40,14 @@ repeats_places = (refl, refl, refl)
 abbrev pub no_code : TextCode
 no_code = record { words = record { pieces = []; lengths = [] }; others = record { pieces = []; lengths = [] } }
 
-two_empty : IsTextCode (2 ∷ 2 ∷ []) no_code × (text_of no_code (2 ∷ 2 ∷ []) ≡ 0 ∷ 0 ∷ []) × (places no_code (2 ∷ 2 ∷ []) ≡ 0 ∷ 1 ∷ 2 ∷ [])
+two_empty : IsTextCode (2 ∷ 2 ∷ []) no_code × (text_part no_code (2 ∷ 2 ∷ []) ≡ 0 ∷ 0 ∷ []) × (places no_code (2 ∷ 2 ∷ []) ≡ 0 ∷ 1 ∷ 2 ∷ [])
 unfolding parse gamma unary ones digits as_bytes number
 two_empty = ((record { pieces = refl; lengths = record { each = refl; good = tt; cost = refl } }, record { pieces = refl; lengths = record { each = refl; good = tt; cost = refl } }), refl, refl)
 
 abbrev blanks_code : TextCode
 blanks_code = record { words = record { pieces = [] ∷ []; lengths = 1 ∷ [] }; others = record { pieces = replicate 45 32 ∷ replicate 255 32 ∷ []; lengths = 1 ∷ 1 ∷ [] } }
 
-blanks : text_of blanks_code (replicate 300 32) ≡ 168 ∷ []
+blanks : text_part blanks_code (replicate 300 32) ≡ 168 ∷ []
 unfolding parse gamma unary ones digits as_bytes number
 blanks = refl
 

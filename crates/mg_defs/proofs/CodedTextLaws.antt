@@ -8,9 +8,9 @@ use Rattle.std.proofs.lemmas.List.Concat.{length-flat_map}
 use Rattle.std.proofs.lemmas.List.Sums.{sum_by-cons}
 use Rattle.std.proofs.lemmas.Bool.{cases_lt}
 use Rattle.std.proofs.lemmas.List.{take-append-le, take-replicate}
-use Rattle.mg_defs.specs.Bits.{Bits, digits, number, bits_of, to_byte, filled}
+use Rattle.mg_defs.specs.Bits.{Bits, digits, number, bits_of, to_byte, filled, bytes_upto, as_bytes}
 use Rattle.mg_defs.specs.Split.{documents}
-use Rattle.mg_defs.specs.CodedText.{TextCode, bytes_upto, as_bytes, coded_doc, coded_size, text_of, place_after, running, places}
+use Rattle.mg_defs.specs.CodedText.{TextCode, coded_doc, coded_size, text_part, place_after, running, places}
 use Rattle.mg_defs.proofs.BitLaws.{length_digits, digits_append, length_bits_of}
 
 number-below : (bits : Bits) → number bits < 2 ^ length bits
@@ -123,13 +123,13 @@ next-doc f zero (doc ∷ docs) h = refl
 next-doc f (suc d) (doc ∷ docs) h = next-doc f d docs (omega (arith, h))
 
 -- a document's bytes stand in the text from its place on
-pub text-at : (code : TextCode) (collection : List ℕ) (d : ℕ) → d < length (documents collection) → take (coded_size code (get_or (documents collection) d [])) (drop (place_after code collection d) (text_of code collection)) ≡ as_bytes (coded_doc code (get_or (documents collection) d []))
+pub text-at : (code : TextCode) (collection : List ℕ) (d : ℕ) → d < length (documents collection) → take (coded_size code (get_or (documents collection) d [])) (drop (place_after code collection d) (text_part code collection)) ≡ as_bytes (coded_doc code (get_or (documents collection) d []))
 text-at code collection d h =
     let docs = documents collection in
     let f : List ℕ → List ℕ = λ doc. as_bytes (coded_doc code doc) in
     ap (take (length (f (get_or docs d [])))) (text-from f d docs ∙ next-doc f d docs h) ∙ take-append_seam (f (get_or docs d [])) (flat_map f (drop (suc d) docs))
 
 -- the last place is the size of the text
-pub text-long : (code : TextCode) (collection : List ℕ) → length (text_of code collection) ≡ place_after code collection (length (documents collection))
+pub text-long : (code : TextCode) (collection : List ℕ) → length (text_part code collection) ≡ place_after code collection (length (documents collection))
 text-long code collection =
     length-flat_map (λ doc. as_bytes (coded_doc code doc)) (documents collection) ∙ ap (sum_by (coded_size code)) (sym (take-length (documents collection)))

@@ -8,7 +8,8 @@ use Rattle.mg_defs.specs.Pieces.{pieces}
 use Rattle.mg_defs.specs.Terms.{terms, dictionary, docs, freq, term_number}
 use Rattle.mg_defs.specs.Sat.{both, term, without, satisfies}
 use Rattle.mg_defs.specs.Vocabulary.{all_pieces, vocabulary, sorted_pieces, piece_counts, sorted_of, counts_of, total}
-use Rattle.mg_defs.specs.Limits.{version_1, version_2, piece_bytes, held_bytes, greatest_budget}
+use Rattle.mg_defs.specs.Limits.{version_1, version_2, piece_bytes, held_bytes, least_budget, greatest_budget, least_cap, greatest_cap}
+use Rattle.mg_defs.specs.Summaries.{run_cap}
 use Rattle.mg_defs.specs.TextBits.{head_bits, text_bits}
 use Rattle.mg_defs.specs.Codes.{gamma, unary, ones}
 use Rattle.mg_defs.specs.Bits.{digits}
@@ -103,3 +104,7 @@ high_bytes = (refl, refl)
 
 limits_are : (version_1.collection ≡ 268435456) × (version_1.documents ≡ 1048576) × (version_1.pieces ≡ 1048576) × (version_2.collection ≡ 4294967295) × (version_2.documents ≡ 16777216) × (version_2.pieces ≡ 4194304) × (piece_bytes ≡ 255) × (held_bytes ≡ 268435456) × (greatest_budget ≡ 1073741824)
 limits_are = (refl, refl, refl, refl, refl, refl, refl, refl, refl)
+
+-- a pool of the least budget holds as many occurrences as the least full run has, and one of the greatest as many as the greatest
+caps_are : (run_cap least_budget ≡ least_cap) × (run_cap greatest_budget ≡ greatest_cap)
+caps_are = (refl, refl)

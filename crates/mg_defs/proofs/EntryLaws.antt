@@ -8,7 +8,7 @@ use Rattle.std.specs.Ordering.{nat_cmp, is_lt, ordering_then}
 use Rattle.std.specs.Cmp.Lexicographic.{slice_cmp}
 use Rattle.std.specs.declared.cmp.Ordering.TheVariants.{Less, Equal, Greater}
 use Rattle.mg_defs.specs.Numbers.{four}
-use Rattle.mg_defs.specs.Front.{Entry, Found, StandsFirst, NoEntry, is_below, shared, entry_bytes, IsEntry, AreEntries, front_from, front, last_string, places_from, whole_at, rises, read_whole, read_cut, read_entry}
+use Rattle.mg_defs.specs.Front.{Entry, Found, StandsFirst, NoEntry, is_below, shared, entry_bytes, IsEntry, AreEntries, front_from, front, last_string, places_from, whole_at, rises_after_prefix, read_whole, read_cut, read_entry}
 
 -- ---- the shared prefix
 
@@ -71,14 +71,14 @@ false_or true = refl
 false_or false = refl
 
 -- after it the strings differ as their order says
-pub shared_rises : (xs ys : List ℕ) → is_below xs ys ≡ true → rises (drop (shared xs ys) xs) (drop (shared xs ys) ys) ≡ true
+pub shared_rises : (xs ys : List ℕ) → is_below xs ys ≡ true → rises_after_prefix (drop (shared xs ys) xs) (drop (shared xs ys) ys) ≡ true
 unfolding shared
 shared_rises [] [] h = absurd cc
 shared_rises [] (y ∷ ys) h = refl
 shared_rises (x ∷ xs) [] h = absurd cc
 shared_rises (x ∷ xs) (y ∷ ys) h = by_test (x == y) refl (shared xs ys) (shared_rises xs ys)
   where
-    by_test : (b : Bool) → (x == y) ≡ b → (n : ℕ) → (is_below xs ys ≡ true → rises (drop n xs) (drop n ys) ≡ true) → rises (drop (cond b (n + 1) 0) (x ∷ xs)) (drop (cond b (n + 1) 0) (y ∷ ys)) ≡ true
+    by_test : (b : Bool) → (x == y) ≡ b → (n : ℕ) → (is_below xs ys ≡ true → rises_after_prefix (drop n xs) (drop n ys) ≡ true) → rises_after_prefix (drop (cond b (n + 1) 0) (x ∷ xs)) (drop (cond b (n + 1) 0) (y ∷ ys)) ≡ true
     by_test true e n more =
         let same : x ≡ y = eq_from x y e in
         let less : nat_lt x y ≡ false = rw same (lt_itself y) in
@@ -90,7 +90,7 @@ shared_rises (x ∷ xs) (y ∷ ys) h = by_test (x == y) refl (shared xs ys) (sha
 apart : (x y : ℕ) → nat_lt x y ≡ true → (x == y) ≡ false
 apart x y h = grind (arith, nat_tests)
 
-pub joined_shared : (k : ℕ) (before suffix : List ℕ) → k ≤ length before → rises (drop k before) suffix ≡ true → shared before (take k before ++ suffix) ≡ k
+pub joined_shared : (k : ℕ) (before suffix : List ℕ) → k ≤ length before → rises_after_prefix (drop k before) suffix ≡ true → shared before (take k before ++ suffix) ≡ k
 unfolding shared
 joined_shared zero [] [] within h = refl
 joined_shared zero [] (s ∷ suffix) within h = refl
@@ -100,7 +100,7 @@ joined_shared (suc k) [] suffix within h = absurd (omega arith)
 joined_shared (suc k) (b ∷ before) suffix within h =
     ap (λ t. cond t (shared before (take k before ++ suffix) + 1) 0) (eq_itself b) ∙ ap (λ n. n + 1) (joined_shared k before suffix (omega arith) h) ∙ add-one k
 
-pub joined_above : (k : ℕ) (before suffix : List ℕ) → k ≤ length before → rises (drop k before) suffix ≡ true → is_below before (take k before ++ suffix) ≡ true
+pub joined_above : (k : ℕ) (before suffix : List ℕ) → k ≤ length before → rises_after_prefix (drop k before) suffix ≡ true → is_below before (take k before ++ suffix) ≡ true
 joined_above zero [] [] within h = absurd cc
 joined_above zero [] (s ∷ suffix) within h = refl
 joined_above zero (b ∷ before) [] within h = absurd cc
@@ -147,10 +147,10 @@ written_whole width i before s f rest short field above =
     found _ _ _ (both _ _ (le_true _ _ short) (both _ _ (fits s f rest width field) (ap (λ t. i == 0 || is_below before t) (string_first s f rest) ∙ above)))
     ∙ ap Some (same_found _ _ _ _ _ _ (string_first s f rest) (field_next s f rest width field) (simp length-append (omega arith)))
 
-written_cut : (width k : ℕ) (before s f rest : List ℕ) → k ≤ length before → k + length s ≤ 255 → length f ≡ width → rises (drop k before) s ≡ true →
+written_cut : (width k : ℕ) (before s f rest : List ℕ) → k ≤ length before → k + length s ≤ 255 → length f ≡ width → rises_after_prefix (drop k before) s ≡ true →
     read_cut width before (k ∷ length s ∷ (s ++ f ++ rest)) ≡ Some (record { entry = record { string = take k before ++ s; field = f }; size = suc (suc (length (s ++ f))) })
 written_cut width k before s f rest within short field above =
-    found _ _ _ (both _ _ (le_true _ _ within) (both _ _ (le_true _ _ short) (both _ _ (fits s f rest width field) (ap (rises (drop k before)) (string_first s f rest) ∙ above))))
+    found _ _ _ (both _ _ (le_true _ _ within) (both _ _ (le_true _ _ short) (both _ _ (fits s f rest width field) (ap (rises_after_prefix (drop k before)) (string_first s f rest) ∙ above))))
     ∙ ap Some (same_found _ _ _ _ _ _ (ap (λ t. take k before ++ t) (string_first s f rest)) (field_next s f rest width field) (simp length-append (omega arith)))
 
 not_first : (i : ℕ) (b : Bool) → (i % 4 == 0) ≡ false → (i == 0 || b) ≡ true → b ≡ true
@@ -234,7 +234,7 @@ or_true false = refl
 two_more : (m : ℕ) → suc (suc m) ≡ m + 2
 two_more m = omega arith
 
-cut_so : (width i k n : ℕ) (before bytes : List ℕ) → (i % 4 == 0) ≡ false → k ≤ length before → k + n ≤ 255 → n + width ≤ length bytes → rises (drop k before) (take n bytes) ≡ true → StandsFirst width i before (k ∷ n ∷ bytes) (record { entry = record { string = take k before ++ take n bytes; field = take width (drop n bytes) }; size = n + width + 2 })
+cut_so : (width i k n : ℕ) (before bytes : List ℕ) → (i % 4 == 0) ≡ false → k ≤ length before → k + n ≤ 255 → n + width ≤ length bytes → rises_after_prefix (drop k before) (take n bytes) ≡ true → StandsFirst width i before (k ∷ n ∷ bytes) (record { entry = record { string = take k before ++ take n bytes; field = take width (drop n bytes) }; size = n + width + 2 })
 unfolding entry_bytes
 cut_so width i k n before bytes cut within short enough above =
     let s = take k before ++ take n bytes in

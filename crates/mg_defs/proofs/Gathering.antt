@@ -3,7 +3,7 @@ use Rattle.std.proofs.Common.{◌≡◌, ℕ, ◌+◌, ◌<◌, ◌≤◌, true,
 use Rattle.std.specs.Prelude.{nat_lt}
 use Rattle.std.proofs.lemmas.Bool.Decides.{nat_tests}
 use Rattle.mg_defs.specs.declared.TermPosting.{TermPosting}
-use Rattle.mg_defs.specs.Postings.{IsBefore, AllAfter, Rising, AllCount, part_at, times, with_count, added, joined, gathered, ArePostings}
+use Rattle.mg_defs.specs.Postings.{IsBefore, AllAfter, RisingByTerm, AllCount, part_at, times, with_count, added, merged_two, gathered, ArePostings}
 
 pub times-added : (t d : ℕ) (e : TermPosting) (xs : List TermPosting) → times t d (added e xs) ≡ part_at t d e + times t d xs
 times-added t d e [] = omega arith
@@ -71,10 +71,10 @@ AllAfter-count x n (y ∷ xs) all =
     let k : IsBefore x y = all.0 in
     (record { term = k.term; doc = k.doc }, AllAfter-count x n xs all.1)
 
-pub Rising-added : (e : TermPosting) (xs : List TermPosting) → Rising xs → Rising (added e xs)
+pub Rising-added : (e : TermPosting) (xs : List TermPosting) → RisingByTerm xs → RisingByTerm (added e xs)
 Rising-added e [] up = (tt, tt)
 Rising-added e (x ∷ xs) up =
-    added-cases e x xs (λ t. Rising t)
+    added-cases e x xs (λ t. RisingByTerm t)
     (λ b. ((b, AllAfter-earlier e x b xs up.0), up))
     (λ b. (AllAfter-added x e xs b up.0, Rising-added e xs up.1))
     (λ p q. (AllAfter-count x (e.count + x.count) xs up.0, up.1))
@@ -87,7 +87,7 @@ AllCount-added e (x ∷ xs) h all =
     (λ b. (all.0, AllCount-added e xs h all.1))
     (λ p q. (omega arith, all.1))
 
-pub Rising-gathered : (xs : List TermPosting) → Rising (gathered xs)
+pub Rising-gathered : (xs : List TermPosting) → RisingByTerm (gathered xs)
 Rising-gathered [] = tt
 Rising-gathered (x ∷ xs) = Rising-added x (gathered xs) (Rising-gathered xs)
 
@@ -99,19 +99,19 @@ pub times-gathered : (t d : ℕ) (xs : List TermPosting) → times t d (gathered
 times-gathered t d [] = refl
 times-gathered t d (x ∷ xs) = times-added t d x (gathered xs) ∙ ap (λ n. part_at t d x + n) (times-gathered t d xs)
 
-pub Rising-joined : (xs ys : List TermPosting) → Rising ys → Rising (joined xs ys)
+pub Rising-joined : (xs ys : List TermPosting) → RisingByTerm ys → RisingByTerm (merged_two xs ys)
 Rising-joined [] ys up = up
-Rising-joined (x ∷ xs) ys up = Rising-added x (joined xs ys) (Rising-joined xs ys up)
+Rising-joined (x ∷ xs) ys up = Rising-added x (merged_two xs ys) (Rising-joined xs ys up)
 
-pub AllCount-joined : (xs ys : List TermPosting) → AllCount xs → AllCount ys → AllCount (joined xs ys)
+pub AllCount-joined : (xs ys : List TermPosting) → AllCount xs → AllCount ys → AllCount (merged_two xs ys)
 AllCount-joined [] ys a b = b
-AllCount-joined (x ∷ xs) ys a b = AllCount-added x (joined xs ys) a.0 (AllCount-joined xs ys a.1 b)
+AllCount-joined (x ∷ xs) ys a b = AllCount-added x (merged_two xs ys) a.0 (AllCount-joined xs ys a.1 b)
 
-pub times-joined : (t d : ℕ) (xs ys : List TermPosting) → times t d (joined xs ys) ≡ times t d xs + times t d ys
+pub times-joined : (t d : ℕ) (xs ys : List TermPosting) → times t d (merged_two xs ys) ≡ times t d xs + times t d ys
 times-joined t d [] ys = omega arith
 times-joined t d (x ∷ xs) ys =
-    let r : times t d (joined xs ys) ≡ times t d xs + times t d ys = times-joined t d xs ys in
-    omega (arith, times-added t d x (joined xs ys))
+    let r : times t d (merged_two xs ys) ≡ times t d xs + times t d ys = times-joined t d xs ys in
+    omega (arith, times-added t d x (merged_two xs ys))
 
 same_posting : (x y : TermPosting) → x.term ≡ y.term → x.doc ≡ y.doc → x.count ≡ y.count → x ≡ y
 same_posting x y p q r =
@@ -168,7 +168,7 @@ times-first x xs all =
     omega arith
 
 -- a rising list is known by its counts
-pub only_one : (xs ys : List TermPosting) → Rising xs → Rising ys → AllCount xs → AllCount ys → ((t d : ℕ) → times t d xs ≡ times t d ys) → xs ≡ ys
+pub only_one : (xs ys : List TermPosting) → RisingByTerm xs → RisingByTerm ys → AllCount xs → AllCount ys → ((t d : ℕ) → times t d xs ≡ times t d ys) → xs ≡ ys
 only_one [] [] a b c e same = refl
 only_one [] (y ∷ ys) a b c e same =
     let h : times y.term y.doc (y ∷ ys) ≡ y.count = times-first y ys b.0 in

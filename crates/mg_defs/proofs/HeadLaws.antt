@@ -8,7 +8,8 @@ use Rattle.std.proofs.lemmas.List.{take_all}
 use Rattle.std.proofs.Math.Nat.{mul-le-mul_left, div-mul-le_self}
 use Rattle.std.proofs.Math.Seq.{take-add}
 use Rattle.mg_defs.specs.Numbers.{four, eight, four_at, eight_at}
-use Rattle.mg_defs.specs.Heads.{Head, IsWithin, IsHead, Check, is_wrong, exactly, within, magic, as_number, narrow_bytes, wide_bytes, head_bytes, run_count, limits, magic_checks, first_checks, narrow_checks, wide_checks, rest_checks, first_damage, narrow_head, wide_head, read_head}
+use Rattle.mg_defs.specs.Heads.{Head, IsWithin, IsHead, Check, is_wrong, exactly, within, magic, as_number, narrow_bytes, wide_bytes, head_bytes, run_count, magic_checks, first_checks, narrow_checks, wide_checks, rest_checks, first_damage, narrow_head, wide_head, read_head}
+use Rattle.mg_defs.specs.Limits.{limits}
 use Rattle.mg_defs.proofs.NumberLaws.{four_read, eight_read, four_small, eight_small, slice_index-take}
 
 -- ---- a head is read back

@@ -32,10 +32,8 @@ pub mod ReplyLaws
 pub mod SessionExamples
 pub mod ReadLaws
 pub mod TopLaws
-pub mod PostingGroups
 pub mod Gathering
 pub mod Joining
-pub mod Segments
 pub mod RunExamples
 pub mod GeneratorExamples
 pub mod WeightLaws

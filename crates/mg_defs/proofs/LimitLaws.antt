@@ -5,9 +5,9 @@ use Rattle.std.proofs.lemmas.Bool.{ne_eqb}
 use Rattle.std.proofs.lemmas.List.Sums.{sum_by-cons}
 use Rattle.mg_defs.specs.Terms.{same_term}
 use Rattle.mg_defs.specs.Lines.{lines, HasNoEnd, without_return}
-use Rattle.mg_defs.specs.Commands.{start, command, dot_of, set_of, set_query, set_mode, set_most, is_most, words, begins_with_stop, stops}
+use Rattle.mg_defs.specs.Commands.{first_settings, command, dot_of, set_of, set_query, set_mode, set_most, is_most, words, begins_with_stop, stops}
 use Rattle.mg_defs.specs.Session.{ends, is_long}
-use Rattle.mg_defs.specs.Limit.{ended_lines, is_quit}
+use Rattle.mg_defs.specs.InputLimit.{ended_lines, is_quit}
 use Rattle.mg_defs.specs.declared.session.Settings.{Settings}
 use Rattle.mg_defs.specs.declared.session.Command.{Command}
 use Rattle.mg_defs.proofs.LinesLaws.{lines-closed}
@@ -56,7 +56,7 @@ command_same line a b = if_same (begins_with_stop line) _ _ _ (dot_same (words l
 
 pub ends_always : (now : Settings) (line : List ℕ) → ends now line ≡ is_quit line
 unfolding ends
-ends_always now line = if_else (is_long line) (command_same (without_return line) now start)
+ends_always now line = if_else (is_long line) (command_same (without_return line) now first_settings)
   where
     if_else : (b : Bool) {x y : Bool} → x ≡ y → (if b then false else x) ≡ (if b then false else y)
     if_else true h = refl

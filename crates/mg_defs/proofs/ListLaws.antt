@@ -141,13 +141,13 @@ some_range_to (suc n) ps doc lt le =
       | inr within ↦ (let found = some_range_to n ps doc lt within in (found.0, omega (arith, found.1), found.2))
     ]
 
-all_blocks : (ps : List Posting) → doc_before (64 * block_count ps) ps ≡ last_doc 0 ps
+all_blocks : (ps : List Posting) → doc_before (64 * block_count (length ps)) ps ≡ last_doc 0 ps
 unfolding doc_before
-all_blocks ps = let e : take (64 * block_count ps) ps ≡ ps = take_all (64 * block_count ps) ps (omega arith) in ap (last_doc 0) e
+all_blocks ps = let e : take (64 * block_count (length ps)) ps ≡ ps = take_all (64 * block_count (length ps)) ps (omega arith) in ap (last_doc 0) e
 
 -- the range of some block holds each document up to the last
-pub some_range : (ps : List Posting) (doc : ℕ) → 0 < doc → doc ≤ last_doc 0 ps → (k : ℕ) × (k < block_count ps) × InRange k ps doc
-some_range ps doc lt le = some_range_to (block_count ps) ps doc lt (omega (arith, all_blocks ps, le))
+pub some_range : (ps : List Posting) (doc : ℕ) → 0 < doc → doc ≤ last_doc 0 ps → (k : ℕ) × (k < block_count (length ps)) × InRange k ps doc
+some_range ps doc lt le = some_range_to (block_count (length ps)) ps doc lt (omega (arith, all_blocks ps, le))
 
 -- and of one alone
 pub one_range : (all : ℕ) (ps : List Posting) (doc j k : ℕ) → Rises all 0 ps → InRange j ps doc → InRange k ps doc → j ≡ k

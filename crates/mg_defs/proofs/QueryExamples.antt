@@ -4,7 +4,8 @@ use Rattle.std.specs.Prelude.{codes}
 use Rattle.mg_defs.specs.Sat.{term, both, either, without}
 use Rattle.mg_defs.specs.Tokens.{sign_of}
 use Rattle.mg_defs.specs.QueryTerms.{query_terms}
-use Rattle.mg_defs.specs.Read.{syntax, too_deep, too_long, too_many, reads, refused, query_of, boolean, ranked}
+use Rattle.mg_defs.specs.Read.{query_of, boolean, ranked}
+use Rattle.mg_defs.specs.Refusals.{syntax, too_deep, too_long, too_many, reads, refused}
 
 unclosed : boolean (codes "cat & (dog") ≡ refused (syntax 10)
 unfolding boolean query_of sign_of

@@ -8,8 +8,8 @@ use Rattle.std.proofs.lemmas.List.{take_all, take-append-le}
 use Rattle.mg_defs.specs.Split.{documents}
 use Rattle.mg_defs.specs.Terms.{document}
 use Rattle.mg_defs.specs.Sat.{Query, satisfies}
-use Rattle.mg_defs.specs.Weights.{first}
-use Rattle.mg_defs.specs.Reply.{Shown, plain, found, shown, shown_as, answer_text}
+use Rattle.mg_defs.specs.Weights.{limited_to}
+use Rattle.mg_defs.specs.ShownAnswers.{Shown, plain, found, shown, shown_as, answer_text}
 use Rattle.mg_defs.specs.Replies.{shows, hit_text}
 use Rattle.mg_defs.specs.Texts.{count}
 use Rattle.mg_defs.specs.declared.session.Settings.{Settings}
@@ -22,13 +22,13 @@ pub found-miss : (q : Query) (n : ℕ) (doc : List ℕ) (docs : List (List ℕ))
 unfolding found
 found-miss q n doc docs h = rw h
 
-pub first-more : {X : Type 0} (most : Option ℕ) (xs : List X) (x : X) → shows most (length xs) ≡ true → first most (xs ++ x ∷ []) ≡ first most xs ++ x ∷ []
+pub first-more : {X : Type 0} (most : Option ℕ) (xs : List X) (x : X) → shows most (length xs) ≡ true → limited_to most (xs ++ x ∷ []) ≡ limited_to most xs ++ x ∷ []
 first-more None xs x h = refl
 first-more (Some k) xs x h =
     let lt = ltb-true (length xs) k h in
     take_all k (xs ++ x ∷ []) (omega (arith, length-append xs (x ∷ []), lt)) ∙ sym (ap (λ ys. ys ++ x ∷ []) (take_all k xs (omega (arith, lt))))
 
-pub first-full : {X : Type 0} (most : Option ℕ) (xs : List X) (x : X) → shows most (length xs) ≡ false → first most (xs ++ x ∷ []) ≡ first most xs
+pub first-full : {X : Type 0} (most : Option ℕ) (xs : List X) (x : X) → shows most (length xs) ≡ false → limited_to most (xs ++ x ∷ []) ≡ limited_to most xs
 first-full None xs x h = cc
 first-full (Some k) xs x h = take-append-le k xs (x ∷ []) (ltb-false (length xs) k h)
 
@@ -36,10 +36,10 @@ flat_map-push : {X : Type 0} (f : X → List ℕ) (xs : List X) (x : X) → flat
 flat_map-push f [] x = simp append-nil
 flat_map-push f (y ∷ xs) x = ap (λ t. f y ++ t) (flat_map-push f xs x) ∙ sym (append_assoc (f y) (flat_map f xs) (f x))
 
-pub shown-more : (f : Shown → List ℕ) (most : Option ℕ) (xs : List Shown) (x : Shown) → shows most (length xs) ≡ true → flat_map f (first most (xs ++ x ∷ [])) ≡ flat_map f (first most xs) ++ f x
-shown-more f most xs x h = ap (flat_map f) (first-more most xs x h) ∙ flat_map-push f (first most xs) x
+pub shown-more : (f : Shown → List ℕ) (most : Option ℕ) (xs : List Shown) (x : Shown) → shows most (length xs) ≡ true → flat_map f (limited_to most (xs ++ x ∷ [])) ≡ flat_map f (limited_to most xs) ++ f x
+shown-more f most xs x h = ap (flat_map f) (first-more most xs x h) ∙ flat_map-push f (limited_to most xs) x
 
-pub shown-full : (f : Shown → List ℕ) (most : Option ℕ) (xs : List Shown) (x : Shown) → shows most (length xs) ≡ false → flat_map f (first most (xs ++ x ∷ [])) ≡ flat_map f (first most xs)
+pub shown-full : (f : Shown → List ℕ) (most : Option ℕ) (xs : List Shown) (x : Shown) → shows most (length xs) ≡ false → flat_map f (limited_to most (xs ++ x ∷ [])) ≡ flat_map f (limited_to most xs)
 shown-full f most xs x h = ap (flat_map f) (first-full most xs x h)
 
 -- the document after those in front
@@ -54,27 +54,27 @@ document_at collection doc front rest number e n =
 
 -- ---- the documents of an answer, shown one after another
 
-pub none_first : (most : Option ℕ) → first {X = Shown} most [] ≡ []
+pub none_first : (most : Option ℕ) → limited_to {X = Shown} most [] ≡ []
 none_first None = refl
 none_first (Some zero) = refl
 none_first (Some (suc k)) = refl
 
 -- what is printed for one more
-pub hit_adds : (collection : List ℕ) (now : Settings) (doc : List ℕ) (so_far : List Shown) (hit : Shown) (total : ℕ) → document collection hit.number ≡ doc → length so_far ≡ total → flat_map (shown collection now.mode) (first now.most (so_far ++ hit ∷ [])) ≡ flat_map (shown collection now.mode) (first now.most so_far) ++ hit_text doc now.mode now.most total hit
+pub hit_adds : (collection : List ℕ) (now : Settings) (doc : List ℕ) (so_far : List Shown) (hit : Shown) (total : ℕ) → document collection hit.number ≡ doc → length so_far ≡ total → flat_map (shown collection now.mode) (limited_to now.most (so_far ++ hit ∷ [])) ≡ flat_map (shown collection now.mode) (limited_to now.most so_far) ++ hit_text doc now.mode now.most total hit
 unfolding hit_text
 hit_adds collection now doc so_far hit total is_doc size =
     elim (cases_Bool (shows now.most total)) [
       | inl shown_too ↦
           shown-more (shown collection now.mode) now.most so_far hit (ap (shows now.most) size ∙ shown_too)
-          ∙ ap (λ d. flat_map (shown collection now.mode) (first now.most so_far) ++ shown_as d now.mode hit) is_doc
-          ∙ ap (λ t. flat_map (shown collection now.mode) (first now.most so_far) ++ t) (sym (cond-true (shows now.most total) (shown_as doc now.mode hit) [] shown_too))
+          ∙ ap (λ d. flat_map (shown collection now.mode) (limited_to now.most so_far) ++ shown_as d now.mode hit) is_doc
+          ∙ ap (λ t. flat_map (shown collection now.mode) (limited_to now.most so_far) ++ t) (sym (cond-true (shows now.most total) (shown_as doc now.mode hit) [] shown_too))
       | inr full ↦
           shown-full (shown collection now.mode) now.most so_far hit (ap (shows now.most) size ∙ full)
-          ∙ sym (append-nil (flat_map (shown collection now.mode) (first now.most so_far)))
-          ∙ ap (λ t. flat_map (shown collection now.mode) (first now.most so_far) ++ t) (sym (cond-false (shows now.most total) (shown_as doc now.mode hit) [] full))
+          ∙ sym (append-nil (flat_map (shown collection now.mode) (limited_to now.most so_far)))
+          ∙ ap (λ t. flat_map (shown collection now.mode) (limited_to now.most so_far) ++ t) (sym (cond-false (shows now.most total) (shown_as doc now.mode hit) [] full))
     ]
 
-pub first-front : (most : Option ℕ) (xs ys : List Shown) → (zs : List Shown) × (first most (xs ++ ys) ≡ first most xs ++ zs)
+pub first-front : (most : Option ℕ) (xs ys : List Shown) → (zs : List Shown) × (limited_to most (xs ++ ys) ≡ limited_to most xs ++ zs)
 first-front None xs ys = (ys, refl)
 first-front (Some k) xs ys =
     elim (cases_lt k (length xs)) [
@@ -90,11 +90,11 @@ flat_map-append f [] ys = refl
 flat_map-append f (x ∷ xs) ys = ap (λ t. f x ++ t) (flat_map-append f xs ys) ∙ sym (append_assoc (f x) (flat_map f xs) (flat_map f ys))
 
 -- what was printed for the first of them begins the reply
-pub reply-front : (collection : List ℕ) (now : Settings) (xs ys : List Shown) → (more : List ℕ) × (answer_text collection now (xs ++ ys) ≡ flat_map (shown collection now.mode) (first now.most xs) ++ more)
+pub reply-front : (collection : List ℕ) (now : Settings) (xs ys : List Shown) → (more : List ℕ) × (answer_text collection now (xs ++ ys) ≡ flat_map (shown collection now.mode) (limited_to now.most xs) ++ more)
 unfolding answer_text
 reply-front collection now xs ys =
     let f = first-front now.most xs ys in
     let g = shown collection now.mode in (
       flat_map g f.0 ++ count (length (xs ++ ys)),
-      ap (λ zs. flat_map g zs ++ count (length (xs ++ ys))) f.1 ∙ ap (λ t. t ++ count (length (xs ++ ys))) (flat_map-append g (first now.most xs) f.0) ∙ append_assoc (flat_map g (first now.most xs)) (flat_map g f.0) (count (length (xs ++ ys))),
+      ap (λ zs. flat_map g zs ++ count (length (xs ++ ys))) f.1 ∙ ap (λ t. t ++ count (length (xs ++ ys))) (flat_map-append g (limited_to now.most xs) f.0) ∙ append_assoc (flat_map g (limited_to now.most xs)) (flat_map g f.0) (count (length (xs ++ ys))),
     )

@@ -8,11 +8,12 @@ use Rattle.mg_defs.specs.Tokens.{sign_of}
 use Rattle.mg_defs.specs.Fixed.{lg, isqrt, digits_of, digit, next, root_from}
 use Rattle.mg_defs.specs.Weights.{weight_of_term, weight_in_doc, weight, score_of}
 use Rattle.mg_defs.specs.Texts.{row, header, close, count, bad_command, line_too_long}
-use Rattle.mg_defs.specs.Commands.{start, command, words, dot_of, set_query, set_mode, set_most, set_of, value, is_most}
-use Rattle.mg_defs.specs.Reply.{answer_text, found}
+use Rattle.mg_defs.specs.Commands.{first_settings, command, words, dot_of, set_query, set_mode, set_most, set_of, value, is_most}
+use Rattle.mg_defs.specs.ShownAnswers.{answer_text, found}
 use Rattle.mg_defs.specs.Session.{heard_session, replies, line_text, after_line, ends, asked, questions, heard_questions, questions_of}
-use Rattle.mg_defs.specs.Limit.{ended_lines, has_quit, is_too_much}
-use Rattle.mg_defs.specs.Read.{boolean, ranked, query_of, reads}
+use Rattle.mg_defs.specs.InputLimit.{ended_lines, has_quit, is_too_much}
+use Rattle.mg_defs.specs.Read.{boolean, ranked, query_of}
+use Rattle.mg_defs.specs.Refusals.{reads}
 use Rattle.mg_defs.specs.Replies.{refusal, reply, session}
 
 abbrev line : List ℕ → List ℕ
@@ -47,7 +48,7 @@ long_lines : (session [] (replicate 1024 32 ++ codes "\nx\n") ≡ codes "= 0\n")
 unfolding boolean query_of sign_of refusal reply session heard_session replies line_text after_line ends command words dot_of set_query set_mode set_most set_of value is_most answer_text found row count line_too_long digits parse
 long_lines = (refl, refl, refl)
 
-asks : questions_of (codes "cat\n\n.set query ranked\n.x\ndog\n.quit\nox\n") ≡ record { now = start; line = codes "cat" } ∷ record { now = record start { ranked = true }; line = codes "dog" } ∷ []
+asks : questions_of (codes "cat\n\n.set query ranked\n.x\ndog\n.quit\nox\n") ≡ record { now = first_settings; line = codes "cat" } ∷ record { now = record first_settings { ranked = true }; line = codes "dog" } ∷ []
 unfolding heard_questions questions asked after_line ends command words dot_of set_query set_of
 asks = refl
 

@@ -2,7 +2,7 @@
 use Rattle.std.proofs.Common.{◌≡◌, ℕ, ◌<◌, ◌≤◌, true, false, List, [], ◌∷◌, ◌++◌, length}
 use Rattle.std.proofs.lemmas.Bool.{lt-ltb, le-ltb}
 use Rattle.mg_defs.specs.Lines.{without_return}
-use Rattle.mg_defs.specs.Commands.{text_of, settings_after, stops}
+use Rattle.mg_defs.specs.Commands.{command_text, settings_after, stops}
 use Rattle.mg_defs.specs.Session.{hears, replies, line_text, after_line, ends, read, Question, questions, asked, asked_by}
 use Rattle.mg_defs.specs.declared.session.Hearing.{Hearing}
 use Rattle.mg_defs.specs.Texts.{bad_command, line_too_long}
@@ -20,7 +20,7 @@ gives_long hearing reply now line long = record {
   asks = λ ls. rw (lt-ltb 1024 (length line) long);
 }
 
-pub gives_line : (hearing : Hearing) (reply : Settings → List ℕ → List ℕ) (now : Settings) (line : List ℕ) → length line ≤ 1024 → stops (read now line) ≡ false → Gives hearing reply now line (text_of reply bad_command now (without_return line) (hears hearing (read now line))) (asked_by now (without_return line) (hears hearing (read now line))) (settings_after now (hears hearing (read now line)))
+pub gives_line : (hearing : Hearing) (reply : Settings → List ℕ → List ℕ) (now : Settings) (line : List ℕ) → length line ≤ 1024 → stops (read now line) ≡ false → Gives hearing reply now line (command_text reply bad_command now (without_return line) (hears hearing (read now line))) (asked_by now (without_return line) (hears hearing (read now line))) (settings_after now (hears hearing (read now line)))
 unfolding replies line_text after_line ends questions asked
 gives_line hearing reply now line short goes = record {
   goes_on = λ ls. rw (le-ltb 1024 (length line) short, goes);

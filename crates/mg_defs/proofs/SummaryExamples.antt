@@ -8,7 +8,7 @@ use Rattle.mg_defs.proofs.CollectionExamples.{k}
 use Rattle.mg_defs.specs.Tokens.{sign_of}
 use Rattle.mg_defs.specs.Texts.{row, count}
 use Rattle.mg_defs.specs.Commands.{command, words, dot_of, set_query, set_mode, set_most, set_of, value, is_most}
-use Rattle.mg_defs.specs.Reply.{answer_text, found}
+use Rattle.mg_defs.specs.ShownAnswers.{answer_text, found}
 use Rattle.mg_defs.specs.Session.{heard_session, replies, line_text, after_line, ends}
 use Rattle.mg_defs.specs.Read.{boolean, query_of}
 use Rattle.mg_defs.specs.Replies.{refusal, reply, session}

@@ -11,7 +11,7 @@ use Rattle.mg_defs.specs.declared.Stream.{Stream}
 use Rattle.mg_defs.specs.declared.Stream.TheVariants.{Words, Others}
 use Rattle.mg_defs.specs.Parse.{Pair, parse}
 use Rattle.mg_defs.specs.Codes.{gamma}
-use Rattle.mg_defs.specs.CodedText.{StreamCode, TextCode, codeword_of, coded_pair, coded_doc, coded_size, text_of, IsCodeOf, IsTextCode}
+use Rattle.mg_defs.specs.CodedText.{StreamCode, TextCode, codeword_of, coded_pair, coded_doc, coded_size, text_part, IsCodeOf, IsTextCode}
 use Rattle.mg_defs.specs.Cost.{cost_of, huffman_cost}
 use Rattle.mg_defs.specs.Canon.{AreGood, codeword}
 use Rattle.mg_defs.specs.Split.{documents}
@@ -127,7 +127,7 @@ size-within code (doc ∷ docs) =
     omega (arith, length-as_bytes (coded_doc code doc), size-within code docs, sum_by-cons (coded_size code) doc docs, sum_by-cons (λ d. length (coded_doc code d)) doc docs)
 
 -- the text takes at most a byte a document more than its bits
-pub text-within : (code : TextCode) (collection : List ℕ) → IsTextCode collection code → length (text_of code collection) ≤ text_bits collection / 8 + length (documents collection)
+pub text-within : (code : TextCode) (collection : List ℕ) → IsTextCode collection code → length (text_part code collection) ≤ text_bits collection / 8 + length (documents collection)
 text-within code collection h =
     let size = text-long code collection ∙ ap (sum_by (coded_size code)) (take-length (documents collection)) in
     omega (arith, size, size-within code (documents collection), text-bits code collection h)

@@ -15,7 +15,8 @@ use Rattle.std.proofs.lemmas.Map.Text.{is_eq-slice_cmp}
 use Rattle.std.proofs.lemmas.Map.Views.{any-filter_same}
 use Rattle.mg_defs.specs.declared.Stream.{Stream}
 use Rattle.mg_defs.specs.Sorted.{sorted_distinct}
-use Rattle.mg_defs.specs.Vocabulary.{count_in, first_appearances, vocabulary, has_piece, counted, entry_count, total, sorted_of, counts_of, all_pieces, sorted_pieces, piece_counts}
+use Rattle.mg_defs.specs.FirstAppearances.{first_appearances}
+use Rattle.mg_defs.specs.Vocabulary.{count_in, vocabulary, has_piece, counted, entry_count, total, sorted_of, counts_of, all_pieces, sorted_pieces, piece_counts}
 use Rattle.mg_defs.proofs.SortedLaws.{same-is, same-refl, sorted-rising, rising-unique, has-sorted, contains-from, has-from}
 
 abbrev has : List (List ℕ) → List ℕ → Bool

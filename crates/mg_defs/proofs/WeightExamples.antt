@@ -1,16 +1,16 @@
 -- The worked rows, computed.
-use Rattle.std.proofs.Common.{◌≡◌, ℕ, List, [], ◌∷◌, ◌++◌, refl, None, ◌^◌, ◌-◌}
+use Rattle.std.proofs.Common.{◌≡◌, ℕ, List, [], ◌∷◌, ◌++◌, length, refl, ◌^◌, ◌-◌}
 use Rattle.std.specs.Prelude.{codes}
 use Rattle.mg_defs.specs.Parse.{parse}
 use Rattle.mg_defs.specs.Sat.{term}
 use Rattle.mg_defs.specs.Terms.{document}
 use Rattle.mg_defs.specs.Fixed.{lg, isqrt, digits_of, digit, next, root_from}
-use Rattle.mg_defs.specs.Weights.{weight_of_term, weight_in_doc, weight, score_of, wt, wd, top, hit_count}
+use Rattle.mg_defs.specs.Weights.{weight_of_term, weight_in_doc, weight, score_of, wt, wd, hits, by_score}
 use Rattle.mg_defs.specs.Texts.{row, header, close, count, bad_command}
-use Rattle.mg_defs.specs.Commands.{start, command, words, dot_of, set_query, set_mode, set_most, set_of, value, is_most}
+use Rattle.mg_defs.specs.Commands.{first_settings, command, words, dot_of, set_query, set_mode, set_most, set_of, value, is_most}
 use Rattle.mg_defs.specs.declared.session.Mode.TheVariants.{Text}
 use Rattle.mg_defs.specs.declared.session.Settings.{Settings}
-use Rattle.mg_defs.specs.Reply.{answer_text, satisfying, ranking, found}
+use Rattle.mg_defs.specs.ShownAnswers.{answer_text, satisfying, ranking, found}
 use Rattle.mg_defs.specs.Session.{session_of, heard_session, replies, line_text, after_line, ends}
 use Rattle.std.specs.Fmt.{digits}
 
@@ -33,15 +33,15 @@ k_weights : (wt k (codes "cat") ≡ 338) × (wd (document k 3) (codes "cat") ≡
 unfolding parse weight_of_term weight_in_doc weight lg digits_of digit next isqrt root_from
 k_weights = (refl, refl, refl, refl, refl)
 
-k_top : (top k (codes "cat" ∷ []) None ≡ record { number = 3; score = 77451 } ∷ record { number = 1; score = 50002 } ∷ []) × (hit_count k (codes "cat" ∷ []) ≡ 2)
+k_top : (by_score (hits k (codes "cat" ∷ [])) ≡ record { number = 3; score = 77451 } ∷ record { number = 1; score = 50002 } ∷ []) × (length (hits k (codes "cat" ∷ [])) ≡ 2)
 unfolding parse weight_of_term weight_in_doc weight lg digits_of digit next isqrt root_from score_of
 k_top = (refl, refl)
 
-k_ranked : answer_text k start (ranking k (codes "cat" ∷ [])) ≡ codes "3 77451\n1 50002\n= 2\n"
+k_ranked : answer_text k first_settings (ranking k (codes "cat" ∷ [])) ≡ codes "3 77451\n1 50002\n= 2\n"
 unfolding parse weight_of_term weight_in_doc weight lg digits_of digit next isqrt root_from score_of answer_text row count digits
 k_ranked = refl
 
-k_shown : answer_text k (record start { mode = Text }) (satisfying k (term (codes "sat"))) ≡ codes "-- 1\nthe cat sat\n" ++ 2 ∷ codes "\n= 1\n"
+k_shown : answer_text k (record first_settings { mode = Text }) (satisfying k (term (codes "sat"))) ≡ codes "-- 1\nthe cat sat\n" ++ 2 ∷ codes "\n= 1\n"
 unfolding parse found answer_text row header close count digits
 k_shown = refl
 

@@ -1,5 +1,5 @@
 -- Bits and numbers: the highest bit first.
-use Rattle.std.specs.Prelude.{◌≡◌, ◌+◌, ◌-◌, ◌/◌, ◌%◌, ◌^◌, ◌==◌, ◌++◌, ℕ, zero, suc, Bool, true, false, List, [], ◌∷◌, length, take, drop, Option, IfSome}
+use Rattle.std.specs.Prelude.{◌≡◌, ◌+◌, ◌-◌, ◌/◌, ◌%◌, ◌^◌, ◌==◌, ◌++◌, ℕ, zero, suc, Bool, true, false, List, [], ◌∷◌, length, take, drop, Option, IfSome, replicate}
 
 abbrev pub Bits : Type 0
 Bits = List Bool
@@ -39,3 +39,12 @@ FromPlace told place fact = IfSome told (λ bytes. fact (drop place (bits_of byt
 -- these bits stand first
 abbrev pub Begins : List Bool → List Bool → Type 0
 Begins code bits = take (length code) bits ≡ code
+
+-- bits in bytes, the highest first; zero-bits fill the last byte
+abbrev pub bytes_upto : ℕ → Bits → List ℕ
+bytes_upto zero bits = []
+bytes_upto (suc n) [] = []
+bytes_upto (suc n) (b ∷ bits) = number (take 8 (b ∷ bits ++ replicate 7 false)) ∷ bytes_upto n (drop 7 bits)
+
+unfoldable pub as_bytes : Bits → List ℕ
+as_bytes bits = bytes_upto (length bits) bits

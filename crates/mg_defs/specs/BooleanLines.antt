@@ -1,9 +1,10 @@
 -- Which lines are Boolean queries, and where any other line is refused.
 use Rattle.std.specs.Prelude.{◌≡◌, ◌≤◌, ◌<◌, ℕ, ◌-◌, Bool, true, false, List, [], ◌∷◌, ◌++◌, length, count_by}
+use Rattle.mg_defs.specs.Limits.{piece_bytes, open_parentheses}
 use Rattle.mg_defs.specs.Sat.{Query}
-use Rattle.mg_defs.specs.Tokens.{Token, word, bar, amp, bang, opening, closing, Placed, tokens, bare}
+use Rattle.mg_defs.specs.Tokens.{Token, word, bar, amp, bang, opening, closing, PlacedToken, tokens, bare}
 use Rattle.mg_defs.specs.Grammar.{ReadsAs, BeginsQuery}
-use Rattle.mg_defs.specs.Read.{Refusal, syntax, too_deep, too_long, too_many}
+use Rattle.mg_defs.specs.Refusals.{Refusal, syntax, too_deep, too_long, too_many}
 use Rattle.mg_defs.specs.FirstRefusal.{NoneRefused, IsFirstRefusal}
 
 abbrev pub is_opening : Token → Bool
@@ -18,19 +19,19 @@ is_closing _ = false
 abbrev pub open_count : List Token → ℕ
 open_count ts = count_by is_opening ts - count_by is_closing ts
 
--- a word of more than 255 bytes
+-- a word of more bytes than a piece may have
 abbrev pub IsLongWord : Token → Type 0
-IsLongWord (word w) = 255 < length w
+IsLongWord (word w) = piece_bytes < length w
 IsLongWord bar = ⊥
 IsLongWord amp = ⊥
 IsLongWord bang = ⊥
 IsLongWord opening = ⊥
 IsLongWord closing = ⊥
 
--- The token is refused at its place, after those before it: with it they begin no query, or it opens a parenthesis where 32 are open, or it is a long word.
-abbrev pub IsRefusedAfter : List Placed → Placed → Refusal → Type 0
+-- The token is refused at its place, after those before it: with it they begin no query, or it opens a parenthesis where as many are open as may be, or it is a long word.
+abbrev pub IsRefusedAfter : List PlacedToken → PlacedToken → Refusal → Type 0
 IsRefusedAfter before t (syntax at) = (at ≡ t.at) × (BeginsQuery (bare before ++ t.token ∷ []) → ⊥)
-IsRefusedAfter before t (too_deep at) = (at ≡ t.at) × (t.token ≡ opening) × (32 ≤ open_count (bare before))
+IsRefusedAfter before t (too_deep at) = (at ≡ t.at) × (t.token ≡ opening) × (open_parentheses ≤ open_count (bare before))
 IsRefusedAfter before t (too_long at) = (at ≡ t.at) × IsLongWord t.token
 IsRefusedAfter before t (too_many at) = ⊥
 

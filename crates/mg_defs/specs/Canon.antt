@@ -4,36 +4,36 @@ use Rattle.std.specs.Prelude.{◌≡◌, ℕ, ◌+◌, ◌-◌, ◌/◌, ◌^◌
 use Rattle.std.specs.List.{AllByRecursion}
 use Rattle.mg_defs.specs.Bits.{Bits, digits}
 
--- what codewords of these lengths take of the 2 ^ 48 strings of 48 bits
+-- what codewords of these lengths, of 48 at most, take of the 2 ^ 48 strings of 48 bits
 abbrev pub kraft : List ℕ → ℕ
 kraft lengths = sum_by (λ l. 2 ^ (48 - l)) lengths
 
-abbrev pub AreWithin : List ℕ → Type 0
-AreWithin lengths = AllByRecursion (λ l. (1 ≤ l) × (l ≤ 48)) lengths
+abbrev pub AreCodeLengths : List ℕ → Type 0
+AreCodeLengths lengths = AllByRecursion (λ l. (1 ≤ l) × (l ≤ 48)) lengths
 
 -- the lengths of a code that leaves no string of bits over; one symbol alone has one bit
 abbrev pub AreGood : List ℕ → Type 0
 AreGood [] = Unit {0}
 AreGood (l ∷ []) = l ≡ 1
-AreGood (l ∷ m ∷ lengths) = AreWithin (l ∷ m ∷ lengths) × (kraft (l ∷ m ∷ lengths) ≡ 2 ^ 48)
+AreGood (l ∷ m ∷ lengths) = AreCodeLengths (l ∷ m ∷ lengths) × (kraft (l ∷ m ∷ lengths) ≡ 2 ^ 48)
 
 -- what the codewords of more than l bits take
 abbrev pub longer : ℕ → List ℕ → ℕ
 longer l lengths = kraft (filter (λ k. nat_lt l k) lengths)
 
--- the number that the first codeword of l bits is
-abbrev pub first : ℕ → List ℕ → ℕ
-first l lengths = longer l lengths / 2 ^ (48 - l)
+-- the number that the first codeword of l bits is, for l up to 48
+abbrev pub first_codeword : ℕ → List ℕ → ℕ
+first_codeword l lengths = longer l lengths / 2 ^ (48 - l)
 
 -- how many codewords have l bits
 abbrev pub count_of : ℕ → List ℕ → ℕ
 count_of l lengths = count_by (λ k. k == l) lengths
 
--- the number that the codeword of the symbol is, where there are two or more symbols
+-- the number that the codeword of the symbol is, where there are two or more symbols and the symbol is one of them, counted from 0
 abbrev pub codeword_value : List ℕ → ℕ → ℕ
-codeword_value lengths symbol = let l = get_or lengths symbol 0 in first l lengths + count_of l (take symbol lengths)
+codeword_value lengths symbol = let l = get_or lengths symbol 0 in first_codeword l lengths + count_of l (take symbol lengths)
 
--- the codeword of the symbol
+-- the codeword of the symbol, in the same range
 abbrev pub codeword : List ℕ → ℕ → Bits
 codeword [] symbol = []
 codeword (l ∷ []) symbol = false ∷ []

@@ -1,12 +1,12 @@
 -- Documents as bits: the number of pairs plus 1, and then the codewords of words and others in turn.
-use Rattle.std.specs.Prelude.{◌≡◌, ℕ, zero, suc, ◌+◌, ◌*◌, ◌-◌, ◌==◌, if◌then◌else◌, false, List, [], ◌∷◌, ◌++◌, length, map, take, drop, replicate, sum_by}
+use Rattle.std.specs.Prelude.{◌≡◌, ℕ, ◌+◌, ◌*◌, ◌-◌, ◌==◌, if◌then◌else◌, List, [], ◌∷◌, ◌++◌, length, map, take, sum_by}
 use Rattle.std.specs.List.{flat_map, zip}
 use Rattle.mg_defs.specs.declared.Stream.{Stream}
 use Rattle.mg_defs.specs.declared.Stream.TheVariants.{Words, Others}
 use Rattle.mg_defs.specs.Split.{documents}
 use Rattle.mg_defs.specs.Parse.{Pair, parse}
 use Rattle.mg_defs.specs.Sorted.{number_of}
-use Rattle.mg_defs.specs.Bits.{Bits, number}
+use Rattle.mg_defs.specs.Bits.{Bits, as_bytes}
 use Rattle.mg_defs.specs.Codes.{gamma}
 use Rattle.mg_defs.specs.Canon.{AreGood, codeword}
 use Rattle.mg_defs.specs.Cost.{huffman_cost, cost_of}
@@ -61,18 +61,9 @@ coded_pair code p = codeword_of code.words p.word ++ codeword_of code.others p.o
 abbrev pub coded_doc : TextCode → List ℕ → Bits
 coded_doc code doc = gamma (length (parse doc) + 1) ++ flat_map (coded_pair code) (parse doc)
 
--- bits in bytes, the highest first; zero-bits fill the last byte
-abbrev pub bytes_upto : ℕ → Bits → List ℕ
-bytes_upto zero bits = []
-bytes_upto (suc n) [] = []
-bytes_upto (suc n) (b ∷ bits) = number (take 8 (b ∷ bits ++ replicate 7 false)) ∷ bytes_upto n (drop 7 bits)
-
-unfoldable pub as_bytes : Bits → List ℕ
-as_bytes bits = bytes_upto (length bits) bits
-
 -- the documents in order, each from a byte on
-abbrev pub text_of : TextCode → List ℕ → List ℕ
-text_of code collection = flat_map (λ doc. as_bytes (coded_doc code doc)) (documents collection)
+abbrev pub text_part : TextCode → List ℕ → List ℕ
+text_part code collection = flat_map (λ doc. as_bytes (coded_doc code doc)) (documents collection)
 
 -- ---- places
 
@@ -97,8 +88,8 @@ places code collection = running 0 (map (coded_size code) (documents collection)
 abbrev pub place_bytes : ℕ → ℕ → List ℕ
 place_bytes version place = if version == 1 then four place else eight place
 
-abbrev pub places_of : ℕ → TextCode → List ℕ → List ℕ
-places_of version code collection = flat_map (place_bytes version) (places code collection)
+abbrev pub places_part : ℕ → TextCode → List ℕ → List ℕ
+places_part version code collection = flat_map (place_bytes version) (places code collection)
 
 -- the bits of the text from a document's first to the one after its last, document d counted from 1
 pub record BitRange : Type 0 where

@@ -1,14 +1,15 @@
 -- What a line of a session is.
 use Rattle.std.specs.Prelude.{ℕ, ◌+◌, ◌-◌, ◌*◌, nat_le, Bool, true, false, ◌==◌, ◌&&◌, ◌||◌, if◌then◌else◌, List, [], ◌∷◌, length, codes, Some, None}
 use Rattle.std.specs.List.{list_all, onto_first}
+use Rattle.mg_defs.specs.Limits.{shown_documents, shown_digits}
 use Rattle.mg_defs.specs.Terms.{same_term}
 use Rattle.mg_defs.specs.declared.session.Mode.TheVariants.{Docnums, Text, Count}
 use Rattle.mg_defs.specs.declared.session.Settings.{Settings}
 use Rattle.mg_defs.specs.declared.session.Command.{Command}
 use Rattle.mg_defs.specs.declared.session.Command.TheVariants.{Skip, Ask, Quit, Wrong, Set}
 
-abbrev pub start : Settings
-start = record { ranked = false; mode = Docnums; most = None }
+abbrev pub first_settings : Settings
+first_settings = record { ranked = false; mode = Docnums; most = None }
 
 abbrev pub is_blank : ℕ → Bool
 is_blank b = b == 32 || b == 9
@@ -33,9 +34,9 @@ value so_far (d ∷ digits) = value (10 * so_far + (d - 48)) digits
 abbrev pub is_digit : ℕ → Bool
 is_digit b = nat_le 48 b && nat_le b 57
 
--- one to seven digits, from 1 to 2 ^ 20
+-- digits, not too many of them, of a number from 1 on that is not too large
 unfoldable pub is_most : List ℕ → Bool
-is_most word = list_all is_digit word && nat_le (length word) 7 && nat_le 1 (value 0 word) && nat_le (value 0 word) 1048576
+is_most word = list_all is_digit word && nat_le (length word) shown_digits && nat_le 1 (value 0 word) && nat_le (value 0 word) shown_documents
 
 unfoldable pub set_query : List ℕ → Settings → Command
 set_query word now = if same_term word (codes "boolean") then Set (record now { ranked = false }) else (if same_term word (codes "ranked") then Set (record now { ranked = true }) else Wrong)
@@ -63,12 +64,12 @@ command line now = if begins_with_stop line then dot_of (words line) now else (i
 
 -- ---- what a command prints, which settings hold after it, and whether it ends the session
 
-abbrev pub text_of : (Settings → List ℕ → List ℕ) → List ℕ → Settings → List ℕ → Command → List ℕ
-text_of reply wrong now line Skip = []
-text_of reply wrong now line Ask = reply now line
-text_of reply wrong now line Quit = []
-text_of reply wrong now line Wrong = wrong
-text_of reply wrong now line (Set changed) = []
+abbrev pub command_text : (Settings → List ℕ → List ℕ) → List ℕ → Settings → List ℕ → Command → List ℕ
+command_text reply wrong now line Skip = []
+command_text reply wrong now line Ask = reply now line
+command_text reply wrong now line Quit = []
+command_text reply wrong now line Wrong = wrong
+command_text reply wrong now line (Set changed) = []
 
 abbrev pub settings_after : Settings → Command → Settings
 settings_after now Skip = now

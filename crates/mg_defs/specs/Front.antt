@@ -3,6 +3,7 @@ use Rattle.std.specs.Prelude.{◌≡◌, ◌≢◌, ◌≤◌, ◌+◌, ◌-◌,
 use Rattle.std.specs.declared.option.Option.{Option}
 use Rattle.std.specs.Ordering.{nat_cmp, is_lt}
 use Rattle.std.specs.Cmp.Lexicographic.{slice_cmp}
+use Rattle.mg_defs.specs.Limits.{piece_bytes}
 use Rattle.mg_defs.specs.Numbers.{four}
 
 pub record Entry : Type 0 where
@@ -27,7 +28,7 @@ entry_bytes i before e =
 
 -- an entry that may have this number and come after this string
 pub record IsEntry (width i : ℕ) (before : List ℕ) (e : Entry) : Type 0 where
-  pub short : length e.string ≤ 255
+  pub short : length e.string ≤ piece_bytes
   pub field : length e.field ≡ width
   pub above : (i == 0 || is_below before e.string) ≡ true
 
@@ -70,15 +71,15 @@ pub record Found : Type 0 where
   pub size : ℕ
 
 -- what follows a shared prefix rises above what followed it before
-abbrev pub rises : List ℕ → List ℕ → Bool
-rises before [] = false
-rises [] (y ∷ ys) = true
-rises (x ∷ xs) (y ∷ ys) = nat_lt x y
+abbrev pub rises_after_prefix : List ℕ → List ℕ → Bool
+rises_after_prefix before [] = false
+rises_after_prefix [] (y ∷ ys) = true
+rises_after_prefix (x ∷ xs) (y ∷ ys) = nat_lt x y
 
 abbrev pub read_whole : ℕ → ℕ → List ℕ → List ℕ → Option Found
 read_whole width i before [] = None
 read_whole width i before (n ∷ bytes) =
-    if nat_le n 255 && (nat_le (n + width) (length bytes) && (i == 0 || is_below before (take n bytes)))
+    if nat_le n piece_bytes && (nat_le (n + width) (length bytes) && (i == 0 || is_below before (take n bytes)))
     then Some (record { entry = record { string = take n bytes; field = take width (drop n bytes) }; size = n + width + 1 })
     else None
 
@@ -86,7 +87,7 @@ abbrev pub read_cut : ℕ → List ℕ → List ℕ → Option Found
 read_cut width before [] = None
 read_cut width before (k ∷ []) = None
 read_cut width before (k ∷ n ∷ bytes) =
-    if nat_le k (length before) && (nat_le (k + n) 255 && (nat_le (n + width) (length bytes) && rises (drop k before) (take n bytes)))
+    if nat_le k (length before) && (nat_le (k + n) piece_bytes && (nat_le (n + width) (length bytes) && rises_after_prefix (drop k before) (take n bytes)))
     then Some (record { entry = record { string = take k before ++ take n bytes; field = take width (drop n bytes) }; size = n + width + 2 })
     else None
 

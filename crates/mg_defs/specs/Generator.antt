@@ -27,8 +27,8 @@ base16 zero i = i / 16 ∷ i % 16 ∷ []
 base16 (suc more) i = if nat_lt i 256 then i / 16 ∷ i % 16 ∷ [] else base16 more (i / 16) ++ i % 16 ∷ []
 
 -- the word of a number below 2 ^ 64
-unfoldable pub word : ℕ → List ℕ
-word i = flat_map syllable (base16 14 i)
+unfoldable pub made_word : ℕ → List ℕ
+made_word i = flat_map syllable (base16 14 i)
 
 -- with an ASCII capital in front
 abbrev pub capital : List ℕ → List ℕ
@@ -43,28 +43,28 @@ pub record Made : Type 0 where
   pub state : ℕ
 
 -- bytes that take no draw
-unfoldable pub text : List ℕ → ℕ → Made
-text bytes x = record { bytes = bytes; state = x }
+unfoldable pub made_bytes : List ℕ → ℕ → Made
+made_bytes bytes x = record { bytes = bytes; state = x }
 
 -- one and then the other
-unfoldable pub both : (ℕ → Made) → (ℕ → Made) → ℕ → Made
-both first next x = record { bytes = (first x).bytes ++ (next (first x).state).bytes; state = (next (first x).state).state }
+unfoldable pub made_both : (ℕ → Made) → (ℕ → Made) → ℕ → Made
+made_both first next x = record { bytes = (first x).bytes ++ (next (first x).state).bytes; state = (next (first x).state).state }
 
 -- each in turn
-unfoldable pub all_of : List (ℕ → Made) → ℕ → Made
-all_of [] = text []
-all_of (first ∷ rest) = both first (all_of rest)
+unfoldable pub made_in_turn : List (ℕ → Made) → ℕ → Made
+made_in_turn [] = made_bytes []
+made_in_turn (first ∷ rest) = made_both first (made_in_turn rest)
 
 -- so many, one after the other
 unfoldable pub repeated : ℕ → (ℕ → Made) → ℕ → Made
-repeated zero each = text []
-repeated (suc n) each = both each (repeated n each)
+repeated zero each = made_bytes []
+repeated (suc n) each = made_both each (repeated n each)
 
 -- ---- a collection
 
 -- a word whose number is drawn below one more than a number that is drawn first: low numbers come often
 unfoldable pub pick : ℕ → Made
-pick x = record { bytes = word (draw (draw 2000 x + 1) (stepped x)); state = stepped (stepped x) }
+pick x = record { bytes = made_word (draw (draw 2000 x + 1) (stepped x)); state = stepped (stepped x) }
 
 unfoldable pub capital_pick : ℕ → Made
 capital_pick x = record { bytes = capital (pick x).bytes; state = (pick x).state }
@@ -75,7 +75,7 @@ separator x = record { bytes = (if draw 8 x == 0 then codes ", " else codes " ")
 
 -- four to twelve words, the first with a capital
 unfoldable pub sentence : ℕ → Made
-sentence x = all_of (capital_pick ∷ repeated (3 + draw 9 x) (both separator pick) ∷ text (codes ".\n") ∷ []) (stepped x)
+sentence x = made_in_turn (capital_pick ∷ repeated (3 + draw 9 x) (made_both separator pick) ∷ made_bytes (codes ".\n") ∷ []) (stepped x)
 
 -- one to six
 unfoldable pub sentences : ℕ → Made
@@ -83,12 +83,12 @@ sentences x = repeated (1 + draw 6 x) sentence (stepped x)
 
 unfoldable pub heading : ℕ → Made
 heading =
-    all_of (text (codes "From: ") ∷ pick ∷ text (codes "@") ∷ pick ∷ text (codes ".example\n") ∷
-    text (codes "Subject: ") ∷ pick ∷ text (codes " ") ∷ pick ∷ text (codes " ") ∷ pick ∷ text (codes "\n\n") ∷ [])
+    made_in_turn (made_bytes (codes "From: ") ∷ pick ∷ made_bytes (codes "@") ∷ pick ∷ made_bytes (codes ".example\n") ∷
+    made_bytes (codes "Subject: ") ∷ pick ∷ made_bytes (codes " ") ∷ pick ∷ made_bytes (codes " ") ∷ pick ∷ made_bytes (codes "\n\n") ∷ [])
 
 -- closed by its byte 2
 unfoldable pub mail : ℕ → Made
-mail = all_of (heading ∷ sentences ∷ text (2 ∷ []) ∷ [])
+mail = made_in_turn (heading ∷ sentences ∷ made_bytes (2 ∷ []) ∷ [])
 
 -- so many documents from one generator, whose first state is the seed
 unfoldable pub made_collection : ℕ → ℕ → List ℕ
@@ -98,24 +98,24 @@ made_collection seed docs = (repeated docs mail seed).bytes
 
 -- a word
 unfoldable pub one_word : ℕ → Made
-one_word = all_of (pick ∷ text (codes "\n") ∷ [])
+one_word = made_in_turn (pick ∷ made_bytes (codes "\n") ∷ [])
 
 -- a word without another
 unfoldable pub one_without : ℕ → Made
-one_without = all_of (pick ∷ text (codes " & !") ∷ pick ∷ text (codes "\n") ∷ [])
+one_without = made_in_turn (pick ∷ made_bytes (codes " & !") ∷ pick ∷ made_bytes (codes "\n") ∷ [])
 
 -- one of two words, and a third
 unfoldable pub either_and : ℕ → Made
-either_and = all_of (text (codes "(") ∷ pick ∷ text (codes " | ") ∷ pick ∷ text (codes ") ") ∷ pick ∷ text (codes "\n") ∷ [])
+either_and = made_in_turn (made_bytes (codes "(") ∷ pick ∷ made_bytes (codes " | ") ∷ pick ∷ made_bytes (codes ") ") ∷ pick ∷ made_bytes (codes "\n") ∷ [])
 
 -- three words by rank, ten rows at most
-unfoldable pub ranked : ℕ → Made
-ranked =
-    all_of (text (codes ".set query ranked\n") ∷ text (codes ".set maxdocs 10\n") ∷ pick ∷ text (codes " ") ∷ pick ∷ text (codes " ") ∷ pick ∷ text (codes "\n") ∷
-    text (codes ".set query boolean\n") ∷ text (codes ".set maxdocs all\n") ∷ [])
+unfoldable pub made_ranked : ℕ → Made
+made_ranked =
+    made_in_turn (made_bytes (codes ".set query ranked\n") ∷ made_bytes (codes ".set maxdocs 10\n") ∷ pick ∷ made_bytes (codes " ") ∷ pick ∷ made_bytes (codes " ") ∷ pick ∷ made_bytes (codes "\n") ∷
+    made_bytes (codes ".set query boolean\n") ∷ made_bytes (codes ".set maxdocs all\n") ∷ [])
 
 unfoldable pub four_queries : ℕ → Made
-four_queries = all_of (one_word ∷ one_without ∷ either_and ∷ ranked ∷ [])
+four_queries = made_in_turn (one_word ∷ one_without ∷ either_and ∷ made_ranked ∷ [])
 
 -- forty queries, the first state one above the seed
 unfoldable pub made_session : ℕ → List ℕ

@@ -2,6 +2,7 @@
 use Rattle.std.specs.Prelude.{◌≡◌, ◌≤◌, ◌<◌, ◌+◌, ◌-◌, ◌^◌, ◌==◌, ◌||◌, ◌++◌, ℕ, Bool, List, [], ◌∷◌, length, slice_index, nat_lt, find, codes, if◌then◌else◌, Some}
 use Rattle.std.specs.declared.option.Option.{Option}
 use Rattle.std.specs.Int.{div_ceil}
+use Rattle.mg_defs.specs.Limits.{Limits, limits, version_1, version_2, least_cap, greatest_cap}
 use Rattle.mg_defs.specs.Numbers.{four, eight, four_at, eight_at}
 
 pub record Head : Type 0 where
@@ -23,7 +24,7 @@ pub record Head : Type 0 where
   pub post_bytes : ℕ
   pub skip_count : ℕ
 
--- a head's first eight bytes: MGROWv, the version's digit and the end of a line
+-- a head's first eight bytes: MGROWv, the version's digit and the end of a line, for version 1 or 2
 abbrev pub magic : ℕ → List ℕ
 magic version = codes "MGROWv" ++ ((48 + version) ∷ 10 ∷ [])
 
@@ -51,17 +52,7 @@ head_bytes h = if h.version == 1 then narrow_bytes h else wide_bytes h
 abbrev pub run_count : ℕ → ℕ → ℕ
 run_count occurrences cap = div_ceil occurrences cap
 
-pub record Limits : Type 0 where
-  pub documents : ℕ
-  -- of distinct pieces of each kind
-  pub pieces : ℕ
-  -- of bytes of the collection
-  pub collection : ℕ
-
-abbrev pub limits : ℕ → Limits
-limits version = if version == 1 then record { documents = 2 ^ 20; pieces = 2 ^ 20; collection = 2 ^ 28 } else record { documents = 2 ^ 24; pieces = 2 ^ 22; collection = 2 ^ 32 - 1 }
-
--- each field is in the range of its version
+-- each field is in the range of its version, 1 or 2
 pub record IsWithin (h : Head) : Type 0 where
   pub version_low : 1 ≤ h.version
   pub version_high : h.version ≤ 2
@@ -69,8 +60,8 @@ pub record IsWithin (h : Head) : Type 0 where
   pub words : h.words ≤ (limits h.version).pieces
   pub others : h.others ≤ (limits h.version).pieces
   pub terms : h.terms ≤ h.words
-  pub cap_low : 341 ≤ h.cap
-  pub cap_high : h.cap ≤ 89478485
+  pub cap_low : least_cap ≤ h.cap
+  pub cap_high : h.cap ≤ greatest_cap
   pub collection : h.collection ≤ (limits h.version).collection
   pub occurrences : h.occurrences ≤ h.collection
   pub runs : h.runs ≡ run_count h.occurrences h.cap
@@ -112,24 +103,24 @@ magic_checks low high bytes =
 -- the fields that stand at one place in every version
 abbrev pub first_checks : Limits → List ℕ → List Check
 first_checks most bytes =
-    within 8 0 most.documents (four_at bytes 8) ∷ within 12 0 most.pieces (four_at bytes 12) ∷ within 16 0 most.pieces (four_at bytes 16) ∷ within 20 0 (four_at bytes 12) (four_at bytes 20) ∷ within 24 341 89478485 (four_at bytes 24)
+    within 8 0 most.documents (four_at bytes 8) ∷ within 12 0 most.pieces (four_at bytes 12) ∷ within 16 0 most.pieces (four_at bytes 16) ∷ within 20 0 (four_at bytes 12) (four_at bytes 20) ∷ within 24 least_cap greatest_cap (four_at bytes 24)
     ∷ within 28 0 1 (four_at bytes 28) ∷ []
 
 -- the others of version 1
 abbrev pub narrow_checks : List ℕ → List Check
-narrow_checks bytes = within 32 0 (2 ^ 28) (four_at bytes 32) ∷ within 36 0 (four_at bytes 32) (four_at bytes 36) ∷ exactly 40 (run_count (four_at bytes 36) (four_at bytes 24)) (four_at bytes 40) ∷ within 56 0 (four_at bytes 36) (eight_at bytes 56) ∷ []
+narrow_checks bytes = within 32 0 version_1.collection (four_at bytes 32) ∷ within 36 0 (four_at bytes 32) (four_at bytes 36) ∷ exactly 40 (run_count (four_at bytes 36) (four_at bytes 24)) (four_at bytes 40) ∷ within 56 0 (four_at bytes 36) (eight_at bytes 56) ∷ []
 
 -- and of version 2
 abbrev pub wide_checks : List ℕ → List Check
 wide_checks bytes =
-    within 32 0 (2 ^ 32 - 1) (eight_at bytes 32) ∷ within 40 0 (eight_at bytes 32) (eight_at bytes 40) ∷ exactly 48 (run_count (eight_at bytes 40) (four_at bytes 24)) (four_at bytes 48) ∷ exactly 52 0 (four_at bytes 52)
+    within 32 0 version_2.collection (eight_at bytes 32) ∷ within 40 0 (eight_at bytes 32) (eight_at bytes 40) ∷ exactly 48 (run_count (eight_at bytes 40) (four_at bytes 24)) (four_at bytes 48) ∷ exactly 52 0 (four_at bytes 52)
     ∷ within 72 0 (eight_at bytes 40) (eight_at bytes 72) ∷ []
 
 -- the size that the version asks for, and then the fields
 abbrev pub rest_checks : List ℕ → List Check
 rest_checks bytes =
-    if slice_index bytes 6 == 49 then exactly 0 64 (length bytes) ∷ (first_checks (limits 1) bytes ++ narrow_checks bytes)
-    else exactly 0 80 (length bytes) ∷ (first_checks (limits 2) bytes ++ wide_checks bytes)
+    if slice_index bytes 6 == 49 then exactly 0 64 (length bytes) ∷ (first_checks version_1 bytes ++ narrow_checks bytes)
+    else exactly 0 80 (length bytes) ∷ (first_checks version_2 bytes ++ wide_checks bytes)
 
 -- what is wrong first in bytes that are no head of a version from low to high
 unfoldable pub first_damage : ℕ → ℕ → List ℕ → Option Check

@@ -25,8 +25,8 @@ unfoldable pub lexicon : List ℕ → List Entry
 lexicon collection = map (λ (t : ℕ × List ℕ). record { string = t.1; field = info_bytes (info_of collection t.0 t.1) }) (enumerate_from 0 (dictionary collection))
 
 -- the bytes of Lex, and those of LexAt
-abbrev pub lex_bytes : List ℕ → List ℕ
-lex_bytes collection = front (lexicon collection)
+abbrev pub lex_part : List ℕ → List ℕ
+lex_part collection = front (lexicon collection)
 
-abbrev pub lex_at_bytes : List ℕ → List ℕ
-lex_at_bytes collection = whole_at (lexicon collection)
+abbrev pub lex_at_part : List ℕ → List ℕ
+lex_at_part collection = whole_at (lexicon collection)

@@ -1,10 +1,12 @@
+pub mod Limits
 pub mod Split
 pub mod Parse
 pub mod Sorted
+pub mod FirstAppearances
 pub mod Terms
 pub mod Sat
 pub mod Vocabulary
-pub mod Limits
+pub mod WithinLimits
 pub mod TextBits
 pub mod CodedText
 pub mod Pieces
@@ -25,9 +27,10 @@ pub mod Generator
 pub mod Lines
 pub mod Texts
 pub mod Commands
-pub mod Reply
+pub mod ShownAnswers
 pub mod Session
-pub mod Limit
+pub mod InputLimit
+pub mod Refusals
 pub mod Read
 pub mod FirstRefusal
 pub mod BooleanLines
@@ -35,7 +38,6 @@ pub mod RankedLines
 pub mod QueryTerms
 pub mod Replies
 pub mod Postings
-pub mod PostingOrder
 pub mod Runs
 pub mod Occurrences
 pub mod RunBits

@@ -56,8 +56,9 @@ bits_before b n ps = length (bits_after b 0 (take n ps))
 unfoldable pub block_of : ℕ → List Posting → List Posting
 block_of k ps = take 64 (drop (64 * k) ps)
 
-abbrev pub block_count : List Posting → ℕ
-block_count ps = (length ps + 63) / 64
+-- how many blocks so many postings make
+abbrev pub block_count : ℕ → ℕ
+block_count count = (count + 63) / 64
 
 -- the document lies in the range of block k
 pub record InRange (k : ℕ) (ps : List Posting) (doc : ℕ) : Type 0 where
@@ -90,7 +91,7 @@ entries_to b (suc n) ps = entries_to b n ps ++ entry_of b n ps ∷ []
 
 -- of a whole list among so many documents
 abbrev pub entries_of_list : ℕ → List Posting → List SkipEntry
-entries_of_list all ps = entries_to (golomb_parameter all (length ps)) (block_count ps) ps
+entries_of_list all ps = entries_to (golomb_parameter all (length ps)) (block_count (length ps)) ps
 
 -- two numbers of 8 bytes
 unfoldable pub entry_bits : SkipEntry → Bits

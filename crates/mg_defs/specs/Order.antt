@@ -4,15 +4,15 @@ use Rattle.std.specs.List.{AllByRecursion}
 use Rattle.mg_defs.specs.Weights.{Hit}
 
 -- by falling score, ties by rising number
-abbrev pub IsBefore : Hit → Hit → Type 0
-IsBefore a b = (b.score < a.score) ⊎ ((a.score ≡ b.score) × (a.number < b.number))
+abbrev pub RanksBefore : Hit → Hit → Type 0
+RanksBefore a b = (b.score < a.score) ⊎ ((a.score ≡ b.score) × (a.number < b.number))
 
 -- each before all that follow it
 abbrev pub AreSorted : List Hit → Type 0
 AreSorted [] = Unit {0}
-AreSorted (h ∷ hs) = AllByRecursion (IsBefore h) hs × AreSorted hs
+AreSorted (h ∷ hs) = AllByRecursion (RanksBefore h) hs × AreSorted hs
 
 -- the numbers rise
-abbrev pub AreRising : List Hit → Type 0
-AreRising [] = Unit {0}
-AreRising (h ∷ hs) = AllByRecursion (λ (x : Hit). h.number < x.number) hs × AreRising hs
+abbrev pub AreRisingByNumber : List Hit → Type 0
+AreRisingByNumber [] = Unit {0}
+AreRisingByNumber (h ∷ hs) = AllByRecursion (λ (x : Hit). h.number < x.number) hs × AreRisingByNumber hs

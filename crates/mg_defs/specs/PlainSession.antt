@@ -2,7 +2,7 @@
 use Rattle.std.specs.Prelude.{ℕ, Bool, if◌then◌else◌, List, [], ◌∷◌, ◌++◌}
 use Rattle.std.specs.List.{list_all}
 use Rattle.mg_defs.specs.Commands.{is_blank}
-use Rattle.mg_defs.specs.Limit.{is_quit}
+use Rattle.mg_defs.specs.InputLimit.{is_quit}
 use Rattle.mg_defs.specs.Lines.{lines, without_return}
 use Rattle.mg_defs.specs.Session.{is_long}
 use Rattle.mg_defs.specs.Texts.{line_too_long}

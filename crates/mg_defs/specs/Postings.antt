@@ -15,9 +15,9 @@ pub record IsBefore (x y : TermPosting) : Type 0 where
 abbrev pub AllAfter : TermPosting → List TermPosting → Type 0
 AllAfter x xs = AllByRecursion (λ y. IsBefore x y) xs
 
-abbrev pub Rising : List TermPosting → Type 0
-Rising [] = Unit {0}
-Rising (x ∷ xs) = AllAfter x xs × Rising xs
+abbrev pub RisingByTerm : List TermPosting → Type 0
+RisingByTerm [] = Unit {0}
+RisingByTerm (x ∷ xs) = AllAfter x xs × RisingByTerm xs
 
 abbrev pub AllCount : List TermPosting → Type 0
 AllCount xs = AllByRecursion (λ x. 1 ≤ x.count) xs
@@ -45,25 +45,25 @@ added e (x ∷ xs) =
     (with_count x (e.count + x.count) ∷ xs))))
 
 -- two lists in one, with counts added at equal terms and documents
-abbrev pub joined : List TermPosting → List TermPosting → List TermPosting
-joined [] ys = ys
-joined (x ∷ xs) ys = added x (joined xs ys)
+abbrev pub merged_two : List TermPosting → List TermPosting → List TermPosting
+merged_two [] ys = ys
+merged_two (x ∷ xs) ys = added x (merged_two xs ys)
 
 abbrev pub gathered : List TermPosting → List TermPosting
 gathered [] = []
 gathered (x ∷ xs) = added x (gathered xs)
 
 -- each term and document of these occurrences, with its count
-abbrev pub postings : List (ℕ × ℕ) → List TermPosting
-postings occurrences = gathered (map once occurrences)
+abbrev pub term_postings : List (ℕ × ℕ) → List TermPosting
+term_postings occurrences = gathered (map once occurrences)
 
 -- the list that says how often each term stands in each document
 pub record ArePostings (xs found : List TermPosting) : Type 0 where
-  pub rising : Rising found
+  pub rising : RisingByTerm found
   pub some : AllCount found
   pub counted : (term doc : ℕ) → times term doc found ≡ times term doc xs
 
 -- any number of lists in one
 abbrev pub merged : List (List TermPosting) → List TermPosting
 merged [] = []
-merged (run ∷ runs) = joined run (merged runs)
+merged (run ∷ runs) = merged_two run (merged runs)

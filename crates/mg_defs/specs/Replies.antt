@@ -3,8 +3,9 @@ use Rattle.std.specs.Prelude.{ℕ, nat_lt, if◌then◌else◌, Bool, true, fals
 use Rattle.mg_defs.specs.Sat.{Query}
 use Rattle.mg_defs.specs.declared.session.Mode.{Mode}
 use Rattle.mg_defs.specs.declared.session.Settings.{Settings}
-use Rattle.mg_defs.specs.Read.{Refusal, syntax, too_deep, too_long, too_many, Reading, reads, refused, boolean, ranked}
-use Rattle.mg_defs.specs.Reply.{Shown, shown_as, satisfying, ranking, answer_text}
+use Rattle.mg_defs.specs.Read.{boolean, ranked}
+use Rattle.mg_defs.specs.Refusals.{Refusal, syntax, too_deep, too_long, too_many, Reading, reads, refused}
+use Rattle.mg_defs.specs.ShownAnswers.{Shown, shown_as, satisfying, ranking, answer_text}
 use Rattle.mg_defs.specs.Session.{session_of}
 
 unfoldable pub refusal : Refusal → List ℕ

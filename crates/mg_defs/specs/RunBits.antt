@@ -11,12 +11,12 @@ abbrev pub doc_gap : TermPosting → TermPosting → ℕ
 doc_gap last x = if x.term == last.term then x.doc - last.doc else x.doc
 
 -- a posting after another one: 1 and the gap of the term, the gap of the document, the count
-unfoldable pub posting_bits : TermPosting → TermPosting → Bits
-posting_bits last x = gamma (x.term - last.term + 1) ++ (gamma (doc_gap last x) ++ gamma x.count)
+unfoldable pub run_posting_bits : TermPosting → TermPosting → Bits
+run_posting_bits last x = gamma (x.term - last.term + 1) ++ (gamma (doc_gap last x) ++ gamma x.count)
 
 abbrev pub postings_bits : TermPosting → List TermPosting → Bits
 postings_bits last [] = []
-postings_bits last (x ∷ xs) = posting_bits last x ++ postings_bits x xs
+postings_bits last (x ∷ xs) = run_posting_bits last x ++ postings_bits x xs
 
 -- what stands before the first posting: documents count from 1, so its gap is the document
 abbrev pub before_first : TermPosting

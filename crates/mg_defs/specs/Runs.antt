@@ -2,16 +2,12 @@
 use Rattle.std.specs.Prelude.{ℕ, ◌+◌, ◌-◌, ◌/◌, List, length, map}
 use Rattle.std.specs.Simd.{first_chunks}
 use Rattle.mg_defs.specs.declared.TermPosting.{TermPosting}
-use Rattle.mg_defs.specs.Postings.{postings}
+use Rattle.mg_defs.specs.Postings.{term_postings}
 
 -- the first so many runs, of cap occurrences each, the last of them maybe of fewer
 abbrev pub first_runs : ℕ → ℕ → List (ℕ × ℕ) → List (List TermPosting)
-first_runs cap count occurrences = map (λ s. postings s) (first_chunks cap count occurrences)
+first_runs cap count occurrences = map (λ s. term_postings s) (first_chunks cap count occurrences)
 
 -- the runs of all occurrences
 abbrev pub runs_of : ℕ → List (ℕ × ℕ) → List (List TermPosting)
 runs_of cap occurrences = first_runs cap ((length occurrences + cap - 1) / cap) occurrences
-
--- how many runs are written before the pool takes the last of so many occurrences
-abbrev pub finished : ℕ → ℕ → ℕ
-finished cap count = (count - 1) / cap

@@ -1,7 +1,8 @@
 -- What a session prints.
 use Rattle.std.specs.Prelude.{ℕ, nat_lt, if◌then◌else◌, Bool, false, List, [], ◌∷◌, ◌++◌, length}
+use Rattle.mg_defs.specs.Limits.{line_bytes}
 use Rattle.mg_defs.specs.Lines.{lines, without_return}
-use Rattle.mg_defs.specs.Commands.{start, command, text_of, settings_after, stops}
+use Rattle.mg_defs.specs.Commands.{first_settings, command, command_text, settings_after, stops}
 use Rattle.mg_defs.specs.declared.session.Settings.{Settings}
 use Rattle.mg_defs.specs.declared.session.Command.{Command}
 use Rattle.mg_defs.specs.declared.session.Command.TheVariants.{Skip, Ask, Quit, Wrong, Set}
@@ -10,7 +11,7 @@ use Rattle.mg_defs.specs.declared.session.Hearing.TheVariants.{Commands, Questio
 use Rattle.mg_defs.specs.Texts.{bad_command, line_too_long}
 
 abbrev pub is_long : List ℕ → Bool
-is_long line = nat_lt 1024 (length line)
+is_long line = nat_lt line_bytes (length line)
 
 -- what the line is, with the settings so far
 abbrev pub read : Settings → List ℕ → Command
@@ -30,7 +31,8 @@ hears Questions c = as_question c
 
 -- what a line that is heard so prints, and which settings hold after it
 unfoldable pub line_text : Hearing → (Settings → List ℕ → List ℕ) → Settings → List ℕ → List ℕ
-line_text hearing reply now line = if is_long line then line_too_long else text_of reply bad_command now (without_return line) (hears hearing (read now line))
+line_text hearing reply now line =
+    if is_long line then line_too_long else command_text reply bad_command now (without_return line) (hears hearing (read now line))
 
 unfoldable pub after_line : Hearing → Settings → List ℕ → Settings
 after_line hearing now line = if is_long line then now else settings_after now (hears hearing (read now line))
@@ -45,7 +47,7 @@ replies hearing reply now [] = []
 replies hearing reply now (l ∷ ls) = if ends now l then [] else line_text hearing reply now l ++ replies hearing reply (after_line hearing now l) ls
 
 unfoldable pub heard_session : Hearing → (Settings → List ℕ → List ℕ) → List ℕ → List ℕ
-heard_session hearing reply input = replies hearing reply start (lines input)
+heard_session hearing reply input = replies hearing reply first_settings (lines input)
 
 abbrev pub session_of : (Settings → List ℕ → List ℕ) → List ℕ → List ℕ
 session_of reply input = heard_session Commands reply input
@@ -72,7 +74,7 @@ questions hearing now [] = []
 questions hearing now (l ∷ ls) = if ends now l then [] else asked hearing now l ++ questions hearing (after_line hearing now l) ls
 
 unfoldable pub heard_questions : Hearing → List ℕ → List Question
-heard_questions hearing input = questions hearing start (lines input)
+heard_questions hearing input = questions hearing first_settings (lines input)
 
 abbrev pub questions_of : List ℕ → List Question
 questions_of input = heard_questions Commands input

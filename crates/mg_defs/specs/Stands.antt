@@ -8,9 +8,11 @@ use Rattle.mg_defs.specs.Occurrences.{occurrences}
 use Rattle.mg_defs.specs.Weights.{weight}
 use Rattle.mg_defs.specs.Numbers.{four}
 use Rattle.mg_defs.specs.Heads.{Head, head_bytes, run_count}
-use Rattle.mg_defs.specs.Limits.{IsWithinLimits}
-use Rattle.mg_defs.specs.CodedText.{TextCode, IsTextCode, pieces_part, text_of, places_of, as_bytes}
-use Rattle.mg_defs.specs.Lexicon.{lex_bytes, lex_at_bytes}
+use Rattle.mg_defs.specs.Limits.{least_cap, greatest_cap}
+use Rattle.mg_defs.specs.WithinLimits.{IsWithinLimits}
+use Rattle.mg_defs.specs.CodedText.{TextCode, IsTextCode, pieces_part, text_part, places_part}
+use Rattle.mg_defs.specs.Bits.{as_bytes}
+use Rattle.mg_defs.specs.Lexicon.{lex_part, lex_at_part}
 use Rattle.mg_defs.specs.Lists.{inverted, lists_entries, post_bits, skip_bits}
 use Rattle.mg_defs.specs.RunBits.{run_part_bits}
 
@@ -52,7 +54,7 @@ head_of version cap code collection = record {
   collection = length collection;
   occurrences = length (occurrences collection);
   runs = run_count (length (occurrences collection)) cap;
-  text_bytes = length (text_of code collection);
+  text_bytes = length (text_part code collection);
   post_bytes = length (post_part collection);
   skip_count = skip_count collection;
 }
@@ -61,16 +63,16 @@ head_of version cap code collection = record {
 pub record AreParts (version cap : ℕ) (code : TextCode) (parts : Parts) (collection : List ℕ) : Type 0 where
   pub version_is : (version ≡ 1) ⊎ (version ≡ 2)
   pub limits : IsWithinLimits version collection
-  pub cap_low : 341 ≤ cap
-  pub cap_high : cap ≤ 89478485
+  pub cap_low : least_cap ≤ cap
+  pub cap_high : cap ≤ greatest_cap
   pub code_is : IsTextCode collection code
   pub head : parts.head ≡ head_bytes (head_of version cap code collection)
   pub words : parts.words ≡ pieces_part code.words
   pub nonwords : parts.nonwords ≡ pieces_part code.others
-  pub text : parts.text ≡ text_of code collection
-  pub places : parts.places ≡ places_of version code collection
-  pub lex : parts.lex ≡ lex_bytes collection
-  pub lex_at : parts.lex_at ≡ lex_at_bytes collection
+  pub text : parts.text ≡ text_part code collection
+  pub places : parts.places ≡ places_part version code collection
+  pub lex : parts.lex ≡ lex_part collection
+  pub lex_at : parts.lex_at ≡ lex_at_part collection
   pub post : parts.post ≡ post_part collection
   pub skip : parts.skip ≡ as_bytes (skip_bits collection)
   pub weights : parts.weights ≡ weights_part collection

@@ -1,11 +1,12 @@
 -- The pieces of a stream, the words or the others of all documents: which there are, and how often each comes.
-use Rattle.std.specs.Prelude.{ℕ, ◌+◌, Bool, not, if◌then◌else◌, List, [], ◌∷◌, map, filter, count_by, sum_by}
+use Rattle.std.specs.Prelude.{ℕ, ◌+◌, Bool, if◌then◌else◌, List, [], ◌∷◌, map, count_by, sum_by}
 use Rattle.std.specs.List.{flat_map, list_any}
 use Rattle.std.specs.Str.{bytes_eq}
 use Rattle.mg_defs.specs.declared.Stream.{Stream}
 use Rattle.mg_defs.specs.declared.Stream.TheVariants.{Words, Others}
 use Rattle.mg_defs.specs.Split.{documents}
 use Rattle.mg_defs.specs.Parse.{Pair, parse}
+use Rattle.mg_defs.specs.FirstAppearances.{first_appearances}
 use Rattle.mg_defs.specs.Sorted.{sorted_distinct}
 
 -- a pair's piece of the stream
@@ -24,11 +25,6 @@ all_pieces kind collection = flat_map (pieces_in kind) (documents collection)
 -- how often a piece comes
 abbrev pub count_in : List (List ℕ) → List ℕ → ℕ
 count_in pieces piece = count_by (bytes_eq piece) pieces
-
--- each piece once, in order of first appearance
-abbrev pub first_appearances : List (List ℕ) → List (List ℕ)
-first_appearances [] = []
-first_appearances (p ∷ pieces) = p ∷ filter (λ q. not (bytes_eq p q)) (first_appearances pieces)
 
 -- each piece with its count, in order of first appearance
 abbrev pub vocabulary : List (List ℕ) → List (List ℕ × ℕ)

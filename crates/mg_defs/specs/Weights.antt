@@ -1,15 +1,15 @@
--- Weights and scores, and the documents of a ranked line.
+-- Weights and scores, and the documents of a ranked line. Weights count in parts of 256.
 use Rattle.std.specs.Prelude.{ℕ, ◌+◌, ◌-◌, ◌*◌, ◌/◌, nat_le, Bool, if◌then◌else◌, List, [], ◌∷◌, map, filter, sum_by, length, Option, Some, None, take}
 use Rattle.std.specs.List.{list_any, enumerate_from}
 use Rattle.mg_defs.specs.Split.{documents}
 use Rattle.mg_defs.specs.Terms.{terms, same_term, freq_in, docs, sorted_distinct}
 use Rattle.mg_defs.specs.Fixed.{lg, isqrt}
 
--- of a term that so many of all documents have
+-- Of a term that so many of all documents have, from 1 on. The logarithm is of 65536 at least, so that it is 4096 or more, and the subtraction cuts nothing.
 unfoldable pub weight_of_term : ℕ → ℕ → ℕ
 weight_of_term docs all = lg (65536 * (all + docs) / docs) - 4096
 
--- of a term that comes so often in a document
+-- of a term that comes so often in a document, from once to 2 ^ 64 - 1 times
 unfoldable pub weight_in_doc : ℕ → ℕ
 weight_in_doc freq = 256 + lg freq
 
@@ -23,14 +23,14 @@ wd doc t = weight_in_doc (freq_in doc t)
 unfoldable pub weight : List ℕ → ℕ
 weight doc = isqrt (sum_by (λ t. wd doc t * wd doc t) (sorted_distinct (terms doc)))
 
--- by the sum of the products of weights, and the document's weight
+-- by the sum of the products of weights, and the document's weight, which is 1 or more where the document has a term
 unfoldable pub score_of : ℕ → ℕ → ℕ
 score_of sum weight = 256 * sum / weight
 
 abbrev pub has_term : List ℕ → List ℕ → Bool
 has_term doc t = list_any (same_term t) (terms doc)
 
--- for the distinct terms of a query, of which the document has some
+-- Over the terms of a query, of which the document has some, in parts of 65536. A term adds as often as the list has it; the terms of a query line stand there once each.
 abbrev pub score : List ℕ → List (List ℕ) → List ℕ → ℕ
 score collection query doc = score_of (sum_by (λ t. wd doc t * wt collection t) (filter (has_term doc) query)) (weight doc)
 
@@ -45,23 +45,16 @@ hits collection query =
     (filter (λ (d : ℕ × List ℕ). list_any (has_term d.1) query) (enumerate_from 1 (documents collection)))
 
 -- a hit before those of a falling list that it doesn't lie below
-abbrev pub placed : Hit → List Hit → List Hit
-placed h [] = h ∷ []
-placed h (other ∷ rest) = if nat_le other.score h.score then h ∷ other ∷ rest else other ∷ placed h rest
+abbrev pub inserted : Hit → List Hit → List Hit
+inserted h [] = h ∷ []
+inserted h (other ∷ rest) = if nat_le other.score h.score then h ∷ other ∷ rest else other ∷ inserted h rest
 
+-- by falling score, ties in the order that they have: of rising documents, by rising number
 abbrev pub by_score : List Hit → List Hit
 by_score [] = []
-by_score (h ∷ rest) = placed h (by_score rest)
+by_score (h ∷ rest) = inserted h (by_score rest)
 
 -- the first k, or all
-abbrev pub first : {X : Type 0} → Option ℕ → List X → List X
-first None xs = xs
-first (Some k) xs = take k xs
-
--- the documents with a term of the query by falling score, ties by rising number, as many as are asked for
-abbrev pub top : List ℕ → List (List ℕ) → Option ℕ → List Hit
-top collection query most = first most (by_score (hits collection query))
-
--- how many there are before the cut
-abbrev pub hit_count : List ℕ → List (List ℕ) → ℕ
-hit_count collection query = length (hits collection query)
+abbrev pub limited_to : {X : Type 0} → Option ℕ → List X → List X
+limited_to None xs = xs
+limited_to (Some k) xs = take k xs

@@ -14,7 +14,7 @@ pub fn no_code_is_a_front()
     ensures golomb { (b limit : ℕ) → 1 ≤ b → b ≤ 2 ^ 64 → IsPrefixFree (UpTo limit) (golomb b) }
 {}
 
-/// A reader of such a code has one answer.
+/// A reader of such a code has at most one answer.
 pub fn one_answer()
     ensures unary { (limit : ℕ) (bits : Bits) (a b : Answer) → Answers (UpTo limit) unary bits a → Answers (UpTo limit) unary bits b → a ≡ b }
     ensures gamma { (limit : ℕ) (bits : Bits) (a b : Answer) → limit < 2 ^ 64 → Answers (UpTo limit) gamma bits a → Answers (UpTo limit) gamma bits b → a ≡ b }

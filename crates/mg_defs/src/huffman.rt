@@ -2,7 +2,7 @@
 ghost use Rattle.std.specs.Prelude.{◌≡◌, ℕ, ◌-◌, ◌*◌, ◌^◌, ◌<◌, ◌≤◌, List, length, slice_index};
 ghost use Rattle.std.specs.List.Sorted.{IsPermutation};
 ghost use Rattle.mg_defs.specs.Answers.{Below, IsPrefixFree};
-ghost use Rattle.mg_defs.specs.Canon.{AreGood, longer, first, codeword};
+ghost use Rattle.mg_defs.specs.Canon.{AreGood, longer, first_codeword, codeword};
 ghost use Rattle.mg_defs.specs.Cost.{huffman_cost};
 
 /// No codeword of good lengths is the front of another, and each has as many bits as its length
@@ -16,7 +16,7 @@ pub fn no_codeword_is_a_front()
 /// The division that gives the first codeword of a length leaves nothing over.
 pub fn first_is_exact()
     ensures { (lengths : List ℕ) (l : ℕ) → AreGood lengths → 2 ≤ length lengths → l ≤ 48 →
-        first l lengths * 2 ^ (48 - l) ≡ longer l lengths }
+        first_codeword l lengths * 2 ^ (48 - l) ≡ longer l lengths }
 {}
 
 /// The order of the counts changes nothing of Huffman's cost.

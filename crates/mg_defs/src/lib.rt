@@ -51,9 +51,9 @@ pub use weights::{logarithm_rises, one_ranking, one_root, weight_is_root};
 /// The two kinds of pieces of a document.
 #[derive(Clone, Copy, Debug, PartialEq, Eq)]
 pub enum Stream {
-    /// Longest runs of word bytes.
+    /// Runs of word bytes, of at most 255 each, which may be empty.
     Words,
-    /// Longest runs of other bytes.
+    /// Runs of other bytes, of at most 255 each, which may be empty.
     Others,
 }
 

@@ -2,7 +2,7 @@
 ghost use Rattle.std.specs.Prelude.{◌≡◌, ℕ, ◌<◌, List, [], ◌∷◌, ◌++◌, length};
 ghost use Rattle.mg_defs.specs.Lines.{lines, HasNoEnd};
 ghost use Rattle.mg_defs.specs.Session.{ends};
-ghost use Rattle.mg_defs.specs.Limit.{is_quit};
+ghost use Rattle.mg_defs.specs.InputLimit.{is_quit};
 ghost use Rattle.mg_defs.specs.declared.session.Settings.{Settings};
 
 /// The lines of an input, from its front: a line ends at each byte 10, and the last one at the

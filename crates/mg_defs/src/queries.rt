@@ -1,13 +1,15 @@
 // Laws of query lines.
 ghost use Rattle.std.specs.Prelude.{◌≡◌, ◌+◌, ◌↔◌, ◌⊎◌, ℕ, true, false, List, [], ◌∷◌, ◌++◌, length, Some};
-ghost use Rattle.std.specs.List.{AllByRecursion};
+ghost use Rattle.std.specs.List.{AllByRecursion, IsDistinct};
+ghost use Rattle.std.specs.Str.{bytes_eq};
 ghost use Rattle.mg_defs.specs.declared.Stream.TheVariants.{Words};
 ghost use Rattle.mg_defs.specs.Parse.{is_word_byte, EndsBefore};
-ghost use Rattle.mg_defs.specs.Tokens.{Token, word, Placed, placed, tokens_from, onto_sign, sign_of};
+ghost use Rattle.mg_defs.specs.Tokens.{Token, word, PlacedToken, placed, tokens_from, onto_sign, sign_of};
 ghost use Rattle.mg_defs.specs.Grammar.{BeginsQuery, ReadsAs};
 ghost use Rattle.mg_defs.specs.Sat.{Query};
-ghost use Rattle.mg_defs.specs.Walk.{Spot, walk, start};
-ghost use Rattle.mg_defs.specs.Read.{Refusal, reads, refused, boolean, ranked};
+ghost use Rattle.mg_defs.specs.Walk.{Spot, walk, start_spot};
+ghost use Rattle.mg_defs.specs.Read.{boolean, ranked};
+ghost use Rattle.mg_defs.specs.Refusals.{Refusal, reads, refused};
 ghost use Rattle.mg_defs.specs.FirstRefusal.{NoneRefused};
 ghost use Rattle.mg_defs.specs.BooleanLines.{IsRefusedAfter, IsAccepted, IsRefusal};
 ghost use Rattle.mg_defs.specs.RankedLines.{IsTermRefusedAfter, IsTermList, IsTermRefusal};
@@ -22,8 +24,8 @@ pub fn token_runs()
 
 /// Tokens begin a query exactly where the walk over them goes on.
 pub fn walk_decides()
-    ensures goes_on { (ts : List Token) → BeginsQuery ts → (s : Spot) × (walk start ts ≡ Some s) }
-    ensures begins { (ts : List Token) (s : Spot) → walk start ts ≡ Some s → BeginsQuery ts }
+    ensures goes_on { (ts : List Token) → BeginsQuery ts → (s : Spot) × (walk start_spot ts ≡ Some s) }
+    ensures begins { (ts : List Token) (s : Spot) → walk start_spot ts ≡ Some s → BeginsQuery ts }
 {}
 
 /// A token list reads as at most one query.
@@ -33,9 +35,9 @@ pub fn one_query()
 
 /// Where none of the tokens before it is refused, a token meets at most one cause.
 pub fn one_cause()
-    ensures boolean { (before : List Placed) (t : Placed) (why other : Refusal) → NoneRefused IsRefusedAfter [] before → IsRefusedAfter before t why →
+    ensures boolean { (before : List PlacedToken) (t : PlacedToken) (why other : Refusal) → NoneRefused IsRefusedAfter [] before → IsRefusedAfter before t why →
         IsRefusedAfter before t other → why ≡ other }
-    ensures ranked { (before : List Placed) (t : Placed) (why other : Refusal) → IsTermRefusedAfter before t why →
+    ensures ranked { (before : List PlacedToken) (t : PlacedToken) (why other : Refusal) → IsTermRefusedAfter before t why →
         IsTermRefusedAfter before t other → why ≡ other }
 {}
 
@@ -53,12 +55,13 @@ pub fn boolean_is()
     ensures refused { (line : List ℕ) (why : Refusal) → (boolean line ≡ refused why) ↔ IsRefusal line why }
 {}
 
-/// A ranked line has one list of terms or one refusal, and not both.
+/// A ranked line has one list of terms or one refusal, and not both. No term of the list stands there twice.
 pub fn one_term_list()
     ensures some { (line : List ℕ) → ((terms : List (List ℕ)) × IsTermList line terms) ⊎ ((why : Refusal) × IsTermRefusal line why) }
     ensures not_both { (line : List ℕ) (terms : List (List ℕ)) (why : Refusal) → IsTermList line terms → IsTermRefusal line why → ⊥ }
     ensures terms { (line : List ℕ) (terms other : List (List ℕ)) → IsTermList line terms → IsTermList line other → terms ≡ other }
     ensures refusal { (line : List ℕ) (why other : Refusal) → IsTermRefusal line why → IsTermRefusal line other → why ≡ other }
+    ensures apart { (line : List ℕ) (terms : List (List ℕ)) → IsTermList line terms → IsDistinct bytes_eq terms }
 {}
 
 /// The computed reading of a ranked line is that of its tokens.

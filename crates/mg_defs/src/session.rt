@@ -23,11 +23,11 @@ pub struct Settings {
 
 impl Settings {
     ghost use Rattle.std.specs.Prelude.{◌≡◌};
-    ghost use Rattle.mg_defs.specs.Commands.{start};
+    ghost use Rattle.mg_defs.specs.Commands.{first_settings};
 
     /// The settings at the start of a session: Boolean, the documents' numbers, all of them.
     pub fn start() -> Settings
-        ensures { result ≡ start }
+        ensures { result ≡ first_settings }
     {
         Settings {
             ranked: false,

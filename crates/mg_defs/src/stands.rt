@@ -1,13 +1,14 @@
 // Laws of the parts of a set: what they determine.
 ghost use Rattle.std.specs.Prelude.{◌≡◌, ◌⊎◌, ℕ, List, [], ◌∷◌, ◌≤◌, ◌<◌, ◌^◌, ◌%◌, ◌+◌, ◌==◌, nat_lt, ◌++◌, length, filter, get_or, sum_by, take, drop, if◌then◌else◌, flat_map, All, Contains};
 ghost use Rattle.std.specs.List.{AllByRecursion};
-ghost use Rattle.mg_defs.specs.Bits.{Bits};
-ghost use Rattle.mg_defs.specs.CodedText.{IsCodeOf, IsTextCode, StreamCode, TextCode, as_bytes, coded_doc, pieces_part, text_of};
+ghost use Rattle.mg_defs.specs.Bits.{Bits, as_bytes};
+ghost use Rattle.mg_defs.specs.CodedText.{IsCodeOf, IsTextCode, StreamCode, TextCode, coded_doc, pieces_part, text_part};
 ghost use Rattle.mg_defs.specs.Heads.{Head, IsWithin};
-ghost use Rattle.mg_defs.specs.Limits.{IsWithinLimits};
+ghost use Rattle.mg_defs.specs.Limits.{least_cap, greatest_cap};
+ghost use Rattle.mg_defs.specs.WithinLimits.{IsWithinLimits};
 ghost use Rattle.mg_defs.specs.Lists.{entry_bits, lists_bits, lists_entries};
 ghost use Rattle.mg_defs.specs.Lists.{postings as postings_of};
-ghost use Rattle.mg_defs.specs.Means.{AreRest, BeginsWith, IsCodable, IsModel, IsStreamCode, IsUsedWell, Mean, Next, Tell, docs_bytes};
+ghost use Rattle.mg_defs.specs.Means.{AreRest, BeginsWithDocuments, IsCodable, IsModel, IsStreamCode, IsUsedWell, Mean, Next, Tell, docs_bytes};
 ghost use Rattle.mg_defs.specs.PostingLists.{postings_upto};
 ghost use Rattle.mg_defs.specs.RunBits.{runs_bits};
 ghost use Rattle.mg_defs.specs.Split.{IsSplit, documents, joined};
@@ -33,8 +34,8 @@ pub fn collections_fit()
     ensures each { (version : ℕ) (collection : List ℕ) (code : TextCode) → IsWithinLimits version collection → IsTextCode collection code →
         AllByRecursion (IsCodable code) (documents collection) }
     ensures text { (version : ℕ) (collection : List ℕ) (code : TextCode) → IsWithinLimits version collection → IsTextCode collection code →
-        length (text_of code collection) < (if version == 1 then 2 ^ 32 else 2 ^ 60) }
-    ensures head { (version cap : ℕ) (collection : List ℕ) (code : TextCode) → (version ≡ 1) ⊎ (version ≡ 2) → 341 ≤ cap → cap ≤ 89478485 →
+        length (text_part code collection) < (if version == 1 then 2 ^ 32 else 2 ^ 60) }
+    ensures head { (version cap : ℕ) (collection : List ℕ) (code : TextCode) → (version ≡ 1) ⊎ (version ≡ 2) → least_cap ≤ cap → cap ≤ greatest_cap →
         IsWithinLimits version collection → IsTextCode collection code → IsWithin (head_of version cap code collection) }
 {}
 
@@ -43,8 +44,8 @@ pub fn collections_fit()
 pub fn one_beginning()
     ensures document { (code : TextCode) (d e u v : List ℕ) → IsModel code → IsCodable code d → IsCodable code e →
         as_bytes (coded_doc code d) ++ u ≡ as_bytes (coded_doc code e) ++ v → (d ≡ e) × (u ≡ v) }
-    ensures documents { (code : TextCode) (bytes : List ℕ) (ds es : List (List ℕ)) (u v : List ℕ) → IsModel code → BeginsWith code bytes ds u →
-        BeginsWith code bytes es v → length ds ≤ length es →
+    ensures documents { (code : TextCode) (bytes : List ℕ) (ds es : List (List ℕ)) (u v : List ℕ) → IsModel code → BeginsWithDocuments code bytes ds u →
+        BeginsWithDocuments code bytes es v → length ds ≤ length es →
         (ds ≡ take (length ds) es) × (u ≡ docs_bytes code (drop (length ds) es) ++ v) }
 {}
 
@@ -64,12 +65,12 @@ pub fn text_goes_on()
     ensures head { (parts : Parts) (h : Head) (code : TextCode) (collection : List ℕ) → Tell parts h code → Stand parts collection →
         (h ≡ head_of h.version h.cap code collection) × AreParts h.version h.cap code parts collection }
     ensures first { (parts : Parts) (h : Head) (code : TextCode) (docs : List (List ℕ)) (rest collection : List ℕ) → Tell parts h code →
-        BeginsWith code parts.text docs rest → length docs ≤ h.documents → Stand parts collection →
+        BeginsWithDocuments code parts.text docs rest → length docs ≤ h.documents → Stand parts collection →
         (docs ≡ take (length docs) (documents collection)) × (rest ≡ docs_bytes code (drop (length docs) (documents collection))) }
     ensures next { (parts : Parts) (h : Head) (code : TextCode) (docs : List (List ℕ)) (rest collection : List ℕ) → Tell parts h code →
-        BeginsWith code parts.text docs rest → length docs < h.documents → Stand parts collection → Next code rest }
+        BeginsWithDocuments code parts.text docs rest → length docs < h.documents → Stand parts collection → Next code rest }
     ensures end { (parts : Parts) (h : Head) (code : TextCode) (docs : List (List ℕ)) (rest collection : List ℕ) → Tell parts h code →
-        BeginsWith code parts.text docs rest → length docs ≡ h.documents → Stand parts collection → rest ≡ [] }
+        BeginsWithDocuments code parts.text docs rest → length docs ≡ h.documents → Stand parts collection → rest ≡ [] }
 {}
 
 /// The parts of a set stand for at most one collection: the one that Head, Words, Nonwords and Text mean. They

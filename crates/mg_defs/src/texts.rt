@@ -2,8 +2,8 @@
 ghost use Rattle.std.specs.Prelude.{◌≡◌, ◌≢◌, ℕ, ◌+◌, ◌*◌, ◌/◌, ◌<◌, ◌≤◌, ◌↔◌, Bool, IsTrue, if◌then◌else◌, List, [], ◌∷◌, ◌++◌, length, get_or, map, sum_by, take, drop, Contains, All};
 ghost use Rattle.std.specs.List.{IsDistinct};
 ghost use Rattle.std.specs.Str.{bytes_eq};
-ghost use Rattle.mg_defs.specs.Bits.{Bits, bits_of, filled, to_byte};
-ghost use Rattle.mg_defs.specs.CodedText.{IsTextCode, TextCode, as_bytes, coded_doc, coded_size, place_after, places, text_of};
+ghost use Rattle.mg_defs.specs.Bits.{Bits, bits_of, filled, to_byte, as_bytes};
+ghost use Rattle.mg_defs.specs.CodedText.{IsTextCode, TextCode, coded_doc, coded_size, place_after, places, text_part};
 ghost use Rattle.mg_defs.specs.Parse.{Pair, IsParse, parse};
 ghost use Rattle.mg_defs.specs.Sat.{Query, Sat, satisfies};
 ghost use Rattle.mg_defs.specs.Sorted.{IsSortedDistinct, sorted_distinct};
@@ -132,10 +132,10 @@ pub fn documents_have_places()
     ensures place { (code : TextCode) (collection : List ℕ) (d : ℕ) → d ≤ length (documents collection) →
         get_or (places code collection) d 0 ≡ place_after code collection d }
     ensures size { (code : TextCode) (collection : List ℕ) →
-        length (text_of code collection) ≡ place_after code collection (length (documents collection)) }
+        length (text_part code collection) ≡ place_after code collection (length (documents collection)) }
     ensures bytes { (code : TextCode) (collection : List ℕ) (d : ℕ) → d < length (documents collection) →
         let doc = get_or (documents collection) d [] in
-        take (coded_size code doc) (drop (place_after code collection d) (text_of code collection)) ≡ as_bytes (coded_doc code doc) }
+        take (coded_size code doc) (drop (place_after code collection d) (text_part code collection)) ≡ as_bytes (coded_doc code doc) }
 {}
 
 /// All documents have the bits of Huffman's cost of the words and of the others, and of their heads;
@@ -144,5 +144,5 @@ pub fn text_has_its_bits()
     ensures bits { (code : TextCode) (collection : List ℕ) → IsTextCode collection code →
         sum_by (λ doc. length (coded_doc code doc)) (documents collection) ≡ text_bits collection }
     ensures bytes { (code : TextCode) (collection : List ℕ) → IsTextCode collection code →
-        length (text_of code collection) ≤ text_bits collection / 8 + length (documents collection) }
+        length (text_part code collection) ≤ text_bits collection / 8 + length (documents collection) }
 {}

@@ -4,7 +4,7 @@ use Rattle.std.specs.List.{enumerate_from}
 use Rattle.mg_defs.specs.Split.{documents}
 use Rattle.mg_defs.specs.Terms.{document}
 use Rattle.mg_defs.specs.Sat.{Query, satisfies}
-use Rattle.mg_defs.specs.Weights.{Hit, hits, by_score, first}
+use Rattle.mg_defs.specs.Weights.{Hit, hits, by_score, limited_to}
 use Rattle.mg_defs.specs.declared.session.Mode.{Mode}
 use Rattle.mg_defs.specs.declared.session.Mode.TheVariants.{Docnums, Text, Count}
 use Rattle.mg_defs.specs.declared.session.Settings.{Settings}
@@ -38,4 +38,4 @@ abbrev pub shown : List ℕ → Mode → Shown → List ℕ
 shown collection mode s = shown_as (document collection s.number) mode s
 
 unfoldable pub answer_text : List ℕ → Settings → List Shown → List ℕ
-answer_text collection now answer = flat_map (shown collection now.mode) (first now.most answer) ++ count (length answer)
+answer_text collection now answer = flat_map (shown collection now.mode) (limited_to now.most answer) ++ count (length answer)
