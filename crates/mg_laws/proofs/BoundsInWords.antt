@@ -35,19 +35,19 @@ block_rises all k ps h =
     let rest : Rises all (last_doc 0 (take (64 * k) ps)) (drop (64 * k) ps) = rises_right all 0 (take (64 * k) ps) (drop (64 * k) ps) (subst (Rises all 0) (sym (take-append-drop (64 * k) ps)) h) in
     rises_left all (last_doc 0 (take (64 * k) ps)) (take 64 (drop (64 * k) ps)) (drop 64 (drop (64 * k) ps)) (subst (Rises all (last_doc 0 (take (64 * k) ps))) (sym (take-append-drop 64 (drop (64 * k) ps))) rest)
 
-block_some : (k : ℕ) (ps : List Posting) → k < block_count ps → 0 < length (block_of k ps)
+block_some : (k : ℕ) (ps : List Posting) → k < block_count (length ps) → 0 < length (block_of k ps)
 unfolding block_of
 block_some k ps lt = omega (arith, lt, length-take 64 (drop (64 * k) ps), length-drop (64 * k) ps)
 
 -- a block's last document lies in its range
-last_in : (all k : ℕ) (ps : List Posting) → Rises all 0 ps → k < block_count ps → InRange k ps (doc_before (64 * (k + 1)) ps)
+last_in : (all k : ℕ) (ps : List Posting) → Rises all 0 ps → k < block_count (length ps) → InRange k ps (doc_before (64 * (k + 1)) ps)
 last_in all k ps rises lt = record {
   after = omega (arith, last_behind all (doc_before (64 * k) ps) (block_of k ps) (block_some k ps lt) (block_rises all k ps rises), block_last k ps);
   within = omega arith;
 }
 
 -- each block of a list holds a document of it
-own_block : (all k : ℕ) (ps : List Posting) → Rises all 0 ps → k < block_count ps → is_met (numbers_in ps) ps k ≡ true
+own_block : (all k : ℕ) (ps : List Posting) → Rises all 0 ps → k < block_count (length ps) → is_met (numbers_in ps) ps k ≡ true
 own_block all k ps rises lt = own_met all k (doc_before (64 * (k + 1)) ps) ps rises (last_in all k ps rises lt)
 
 -- the document is one of those with these numbers
@@ -63,7 +63,7 @@ before_within : (all n : ℕ) (ps : List Posting) → Rises all 0 ps → doc_bef
 unfolding doc_before
 before_within all n ps h = last_within all 0 (take n ps) (omega arith) (rises_left all 0 (take n ps) (drop n ps) (subst (Rises all 0) (sym (take-append-drop n ps)) h))
 
-any_block : (collection : List ℕ) (k : ℕ) (ps : List Posting) → Rises (length (documents collection)) 0 ps → k < block_count ps → is_met (all_numbers collection) ps k ≡ true
+any_block : (collection : List ℕ) (k : ℕ) (ps : List Posting) → Rises (length (documents collection)) 0 ps → k < block_count (length ps) → is_met (all_numbers collection) ps k ≡ true
 any_block collection k ps rises lt =
     let all = length (documents collection) in
     let doc = doc_before (64 * (k + 1)) ps in
@@ -74,12 +74,12 @@ pub own_pages : (collection t : List ℕ) → length collection < 2 ^ 32 → lis
 unfolding list_pages pages_for
 own_pages collection t short =
     let ps = postings collection t in
-    sym (met_is_whole (numbers_in (postings collection t)) (parameter_of collection t) (list_bit collection t) (block_count (postings collection t)) (postings collection t) (λ k lt. own_block (length (documents collection)) k (postings collection t) (list_rises collection t short) lt))
+    sym (met_is_whole (numbers_in (postings collection t)) (parameter_of collection t) (list_bit collection t) (block_count (length (postings collection t))) (postings collection t) (λ k lt. own_block (length (documents collection)) k (postings collection t) (list_rises collection t short) lt))
 
 pub any_pages : (collection t : List ℕ) → length collection < 2 ^ 32 → list_pages collection t ≡ pages_for collection (all_numbers collection) t
 unfolding list_pages pages_for
 any_pages collection t short =
-    sym (met_is_whole (all_numbers collection) (parameter_of collection t) (list_bit collection t) (block_count (postings collection t)) (postings collection t) (λ k lt. any_block collection k (postings collection t) (list_rises collection t short) lt))
+    sym (met_is_whole (all_numbers collection) (parameter_of collection t) (list_bit collection t) (block_count (length (postings collection t))) (postings collection t) (λ k lt. any_block collection k (postings collection t) (list_rises collection t short) lt))
 
 -- ---- queries
 

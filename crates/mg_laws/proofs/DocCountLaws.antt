@@ -61,10 +61,10 @@ docs_are_counted collection term = ap (λ l. count_by (is_of term) l) (postings_
 
 -- ---- one occurrence more
 
-one_added : (fed : List (ℕ × ℕ)) (o : ℕ × ℕ) → runs.postings (fed ++ o ∷ []) ≡ runs.added (runs.once o) (runs.postings fed)
+one_added : (fed : List (ℕ × ℕ)) (o : ℕ × ℕ) → runs.term_postings (fed ++ o ∷ []) ≡ runs.added (runs.once o) (runs.term_postings fed)
 one_added fed o =
-    let front : runs.ArePostings (map runs.once (o ∷ fed)) (runs.added (runs.once o) (runs.postings fed)) = gathered-are (map runs.once (o ∷ fed)) (AllCount-once (o ∷ fed)) in
-    sym (gathered-only (map runs.once (fed ++ o ∷ [])) (runs.added (runs.once o) (runs.postings fed)) (AllCount-once (fed ++ o ∷ []))
+    let front : runs.ArePostings (map runs.once (o ∷ fed)) (runs.added (runs.once o) (runs.term_postings fed)) = gathered-are (map runs.once (o ∷ fed)) (AllCount-once (o ∷ fed)) in
+    sym (gathered-only (map runs.once (fed ++ o ∷ [])) (runs.added (runs.once o) (runs.term_postings fed)) (AllCount-once (fed ++ o ∷ []))
     (record {
       rising = front.rising;
       some = front.some;
@@ -100,7 +100,7 @@ apart x e h =
       | inr other ↦ ap (λ b. cond b (cond (x.doc == e.doc) x.count 0) 0) other
     ]
 
-count_added : (term : ℕ) (e : TermPosting) (xs : List TermPosting) → runs.Rising xs → runs.AllCount xs → count_by (is_of term) (runs.added e xs) ≡ count_by (is_of term) xs + new_at term e xs
+count_added : (term : ℕ) (e : TermPosting) (xs : List TermPosting) → runs.RisingByTerm xs → runs.AllCount xs → count_by (is_of term) (runs.added e xs) ≡ count_by (is_of term) xs + new_at term e xs
 count_added term e [] rising some = count-cons (is_of term) e [] ∙ omega (arith, new_one term e 0 refl)
 count_added term e (x ∷ xs) rising some =
     added-cases e x xs (λ l. count_by (is_of term) l ≡ count_by (is_of term) (x ∷ xs) + new_at term e (x ∷ xs))
@@ -151,7 +151,7 @@ last_tells term before acc doc (o ∷ fed) le h =
 pub docs_more : (term : ℕ) (fed : List (ℕ × ℕ)) (o : ℕ × ℕ) → 1 ≤ o.1 → NeverFall 0 fed o.1 → docs_with term (fed ++ o ∷ []) ≡ docs_with term fed + fresh (o.0 == term) (last_with term 0 fed == o.1)
 docs_more term fed o some h =
     let are = gathered-are (map runs.once fed) (AllCount-once fed) in
-    ap (λ l. count_by (is_of term) l) (one_added fed o) ∙ count_added term (runs.once o) (runs.postings fed) are.rising are.some
+    ap (λ l. count_by (is_of term) l) (one_added fed o) ∙ count_added term (runs.once o) (runs.term_postings fed) are.rising are.some
     ∙ ap (λ n. docs_with term fed + n) (ap (λ n. fresh (o.0 == term) (nat_lt 0 n)) (times-gathered o.0 o.1 (map runs.once fed)) ∙ by_term (o.0 == term) refl)
   where
     tells : (t : ℕ) → nat_lt 0 (runs.times t o.1 (map runs.once fed)) ≡ (last_with t 0 fed == o.1)

@@ -4,12 +4,12 @@ use Rattle.std.specs.Str.{bytes_eq}
 use Rattle.std.proofs.lemmas.Bool.{cases_lt, cond_both}
 use Rattle.mg_defs.specs.declared.Stream.{Stream}
 use Rattle.mg_defs.specs.declared.Stream.TheVariants.{Words, Others}
-use Rattle.mg_defs.specs.Heads.{Limits, limits}
-use Rattle.mg_defs.specs.Limits.{IsWithinLimits}
+use Rattle.mg_defs.specs.Limits.{Limits, limits}
+use Rattle.mg_defs.specs.WithinLimits.{IsWithinLimits}
 use Rattle.mg_defs.specs.Sorted.{sorted_distinct}
 use Rattle.mg_defs.specs.Split.{documents}
 use Rattle.mg_defs.specs.Vocabulary.{vocabulary, counted, sorted_pieces}
-use Rattle.mg_defs.specs.Marks.{Mark, start, piece, stop, marks, pieces_among, starts, AreWithin, PassesFirst}
+use Rattle.mg_defs.specs.Marks.{Mark, start, piece, stop, marks, pieces_among, starts, AreWithinLimits, PassesFirst}
 use Rattle.mg_laws.proofs.MarkLaws.{starts_append, pieces_append, marks_have_documents, marks_have_pieces}
 use Rattle.mg_defs.proofs.VocabularyLaws.{vocabulary-push, length-of_vocabulary}
 
@@ -33,7 +33,7 @@ distinct_front xs (y ∷ ys) =
 front_pieces : (kind : Stream) (a b : List Mark) → length (sorted_distinct (pieces_among kind a)) ≤ length (sorted_distinct (pieces_among kind (a ++ b)))
 front_pieces kind a b = omega (arith, distinct_front (pieces_among kind a) (pieces_among kind b), ap (λ l. length (sorted_distinct l)) (pieces_append kind a b))
 
-pub within_front : (most : Limits) (a b : List Mark) → AreWithin most (a ++ b) → AreWithin most a
+pub within_front : (most : Limits) (a b : List Mark) → AreWithinLimits most (a ++ b) → AreWithinLimits most a
 within_front most a b h = record {
   documents = omega (arith, starts_append a b, h.documents);
   words = omega (arith, front_pieces Words a b, h.words);
@@ -62,18 +62,18 @@ pub one_first : (most : Limits) (collection : List ℕ) (x y : Mark) → PassesF
 one_first most collection x y p q =
     elim (which_first p.before q.before p.after q.after x y (sym p.whole ∙ q.whole)) [
       | inl is ↦ is
-      | inr (inl left) ↦ absurd (p.beyond (within_front most (p.before ++ x ∷ []) left.0 (subst (AreWithin most) left.1 q.within)))
-      | inr (inr right) ↦ absurd (q.beyond (within_front most (q.before ++ y ∷ []) right.0 (subst (AreWithin most) right.1 p.within)))
+      | inr (inl left) ↦ absurd (p.beyond (within_front most (p.before ++ x ∷ []) left.0 (subst (AreWithinLimits most) left.1 q.within)))
+      | inr (inr right) ↦ absurd (q.beyond (within_front most (q.before ++ y ∷ []) right.0 (subst (AreWithinLimits most) right.1 p.within)))
     ]
 
 -- the whole goes beyond it too
-pub first_is_beyond : (most : Limits) (collection : List ℕ) (x : Mark) → PassesFirst most collection x → AreWithin most (marks collection) → ⊥
+pub first_is_beyond : (most : Limits) (collection : List ℕ) (x : Mark) → PassesFirst most collection x → AreWithinLimits most (marks collection) → ⊥
 first_is_beyond most collection x p h =
-    p.beyond (within_front most (p.before ++ x ∷ []) p.after (subst (AreWithin most) (p.whole ∙ sym (append_assoc p.before (x ∷ []) p.after)) h))
+    p.beyond (within_front most (p.before ++ x ∷ []) p.after (subst (AreWithinLimits most) (p.whole ∙ sym (append_assoc p.before (x ∷ []) p.after)) h))
 
 -- ---- and one where the whole goes beyond a limit
 
-decide : (most : Limits) (met : List Mark) → AreWithin most met ⊎ (AreWithin most met → ⊥)
+decide : (most : Limits) (met : List Mark) → AreWithinLimits most met ⊎ (AreWithinLimits most met → ⊥)
 decide most met =
     elim (cases_lt most.documents (starts met)) [
       | inl past ↦ inr (λ h. omega (arith, past, h.documents))
@@ -86,22 +86,22 @@ decide most met =
       ]
     ]
 
-first_from : (most : Limits) (collection : List ℕ) (before rest : List Mark) → marks collection ≡ before ++ rest → AreWithin most before → (AreWithin most (before ++ rest) → ⊥) → (mark : Mark) × PassesFirst most collection mark
-first_from most collection before [] whole within beyond = absurd (beyond (subst (AreWithin most) (sym (append-nil before)) within))
+first_from : (most : Limits) (collection : List ℕ) (before rest : List Mark) → marks collection ≡ before ++ rest → AreWithinLimits most before → (AreWithinLimits most (before ++ rest) → ⊥) → (mark : Mark) × PassesFirst most collection mark
+first_from most collection before [] whole within beyond = absurd (beyond (subst (AreWithinLimits most) (sym (append-nil before)) within))
 first_from most collection before (m ∷ rest) whole within beyond =
     elim (decide most (before ++ m ∷ [])) [
       | inl yet ↦
           let moved : before ++ m ∷ rest ≡ (before ++ m ∷ []) ++ rest = sym (append_assoc before (m ∷ []) rest) in
-          first_from most collection (before ++ m ∷ []) rest (whole ∙ moved) yet (λ h. beyond (subst (AreWithin most) (sym moved) h))
+          first_from most collection (before ++ m ∷ []) rest (whole ∙ moved) yet (λ h. beyond (subst (AreWithinLimits most) (sym moved) h))
       | inr past ↦ (m, record { before = before; after = rest; whole = whole; within = within; beyond = past })
     ]
 
-pub some_first : (most : Limits) (collection : List ℕ) → (AreWithin most (marks collection) → ⊥) → (mark : Mark) × PassesFirst most collection mark
+pub some_first : (most : Limits) (collection : List ℕ) → (AreWithinLimits most (marks collection) → ⊥) → (mark : Mark) × PassesFirst most collection mark
 some_first most collection beyond = first_from most collection [] (marks collection) refl (record { documents = omega arith; words = omega arith; others = omega arith }) beyond
 
 -- ---- which limit it passes
 
-kept : (most : Limits) (before : List Mark) (mark : Mark) → AreWithin most before → starts (before ++ mark ∷ []) ≤ most.documents → pieces_among Words (mark ∷ []) ≡ [] → pieces_among Others (mark ∷ []) ≡ [] → AreWithin most (before ++ mark ∷ [])
+kept : (most : Limits) (before : List Mark) (mark : Mark) → AreWithinLimits most before → starts (before ++ mark ∷ []) ≤ most.documents → pieces_among Words (mark ∷ []) ≡ [] → pieces_among Others (mark ∷ []) ≡ [] → AreWithinLimits most (before ++ mark ∷ [])
 kept most before mark within docs words others = record {
   documents = docs;
   words = omega (arith, within.words, ap (λ l. length (sorted_distinct l)) (pieces_append Words before (mark ∷ []) ∙ ap (λ l. pieces_among Words before ++ l) words ∙ append-nil (pieces_among Words before)));
@@ -133,7 +133,7 @@ start_passes most collection p =
       | inr le ↦ absurd (p.beyond (kept most p.before start p.within le refl refl))
     ]
 
-same_starts : (most : Limits) (before : List Mark) (kind : Stream) (x : List ℕ) → AreWithin most before → starts (before ++ piece kind x ∷ []) ≤ most.documents
+same_starts : (most : Limits) (before : List Mark) (kind : Stream) (x : List ℕ) → AreWithinLimits most before → starts (before ++ piece kind x ∷ []) ≤ most.documents
 same_starts most before kind x h = omega (arith, starts_append before (piece kind x ∷ []), h.documents)
 
 same_pieces : (a b : Stream) (before : List Mark) (x : List ℕ) → pieces_among a (piece b x ∷ []) ≡ [] → length (sorted_distinct (pieces_among a (before ++ piece b x ∷ []))) ≡ length (sorted_distinct (pieces_among a before))
@@ -157,14 +157,14 @@ piece_passes most collection Others x p =
 distinct_of : (kind : Stream) (collection : List ℕ) → length (sorted_distinct (pieces_among kind (marks collection))) ≡ length (sorted_pieces kind collection)
 distinct_of kind collection = ap (λ l. length (sorted_distinct l)) (marks_have_pieces kind collection)
 
-pub within_from : (version : ℕ) (collection : List ℕ) → IsWithinLimits version collection → AreWithin (limits version) (marks collection)
+pub within_from : (version : ℕ) (collection : List ℕ) → IsWithinLimits version collection → AreWithinLimits (limits version) (marks collection)
 within_from version collection h = record {
   documents = subst (λ n. n ≤ (limits version).documents) (sym (marks_have_documents collection)) h.documents;
   words = subst (λ n. n ≤ (limits version).pieces) (sym (distinct_of Words collection)) h.words;
   others = subst (λ n. n ≤ (limits version).pieces) (sym (distinct_of Others collection)) h.others;
 }
 
-pub within_to : (version : ℕ) (collection : List ℕ) → length collection ≤ (limits version).collection → AreWithin (limits version) (marks collection) → IsWithinLimits version collection
+pub within_to : (version : ℕ) (collection : List ℕ) → length collection ≤ (limits version).collection → AreWithinLimits (limits version) (marks collection) → IsWithinLimits version collection
 within_to version collection small h = record {
   bytes = small;
   documents = subst (λ n. n ≤ (limits version).documents) (marks_have_documents collection) h.documents;

@@ -105,13 +105,13 @@ after_same : (x : TermPosting) (k n : ℕ) (ps : List Posting) → x.term ≡ k 
 after_same x k n [] e lt h = tt
 after_same x k n (p ∷ ps) e lt h = (record { term = omega (arith, e); doc = λ same. omega (arith, lt, h.0) }, after_same x k (p.doc + 1) ps e (omega (arith, lt, h.0)) h.2)
 
-rising_onto : (k n : ℕ) (ps : List Posting) (rest : List TermPosting) → Above n ps → runs.Rising rest → ((x : TermPosting) → x.term ≡ k → runs.AllAfter x rest) → runs.Rising (term_list k ps ++ rest)
+rising_onto : (k n : ℕ) (ps : List Posting) (rest : List TermPosting) → Above n ps → runs.RisingByTerm rest → ((x : TermPosting) → x.term ≡ k → runs.AllAfter x rest) → runs.RisingByTerm (term_list k ps ++ rest)
 rising_onto k n [] rest h rises after = rises
 rising_onto k n (p ∷ ps) rest h rises after =
     let x : TermPosting = record { term = k; doc = p.doc; count = p.freq } in
     (after_append x (term_list k ps) rest (after_same x k (p.doc + 1) ps refl (omega arith) h.2) (after x refl), rising_onto k (p.doc + 1) ps rest h.2 rises after)
 
-pub rising_order : (m : ℕ) (lists : List (List Posting)) → AllByRecursion (Above 0) lists → runs.Rising (by_terms m lists)
+pub rising_order : (m : ℕ) (lists : List (List Posting)) → AllByRecursion (Above 0) lists → runs.RisingByTerm (by_terms m lists)
 rising_order m [] h = tt
 rising_order m (ps ∷ lists) h = rising_onto m 0 ps (by_terms (m + 1) lists) h.0 (rising_order (m + 1) lists h.1) (λ x e. after_order x (m + 1) lists (omega (arith, e)))
 
@@ -306,6 +306,6 @@ lists_are_postings collection = record {
   counted = counted_same collection;
 }
 
-pub postings_are_lists : (collection : List ℕ) → runs.postings (occurrences collection) ≡ by_terms 0 (inverted collection)
+pub postings_are_lists : (collection : List ℕ) → runs.term_postings (occurrences collection) ≡ by_terms 0 (inverted collection)
 postings_are_lists collection =
     sym (gathered-only (map runs.once (occurrences collection)) (by_terms 0 (inverted collection)) (AllCount-once (occurrences collection)) (lists_are_postings collection))

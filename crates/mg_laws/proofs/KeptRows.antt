@@ -4,17 +4,17 @@ use Rattle.std.specs.List.{AllByRecursion}
 use Rattle.std.specs.List.Sorted.{IsPermutation}
 use Rattle.std.proofs.lemmas.List.{take-append-le, take_all}
 use Rattle.mg_defs.specs.Weights.{Hit, hits, by_score}
-use Rattle.mg_defs.specs.Order.{IsBefore, AreSorted}
+use Rattle.mg_defs.specs.Order.{RanksBefore, AreSorted}
 use Rattle.mg_laws.proofs.LedLists.{all-append}
 
 -- each of the one list before each of the other
 abbrev pub AllBefore : List Hit → List Hit → Type 0
 AllBefore [] gone = Unit {0}
-AllBefore (h ∷ kept) gone = AllByRecursion (IsBefore h) gone × AllBefore kept gone
+AllBefore (h ∷ kept) gone = AllByRecursion (RanksBefore h) gone × AllBefore kept gone
 
 sorted_both : (kept gone : List Hit) → AreSorted kept → AreSorted gone → AllBefore kept gone → AreSorted (kept ++ gone)
 sorted_both [] gone a b c = b
-sorted_both (h ∷ kept) gone a b c = (all-append (IsBefore h) kept gone a.0 c.0, sorted_both kept gone a.1 b c.1)
+sorted_both (h ∷ kept) gone a b c = (all-append (RanksBefore h) kept gone a.0 c.0, sorted_both kept gone a.1 b c.1)
 
 -- what one_ranking of mg_defs says
 abbrev pub OneOrder : Type 0

@@ -13,7 +13,7 @@ use Rattle.mg_defs.specs.Terms.{terms, same_term, freq_in, docs}
 use Rattle.mg_defs.specs.Weights.{has_term}
 use Rattle.mg_defs.specs.Lists.{postings, from_doc}
 use Rattle.mg_defs.specs.Sat.{Query, term, both, either, without, satisfies}
-use Rattle.mg_defs.specs.Reply.{Shown, plain, found}
+use Rattle.mg_defs.specs.ShownAnswers.{Shown, plain, found}
 use Rattle.mg_defs.proofs.ListLaws.{from_here, from_next}
 use Rattle.mg_defs.proofs.ReplyLaws.{found-hit, found-miss}
 use Rattle.mg_defs.specs.PageBounds.{leading, leftmost_fewest, fewer}

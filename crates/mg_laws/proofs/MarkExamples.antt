@@ -6,7 +6,7 @@ use Rattle.mg_defs.specs.declared.Stream.TheVariants.{Words, Others}
 use Rattle.mg_defs.specs.DocCounts.{docs_with}
 use Rattle.mg_defs.specs.PostingLists.{by_terms}
 use Rattle.mg_defs.specs.Lists.{inverted}
-use Rattle.mg_defs.specs.Marks.{marks, start, piece, stop, pair_counts, pieces_from, terms_from}
+use Rattle.mg_defs.specs.Marks.{marks, start, piece, stop, pair_counts, piece_count_from, terms_from}
 use Rattle.mg_defs.specs.Occurrences.{occurrences}
 use Rattle.mg_defs.specs.Parse.{parse}
 use Rattle.mg_defs.specs.Squares.{squares_to}
@@ -32,7 +32,7 @@ unfolding parse
 few_pairs = refl
 
 -- three pieces of the last document came
-open_pieces : pieces_from 0 (start ∷ stop ∷ start ∷ piece Words (codes "b") ∷ piece Others (codes " ") ∷ piece Words (codes "A") ∷ []) ≡ 3
+open_pieces : piece_count_from 0 (start ∷ stop ∷ start ∷ piece Words (codes "b") ∷ piece Others (codes " ") ∷ piece Words (codes "A") ∷ []) ≡ 3
 open_pieces = refl
 
 abbrev of : ℕ → ℕ → ℕ → TermPosting

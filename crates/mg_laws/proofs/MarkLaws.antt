@@ -13,7 +13,7 @@ use Rattle.mg_defs.specs.Terms.{dictionary, folded, is_empty, terms, terms_of_wo
 use Rattle.mg_defs.specs.Parse.{Pair, parse}
 use Rattle.mg_defs.specs.Split.{documents}
 use Rattle.mg_defs.specs.Vocabulary.{all_pieces, piece_of_pair, pieces_in}
-use Rattle.mg_defs.specs.Marks.{Mark, start, piece, stop, marks, marks_of_document, marks_of_pairs, pieces_among, starts, pairs_from, pieces_from, pair_counts, open_at, is_open_after, piece_bits, coded_from, open_from, term_in, with_doc, terms_from}
+use Rattle.mg_defs.specs.Marks.{Mark, start, piece, stop, marks, marks_of_document, marks_of_pairs, pieces_among, starts, pairs_from, piece_count_from, pair_counts, open_at, is_open_after, piece_bits, coded_from, open_from, term_in, with_doc, terms_from}
 use Rattle.mg_laws.proofs.InOrderLaws.{met_from}
 
 pub pieces_append : (kind : Stream) (a b : List Mark) → pieces_among kind (a ++ b) ≡ pieces_among kind a ++ pieces_among kind b
@@ -73,13 +73,13 @@ marks_have_documents collection = starts_of_documents (documents collection)
 
 -- ---- one list of marks after another
 
-pub pieces_from_append : (n : ℕ) (a b : List Mark) → pieces_from n (a ++ b) ≡ pieces_from (pieces_from n a) b
+pub pieces_from_append : (n : ℕ) (a b : List Mark) → piece_count_from n (a ++ b) ≡ piece_count_from (piece_count_from n a) b
 pieces_from_append n [] b = refl
 pieces_from_append n (start ∷ a) b = pieces_from_append 0 a b
 pieces_from_append n (piece kind x ∷ a) b = pieces_from_append (n + 1) a b
 pieces_from_append n (stop ∷ a) b = pieces_from_append 0 a b
 
-pub pairs_append : (n : ℕ) (a b : List Mark) → pairs_from n (a ++ b) ≡ pairs_from n a ++ pairs_from (pieces_from n a) b
+pub pairs_append : (n : ℕ) (a b : List Mark) → pairs_from n (a ++ b) ≡ pairs_from n a ++ pairs_from (piece_count_from n a) b
 pairs_append n [] b = refl
 pairs_append n (start ∷ a) b = pairs_append 0 a b
 pairs_append n (piece kind x ∷ a) b = pairs_append (n + 1) a b

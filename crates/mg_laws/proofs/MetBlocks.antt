@@ -138,10 +138,10 @@ term_some collection n t is = count_some t (documents collection) (sym (has-sort
 
 -- ---- behind the last block there are no pages
 
-take_beyond : (n : ℕ) (ps : List Posting) → block_count ps ≤ n → take (64 * n) ps ≡ ps
+take_beyond : (n : ℕ) (ps : List Posting) → block_count (length ps) ≤ n → take (64 * n) ps ≡ ps
 take_beyond n ps le = take_all (64 * n) ps (omega (arith, le))
 
-beyond : (b at n : ℕ) (ps : List Posting) → block_count ps ≤ n → block_pages b at n ps ≡ 0
+beyond : (b at n : ℕ) (ps : List Posting) → block_count (length ps) ≤ n → block_pages b at n ps ≡ 0
 unfolding block_pages bits_before
 beyond b at n ps le =
     let here : take (64 * n) ps ≡ ps = take_beyond n ps le in
@@ -153,12 +153,12 @@ beyond b at n ps le =
     none : (x : ℕ) → pages x x ≡ 0
     none x = cond_both (nat_lt x x) ((x - 1) / 32768 - x / 32768 + 1) 0 (λ n. n ≡ 0) (λ h. absurd (let lt = ltb-true x x h in omega (arith, lt))) (λ _. refl)
 
-pub met_all : (asked : List ℕ) (b at n : ℕ) (ps : List Posting) → met_pages asked b at n ps ≤ met_pages asked b at (block_count ps) ps
-met_all asked b at zero ps = met_rises asked b at 0 (block_count ps) ps (omega arith)
+pub met_all : (asked : List ℕ) (b at n : ℕ) (ps : List Posting) → met_pages asked b at n ps ≤ met_pages asked b at (block_count (length ps)) ps
+met_all asked b at zero ps = met_rises asked b at 0 (block_count (length ps)) ps (omega arith)
 met_all asked b at (suc n) ps =
     let e : suc n ≡ n + 1 = omega arith in
-    elim (cases_lt n (block_count ps)) [
-      | inl below ↦ met_rises asked b at (suc n) (block_count ps) ps (omega (arith, below))
+    elim (cases_lt n (block_count (length ps))) [
+      | inl below ↦ met_rises asked b at (suc n) (block_count (length ps)) ps (omega (arith, below))
       | inr past ↦ rw e (elim (cases_Bool (is_met asked ps n)) [
         | inl hit ↦ omega (arith, met_hit asked b at n ps hit, beyond b at n ps past, met_all asked b at n ps)
         | inr miss ↦ omega (arith, met_miss asked b at n ps miss, met_all asked b at n ps)

@@ -6,13 +6,14 @@ use Rattle.std.specs.List.{flat_map}
 use Rattle.mg_defs.specs.Split.{documents, has_open_end}
 use Rattle.mg_defs.specs.Parse.{parse}
 use Rattle.mg_defs.specs.Tokens.{sign_of}
-use Rattle.mg_defs.specs.Read.{reads, refused, too_long, too_many, boolean, query_of}
+use Rattle.mg_defs.specs.Read.{boolean, query_of}
+use Rattle.mg_defs.specs.Refusals.{reads, refused, too_long, too_many}
 use Rattle.mg_defs.specs.Commands.{command, words, dot_of, set_query, set_mode, set_most, set_of, value, is_most}
 use Rattle.mg_defs.specs.declared.Stream.TheVariants.{Words, Others}
 use Rattle.mg_defs.specs.Vocabulary.{sorted_pieces}
 use Rattle.mg_defs.specs.Terms.{dictionary}
 use Rattle.mg_defs.specs.Occurrences.{occurrences}
-use Rattle.mg_defs.specs.Reply.{answer_text, found}
+use Rattle.mg_defs.specs.ShownAnswers.{answer_text, found}
 use Rattle.mg_defs.specs.Session.{ends, heard_session, replies, line_text, after_line}
 use Rattle.mg_defs.specs.Texts.{row, count, line_too_long}
 use Rattle.mg_defs.specs.Replies.{refusal, reply, session}

@@ -12,14 +12,15 @@ use Rattle.std.proofs.lemmas.List.Sums.{sum_by-cons}
 use Rattle.mg_defs.specs.declared.Posting.{Posting}
 use Rattle.mg_defs.specs.declared.TermPosting.{TermPosting}
 use Rattle.mg_defs.specs.declared.Stream.TheVariants.{Words}
-use Rattle.mg_defs.specs.Bits.{digits, filled}
-use Rattle.mg_defs.specs.Canon.{AreGood, AreWithin, codeword, codeword_value}
+use Rattle.mg_defs.specs.Bits.{digits, filled, as_bytes}
+use Rattle.mg_defs.specs.Canon.{AreGood, AreCodeLengths, codeword, codeword_value}
 use Rattle.mg_defs.specs.Codes.{gamma, golomb, golomb_parameter, unary, log2, log2_below, ceil_log2}
-use Rattle.mg_defs.specs.CodedText.{IsTextCode, TextCode, as_bytes, coded_doc, coded_pair, codeword_of, text_of}
+use Rattle.mg_defs.specs.CodedText.{IsTextCode, TextCode, coded_doc, coded_pair, codeword_of, text_part}
 use Rattle.mg_defs.specs.Fixed.{isqrt, root_from}
-use Rattle.mg_defs.specs.Heads.{IsWithin, limits, run_count}
+use Rattle.mg_defs.specs.Heads.{IsWithin, run_count}
+use Rattle.mg_defs.specs.Limits.{limits}
 use Rattle.mg_defs.specs.PostingLists.{by_terms, term_list}
-use Rattle.mg_defs.specs.Limits.{IsWithinLimits}
+use Rattle.mg_defs.specs.WithinLimits.{IsWithinLimits}
 use Rattle.mg_defs.specs.Lists.{bits_after, bits_of_list, block_count, entries_of_list, entries_to, entry_of, inverted, lists_bits, lists_entries, post_bits, posting_bits, postings}
 use Rattle.mg_defs.specs.Marks.{pair_counts}
 use Rattle.mg_defs.specs.Occurrences.{occurrences}
@@ -139,7 +140,7 @@ entries_short all (ps ∷ lists) =
     omega (
       arith,
       length-append (entries_of_list all ps) (flat_map (entries_of_list all) lists),
-      entries_count (golomb_parameter all (length ps)) (block_count ps) ps,
+      entries_count (golomb_parameter all (length ps)) (block_count (length ps)) ps,
       entries_short all lists,
       sum_by-cons (λ (qs : List Posting). length qs) ps lists,
     )
@@ -231,7 +232,7 @@ few_post_bits collection =
 
 -- ---- the bytes of the text
 
-within_at : (lengths : List ℕ) (s : ℕ) → AreWithin lengths → get_or lengths s 0 ≤ 48
+within_at : (lengths : List ℕ) (s : ℕ) → AreCodeLengths lengths → get_or lengths s 0 ≤ 48
 within_at [] s all = omega arith
 within_at (l ∷ lengths) zero all = all.0.1
 within_at (l ∷ lengths) (suc s) all = within_at lengths s all.1
@@ -269,7 +270,7 @@ docs_small code (doc ∷ ds) words others =
     )
 
 -- twelve bytes for each byte of the collection, and seventeen for each document
-pub few_text_bytes : (code : TextCode) (collection : List ℕ) → IsTextCode collection code → length (text_of code collection) ≤ 12 * length collection + 17 * length (documents collection)
+pub few_text_bytes : (code : TextCode) (collection : List ℕ) → IsTextCode collection code → length (text_part code collection) ≤ 12 * length collection + 17 * length (documents collection)
 few_text_bytes code collection is =
     omega (arith, docs_small code (documents collection) is.0.lengths.good is.1.lengths.good, docs_within collection)
 
@@ -318,7 +319,7 @@ post_places_fit version collection is =
     let sizes = sizes_of version collection is in
     few_bits (length (occurrences collection)) (length (documents collection)) (length (post_bits collection)) (omega (arith, few_occurrences collection, sizes.bytes)) sizes.few (few_post_bits collection)
 
-pub text_places_fit : (version : ℕ) (code : TextCode) (collection : List ℕ) → IsWithinLimits version collection → IsTextCode collection code → 8 * length (text_of code collection) < 2 ^ 39
+pub text_places_fit : (version : ℕ) (code : TextCode) (collection : List ℕ) → IsWithinLimits version collection → IsTextCode collection code → 8 * length (text_part code collection) < 2 ^ 39
 text_places_fit version code collection is coded =
     let sizes = sizes_of version collection is in
     omega (arith, few_text_bytes code collection coded, sizes.bytes, sizes.few)
@@ -326,7 +327,7 @@ text_places_fit version code collection is coded =
 -- so many runs
 pub runs_are_counted : (cap : ℕ) (s : List (ℕ × ℕ)) → 1 ≤ cap → length (runs_of cap s) ≡ run_count (length s) cap
 runs_are_counted cap s some =
-    length-map (first_chunks cap ((length s + cap - 1) / cap) s) runs.postings ∙ chunks_long cap ((length s + cap - 1) / cap) s ∙ runs_in_one_form (length s) cap some
+    length-map (first_chunks cap ((length s + cap - 1) / cap) s) runs.term_postings ∙ chunks_long cap ((length s + cap - 1) / cap) s ∙ runs_in_one_form (length s) cap some
   where
     chunks_long : (cap n : ℕ) (s : List (ℕ × ℕ)) → length (first_chunks cap n s) ≡ n
     chunks_long cap zero s = refl

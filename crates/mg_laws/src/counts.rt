@@ -9,6 +9,7 @@ ghost use Rattle.mg_defs.specs.Split.{documents};
 ghost use Rattle.mg_defs.specs.Terms.{dictionary};
 ghost use Rattle.mg_defs.specs.Vocabulary.{sorted_pieces};
 ghost use Rattle.mg_defs.specs.declared.Stream.TheVariants.{Words};
+ghost use Rattle.mg_laws.specs.Words.{IsOccurrenceIn, docs_added};
 
 /// By all occurrences a term has as many documents as its list has postings. In reading order one
 /// occurrence more adds a document exactly where the term's last document is another.
@@ -16,7 +17,7 @@ pub fn documents_are_counted()
     ensures all { (collection : List ℕ) (term : ℕ) →
         docs_with term (occurrences collection) ≡ length (get_or (inverted collection) term []) }
     ensures more { (term : ℕ) (fed : List (ℕ × ℕ)) (o : ℕ × ℕ) → 1 ≤ o.1 → NeverFall 0 fed o.1 →
-        docs_with term (fed ++ o ∷ []) ≡ docs_with term fed + (if o.0 == term then (if last_with term 0 fed == o.1 then 0 else 1) else 0) }
+        docs_with term (fed ++ o ∷ []) ≡ docs_with term fed + docs_added term fed o }
     ensures last { (term doc : ℕ) (fed : List (ℕ × ℕ)) (o : ℕ × ℕ) →
         last_with term doc (fed ++ o ∷ []) ≡ (if o.0 == term then o.1 else last_with term doc fed) }
     ensures low { (term doc : ℕ) (fed : List (ℕ × ℕ)) → NeverFall 0 fed doc → last_with term 0 fed ≤ doc }
@@ -27,7 +28,7 @@ pub fn documents_are_counted()
 /// An occurrence is that of a term of the dictionary, in a document of the collection.
 pub fn occurrences_in_range()
     ensures { (collection : List ℕ) →
-        AllByRecursion (λ (o : ℕ × ℕ). (o.0 < length (dictionary collection)) × (1 ≤ o.1) × (o.1 ≤ length (documents collection))) (occurrences collection) }
+        AllByRecursion (IsOccurrenceIn collection) (occurrences collection) }
 {}
 
 /// Terms have at most 255 bytes and are no more than the distinct words; a list is no longer than there

@@ -13,7 +13,7 @@ ghost use Rattle.mg_defs.specs.Weights.{weight};
 
 /// The postings of all occurrences are the lists of the terms in a row, each with its term's number.
 pub fn postings_are_lists()
-    ensures { (collection : List ℕ) → runs.postings (occurrences collection) ≡ by_terms 0 (inverted collection) }
+    ensures { (collection : List ℕ) → runs.term_postings (occurrences collection) ≡ by_terms 0 (inverted collection) }
 {}
 
 /// The root of the sum of a document's squared weights, over all lists, is the document's weight.
