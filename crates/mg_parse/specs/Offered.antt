@@ -1,20 +1,21 @@
 -- What an offered byte does to the piece that is being read.
 use Rattle.std.specs.Prelude.{◌≡◌, ℕ, ◌<◌, ◌≤◌, ◌⊎◌, true, false, [], ◌∷◌, ◌++◌, length}
 use Rattle.mg_defs.specs.Parse.{is_of_kind}
-use Rattle.mg_defs.specs.Pieces.{Reading}
+use Rattle.mg_defs.specs.Pieces.{OpenPiece}
 use Rattle.mg_parse.specs.declared.reader.Offer.{Offer}
 use Rattle.mg_parse.specs.declared.reader.Offer.TheVariants.{Taken, Ended}
+use Rattle.mg_defs.specs.Limits.{piece_bytes}
 
 -- the byte is of the piece's kind, and the piece has room
-pub record Fits (reading : Reading) (byte : ℕ) : Type 0 where
+pub record Fits (reading : OpenPiece) (byte : ℕ) : Type 0 where
   pub kind : is_of_kind reading.kind byte ≡ true
-  pub room : length reading.piece < 255
+  pub room : length reading.piece < piece_bytes
 
 -- the byte is of the other kind, or the piece is full
-abbrev pub Ends : Reading → ℕ → Type 0
-Ends reading byte = (is_of_kind reading.kind byte ≡ false) ⊎ (255 ≤ length reading.piece)
+abbrev pub Ends : OpenPiece → ℕ → Type 0
+Ends reading byte = (is_of_kind reading.kind byte ≡ false) ⊎ (piece_bytes ≤ length reading.piece)
 
-abbrev pub Offered : Reading → ℕ → Offer → Reading → Type 0
+abbrev pub Offered : OpenPiece → ℕ → Offer → OpenPiece → Type 0
 -- a byte that fits joins the piece
 Offered old byte Taken new = Fits old byte × (new ≡ record { kind = old.kind; piece = old.piece ++ byte ∷ [] })
 -- any other ends it, and nothing changes

@@ -31,9 +31,9 @@ pub struct PieceReader {
 
 impl Model for PieceReader {
     ghost use Rattle.std.specs.Prelude.{◌≤◌, take};
-    ghost use Rattle.mg_defs.specs.Pieces.{Reading};
+    ghost use Rattle.mg_defs.specs.Pieces.{OpenPiece};
 
-    ghost Value = { Reading };
+    ghost Value = { OpenPiece };
 
     ghost view = { λ r. record { kind = r.kind; piece = take r.len r.buffer } };
 
