@@ -5,13 +5,13 @@ use Rattle.std.specs.declared.result.Result.{Result}
 use Rattle.std.specs.Result.{IsErr}
 use Rattle.mg_dev.specs.Streams.{appended, GrewByPrefix, AfterPut}
 use Rattle.mg_dev.specs.StreamLaws.{appended-nil, appended-appended, grew_first, grew_second}
-use Rattle.mg_defs.specs.Generator.{Made, text, repeated}
+use Rattle.mg_defs.specs.Generator.{Made, made_bytes, repeated}
 use Rattle.mg_gen.specs.declared.writer.Writer.{Writer}
 use Rattle.mg_gen.specs.Grew.{Grew, Handed}
 use Rattle.mg_gen.proofs.Making.{repeated_last, repeated_front}
 
 pub handed_none : (told : Option (List ℕ)) (w : Writer) (each : ℕ → Made) (seed : ℕ) → w.text.items ≡ [] → w.generator.state ≡ seed → Handed told told w (repeated 0 each seed)
-unfolding repeated text
+unfolding repeated made_bytes
 handed_none told w each seed none state = record { done = []; out = sym (appended-nil told); bytes = sym none; state = state }
 
 pub handed_more : {old new : Option (List ℕ)} {w later : Writer} {each : ℕ → Made} (n seed : ℕ) → Handed old new w (repeated n each seed) → Grew w later each → Handed old new later (repeated (suc n) each seed)

@@ -1,15 +1,15 @@
 -- How a text grows part by part.
 use Rattle.std.proofs.Common.{◌≡◌, ℕ, zero, suc, ◌+◌, ◌<◌, ◌≤◌, List, [], ◌∷◌, ◌++◌, length, drop, get_or, refl, sym, ◌∙◌, ap, subst, arith, append_assoc, append-nil}
 use Rattle.std.specs.Char.{to_ascii_uppercase}
-use Rattle.mg_defs.specs.Generator.{Made, stepped, text, both, all_of, repeated, pick, capital, capital_pick}
+use Rattle.mg_defs.specs.Generator.{Made, stepped, made_bytes, made_both, made_in_turn, repeated, pick, capital, capital_pick}
 use Rattle.mg_gen.specs.declared.writer.Writer.{Writer}
 use Rattle.mg_gen.specs.Grew.{Grew}
 use Rattle.mg_gen.proofs.Words.{capital-is, capital-none}
 
 -- bytes that are put after the generator went on
 pub put_made : {mid new : Writer} (old : Writer) (each : ℕ → Made) (bytes : List ℕ) → mid.text.items ≡ old.text.items → mid.generator.state ≡ (each old.generator.state).state →
-    bytes ≡ (each old.generator.state).bytes → Grew mid new (text bytes) → Grew old new each
-unfolding text
+    bytes ≡ (each old.generator.state).bytes → Grew mid new (made_bytes bytes) → Grew old new each
+unfolding made_bytes
 put_made old each bytes same state is grew = record {
   bytes = grew.bytes ∙ ap (λ l. l ++ bytes) same ∙ ap (λ b. old.text.items ++ b) is;
   state = grew.state ∙ state;
@@ -18,8 +18,8 @@ put_made old each bytes same state is grew = record {
 -- a word with a capital
 pub capital_made : {mid new : Writer} (old : Writer) (word : List ℕ) (upper : ℕ) (rest : List ℕ) → word ≡ (pick old.generator.state).bytes → 1 ≤ length word →
     mid.text.items ≡ old.text.items ++ upper ∷ [] → upper ≡ to_ascii_uppercase (get_or word 0 0) → rest ≡ drop 1 word →
-    mid.generator.state ≡ (pick old.generator.state).state → Grew mid new (text rest) → Grew old new capital_pick
-unfolding text capital_pick
+    mid.generator.state ≡ (pick old.generator.state).state → Grew mid new (made_bytes rest) → Grew old new capital_pick
+unfolding made_bytes capital_pick
 capital_made old word upper rest is some pushed up tail state grew = record {
   bytes = grew.bytes ∙ ap (λ l. l ++ rest) pushed ∙ append_assoc old.text.items (upper ∷ []) rest ∙ ap (λ b. old.text.items ++ b) (whole ∙ ap capital is);
   state = grew.state ∙ state;
@@ -36,8 +36,8 @@ no_capital old word is none same state = record {
   state = state;
 }
 
-pub grew_both : {a b c : Writer} {first next : ℕ → Made} → Grew a b first → Grew b c next → Grew a c (both first next)
-unfolding both
+pub grew_both : {a b c : Writer} {first next : ℕ → Made} → Grew a b first → Grew b c next → Grew a c (made_both first next)
+unfolding made_both
 grew_both {a} {b} {c} {first} {next} g h = record {
   bytes = h.bytes ∙ ap (λ l. l ++ (next b.generator.state).bytes) g.bytes
       ∙ ap (λ x. (a.text.items ++ (first a.generator.state).bytes) ++ (next x).bytes) g.state
@@ -47,18 +47,18 @@ grew_both {a} {b} {c} {first} {next} g h = record {
 
 -- these parts were added in turn
 pub record GrewAll (old new : Writer) (parts : List (ℕ → Made)) : Type 0 where
-  pub made : Grew old new (all_of parts)
+  pub made : Grew old new (made_in_turn parts)
 
 pub grew_none : (w : Writer) → GrewAll w w []
-unfolding all_of text
+unfolding made_in_turn made_bytes
 grew_none w = record { made = record { bytes = sym (append-nil w.text.items); state = refl } }
 
 pub grew_all : {a b c : Writer} {first : ℕ → Made} {rest : List (ℕ → Made)} → Grew a b first → GrewAll b c rest → GrewAll a c (first ∷ rest)
-unfolding all_of
+unfolding made_in_turn
 grew_all g h = record { made = grew_both g h.made }
 
 pub grew_start : (w : Writer) (each : ℕ → Made) → Grew w w (repeated 0 each)
-unfolding repeated text
+unfolding repeated made_bytes
 grew_start w each = record { bytes = sym (append-nil w.text.items); state = refl }
 
 pub record IsLast (n : ℕ) (each : ℕ → Made) (x : ℕ) : Type 0 where
@@ -66,7 +66,7 @@ pub record IsLast (n : ℕ) (each : ℕ → Made) (x : ℕ) : Type 0 where
   pub state : (repeated (suc n) each x).state ≡ (each (repeated n each x).state).state
 
 pub repeated_last : (n : ℕ) (each : ℕ → Made) (x : ℕ) → IsLast n each x
-unfolding repeated both text
+unfolding repeated made_both made_bytes
 repeated_last zero each x = record { bytes = append-nil (each x).bytes; state = refl }
 repeated_last (suc n) each x =
     let next = repeated_last n each (each x).state in
@@ -89,7 +89,7 @@ grew_again {a} {b} {c} {each} n g h =
 
 -- the first of several, and the others
 pub repeated_front : (i k : ℕ) (each : ℕ → Made) (x : ℕ) → (repeated (i + k) each x).bytes ≡ (repeated i each x).bytes ++ (repeated k each (repeated i each x).state).bytes
-unfolding repeated both text
+unfolding repeated made_both made_bytes
 repeated_front zero k each x = let e : zero + k ≡ k = omega arith in ap (λ n. (repeated n each x).bytes) e
 repeated_front (suc i) k each x =
     let e : suc i + k ≡ suc (i + k) = omega arith in

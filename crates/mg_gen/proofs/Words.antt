@@ -5,7 +5,7 @@ use Rattle.std.specs.Prelude.{flat_map, nat_lt}
 use Rattle.std.specs.Char.{to_ascii_uppercase}
 use Rattle.std.proofs.lemmas.Bool.{cond-true, cond-false, lt-ltb, le-ltb}
 use Rattle.std.proofs.lemmas.List.Concat.{flat_map-cons}
-use Rattle.mg_defs.specs.Generator.{base16, syllable, word, capital}
+use Rattle.mg_defs.specs.Generator.{base16, syllable, made_word, capital}
 
 base_short : (more i : ℕ) → i < 256 → base16 (suc more) i ≡ i / 16 ∷ i % 16 ∷ []
 base_short more i lt = cond-true (nat_lt i 256) (i / 16 ∷ i % 16 ∷ []) (base16 more (i / 16) ++ i % 16 ∷ []) (lt-ltb i 256 lt)
@@ -21,14 +21,14 @@ two a b = flat_map-cons syllable a (b ∷ []) ∙ ap (λ l. syllable a ++ l) (fl
 three : (a b c : ℕ) → flat_map syllable (a ∷ b ∷ c ∷ []) ≡ syllable a ++ (syllable b ++ syllable c)
 three a b c = flat_map-cons syllable a (b ∷ c ∷ []) ∙ ap (λ l. syllable a ++ l) (two b c)
 
-pub word_short : (i : ℕ) → i < 256 → word i ≡ syllable (i / 16 % 16) ++ syllable (i % 16)
-unfolding word
+pub word_short : (i : ℕ) → i < 256 → made_word i ≡ syllable (i / 16 % 16) ++ syllable (i % 16)
+unfolding made_word
 word_short i lt =
     let e : i / 16 ≡ i / 16 % 16 = omega (arith, lt) in
     ap (flat_map syllable) (base_short 13 i lt) ∙ two (i / 16) (i % 16) ∙ ap (λ k. syllable k ++ syllable (i % 16)) e
 
-pub word_long : (i : ℕ) → 256 ≤ i → i < 4096 → word i ≡ syllable (i / 256) ++ (syllable (i / 16 % 16) ++ syllable (i % 16))
-unfolding word
+pub word_long : (i : ℕ) → 256 ≤ i → i < 4096 → made_word i ≡ syllable (i / 256) ++ (syllable (i / 16 % 16) ++ syllable (i % 16))
+unfolding made_word
 word_long i ge lt =
     let e : i / 16 / 16 ≡ i / 256 = omega arith in
     ap (flat_map syllable) (base_long 12 i ge lt) ∙ three (i / 16 / 16) (i / 16 % 16) (i % 16) ∙ ap (λ k. syllable k ++ (syllable (i / 16 % 16) ++ syllable (i % 16))) e

@@ -1,6 +1,6 @@
 // Words of syllables.
 ghost use Rattle.std.specs.Prelude.{◌≡◌, ◌<◌, ◌≤◌, ◌+◌, ◌++◌, length};
-ghost use Rattle.mg_defs.specs.Generator.{syllable as syllable_of, word as word_of};
+ghost use Rattle.mg_defs.specs.Generator.{syllable as syllable_of, made_word as word_of};
 
 use arrayvec::ArrayVec;
 
