@@ -5,10 +5,11 @@ use Rattle.std.proofs.lemmas.Bool.Decides.{leb_tells}
 use Rattle.std.proofs.lemmas.List.{length-map}
 use Rattle.mg_defs.specs.Terms.{folded}
 use Rattle.mg_defs.specs.Sat.{Query, term, both, either, without}
-use Rattle.mg_defs.specs.Tokens.{Token, word, bar, amp, bang, opening, closing, Placed, placed, onto_word_at, onto_word, onto_sign, sign_of, tokens_from, tokens, bare}
+use Rattle.mg_defs.specs.Tokens.{Token, word, bar, amp, bang, opening, closing, PlacedToken, placed, onto_word_at, onto_word, onto_sign, sign_of, tokens_from, tokens, bare}
 use Rattle.mg_defs.specs.Grammar.{Level, or_level, and_level, not_level, Derives, either_of, only_and, both_of, both_with, only_not, not_of, inside, one_word}
-use Rattle.mg_defs.specs.Walk.{start}
-use Rattle.mg_defs.specs.Read.{Refusal, syntax, too_deep, too_long, too_many, reads, refused, refusal_from, negated, boolean, boolean_or, query_of}
+use Rattle.mg_defs.specs.Walk.{start_spot}
+use Rattle.mg_defs.specs.Read.{refusal_from, negated, boolean, boolean_or, query_of}
+use Rattle.mg_defs.specs.Refusals.{Refusal, syntax, too_deep, too_long, too_many, reads, refused}
 use Rattle.mg_defs.specs.Parse.{is_word_byte}
 use Rattle.mg_defs.proofs.ReadLaws.{query_is}
 use Rattle.mg_query.specs.RefusalOf.{refusal_of}
@@ -25,15 +26,15 @@ short-word n h = grind (arith, leb_tells)
 shallow : (d : ℕ) → d < 32 → nat_le 32 d ≡ false
 shallow d h = grind (arith, leb_tells)
 
-word-goes : (w : Bool) (d size at : ℕ) (v : List ℕ) (ts : List Placed) → length v ≤ 255 → refusal_from (at_depth w d) size (placed at (word v) ∷ ts) ≡ refusal_from (at_depth false d) size ts
+word-goes : (w : Bool) (d size at : ℕ) (v : List ℕ) (ts : List PlacedToken) → length v ≤ 255 → refusal_from (at_depth w d) size (placed at (word v) ∷ ts) ≡ refusal_from (at_depth false d) size ts
 word-goes w d size at v ts h = rw (short-word (length v) h) refl
 
-opening-goes : (w : Bool) (d size at : ℕ) (ts : List Placed) → d < 32 → refusal_from (at_depth w d) size (placed at opening ∷ ts) ≡ refusal_from (at_depth true (suc d)) size ts
+opening-goes : (w : Bool) (d size at : ℕ) (ts : List PlacedToken) → d < 32 → refusal_from (at_depth w d) size (placed at opening ∷ ts) ≡ refusal_from (at_depth true (suc d)) size ts
 opening-goes w d size at ts h = rw (shallow d h) refl
 
 -- ---- operands
 
-reads-word-at : (d size at : ℕ) (v : List ℕ) (before after : List Placed) → before ≡ placed at (word v) ∷ after → length v ≤ 255 → Reads not_level d size before after (term (folded v))
+reads-word-at : (d size at : ℕ) (v : List ℕ) (before after : List PlacedToken) → before ≡ placed at (word v) ∷ after → length v ≤ 255 → Reads not_level d size before after (term (folded v))
 reads-word-at d size at v before after e h = record {
   read = word v ∷ [];
   whole = ap bare e;
@@ -42,27 +43,27 @@ reads-word-at d size at v before after e h = record {
 }
 
 -- the first token, where its kind is known
-first-is : (t : Placed) (k : Token) (before after : List Placed) → before ≡ t ∷ after → t.token ≡ k → before ≡ placed t.at k ∷ after
+first-is : (t : PlacedToken) (k : Token) (before after : List PlacedToken) → before ≡ t ∷ after → t.token ≡ k → before ≡ placed t.at k ∷ after
 first-is t k before after e is = e ∙ ap (λ (u : Token). placed t.at u ∷ after) is
 
-pub reads-word : (d size : ℕ) (t : Placed) (v r : List ℕ) (before after : List Placed) → before ≡ t ∷ after → t.token ≡ word v → length v ≤ 255 → r ≡ folded v → Reads not_level d size before after (term r)
+pub reads-word : (d size : ℕ) (t : PlacedToken) (v r : List ℕ) (before after : List PlacedToken) → before ≡ t ∷ after → t.token ≡ word v → length v ≤ 255 → r ≡ folded v → Reads not_level d size before after (term r)
 reads-word d size t v r before after e is h same = subst (λ (f : List ℕ). Reads not_level d size before after (term f)) (sym same) (reads-word-at d size t.at v before after (first-is t (word v) before after e is) h)
 
-reads-inside-at : (d size at place : ℕ) (before mid rest after : List Placed) (q : Query) → before ≡ placed at opening ∷ mid → d < 32 → Reads or_level (suc d) size mid rest q → rest ≡ placed place closing ∷ after → Reads not_level d size before after q
+reads-inside-at : (d size at place : ℕ) (before mid rest after : List PlacedToken) (q : Query) → before ≡ placed at opening ∷ mid → d < 32 → Reads or_level (suc d) size mid rest q → rest ≡ placed place closing ∷ after → Reads not_level d size before after q
 reads-inside-at d size at place before mid rest after q e h r k = record {
   read = opening ∷ (r.read ++ closing ∷ []);
-  whole = ap bare e ∙ (ap (λ (xs : List Token). opening ∷ xs) (r.whole ∙ (ap (λ (xs : List Placed). r.read ++ bare xs) k ∙ sym (append_assoc r.read (closing ∷ []) (bare after)))));
+  whole = ap bare e ∙ (ap (λ (xs : List Token). opening ∷ xs) (r.whole ∙ (ap (λ (xs : List PlacedToken). r.read ++ bare xs) k ∙ sym (append_assoc r.read (closing ∷ []) (bare after)))));
   derives = inside r.derives refl;
   goes_on = λ w. ap (refusal_from (at_depth w d) size) e ∙ (opening-goes w d size at mid h ∙ (r.goes_on true ∙ ap (refusal_from (at_depth false (suc d)) size) k));
 }
 
-pub reads-inside : (d size inner place : ℕ) (t : Placed) (before mid rest after : List Placed) (q : Query) → before ≡ t ∷ mid → t.token ≡ opening → d < 32 → inner ≡ size → Reads or_level (d + 1) inner mid rest q → rest ≡ placed place closing ∷ after → Reads not_level d size before after q
+pub reads-inside : (d size inner place : ℕ) (t : PlacedToken) (before mid rest after : List PlacedToken) (q : Query) → before ≡ t ∷ mid → t.token ≡ opening → d < 32 → inner ≡ size → Reads or_level (d + 1) inner mid rest q → rest ≡ placed place closing ∷ after → Reads not_level d size before after q
 reads-inside d size inner place t before mid rest after q e is h same r k =
     let here = subst (λ (n : ℕ). Reads or_level (d + 1) n mid rest q) same r in
     let there = subst (λ (n : ℕ). Reads or_level n size mid rest q) (add-one d) here in
     reads-inside-at d size t.at place before mid rest after q (first-is t opening before mid e is) h there k
 
-amped : (d size at : ℕ) (before ts next after : List Placed) (p q : Query) → Reads and_level d size before (placed at amp ∷ ts) p → next ≡ ts → Reads not_level d size next after q → Reads and_level d size before after (both p q)
+amped : (d size at : ℕ) (before ts next after : List PlacedToken) (p q : Query) → Reads and_level d size before (placed at amp ∷ ts) p → next ≡ ts → Reads not_level d size next after q → Reads and_level d size before after (both p q)
 amped d size at before ts next after p q r e k = record {
   read = r.read ++ (amp ∷ k.read);
   whole = r.whole ∙ (ap (λ (xs : List Token). r.read ++ (amp ∷ xs)) (ap bare (sym e) ∙ k.whole) ∙ sym (append_assoc r.read (amp ∷ k.read) (bare after)));
@@ -70,7 +71,7 @@ amped d size at before ts next after p q r e k = record {
   goes_on = λ w. r.goes_on w ∙ (ap (refusal_from (at_depth true d) size) (sym e) ∙ k.goes_on true);
 }
 
-beside : (d size : ℕ) (before mid next after : List Placed) (p q : Query) → Reads and_level d size before mid p → next ≡ mid → Reads not_level d size next after q → Reads and_level d size before after (both p q)
+beside : (d size : ℕ) (before mid next after : List PlacedToken) (p q : Query) → Reads and_level d size before mid p → next ≡ mid → Reads not_level d size next after q → Reads and_level d size before after (both p q)
 beside d size before mid next after p q r e k = record {
   read = r.read ++ k.read;
   whole = r.whole ∙ (ap (λ (xs : List Token). r.read ++ xs) (ap bare (sym e) ∙ k.whole) ∙ sym (append_assoc r.read k.read (bare after)));
@@ -78,7 +79,7 @@ beside d size before mid next after p q r e k = record {
   goes_on = λ w. r.goes_on w ∙ (ap (refusal_from (at_depth false d) size) (sym e) ∙ k.goes_on false);
 }
 
-joined-at : (d size at : ℕ) (t : Token) (before ts next after : List Placed) (p q : Query) → Reads and_level d size before (placed at t ∷ ts) p → JoinsBy t (placed at t) ts next → Reads not_level d size next after q → Reads and_level d size before after (both p q)
+joined-at : (d size at : ℕ) (t : Token) (before ts next after : List PlacedToken) (p q : Query) → Reads and_level d size before (placed at t ∷ ts) p → JoinsBy t (placed at t) ts next → Reads not_level d size next after q → Reads and_level d size before after (both p q)
 joined-at d size at amp before ts next after p q r j k = amped d size at before ts next after p q r j k
 joined-at d size at (word v) before ts next after p q r j k = beside d size before (placed at (word v) ∷ ts) next after p q r j k
 joined-at d size at bang before ts next after p q r j k = beside d size before (placed at bang ∷ ts) next after p q r j k
@@ -86,43 +87,43 @@ joined-at d size at opening before ts next after p q r j k = beside d size befor
 joined-at d size at bar before ts next after p q r j k = absurd j
 joined-at d size at closing before ts next after p q r j k = absurd j
 
-joined : (d size : ℕ) (before mid next after : List Placed) (p q : Query) → Reads and_level d size before mid p → JoinsTo mid next → Reads not_level d size next after q → Reads and_level d size before after (both p q)
+joined : (d size : ℕ) (before mid next after : List PlacedToken) (p q : Query) → Reads and_level d size before mid p → JoinsTo mid next → Reads not_level d size next after q → Reads and_level d size before after (both p q)
 joined d size before [] next after p q r j k = absurd j
 joined d size before (t ∷ ts) next after p q r j k = joined-at d size t.at t.token before ts next after p q r j k
 
-pub reads-and : (d size inner : ℕ) (before mid next after : List Placed) (p q whole : Query) → Reads and_level d size before mid p → JoinsTo mid next → inner ≡ size → Reads not_level d inner next after q → whole ≡ both p q → Reads and_level d size before after whole
+pub reads-and : (d size inner : ℕ) (before mid next after : List PlacedToken) (p q whole : Query) → Reads and_level d size before mid p → JoinsTo mid next → inner ≡ size → Reads not_level d inner next after q → whole ≡ both p q → Reads and_level d size before after whole
 reads-and d size inner before mid next after p q whole r j same k is =
     let here = subst (λ (n : ℕ). Reads not_level d n next after q) same k in
     subst (Reads and_level d size before after) (sym is) (joined d size before mid next after p q r j here)
 
-chosen : (d size at : ℕ) (before mid next after : List Placed) (p q : Query) → Reads or_level d size before mid p → mid ≡ placed at bar ∷ next → Reads and_level d size next after q → Reads or_level d size before after (either p q)
+chosen : (d size at : ℕ) (before mid next after : List PlacedToken) (p q : Query) → Reads or_level d size before mid p → mid ≡ placed at bar ∷ next → Reads and_level d size next after q → Reads or_level d size before after (either p q)
 chosen d size at before mid next after p q r e k = record {
   read = r.read ++ (bar ∷ k.read);
-  whole = r.whole ∙ (ap (λ (xs : List Placed). r.read ++ bare xs) e ∙ (ap (λ (xs : List Token). r.read ++ (bar ∷ xs)) k.whole ∙ sym (append_assoc r.read (bar ∷ k.read) (bare after))));
+  whole = r.whole ∙ (ap (λ (xs : List PlacedToken). r.read ++ bare xs) e ∙ (ap (λ (xs : List Token). r.read ++ (bar ∷ xs)) k.whole ∙ sym (append_assoc r.read (bar ∷ k.read) (bare after))));
   derives = either_of r.derives k.derives refl;
   goes_on = λ w. r.goes_on w ∙ (ap (refusal_from (at_depth false d) size) e ∙ k.goes_on true);
 }
 
-pub reads-or : (d size inner at : ℕ) (before mid next after : List Placed) (p q whole : Query) → Reads or_level d size before mid p → mid ≡ placed at bar ∷ next → inner ≡ size → Reads and_level d inner next after q → whole ≡ either p q → Reads or_level d size before after whole
+pub reads-or : (d size inner at : ℕ) (before mid next after : List PlacedToken) (p q whole : Query) → Reads or_level d size before mid p → mid ≡ placed at bar ∷ next → inner ≡ size → Reads and_level d inner next after q → whole ≡ either p q → Reads or_level d size before after whole
 reads-or d size inner at before mid next after p q whole r e same k is =
     let here = subst (λ (n : ℕ). Reads and_level d n next after q) same k in
     subst (Reads or_level d size before after) (sym is) (chosen d size at before mid next after p q r e here)
 
-pub reads-only-not : (d size : ℕ) (before after : List Placed) (q : Query) → Reads not_level d size before after q → Reads and_level d size before after q
+pub reads-only-not : (d size : ℕ) (before after : List PlacedToken) (q : Query) → Reads not_level d size before after q → Reads and_level d size before after q
 reads-only-not d size before after q r = record { read = r.read; whole = r.whole; derives = only_not r.derives; goes_on = r.goes_on }
 
-pub reads-only-and : (d size : ℕ) (before after : List Placed) (q : Query) → Reads and_level d size before after q → Reads or_level d size before after q
+pub reads-only-and : (d size : ℕ) (before after : List PlacedToken) (q : Query) → Reads and_level d size before after q → Reads or_level d size before after q
 reads-only-and d size before after q r = record { read = r.read; whole = r.whole; derives = only_and r.derives; goes_on = r.goes_on }
 
 -- ---- signs !
 
 -- Before the tokens after stood so many signs !: what reads from those reads, negated, from these.
-pub record Banged (d size : ℕ) (before after : List Placed) (signs : ℕ) : Type 0 where
-  pub reads : (last : List Placed) (q : Query) → Reads not_level d size after last q → Reads not_level d size before last (negated signs q)
+pub record Banged (d size : ℕ) (before after : List PlacedToken) (signs : ℕ) : Type 0 where
+  pub reads : (last : List PlacedToken) (q : Query) → Reads not_level d size after last q → Reads not_level d size before last (negated signs q)
   pub same : refusal_from (at_depth true d) size before ≡ refusal_from (at_depth true d) size after
   pub count : signs + length after ≤ length before
 
-under-bang : (d size at : ℕ) (mid after last : List Placed) (q : Query) → mid ≡ placed at bang ∷ after → Reads not_level d size after last q → Reads not_level d size mid last (without q)
+under-bang : (d size at : ℕ) (mid after last : List PlacedToken) (q : Query) → mid ≡ placed at bang ∷ after → Reads not_level d size after last q → Reads not_level d size mid last (without q)
 under-bang d size at mid after last q e r = record {
   read = bang ∷ r.read;
   whole = ap bare e ∙ ap (λ (xs : List Token). bang ∷ xs) r.whole;
@@ -130,7 +131,7 @@ under-bang d size at mid after last q e r = record {
   goes_on = λ w. ap (refusal_from (at_depth w d) size) e ∙ r.goes_on true;
 }
 
-pub banged-more : (d size at : ℕ) (before mid after : List Placed) (signs : ℕ) → Banged d size before mid signs → mid ≡ placed at bang ∷ after → Banged d size before after (signs + 1)
+pub banged-more : (d size at : ℕ) (before mid after : List PlacedToken) (signs : ℕ) → Banged d size before mid signs → mid ≡ placed at bang ∷ after → Banged d size before after (signs + 1)
 banged-more d size at before mid after signs b e = rw (add-one signs) (record {
   reads = λ last q r. b.reads last (without q) (under-bang d size at mid after last q e r);
   same = b.same ∙ ap (refusal_from (at_depth true d) size) e;
@@ -152,13 +153,13 @@ derives-some (not_of h) = omega arith
 derives-some (inside {a = a} h e) = let l : length _ ≡ suc (length (a ++ closing ∷ [])) = ap length e in omega (arith, l)
 derives-some one_word = omega arith
 
-pub reads-shorter : (level : Level) (d size : ℕ) (before after : List Placed) (q : Query) → Reads level d size before after q → length after < length before
+pub reads-shorter : (level : Level) (d size : ℕ) (before after : List PlacedToken) (q : Query) → Reads level d size before after q → length after < length before
 reads-shorter level d size before after q r =
     let some = derives-some r.derives in
     let sum : length (bare before) ≡ length r.read + length (bare after) = ap length r.whole ∙ length-append r.read (bare after) in
-    omega (arith, some, sum, length-map before (λ (t : Placed). t.token), length-map after (λ (t : Placed). t.token))
+    omega (arith, some, sum, length-map before (λ (t : PlacedToken). t.token), length-map after (λ (t : PlacedToken). t.token))
 
-joins-by-shorter : (at : ℕ) (t : Token) (ts next : List Placed) → JoinsBy t (placed at t) ts next → length next ≤ suc (length ts)
+joins-by-shorter : (at : ℕ) (t : Token) (ts next : List PlacedToken) → JoinsBy t (placed at t) ts next → length next ≤ suc (length ts)
 joins-by-shorter at amp ts next j = let l : length next ≡ length ts = ap length j in omega (arith, l)
 joins-by-shorter at (word v) ts next j = let l : length next ≡ suc (length ts) = ap length j in omega (arith, l)
 joins-by-shorter at bang ts next j = let l : length next ≡ suc (length ts) = ap length j in omega (arith, l)
@@ -166,17 +167,17 @@ joins-by-shorter at opening ts next j = let l : length next ≡ suc (length ts) 
 joins-by-shorter at bar ts next j = absurd j
 joins-by-shorter at closing ts next j = absurd j
 
-joins-shorter : (before next : List Placed) → JoinsTo before next → length next ≤ length before
+joins-shorter : (before next : List PlacedToken) → JoinsTo before next → length next ≤ length before
 joins-shorter [] next j = absurd j
 joins-shorter (t ∷ ts) next j = joins-by-shorter t.at t.token ts next j
 
-pub and-shorter : (d size : ℕ) (before next after : List Placed) (q : Query) → JoinsTo before next → Reads not_level d size next after q → length after < length before
+pub and-shorter : (d size : ℕ) (before next after : List PlacedToken) (q : Query) → JoinsTo before next → Reads not_level d size next after q → length after < length before
 and-shorter d size before next after q j r = omega (arith, joins-shorter before next j, reads-shorter not_level d size next after q r)
 
-pub or-shorter : (d size at : ℕ) (before next after : List Placed) (q : Query) → before ≡ placed at bar ∷ next → Reads and_level d size next after q → length after < length before
+pub or-shorter : (d size at : ℕ) (before next after : List PlacedToken) (q : Query) → before ≡ placed at bar ∷ next → Reads and_level d size next after q → length after < length before
 or-shorter d size at before next after q e r = let l : length before ≡ suc (length next) = ap length e in omega (arith, l, reads-shorter and_level d size next after q r)
 
-onto-word-few : (at b : ℕ) (t : Token) (from : ℕ) (ts : List Placed) → length (onto_word_at at b t from ts) ≤ suc (suc (length ts))
+onto-word-few : (at b : ℕ) (t : Token) (from : ℕ) (ts : List PlacedToken) → length (onto_word_at at b t from ts) ≤ suc (suc (length ts))
 onto-word-few at b (word w) from ts =
     elim (cases_Bool (from == at + 1)) [
       | inl is ↦ rw is (omega arith)
@@ -188,11 +189,11 @@ onto-word-few at b bang from ts = omega arith
 onto-word-few at b opening from ts = omega arith
 onto-word-few at b closing from ts = omega arith
 
-word-few : (at b : ℕ) (ts : List Placed) → length (onto_word at b ts) ≤ suc (length ts)
+word-few : (at b : ℕ) (ts : List PlacedToken) → length (onto_word at b ts) ≤ suc (length ts)
 word-few at b [] = omega arith
 word-few at b (t ∷ ts) = onto-word-few at b t.token t.at ts
 
-sign-few : (at : ℕ) (o : Option Token) (ts : List Placed) → length (onto_sign at o ts) ≤ suc (length ts)
+sign-few : (at : ℕ) (o : Option Token) (ts : List PlacedToken) → length (onto_sign at o ts) ≤ suc (length ts)
 sign-few at None ts = omega arith
 sign-few at (Some t) ts = omega arith
 
@@ -209,18 +210,18 @@ tokens-few at (b ∷ bytes) =
 -- ---- whole lines
 
 -- nothing is left
-pub whole-line : (line : List ℕ) (size : ℕ) (before after : List Placed) (q : Query) → before ≡ tokens line → size ≡ length line → Reads or_level 0 size before after q → after ≡ [] → boolean line ≡ reads q
+pub whole-line : (line : List ℕ) (size : ℕ) (before after : List PlacedToken) (q : Query) → before ≡ tokens line → size ≡ length line → Reads or_level 0 size before after q → after ≡ [] → boolean line ≡ reads q
 unfolding boolean
 whole-line line size before after q is long r nothing =
-    let all : bare (tokens line) ≡ r.read = ap bare (sym is) ∙ (r.whole ∙ (ap (λ (ts : List Placed). r.read ++ bare ts) nothing ∙ append-nil r.read)) in
+    let all : bare (tokens line) ≡ r.read = ap bare (sym is) ∙ (r.whole ∙ (ap (λ (ts : List PlacedToken). r.read ++ bare ts) nothing ∙ append-nil r.read)) in
     let derives : Derives or_level (bare (tokens line)) q = subst (λ (ts : List Token). Derives or_level ts q) (sym all) r.derives in
-    let free : refusal_from start (length line) (tokens line) ≡ None = ap (λ (ts : List Placed). refusal_from start (length line) ts) (sym is) ∙ (ap (λ (n : ℕ). refusal_from start n before) (sym long) ∙ (r.goes_on true ∙ ap (refusal_from (at_depth false 0) size) nothing)) in
+    let free : refusal_from start_spot (length line) (tokens line) ≡ None = ap (λ (ts : List PlacedToken). refusal_from start_spot (length line) ts) (sym is) ∙ (ap (λ (n : ℕ). refusal_from start_spot n before) (sym long) ∙ (r.goes_on true ∙ ap (refusal_from (at_depth false 0) size) nothing)) in
     ap (λ o. boolean_or o (query_of (bare (tokens line))) (length line)) free ∙ ap (λ o. boolean_or None o (length line)) (query_is (bare (tokens line)) q derives)
 
-closing-refused : (size : ℕ) (t : Placed) (ts : List Placed) → StopsOr (t ∷ ts) → refusal_from (at_depth false 0) size (t ∷ ts) ≡ Some (syntax t.at)
+closing-refused : (size : ℕ) (t : PlacedToken) (ts : List PlacedToken) → StopsOr (t ∷ ts) → refusal_from (at_depth false 0) size (t ∷ ts) ≡ Some (syntax t.at)
 closing-refused size t ts stops = closing-at size t.at t.token ts stops
   where
-    closing-at : (size at : ℕ) (t : Token) (ts : List Placed) → StopsOr (placed at t ∷ ts) → refusal_from (at_depth false 0) size (placed at t ∷ ts) ≡ Some (syntax at)
+    closing-at : (size at : ℕ) (t : Token) (ts : List PlacedToken) → StopsOr (placed at t ∷ ts) → refusal_from (at_depth false 0) size (placed at t ∷ ts) ≡ Some (syntax at)
     closing-at size at closing ts stops = refl
     closing-at size at (word w) ts stops = absurd stops
     closing-at size at bar ts stops = absurd stops
@@ -229,20 +230,20 @@ closing-refused size t ts stops = closing-at size t.at t.token ts stops
     closing-at size at opening ts stops = absurd stops
 
 -- a closing parenthesis is left
-pub line-goes-on : (line : List ℕ) (size : ℕ) (before after ts : List Placed) (t : Placed) (q : Query) → before ≡ tokens line → size ≡ length line → Reads or_level 0 size before after q → StopsOr after → after ≡ t ∷ ts → boolean line ≡ refused (syntax t.at)
+pub line-goes-on : (line : List ℕ) (size : ℕ) (before after ts : List PlacedToken) (t : PlacedToken) (q : Query) → before ≡ tokens line → size ≡ length line → Reads or_level 0 size before after q → StopsOr after → after ≡ t ∷ ts → boolean line ≡ refused (syntax t.at)
 unfolding boolean
 line-goes-on line size before after ts t q is long r stops left =
     let closed = closing-refused size t ts (subst StopsOr left stops) in
-    let stopped : refusal_from start (length line) (tokens line) ≡ Some (syntax t.at) = ap (λ (ts : List Placed). refusal_from start (length line) ts) (sym is) ∙ (ap (λ (n : ℕ). refusal_from start n before) (sym long) ∙ (r.goes_on true ∙ (ap (refusal_from (at_depth false 0) size) left ∙ closed))) in
+    let stopped : refusal_from start_spot (length line) (tokens line) ≡ Some (syntax t.at) = ap (λ (ts : List PlacedToken). refusal_from start_spot (length line) ts) (sym is) ∙ (ap (λ (n : ℕ). refusal_from start_spot n before) (sym long) ∙ (r.goes_on true ∙ (ap (refusal_from (at_depth false 0) size) left ∙ closed))) in
     ap (λ o. boolean_or o (query_of (bare (tokens line))) (length line)) stopped
 
-line-stops : (line : List ℕ) (size : ℕ) (before : List Placed) (why : Refusal) → before ≡ tokens line → size ≡ length line → refusal_from (at_depth true 0) size before ≡ Some why → boolean line ≡ refused why
+line-stops : (line : List ℕ) (size : ℕ) (before : List PlacedToken) (why : Refusal) → before ≡ tokens line → size ≡ length line → refusal_from (at_depth true 0) size before ≡ Some why → boolean line ≡ refused why
 unfolding boolean
 line-stops line size before why is long h =
-    let stopped : refusal_from start (length line) (tokens line) ≡ Some why = ap (λ (ts : List Placed). refusal_from start (length line) ts) (sym is) ∙ (ap (λ (n : ℕ). refusal_from start n before) (sym long) ∙ h) in
+    let stopped : refusal_from start_spot (length line) (tokens line) ≡ Some why = ap (λ (ts : List PlacedToken). refusal_from start_spot (length line) ts) (sym is) ∙ (ap (λ (n : ℕ). refusal_from start_spot n before) (sym long) ∙ h) in
     ap (λ o. boolean_or o (query_of (bare (tokens line))) (length line)) stopped
 
-pub line-refused : (e : QueryErr) (line : List ℕ) (size : ℕ) (before : List Placed) → before ≡ tokens line → size ≡ length line → IsStopped e 0 size before → IfSome (refusal_of e) (λ why. boolean line ≡ refused why)
+pub line-refused : (e : QueryErr) (line : List ℕ) (size : ℕ) (before : List PlacedToken) → before ≡ tokens line → size ≡ length line → IsStopped e 0 size before → IfSome (refusal_of e) (λ why. boolean line ≡ refused why)
 line-refused (Syntax at) line size before is long h = line-stops line size before (syntax at) is long h
 line-refused (TooDeep at) line size before is long h = line-stops line size before (too_deep at) is long h
 line-refused (TermTooLong at) line size before is long h = line-stops line size before (too_long at) is long h

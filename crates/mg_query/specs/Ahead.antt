@@ -1,6 +1,6 @@
 -- What the tokens ahead begin with.
 use Rattle.std.specs.Prelude.{◌≡◌, List, [], ◌∷◌}
-use Rattle.mg_defs.specs.Tokens.{Token, word, bar, amp, bang, opening, closing, Placed}
+use Rattle.mg_defs.specs.Tokens.{Token, word, bar, amp, bang, opening, closing, PlacedToken}
 
 abbrev pub EndsAnd : Token → Type 0
 EndsAnd bar = Unit {0}
@@ -11,7 +11,7 @@ EndsAnd bang = ⊥
 EndsAnd opening = ⊥
 
 -- what may follow a list on level and: the end, a sign | or a closing parenthesis
-abbrev pub StopsAnd : List Placed → Type 0
+abbrev pub StopsAnd : List PlacedToken → Type 0
 StopsAnd [] = Unit {0}
 StopsAnd (t ∷ ts) = EndsAnd t.token
 
@@ -24,7 +24,7 @@ EndsOr bang = ⊥
 EndsOr opening = ⊥
 
 -- what may follow a list on level or: the end or a closing parenthesis
-abbrev pub StopsOr : List Placed → Type 0
+abbrev pub StopsOr : List PlacedToken → Type 0
 StopsOr [] = Unit {0}
 StopsOr (t ∷ ts) = EndsOr t.token
 
@@ -36,11 +36,11 @@ IsNoBang amp = Unit {0}
 IsNoBang opening = Unit {0}
 IsNoBang closing = Unit {0}
 
-abbrev pub NoBang : List Placed → Type 0
+abbrev pub NoBang : List PlacedToken → Type 0
 NoBang [] = Unit {0}
 NoBang (t ∷ ts) = IsNoBang t.token
 
-abbrev pub JoinsBy : Token → Placed → List Placed → List Placed → Type 0
+abbrev pub JoinsBy : Token → PlacedToken → List PlacedToken → List PlacedToken → Type 0
 JoinsBy amp t ts after = after ≡ ts
 JoinsBy (word w) t ts after = after ≡ t ∷ ts
 JoinsBy bang t ts after = after ≡ t ∷ ts
@@ -49,6 +49,6 @@ JoinsBy bar t ts after = ⊥
 JoinsBy closing t ts after = ⊥
 
 -- One more operand of an and begins with the tokens after: at once, or after a sign &.
-abbrev pub JoinsTo : List Placed → List Placed → Type 0
+abbrev pub JoinsTo : List PlacedToken → List PlacedToken → Type 0
 JoinsTo [] after = ⊥
 JoinsTo (t ∷ ts) after = JoinsBy t.token t ts after

@@ -1,6 +1,6 @@
 -- The tokens that a parser has not taken yet: the one in hand and those that its lexer gives.
 use Rattle.std.specs.Prelude.{Option, Some, None, List, [], ◌∷◌}
-use Rattle.mg_defs.specs.Tokens.{Placed as Meant}
+use Rattle.mg_defs.specs.Tokens.{PlacedToken as Meant}
 use Rattle.mg_query.specs.declared.lexer.Placed.{Placed}
 use Rattle.mg_query.specs.declared.lexer.Lexer.{Lexer}
 use Rattle.mg_query.specs.declared.parser.Parser.{Parser}

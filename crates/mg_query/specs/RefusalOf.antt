@@ -1,6 +1,6 @@
 -- Which refusal of a line an error stands for. Want of memory is none.
 use Rattle.std.specs.Prelude.{Option, Some, None}
-use Rattle.mg_defs.specs.Read.{Refusal, syntax, too_deep, too_long, too_many}
+use Rattle.mg_defs.specs.Refusals.{Refusal, syntax, too_deep, too_long, too_many}
 use Rattle.mg_query.specs.declared.query_err.QueryErr.{QueryErr}
 use Rattle.mg_query.specs.declared.query_err.QueryErr.TheVariants.{Syntax, TooDeep, TermTooLong, TooManyTerms, Memory}
 

@@ -1,6 +1,6 @@
 -- The tokens that a lexer has not given yet.
 use Rattle.std.specs.Prelude.{List}
-use Rattle.mg_defs.specs.Tokens.{Placed as Meant, tokens_from}
+use Rattle.mg_defs.specs.Tokens.{PlacedToken as Meant, tokens_from}
 use Rattle.mg_query.specs.declared.lexer.Placed.{Placed}
 use Rattle.mg_query.specs.declared.lexer.Lexer.{Lexer}
 use Rattle.mg_query.specs.TokenOf.{token_of}

@@ -1,6 +1,7 @@
 //! Boolean lines.
 ghost use Rattle.std.specs.Prelude.{◌≡◌, ◌≢◌, ◌≤◌, ℕ, length, IfOk, IfErr, IfSome};
-ghost use Rattle.mg_defs.specs.Read.{boolean, reads, refused};
+ghost use Rattle.mg_defs.specs.Read.{boolean};
+ghost use Rattle.mg_defs.specs.Refusals.{reads, refused};
 ghost use Rattle.mg_query.specs.QueryOf.{query_of};
 ghost use Rattle.mg_query.specs.RefusalOf.{refusal_of};
 

@@ -1,7 +1,7 @@
 //! Phrases: the words of a line in order.
 ghost use Rattle.std.specs.Prelude.{◌≡◌, ◌≢◌, ◌≤◌, ℕ, length, IfOk, IfErr, IfSome, OnOk};
 ghost use Rattle.mg_defs.specs.Phrases.{phrase_next, phrase_of, phrase_with};
-ghost use Rattle.mg_defs.specs.Read.{reads, refused};
+ghost use Rattle.mg_defs.specs.Refusals.{reads, refused};
 ghost use Rattle.mg_query.specs.RefusalOf.{refusal_of};
 ghost use Rattle.mg_query.specs.TokensLeft.{placed_of};
 

@@ -1,6 +1,7 @@
 //! Ranked lines.
 ghost use Rattle.std.specs.Prelude.{◌≡◌, ◌≢◌, ◌≤◌, ℕ, length, IfOk, IfErr, IfSome, OnOk};
-ghost use Rattle.mg_defs.specs.Read.{ranked, ranked_next, ranked_with, reads, refused};
+ghost use Rattle.mg_defs.specs.Read.{ranked, ranked_next, ranked_with};
+ghost use Rattle.mg_defs.specs.Refusals.{reads, refused};
 ghost use Rattle.mg_query.specs.RefusalOf.{refusal_of};
 ghost use Rattle.mg_query.specs.TokensLeft.{placed_of};
 

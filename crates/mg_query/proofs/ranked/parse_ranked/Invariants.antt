@@ -1,5 +1,6 @@
 use Rattle.std.proofs.Common.{◌≡◌, length}
-use Rattle.mg_defs.specs.Read.{ranked, ranked_from, reads}
+use Rattle.mg_defs.specs.Read.{ranked, ranked_from}
+use Rattle.mg_defs.specs.Refusals.{reads}
 use Rattle.mg_query.specs.TokensLeft.{tokens_left}
 use Rattle.mg_query.proofs.ranked.parse_ranked.Given as goal
 
