@@ -1,13 +1,13 @@
 -- The tools' commands, and what they make of the words, the first of which is the tool's name.
-use Rattle.std.specs.Prelude.{◌≡◌, ◌≢◌, ◌⊎◌, ℕ, true, false, if◌then◌else◌, List, [], ◌∷◌, length, ◌==◌, codes, unwrap_or, option_map, is_some, Option, Some, None}
-use Rattle.std.specs.Str.Parse.{digits_value, without_leading_plus}
+use Rattle.std.specs.Prelude.{◌≡◌, ◌≢◌, ◌⊎◌, ◌<◌, ◌^◌, ℕ, true, false, if◌then◌else◌, List, [], ◌∷◌, length, ◌==◌, codes, unwrap_or, option_map, is_some, Option, Some, None}
+use Rattle.std.specs.Str.Parse.{IsNumeral, digits_value, without_leading_plus}
 use Rattle.std.specs.List.{All}
 use Rattle.std.specs.Str.{bytes_eq}
 use Rattle.clap.specs.declared.builder.arg.Arg.{Arg}
 use Rattle.clap.specs.declared.builder.command.Command.{Command}
 use Rattle.clap.specs.declared.parser.matches.ArgMatches.{ArgMatches}
 use Rattle.clap.specs.declared.builder.command.Command.TheViews.{out-Command}
-use Rattle.clap.specs.Words.{IsPlain, IsParsedFrom, first_value, found_of, IsPlainArg, args_of, rule_of, App, Rule, Row, Kinds, new_app, new_rule, with_rule, matches_of, first_of, one_of, fault_of}
+use Rattle.clap.specs.Words.{IsPlain, IsParsedFrom, first_value, found_of, IsPlainArg, args_of, rule_of, App, Rule, Row, Kinds, new_app, new_rule, with_rule, matches_of, rows_of, first_of, one_of, fault_of}
 use Rattle.clap.specs.declared.builder.value_parser.ValueParser.TheVariants as parser
 use Rattle.clap.specs.declared.builder.ArgAction.TheVariants as action
 use Rattle.mg_words.specs.Plain.{Word}
@@ -34,13 +34,23 @@ name_app tool id = with_rule (new_app tool) (name_rule id)
 abbrev pub build_app : App
 build_app = with_rule (with_rule (with_rule (new_app (codes "build")) (name_rule (codes "collection"))) (name_rule (codes "name"))) budget_rule
 
+-- the ids of its names
+abbrev pub build_names : List Word
+build_names = codes "collection" ∷ codes "name" ∷ []
+
 -- `migrate NAME NEW`
 abbrev pub migrate_app : App
 migrate_app = with_rule (name_app (codes "migrate") (codes "name")) (name_rule (codes "new"))
 
+abbrev pub migrate_names : List Word
+migrate_names = codes "name" ∷ codes "new" ∷ []
+
 -- `merge A B NEW`
 abbrev pub merge_app : App
 merge_app = with_rule (with_rule (name_app (codes "merge") (codes "first")) (name_rule (codes "second"))) (name_rule (codes "new"))
+
+abbrev pub merge_names : List Word
+merge_names = codes "first" ∷ codes "second" ∷ codes "new" ∷ []
 
 -- `trial SEED DOCS`
 abbrev pub trial_app : App
@@ -53,6 +63,18 @@ faults app words = fault_of app words
 -- what a command's matches hold at the words
 unfoldable pub rows : App → List Word → List Row
 rows app words = matches_of app words
+
+-- what matches hold
+abbrev pub rows_in : ArgMatches → List Row
+rows_in m = rows_of (found_of m)
+
+-- matches give the id a value
+abbrev pub IsGiven : ArgMatches → Word → Type 0
+IsGiven m id = is_some (first_value (found_of m) id) ≡ true
+
+-- a text that writes a number of eight bytes: a plus may stand before it
+abbrev pub WritesNumber : Word → Type 0
+WritesNumber text = IsNumeral 10 (without_leading_plus text) × (digits_value 10 (without_leading_plus text) < 2 ^ 64)
 
 -- an empty text is no name
 abbrev pub some_name : Word → Option Word
@@ -85,7 +107,7 @@ IsPlainCommand command = IsPlain command × ((out-Command command).has_globals �
 
 -- a parse that takes the words gives the id a value
 abbrev pub Gives : Command → Word → Type 0
-Gives command id = (m : ArgMatches) → IsParsedFrom command m → is_some (first_value (found_of m) id) ≡ true
+Gives command id = (m : ArgMatches) → IsParsedFrom command m → IsGiven m id
 
 -- an id that `clap` takes for no flag of its own
 abbrev pub IsOwnId : Word → Type 0

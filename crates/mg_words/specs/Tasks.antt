@@ -6,7 +6,7 @@ use Rattle.clap.specs.Words.{App, Row}
 use Rattle.mg_words.specs.declared.task.Task.{Task as Request}
 use Rattle.mg_words.specs.declared.task.Task.TheVariants as request
 use Rattle.mg_words.specs.Plain.{Word, is_plain_name, plain_number, default_budget, IsBudget, budget_in_one, budget_in_two}
-use Rattle.mg_words.specs.Commands.{name_app, build_app, trial_app, migrate_app, merge_app, name_in, number_in, if_taken, IsRefusedBy}
+use Rattle.mg_words.specs.Commands.{name_app, build_app, build_names, trial_app, migrate_app, migrate_names, merge_app, merge_names, name_in, number_in, if_taken, IsRefusedBy}
 
 -- a tool, and the values of its arguments
 pub data Task : Type 0 where
@@ -76,20 +76,33 @@ merge_in held = option_and_then (λ first. option_and_then (λ second. option_ma
 abbrev pub name_asked : Word → Word → List Word → Option Word
 name_asked id tool rest = option_or (plain_name rest) (if_taken (name_app tool id) (tool ∷ rest) (name_in id))
 
+-- the task of a tool: by the plain words behind its name, else by what its command takes of all words
+abbrev pub build_asked : List Word → List Word → Option Task
+build_asked rest words = option_or (plain_build rest) (if_taken build_app words build_in)
+
+abbrev pub trial_asked : List Word → List Word → Option Task
+trial_asked rest words = option_or (plain_trial rest) (if_taken trial_app words trial_in)
+
+abbrev pub migrate_asked : List Word → List Word → Option Task
+migrate_asked rest words = option_or (plain_migrate rest) (if_taken migrate_app words migrate_in)
+
+abbrev pub merge_asked : List Word → List Word → Option Task
+merge_asked rest words = option_or (plain_merge rest) (if_taken merge_app words merge_in)
+
 -- what the words ask; plain words by their rule, others by the tool's command
 abbrev pub task_of : List Word → Option Task
 task_of [] = None
 task_of (tool ∷ rest) =
-    if bytes_eq tool (codes "build") then option_or (plain_build rest) (if_taken build_app (tool ∷ rest) build_in)
+    if bytes_eq tool (codes "build") then build_asked rest (tool ∷ rest)
     else if bytes_eq tool (codes "query") then option_map query (name_asked (codes "name") tool rest)
     else if bytes_eq tool (codes "decode") then option_map decode (name_asked (codes "name") tool rest)
     else if bytes_eq tool (codes "scan") then option_map scan (name_asked (codes "collection") tool rest)
-    else if bytes_eq tool (codes "trial") then option_or (plain_trial rest) (if_taken trial_app (tool ∷ rest) trial_in)
-    else if bytes_eq tool (codes "migrate") then option_or (plain_migrate rest) (if_taken migrate_app (tool ∷ rest) migrate_in)
+    else if bytes_eq tool (codes "trial") then trial_asked rest (tool ∷ rest)
+    else if bytes_eq tool (codes "migrate") then migrate_asked rest (tool ∷ rest)
     else if bytes_eq tool (codes "check") then option_map check (name_asked (codes "name") tool rest)
     else if bytes_eq tool (codes "wild") then option_map wild (name_asked (codes "name") tool rest)
     else if bytes_eq tool (codes "phrase") then option_map phrase (name_asked (codes "name") tool rest)
-    else if bytes_eq tool (codes "merge") then option_or (plain_merge rest) (if_taken merge_app (tool ∷ rest) merge_in)
+    else if bytes_eq tool (codes "merge") then merge_asked rest (tool ∷ rest)
     else None
 
 -- a task as the clauses see it
@@ -114,16 +127,16 @@ IsWithin other = ⊤
 -- a tool's command, and the ids of its names
 abbrev pub command_of : Word → Option (App × List Word)
 command_of tool =
-    if bytes_eq tool (codes "build") then Some (build_app, codes "collection" ∷ codes "name" ∷ [])
+    if bytes_eq tool (codes "build") then Some (build_app, build_names)
     else if bytes_eq tool (codes "query") then Some (name_app tool (codes "name"), codes "name" ∷ [])
     else if bytes_eq tool (codes "decode") then Some (name_app tool (codes "name"), codes "name" ∷ [])
     else if bytes_eq tool (codes "scan") then Some (name_app tool (codes "collection"), codes "collection" ∷ [])
     else if bytes_eq tool (codes "trial") then Some (trial_app, [])
-    else if bytes_eq tool (codes "migrate") then Some (migrate_app, codes "name" ∷ codes "new" ∷ [])
+    else if bytes_eq tool (codes "migrate") then Some (migrate_app, migrate_names)
     else if bytes_eq tool (codes "check") then Some (name_app tool (codes "name"), codes "name" ∷ [])
     else if bytes_eq tool (codes "wild") then Some (name_app tool (codes "name"), codes "name" ∷ [])
     else if bytes_eq tool (codes "phrase") then Some (name_app tool (codes "name"), codes "name" ∷ [])
-    else if bytes_eq tool (codes "merge") then Some (merge_app, codes "first" ∷ codes "second" ∷ codes "new" ∷ [])
+    else if bytes_eq tool (codes "merge") then Some (merge_app, merge_names)
     else None
 
 -- the first word is no tool, or the tool's command refuses the words, or takes them with an empty name

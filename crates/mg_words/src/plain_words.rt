@@ -1,6 +1,6 @@
 // Plain words: each tool's names and numbers in order.
-ghost use Rattle.std.specs.Prelude.{◌≡◌, ◌≤◌, IfSome, map, option_map, string_bytes};
-ghost use Rattle.std.specs.Option.{option_copied, option_or};
+ghost use Rattle.std.specs.Prelude.{◌≡◌, ◌≤◌, ◌∷◌, [], IfSome, map, option_map, string_bytes};
+ghost use Rattle.std.specs.Option.{option_copied};
 ghost use Rattle.mg_words.specs.Plain.{budget_in_one as budget_in_one_spec, budget_in_two as budget_in_two_spec, plain_budget as plain_budget_spec, default_budget, IsBudget};
 ghost use Rattle.mg_words.specs.Tasks.{as_task, IsWithin, plain_name as plain_name_spec, plain_names as plain_names_spec, plain_build as plain_build_spec, plain_trial as plain_trial_spec, plain_migrate as plain_migrate_spec, plain_merge as plain_merge_spec};
 
@@ -87,9 +87,7 @@ pub fn plain_build(words: &[String]) -> Option<Task<'_>>
 
 fn build_with_one<'a>(a: &'a str, b: &'a str, c: &'a str) -> Option<Task<'a>>
     ensures within { IfSome result (λ q. IsWithin (as_task q)) }
-    ensures is { option_map as_task result ≡ option_or (plain_names_spec b.entry.now c.entry.now (budget_in_one_spec a.entry.now))
-        (option_or (plain_names_spec a.entry.now c.entry.now (budget_in_one_spec b.entry.now))
-        (plain_names_spec a.entry.now b.entry.now (budget_in_one_spec c.entry.now))) }
+    ensures is { option_map as_task result ≡ plain_build_spec (a.entry.now ∷ b.entry.now ∷ c.entry.now ∷ []) }
 {
     if let Some(task) = plain_names(b, c, budget_in_one(a)) {
         return Some(task);
@@ -102,9 +100,7 @@ fn build_with_one<'a>(a: &'a str, b: &'a str, c: &'a str) -> Option<Task<'a>>
 
 fn build_with_two<'a>(a: &'a str, b: &'a str, c: &'a str, d: &'a str) -> Option<Task<'a>>
     ensures within { IfSome result (λ q. IsWithin (as_task q)) }
-    ensures is { option_map as_task result ≡ option_or (plain_names_spec c.entry.now d.entry.now (budget_in_two_spec a.entry.now b.entry.now))
-        (option_or (plain_names_spec a.entry.now d.entry.now (budget_in_two_spec b.entry.now c.entry.now))
-        (plain_names_spec a.entry.now b.entry.now (budget_in_two_spec c.entry.now d.entry.now))) }
+    ensures is { option_map as_task result ≡ plain_build_spec (a.entry.now ∷ b.entry.now ∷ c.entry.now ∷ d.entry.now ∷ []) }
 {
     if let Some(task) = plain_names(c, d, budget_in_two(a, b)) {
         return Some(task);

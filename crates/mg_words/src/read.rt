@@ -1,8 +1,8 @@
 // The words of a command line: plain ones by their rule, others by the tool's command.
 ghost use Rattle.std.specs.Prelude.{◌≡◌, ◌∷◌, [], IfOk, IfSome, None, codes, map, option_map, string_bytes};
-ghost use Rattle.std.specs.Option.{option_copied, option_or};
-ghost use Rattle.mg_words.specs.Commands.{name_app, build_app, trial_app, migrate_app, merge_app, if_taken, IsOwnId, IsRefusedBy};
-ghost use Rattle.mg_words.specs.Tasks.{as_task, task_of, name_asked, plain_build as plain_build_spec, plain_trial as plain_trial_spec, plain_migrate as plain_migrate_spec, plain_merge as plain_merge_spec, build_in, trial_in, migrate_in, merge_in, IsWithin, IsRefused, query, decode, scan, check, wild, phrase};
+ghost use Rattle.std.specs.Option.{option_copied};
+ghost use Rattle.mg_words.specs.Commands.{name_app, build_app, build_names, trial_app, migrate_app, migrate_names, merge_app, merge_names, IsOwnId, IsRefusedBy};
+ghost use Rattle.mg_words.specs.Tasks.{as_task, task_of, name_asked, build_asked, trial_asked, migrate_asked, merge_asked, IsWithin, IsRefused, query, decode, scan, check, wild, phrase};
 
 use crate::plain_words::{plain_build, plain_merge, plain_migrate, plain_name, plain_trial};
 use crate::taken::{build_taken, merge_taken, migrate_taken, name_taken, trial_taken};
@@ -33,9 +33,8 @@ fn read_build<'a>(
     rest: &'a [String],
     words: &'a [String],
 ) -> Result<Option<Task<'a>>, AllocError>
-    ensures refused { result ≡ Ok None → IsRefusedBy build_app (codes "collection" ∷ codes "name" ∷ []) (map string_bytes words.entry.now) }
-    ensures is { IfOk result (λ r. option_map as_task r
-        ≡ option_or (plain_build_spec (map string_bytes rest.entry.now)) (if_taken build_app (map string_bytes words.entry.now) build_in)) }
+    ensures refused { result ≡ Ok None → IsRefusedBy build_app build_names (map string_bytes words.entry.now) }
+    ensures is { IfOk result (λ r. option_map as_task r ≡ build_asked (map string_bytes rest.entry.now) (map string_bytes words.entry.now)) }
     ensures within { IfOk result (λ r. IfSome r (λ q. IsWithin (as_task q))) }
 {
     if let Some(task) = plain_build(rest) {
@@ -102,8 +101,7 @@ fn read_trial<'a>(
     words: &'a [String],
 ) -> Result<Option<Task<'a>>, AllocError>
     ensures refused { result ≡ Ok None → IsRefusedBy trial_app [] (map string_bytes words.entry.now) }
-    ensures is { IfOk result (λ r. option_map as_task r
-        ≡ option_or (plain_trial_spec (map string_bytes rest.entry.now)) (if_taken trial_app (map string_bytes words.entry.now) trial_in)) }
+    ensures is { IfOk result (λ r. option_map as_task r ≡ trial_asked (map string_bytes rest.entry.now) (map string_bytes words.entry.now)) }
     ensures within { IfOk result (λ r. IfSome r (λ q. IsWithin (as_task q))) }
 {
     if let Some(task) = plain_trial(rest) {
@@ -117,9 +115,8 @@ fn read_migrate<'a>(
     rest: &'a [String],
     words: &'a [String],
 ) -> Result<Option<Task<'a>>, AllocError>
-    ensures refused { result ≡ Ok None → IsRefusedBy migrate_app (codes "name" ∷ codes "new" ∷ []) (map string_bytes words.entry.now) }
-    ensures is { IfOk result (λ r. option_map as_task r
-        ≡ option_or (plain_migrate_spec (map string_bytes rest.entry.now)) (if_taken migrate_app (map string_bytes words.entry.now) migrate_in)) }
+    ensures refused { result ≡ Ok None → IsRefusedBy migrate_app migrate_names (map string_bytes words.entry.now) }
+    ensures is { IfOk result (λ r. option_map as_task r ≡ migrate_asked (map string_bytes rest.entry.now) (map string_bytes words.entry.now)) }
     ensures within { IfOk result (λ r. IfSome r (λ q. IsWithin (as_task q))) }
 {
     if let Some(task) = plain_migrate(rest) {
@@ -184,9 +181,8 @@ fn read_merge<'a>(
     rest: &'a [String],
     words: &'a [String],
 ) -> Result<Option<Task<'a>>, AllocError>
-    ensures refused { result ≡ Ok None → IsRefusedBy merge_app (codes "first" ∷ codes "second" ∷ codes "new" ∷ []) (map string_bytes words.entry.now) }
-    ensures is { IfOk result (λ r. option_map as_task r
-        ≡ option_or (plain_merge_spec (map string_bytes rest.entry.now)) (if_taken merge_app (map string_bytes words.entry.now) merge_in)) }
+    ensures refused { result ≡ Ok None → IsRefusedBy merge_app merge_names (map string_bytes words.entry.now) }
+    ensures is { IfOk result (λ r. option_map as_task r ≡ merge_asked (map string_bytes rest.entry.now) (map string_bytes words.entry.now)) }
     ensures within { IfOk result (λ r. IfSome r (λ q. IsWithin (as_task q))) }
 {
     if let Some(task) = plain_merge(rest) {

@@ -1,9 +1,8 @@
 // What the tools' commands take, read from their matches.
-ghost use Rattle.std.specs.Prelude.{◌≡◌, ◌<◌, ◌^◌, ℕ, List, ◌∷◌, [], true, is_some, ◌≢◌, IfOk, IfSome, Some, None, codes, map, option_map, string_bytes};
+ghost use Rattle.std.specs.Prelude.{◌≡◌, ℕ, List, ◌∷◌, [], ◌≢◌, IfOk, IfSome, Some, None, codes, map, option_map, string_bytes};
 ghost use Rattle.std.specs.Option.{option_copied};
-ghost use Rattle.std.specs.Str.Parse.{IsNumeral, digits_value, without_leading_plus};
-ghost use Rattle.clap.specs.Words.{found_of, rows_of, first_of, first_value, one_of, IsUnsignedIn};
-ghost use Rattle.mg_words.specs.Commands.{name_app, build_app, trial_app, migrate_app, merge_app, if_taken, name_in, number_in, IsOwnId, HasEmpty, IsRefusedBy};
+ghost use Rattle.clap.specs.Words.{first_of, one_of, IsUnsignedIn};
+ghost use Rattle.mg_words.specs.Commands.{name_app, build_app, build_names, trial_app, migrate_app, migrate_names, merge_app, merge_names, if_taken, name_in, number_in, rows_in, IsGiven, IsOwnId, HasEmpty, IsRefusedBy, WritesNumber};
 ghost use Rattle.mg_words.specs.Tasks.{as_task, build_in, trial_in, migrate_in, merge_in, IsWithin};
 
 use crate::command::{
@@ -17,8 +16,8 @@ use std::alloc::{AllocError, Global};
 
 /// The name of this id; an empty one is no name.
 fn name_of<'a>(matches: &ArgMatches<'a>, id: &str) -> Option<&'a str>
-    ensures is { option_copied result ≡ name_in id.now (rows_of (found_of matches.now)) }
-    ensures empty { result ≡ None → is_some (first_value (found_of matches.now) id.now) ≡ true → first_of id.now (rows_of (found_of matches.now)) ≡ Some [] }
+    ensures is { option_copied result ≡ name_in id.now (rows_in matches.now) }
+    ensures empty { result ≡ None → IsGiven matches.now id.now → first_of id.now (rows_in matches.now) ≡ Some [] }
 {
     let Some(name) = matches.get_str(id) else {
         return None;
@@ -31,10 +30,9 @@ fn name_of<'a>(matches: &ArgMatches<'a>, id: &str) -> Option<&'a str>
 
 /// The number of this id, where its text writes one.
 fn number_of(matches: &ArgMatches<'_>, id: &str) -> Option<u64>
-    requires { (text : List ℕ) → one_of id.now (rows_of (found_of matches.now)) ≡ Some text
-        → IsNumeral 10 (without_leading_plus text) × (digits_value 10 (without_leading_plus text) < 2 ^ 64) }
-    ensures is { result ≡ number_in id.now (rows_of (found_of matches.now)) }
-    ensures there { is_some (first_value (found_of matches.now) id.now) ≡ true → result ≢ None }
+    requires { (text : List ℕ) → one_of id.now (rows_in matches.now) ≡ Some text → WritesNumber text }
+    ensures is { result ≡ number_in id.now (rows_in matches.now) }
+    ensures there { IsGiven matches.now id.now → result ≢ None }
 {
     matches.get_one::<u64>(id)
 }
@@ -61,7 +59,7 @@ pub fn name_taken<'a>(
 
 /// What the command of `build` takes.
 pub fn build_taken<'a>(alloc: Global, words: &'a [String]) -> Result<Option<Task<'a>>, AllocError>
-    ensures refused { result ≡ Ok None → IsRefusedBy build_app (codes "collection" ∷ codes "name" ∷ []) (map string_bytes words.entry.now) }
+    ensures refused { result ≡ Ok None → IsRefusedBy build_app build_names (map string_bytes words.entry.now) }
     ensures is { IfOk result (λ r. option_map as_task r ≡ if_taken build_app (map string_bytes words.entry.now) build_in) }
     ensures within { IfOk result (λ r. IfSome r (λ q. IsWithin (as_task q))) }
 {
@@ -74,11 +72,10 @@ pub fn build_taken<'a>(alloc: Global, words: &'a [String]) -> Result<Option<Task
 }
 
 fn build_of<'a>(matches: &ArgMatches<'a>) -> Option<Task<'a>>
-    requires { (text : List ℕ) → one_of (codes "budget") (rows_of (found_of matches.now)) ≡ Some text → IsUnsignedIn 4096 1073741824 text }
-    ensures empty { result ≡ None → is_some (first_value (found_of matches.now) (codes "collection")) ≡ true →
-        is_some (first_value (found_of matches.now) (codes "name")) ≡ true
-        → HasEmpty (codes "collection" ∷ codes "name" ∷ []) (rows_of (found_of matches.now)) }
-    ensures is { option_map as_task result ≡ build_in (rows_of (found_of matches.now)) }
+    requires { (text : List ℕ) → one_of (codes "budget") (rows_in matches.now) ≡ Some text → IsUnsignedIn 4096 1073741824 text }
+    ensures empty { result ≡ None → IsGiven matches.now (codes "collection") → IsGiven matches.now (codes "name") →
+        HasEmpty build_names (rows_in matches.now) }
+    ensures is { option_map as_task result ≡ build_in (rows_in matches.now) }
     ensures within { IfSome result (λ q. IsWithin (as_task q)) }
 {
     let Some(collection) = name_of(matches, "collection") else {
@@ -113,11 +110,10 @@ pub fn trial_taken<'a>(alloc: Global, words: &'a [String]) -> Result<Option<Task
 }
 
 fn trial_of<'a>(matches: &ArgMatches<'a>) -> Option<Task<'a>>
-    requires seed { (text : List ℕ) → one_of (codes "seed") (rows_of (found_of matches.now)) ≡ Some text → IsUnsignedIn 0 18446744073709551615 text }
-    requires docs { (text : List ℕ) → one_of (codes "docs") (rows_of (found_of matches.now)) ≡ Some text → IsUnsignedIn 1 20000 text }
-    ensures there { is_some (first_value (found_of matches.now) (codes "seed")) ≡ true →
-        is_some (first_value (found_of matches.now) (codes "docs")) ≡ true → result ≢ None }
-    ensures is { option_map as_task result ≡ trial_in (rows_of (found_of matches.now)) }
+    requires seed { (text : List ℕ) → one_of (codes "seed") (rows_in matches.now) ≡ Some text → IsUnsignedIn 0 18446744073709551615 text }
+    requires docs { (text : List ℕ) → one_of (codes "docs") (rows_in matches.now) ≡ Some text → IsUnsignedIn 1 20000 text }
+    ensures there { IsGiven matches.now (codes "seed") → IsGiven matches.now (codes "docs") → result ≢ None }
+    ensures is { option_map as_task result ≡ trial_in (rows_in matches.now) }
     ensures within { IfSome result (λ q. IsWithin (as_task q)) }
 {
     let Some(seed) = number_of(matches, "seed") else {
@@ -134,7 +130,7 @@ fn trial_of<'a>(matches: &ArgMatches<'a>) -> Option<Task<'a>>
 
 /// What the command of `migrate` takes.
 pub fn migrate_taken<'a>(alloc: Global, words: &'a [String]) -> Result<Option<Task<'a>>, AllocError>
-    ensures refused { result ≡ Ok None → IsRefusedBy migrate_app (codes "name" ∷ codes "new" ∷ []) (map string_bytes words.entry.now) }
+    ensures refused { result ≡ Ok None → IsRefusedBy migrate_app migrate_names (map string_bytes words.entry.now) }
     ensures is { IfOk result (λ r. option_map as_task r ≡ if_taken migrate_app (map string_bytes words.entry.now) migrate_in) }
     ensures within { IfOk result (λ r. IfSome r (λ q. IsWithin (as_task q))) }
 {
@@ -147,10 +143,9 @@ pub fn migrate_taken<'a>(alloc: Global, words: &'a [String]) -> Result<Option<Ta
 }
 
 fn migrate_of<'a>(matches: &ArgMatches<'a>) -> Option<Task<'a>>
-    ensures empty { result ≡ None → is_some (first_value (found_of matches.now) (codes "name")) ≡ true →
-        is_some (first_value (found_of matches.now) (codes "new")) ≡ true
-        → HasEmpty (codes "name" ∷ codes "new" ∷ []) (rows_of (found_of matches.now)) }
-    ensures is { option_map as_task result ≡ migrate_in (rows_of (found_of matches.now)) }
+    ensures empty { result ≡ None → IsGiven matches.now (codes "name") → IsGiven matches.now (codes "new") →
+        HasEmpty migrate_names (rows_in matches.now) }
+    ensures is { option_map as_task result ≡ migrate_in (rows_in matches.now) }
     ensures within { IfSome result (λ q. IsWithin (as_task q)) }
 {
     let Some(name) = name_of(matches, "name") else {
@@ -164,7 +159,7 @@ fn migrate_of<'a>(matches: &ArgMatches<'a>) -> Option<Task<'a>>
 
 /// What the command of `merge` takes.
 pub fn merge_taken<'a>(alloc: Global, words: &'a [String]) -> Result<Option<Task<'a>>, AllocError>
-    ensures refused { result ≡ Ok None → IsRefusedBy merge_app (codes "first" ∷ codes "second" ∷ codes "new" ∷ []) (map string_bytes words.entry.now) }
+    ensures refused { result ≡ Ok None → IsRefusedBy merge_app merge_names (map string_bytes words.entry.now) }
     ensures is { IfOk result (λ r. option_map as_task r ≡ if_taken merge_app (map string_bytes words.entry.now) merge_in) }
     ensures within { IfOk result (λ r. IfSome r (λ q. IsWithin (as_task q))) }
 {
@@ -177,11 +172,9 @@ pub fn merge_taken<'a>(alloc: Global, words: &'a [String]) -> Result<Option<Task
 }
 
 fn merge_of<'a>(matches: &ArgMatches<'a>) -> Option<Task<'a>>
-    ensures empty { result ≡ None → is_some (first_value (found_of matches.now) (codes "first")) ≡ true →
-        is_some (first_value (found_of matches.now) (codes "second")) ≡ true
-        → is_some (first_value (found_of matches.now) (codes "new")) ≡ true
-        → HasEmpty (codes "first" ∷ codes "second" ∷ codes "new" ∷ []) (rows_of (found_of matches.now)) }
-    ensures is { option_map as_task result ≡ merge_in (rows_of (found_of matches.now)) }
+    ensures empty { result ≡ None → IsGiven matches.now (codes "first") → IsGiven matches.now (codes "second") →
+        IsGiven matches.now (codes "new") → HasEmpty merge_names (rows_in matches.now) }
+    ensures is { option_map as_task result ≡ merge_in (rows_in matches.now) }
     ensures within { IfSome result (λ q. IsWithin (as_task q)) }
 {
     let Some(first) = name_of(matches, "first") else {
