@@ -7,8 +7,7 @@ use Rattle.std.proofs.lemmas.List.{append_cancel_left}
 use Rattle.std.proofs.lemmas.List.Elements.{All-nil, All-cons, All-head, All-tail, All-append, All-take, All-from_get_or}
 use Rattle.mg_dev.specs.Files.{Files, AfterAppend, GrewInPart, bytes_at, grown}
 use Rattle.mg_dev.specs.Laws.{file_at-written}
-use Rattle.mg_defs.specs.Bits.{Bits, bits_of, digits, filled, number, to_byte}
-use Rattle.mg_defs.specs.CodedText.{as_bytes, bytes_upto}
+use Rattle.mg_defs.specs.Bits.{Bits, bits_of, digits, filled, number, to_byte, as_bytes, bytes_upto}
 use Rattle.mg_defs.proofs.BitLaws.{length_bits_of, length_digits, digits_same}
 use Rattle.mg_defs.proofs.CodedTextLaws.{bits-of_as_bytes}
 use Rattle.mg_bits.specs.Writer.{AreBytes, KeepsBytes}

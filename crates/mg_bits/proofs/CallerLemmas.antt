@@ -12,8 +12,8 @@ pub use Rattle.mg_bits.proofs.Ranges.{held_after_none, held_after_some, held_aft
 pub use Rattle.mg_bits.proofs.Walks.{walk_begun, walk_bit, walk_whole, walk_none, walk_refused, walk_pages, no_pages}
 -- what is told of a feed's source stays, and nothing is told of no bits
 pub use Rattle.mg_bits.proofs.Told.{same_told, told_nothing}
--- the bits of a number in two parts, and of bytes from one on
-pub use Rattle.mg_bits.proofs.EightBytes.{digits_split, drop_bits}
+-- the bits of a number in two parts, of its bytes, and of bytes from one on
+pub use Rattle.mg_bits.proofs.EightBytes.{digits_split, bits_of_high, drop_bits}
 -- bits of the page that is held: a range within them, its reading, and what is told of the first of them
 pub use Rattle.mg_bits.proofs.EightBytes.{holds_inside, read_held, told_first}
 -- writes of no bits and of bits after bits, by what they wrote and by the files that they left

@@ -39,7 +39,8 @@ bits_of_byte : (k n : ℕ) → digits 8 (byte_at k n) ≡ digits 8 (n / 2 ^ (8 *
 bits_of_byte zero n = digits_mod 8 8 n (omega arith) ∙ ap (digits 8) (omega arith)
 bits_of_byte (suc k) n = digits_mod 8 8 (n / 256 ^ suc k) (omega arith) ∙ ap (λ p. digits 8 (n / p)) (power_of_bytes (suc k))
 
-bits_of_high : (k n : ℕ) → bits_of (bytes_high_first k n) ≡ digits (8 * k) n
+-- the bits of a number's bytes, the high one first, are its own
+pub bits_of_high : (k n : ℕ) → bits_of (bytes_high_first k n) ≡ digits (8 * k) n
 unfolding bits_of digits
 bits_of_high zero n = refl
 bits_of_high (suc k) n =

@@ -3,7 +3,7 @@ use Rattle.std.specs.Prelude.{◌≡◌, ◌+◌, ◌≤◌, ◌++◌, ℕ, List
 use Rattle.std.specs.Option.{IsSome}
 use Rattle.std.specs.declared.option.Option.{Option}
 use Rattle.mg_dev.specs.Files.{Files, bytes_at}
-use Rattle.mg_defs.specs.Bits.{Bits, bits_of}
+use Rattle.mg_defs.specs.Bits.{Bits, bits_of, digits, to_byte}
 use Rattle.mg_bits.specs.Writer.{AreBytes}
 
 -- a bit writer: the full name of its file, the bits that it still holds, and how many were written
@@ -15,6 +15,10 @@ pub record BitWriting : Type 0 where
 -- the bits that were written: those of the file, and those that the writer holds
 abbrev pub bits_put : BitWriting → Option Files → Bits
 bits_put w files = bits_of (bytes_at files w.name) ++ w.buffered
+
+-- the bits that were written, with zeros up to a byte
+abbrev pub bits_filled : BitWriting → Option Files → Bits
+bits_filled w files = bits_put w files ++ digits (to_byte w.place) 0
 
 -- where the files are told, the place is the number of the bits written, and the file's numbers are bytes
 pub record Holds (w : BitWriting) (files : Option Files) : Type 0 where

@@ -5,6 +5,8 @@ use Rattle.mg_dev.specs.Causes.{Rose}
 use Rattle.mg_defs.specs.Bits.{Bits, Begins}
 use Rattle.mg_defs.specs.Answers.{value, end, over, Answers}
 use Rattle.mg_bits.specs.Feed.{Feeding, Device as Seen, ReadsWithin}
+use Rattle.mg_bits.specs.Reading.{Reading}
+use Rattle.mg_bits.specs.NextBits.{FromNext}
 use Rattle.mg_bits.specs.declared.bit_err.BitErr.{BitErr}
 use Rattle.mg_bits.specs.declared.bit_err.BitErr.TheVariants.{Device as BitDevice, End as BitEnd}
 use Rattle.mg_bits.specs.declared.code_err.CodeErr.{CodeErr}
@@ -21,6 +23,11 @@ AnswersCode (Err (Over at most)) within code limit place bits = (at ≡ place) �
 abbrev pub OnlyPagesOf : (ℕ → Type 0) → (ℕ → Bits) → Feeding → Feeding → Seen → Seen → ℕ → Bits → Type 0
 OnlyPagesOf within code old new before now place bits =
     (x : ℕ) → within x → Begins (code x) bits → ReadsWithin old new before now place (place + length (code x))
+
+-- where the code of a value stands at a reader's place, only pages on which it lies are read
+abbrev pub OnlyCodePages : {Fed Dev : Type 0} → (Fed → Feeding) → (Dev → Seen) → Reading Fed → Reading Fed → Dev → Dev → (ℕ → Type 0) → (ℕ → Bits) → Type 0
+OnlyCodePages feeding device old new before now within code = FromNext feeding device old before
+    (OnlyPagesOf within code (feeding old.feed) (feeding new.feed) (device before) (device now) old.place)
 
 -- a device's failure has a cause
 abbrev pub CodeCause : {T : Type 0} → Result T CodeErr → ℕ → ℕ → Type 0

@@ -1,8 +1,9 @@
 -- What contracts see of a device and of a feed, and what a reading call does to both.
-use Rattle.std.specs.Prelude.{◌≡◌, ◌≢◌, ◌≤◌, ◌<◌, ◌+◌, ◌-◌, ◌*◌, ◌/◌, ◌%◌, ◌^◌, ◌==◌, ℕ, List, length, min, max, Some, None, if◌then◌else◌, nat_lt}
+use Rattle.std.specs.Prelude.{◌≡◌, ◌≢◌, ◌≤◌, ◌<◌, ◌+◌, ◌-◌, ◌*◌, ◌/◌, ◌%◌, ◌^◌, ◌==◌, ℕ, List, length, min, max, Some, None, IfSome, if◌then◌else◌, nat_lt}
 use Rattle.std.specs.declared.option.Option.{Option}
 use Rattle.mg_dev.specs.declared.part.Part.{Part}
 use Rattle.mg_dev.specs.Files.{Files, Reads, bytes_at}
+use Rattle.mg_defs.specs.Bits.{Bits, FromPlace}
 
 -- what contracts see of a device: the files that it tells, how often it failed, and how often each part was read
 pub record Device : Type 0 where
@@ -98,6 +99,26 @@ pub record ReadPart (old new : Feeding) (before now : Device) (from to : ℕ) : 
   pub calm : Calm old new before now
   pub pages : ReadsWithin old new before now from to
 
+-- what relates a feed and its device before a call to those after it
+abbrev pub FeedStep : Type 1
+FeedStep = (old new : Feeding) (before now : Device) → Type 0
+
+-- what relates them by a range of bits too, at this range
+abbrev pub OnRange : ℕ → ℕ → ((old new : Feeding) (before now : Device) (from to : ℕ) → Type 0) → FeedStep
+OnRange from to step old new before now = step old new before now from to
+
+-- a page that is held and has this bit place stays held
+abbrev pub KeepsPage : Feeding → Feeding → ℕ → Type 0
+KeepsPage old new place = old.held ≡ Some (page_of old.page place) → new.held ≡ old.held
+
+-- whatever files a feed agrees with, its bytes are as an answer says
+abbrev pub ToldBytes : {T : Type 0} → Feeding → (Option Files → Type 0) → Option T → (T → List ℕ → Type 0) → Type 0
+ToldBytes feed fits result says = (files : Option Files) → fits files → IfSome result (λ answer. IfSome (feed.source files) (says answer))
+
+-- whatever files a feed agrees with, its bits from a place on are as an answer says
+abbrev pub ToldBits : {T : Type 0} → Feeding → (Option Files → Type 0) → ℕ → Option T → (T → Bits → Type 0) → Type 0
+ToldBits feed fits place result says = (files : Option Files) → fits files → IfSome result (λ answer. FromPlace (feed.source files) place (says answer))
+
 -- the bytes of a file, where the store tells its files; a missing file has none
 abbrev pub told_at : Option Files → List ℕ → Option (List ℕ)
 told_at None name = None
@@ -106,6 +127,10 @@ told_at (Some files) name = Some (bytes_at (Some files) name)
 -- what a store shows
 abbrev pub of_store : Option Files → ℕ → Reads → Device
 of_store files faults reads = record { files = files; faults = faults; reads = reads }
+
+-- what a store shows, by the functions that tell its files, its reads and its faults
+abbrev pub device_of : {X : Type 0} → (X → Option Files) → (X → Reads) → (X → ℕ) → X → Device
+device_of files reads faults store = of_store (files store) (faults store) (reads store)
 
 -- a feed over a file of a store
 abbrev pub over_file : List ℕ → Part → ℕ → Option ℕ → ℕ → Feeding

@@ -1,9 +1,12 @@
 pub mod Feed
 pub mod Pages
+pub mod Windows
 pub mod FeedLaws
 pub mod Keeping
 pub mod Reading
 pub mod Reader
+pub mod NextBits
 pub mod CodeAnswers
 pub mod Writer
 pub mod BitWriting
+pub mod Alike

@@ -1,12 +1,12 @@
 -- What contracts see of a feed that keeps a page of a file, and what its calls do.
-use Rattle.std.specs.Prelude.{◌≡◌, ◌≤◌, ◌<◌, ◌+◌, ◌*◌, ℕ, Bool, true, false, List, length, take, drop, None, Some}
+use Rattle.std.specs.Prelude.{◌≡◌, ◌≤◌, ◌<◌, ◌+◌, ◌*◌, ◌++◌, ℕ, Bool, true, false, List, length, take, drop, None, Some}
 use Rattle.std.specs.Option.{IsSome}
 use Rattle.std.specs.declared.option.Option.{Option}
 use Rattle.mg_dev.specs.declared.part.Part.{Part}
 use Rattle.mg_dev.specs.Files.{Files, Reads, bytes_at}
 use Rattle.mg_dev.specs.Names.{same_part}
 use Rattle.mg_defs.specs.Bits.{Begins, bits_of, digits}
-use Rattle.mg_bits.specs.Feed.{Feeding, over_file}
+use Rattle.mg_bits.specs.Feed.{Feeding, FeedStep, device_of, over_file}
 
 -- a reader of the pages of one file: the file's full name and part, the number of the page that it holds, that page's bytes, and how often it read
 pub record Paging : Type 0 where
@@ -19,6 +19,11 @@ pub record Paging : Type 0 where
 -- as a feed, with pages of so many bytes
 abbrev pub feeding_of : ℕ → Paging → Feeding
 feeding_of bytes feed = over_file feed.name feed.part bytes feed.held feed.count
+
+-- a step of a feed and its device, by a reader of pages of 4,096 bytes and its store
+abbrev pub AsFeed : {X : Type 0} → (X → Option Files) → (X → Reads) → (X → ℕ) → Paging → Paging → X → X → FeedStep → Type 0
+AsFeed files reads faults old new before now step =
+    step (feeding_of 4096 old) (feeding_of 4096 new) (device_of files reads faults before) (device_of files reads faults now)
 
 -- a held page of so many bytes is that of the bytes of a file
 abbrev pub IsPageIn : ℕ → Option ℕ → List ℕ → List ℕ → Type 0
@@ -60,6 +65,10 @@ pub record LookedAt (one other : Part) (files_before files_now : Option Files) (
 abbrev pub IsFilled : Bool → List ℕ → ℕ → List ℕ → Type 0
 IsFilled true buf at bytes = buf ≡ take (length buf) (drop at bytes)
 IsFilled false buf at bytes = length (drop at bytes) < length buf
+
+-- behind the first of a buffer's bytes, which stay, stand so many of these
+abbrev pub CopiedBehind : ℕ → ℕ → List ℕ → List ℕ → List ℕ → Type 0
+CopiedBehind from count old new bytes = take (from + count) new ≡ take from old ++ take count bytes
 
 -- the eight bytes from an index on are these bits, as a number
 pub record IsWordIn (bytes : List ℕ) (index word : ℕ) : Type 0 where

@@ -1,10 +1,11 @@
 // Bits of a feed.
 ghost use Rattle.std.specs.Prelude.{◌≡◌, ◌+◌, ◌-◌, ◌*◌, ◌/◌, ◌≤◌, ◌<◌, ◌^◌, ◌∷◌, [], IfOk, ◌%◌, OnOk, OnErr, MatchResult, Option, Some, IfSome, IsSome, OnSome, IfNone};
 ghost use Rattle.mg_dev.specs.Files.{Files};
-ghost use Rattle.mg_bits.specs.Feed.{HasBits, HoldsBits, Read, ReadPart, page_of};
-ghost use Rattle.mg_defs.specs.Bits.{Begins, FromPlace, digits};
+ghost use Rattle.mg_bits.specs.Feed.{HasBits, HoldsBits, KeepsPage, ToldBits};
+ghost use Rattle.mg_defs.specs.Bits.{Begins, digits};
 ghost use Rattle.mg_bits.specs.Keeping.{Keeps};
-ghost use Rattle.mg_bits.specs.Reader.{AnswersBit, AnswersBits, AnswersPiece, DeviceCause, EndHolds, at_place};
+ghost use Rattle.mg_bits.specs.Reader.{AnswersBit, AnswersBits, AnswersPiece, DeviceCause, at_place};
+ghost use Rattle.mg_bits.specs.NextBits.{ReadNextPart, ReadNext, NextEndHolds, FromNext};
 
 use crate::kept_bits::KeptBits;
 use crate::{BitErr, Feed};
@@ -73,8 +74,7 @@ impl<F: Feed> BitReader<F> {
     #[inline]
     pub fn peek(&self) -> Option<u64>
         ensures below { IfSome result (λ next. next < 2 ^ 57) }
-        ensures told { (files : Option Files) → F.fits self.now.feed files →
-            IfSome result (λ next. FromPlace ((F.feeding self.now.feed).source files) self.now.place (Begins (digits 57 next))) }
+        ensures told { ToldBits (F.feeding self.now.feed) (F.fits self.now.feed) self.now.place result (λ next. Begins (digits 57 next)) }
         ensures held { IfSome result (λ next. HoldsBits (F.feeding self.now.feed) self.now.place 57) }
         ensures some { (files : Option Files) → F.fits self.now.feed files →
             HasBits (F.feeding self.now.feed) files (8 * (self.now.place / 8)) 64 → IsSome result }
@@ -93,15 +93,12 @@ impl<F: Feed> BitReader<F> {
         requires some { 0 < count }
         requires room { self.old.place % 8 + count ≤ 8 }
         ensures fits { F.fits self.new.feed (F.device dev.new).files }
-        ensures read { OnOk result
-            (Read (F.feeding self.old.feed) (F.feeding self.new.feed) (F.device dev.old) (F.device dev.new) self.old.place (self.old.place + count)) }
-        ensures part { OnErr result
-            (ReadPart (F.feeding self.old.feed) (F.feeding self.new.feed) (F.device dev.old) (F.device dev.new) self.old.place (self.old.place + count)) }
+        ensures read { OnOk result (ReadNext F.feeding F.device self.old self.new dev.old dev.new count) }
+        ensures part { OnErr result (ReadNextPart F.feeding F.device self.old self.new dev.old dev.new count) }
         ensures place { MatchResult result (λ _. self.new.place ≡ self.old.place + count) (λ _. self.new.place ≡ self.old.place) }
         ensures below { IfOk result (λ value. value < 2 ^ count) }
-        ensures keeps { (F.feeding self.old.feed).held ≡ Some (page_of (F.feeding self.old.feed).page self.old.place) →
-            (F.feeding self.new.feed).held ≡ (F.feeding self.old.feed).held }
-        ensures told { FromPlace ((F.feeding self.old.feed).source (F.device dev.old).files) self.old.place (AnswersPiece result self.old.place count) }
+        ensures keeps { KeepsPage (F.feeding self.old.feed) (F.feeding self.new.feed) self.old.place }
+        ensures told { FromNext F.feeding F.device self.old dev.old (AnswersPiece result self.old.place count) }
         ensures cause { DeviceCause result (F.device dev.old).faults (F.device dev.new).faults }
     {
         let place = self.place;
@@ -123,15 +120,12 @@ impl<F: Feed> BitReader<F> {
         requires place { self.old.place + count < 2 ^ 64 }
         requires count { count ≤ 64 }
         ensures fits { F.fits self.new.feed (F.device dev.new).files }
-        ensures read { OnOk result
-            (Read (F.feeding self.old.feed) (F.feeding self.new.feed) (F.device dev.old) (F.device dev.new) self.old.place (self.old.place + count)) }
-        ensures part { OnErr result
-            (ReadPart (F.feeding self.old.feed) (F.feeding self.new.feed) (F.device dev.old) (F.device dev.new) self.old.place (self.old.place + count)) }
+        ensures read { OnOk result (ReadNext F.feeding F.device self.old self.new dev.old dev.new count) }
+        ensures part { OnErr result (ReadNextPart F.feeding F.device self.old self.new dev.old dev.new count) }
         ensures place { MatchResult result (λ _. self.new.place ≡ self.old.place + count) (λ _. self.new.place ≡ self.old.place) }
         ensures below { IfOk result (λ value. value < 2 ^ count) }
-        ensures told { FromPlace ((F.feeding self.old.feed).source (F.device dev.old).files) self.old.place (AnswersBits result self.old.place count) }
-        ensures end { FromPlace ((F.feeding self.old.feed).source (F.device dev.old).files) self.old.place
-            (EndHolds result (F.feeding self.old.feed).page self.old.place count (F.feeding self.new.feed).held) }
+        ensures told { FromNext F.feeding F.device self.old dev.old (AnswersBits result self.old.place count) }
+        ensures end { NextEndHolds F.feeding F.device self.old self.new dev.old count result }
         ensures cause { DeviceCause result (F.device dev.old).faults (F.device dev.new).faults }
     {
         if count == 0 || count > 57 {
@@ -152,15 +146,12 @@ impl<F: Feed> BitReader<F> {
         requires place { self.old.place + count < 2 ^ 64 }
         requires count { count ≤ 64 }
         ensures fits { F.fits self.new.feed (F.device dev.new).files }
-        ensures read { OnOk result
-            (Read (F.feeding self.old.feed) (F.feeding self.new.feed) (F.device dev.old) (F.device dev.new) self.old.place (self.old.place + count)) }
-        ensures part { OnErr result
-            (ReadPart (F.feeding self.old.feed) (F.feeding self.new.feed) (F.device dev.old) (F.device dev.new) self.old.place (self.old.place + count)) }
+        ensures read { OnOk result (ReadNext F.feeding F.device self.old self.new dev.old dev.new count) }
+        ensures part { OnErr result (ReadNextPart F.feeding F.device self.old self.new dev.old dev.new count) }
         ensures place { MatchResult result (λ _. self.new.place ≡ self.old.place + count) (λ _. self.new.place ≡ self.old.place) }
         ensures below { IfOk result (λ value. value < 2 ^ count) }
-        ensures told { FromPlace ((F.feeding self.old.feed).source (F.device dev.old).files) self.old.place (AnswersBits result self.old.place count) }
-        ensures end { FromPlace ((F.feeding self.old.feed).source (F.device dev.old).files) self.old.place
-            (EndHolds result (F.feeding self.old.feed).page self.old.place count (F.feeding self.new.feed).held) }
+        ensures told { FromNext F.feeding F.device self.old dev.old (AnswersBits result self.old.place count) }
+        ensures end { NextEndHolds F.feeding F.device self.old self.new dev.old count result }
         ensures cause { DeviceCause result (F.device dev.old).faults (F.device dev.new).faults }
     {
         let start = self.place();
@@ -189,12 +180,10 @@ impl<F: Feed> BitReader<F> {
         requires fits { F.fits self.old.feed (F.device dev.old).files }
         requires place { self.old.place + 1 < 2 ^ 64 }
         ensures fits { F.fits self.new.feed (F.device dev.new).files }
-        ensures read { OnOk result
-            (Read (F.feeding self.old.feed) (F.feeding self.new.feed) (F.device dev.old) (F.device dev.new) self.old.place (self.old.place + 1)) }
-        ensures part { OnErr result
-            (ReadPart (F.feeding self.old.feed) (F.feeding self.new.feed) (F.device dev.old) (F.device dev.new) self.old.place (self.old.place + 1)) }
+        ensures read { OnOk result (ReadNext F.feeding F.device self.old self.new dev.old dev.new 1) }
+        ensures part { OnErr result (ReadNextPart F.feeding F.device self.old self.new dev.old dev.new 1) }
         ensures place { MatchResult result (λ _. self.new.place ≡ self.old.place + 1) (λ _. self.new.place ≡ self.old.place) }
-        ensures told { FromPlace ((F.feeding self.old.feed).source (F.device dev.old).files) self.old.place (AnswersBit result self.old.place) }
+        ensures told { FromNext F.feeding F.device self.old dev.old (AnswersBit result self.old.place) }
         ensures cause { DeviceCause result (F.device dev.old).faults (F.device dev.new).faults }
     {
         match self.kept_bit() {
@@ -209,12 +198,10 @@ impl<F: Feed> BitReader<F> {
         requires fits { F.fits self.old.feed (F.device dev.old).files }
         requires place { self.old.place + 1 < 2 ^ 64 }
         ensures fits { F.fits self.new.feed (F.device dev.new).files }
-        ensures read { OnOk result
-            (Read (F.feeding self.old.feed) (F.feeding self.new.feed) (F.device dev.old) (F.device dev.new) self.old.place (self.old.place + 1)) }
-        ensures part { OnErr result
-            (ReadPart (F.feeding self.old.feed) (F.feeding self.new.feed) (F.device dev.old) (F.device dev.new) self.old.place (self.old.place + 1)) }
+        ensures read { OnOk result (ReadNext F.feeding F.device self.old self.new dev.old dev.new 1) }
+        ensures part { OnErr result (ReadNextPart F.feeding F.device self.old self.new dev.old dev.new 1) }
         ensures place { MatchResult result (λ _. self.new.place ≡ self.old.place + 1) (λ _. self.new.place ≡ self.old.place) }
-        ensures told { FromPlace ((F.feeding self.old.feed).source (F.device dev.old).files) self.old.place (AnswersBit result self.old.place) }
+        ensures told { FromNext F.feeding F.device self.old dev.old (AnswersBit result self.old.place) }
         ensures cause { DeviceCause result (F.device dev.old).faults (F.device dev.new).faults }
     {
         self.keep();
@@ -237,8 +224,7 @@ impl<F: Feed> BitReader<F> {
     fn kept_bit(&mut self) -> Option<bool>
         requires place { self.old.place + 1 < 2 ^ 64 }
         ensures feed { self.new.feed ≡ self.old.feed }
-        ensures told { (files : Option Files) → F.fits self.old.feed files →
-            IfSome result (λ bit. FromPlace ((F.feeding self.old.feed).source files) self.old.place (Begins (bit ∷ []))) }
+        ensures told { ToldBits (F.feeding self.old.feed) (F.fits self.old.feed) self.old.place result (λ bit. Begins (bit ∷ [])) }
         ensures held { OnSome result (HoldsBits (F.feeding self.old.feed) self.old.place 1) }
         ensures some { OnSome result (self.new.place ≡ self.old.place + 1) }
         ensures none { IfNone result (self.new.place ≡ self.old.place) }

@@ -5,7 +5,7 @@ ghost use Rattle.mg_dev.specs.Files.{bytes_at};
 ghost use Rattle.mg_dev.specs.Causes.{HasPutCause};
 ghost use Rattle.mg_defs.specs.Bits.{digits, bits_of, to_byte};
 ghost use Rattle.mg_bits.specs.Writer.{AfterStart, KeepsBytes, WroteTo};
-ghost use Rattle.mg_bits.specs.BitWriting.{GrewBits, Holds, WroteBits, bits_put};
+ghost use Rattle.mg_bits.specs.BitWriting.{GrewBits, Holds, WroteBits, bits_put, bits_filled};
 
 use crate::PageWriter;
 use mg_dev::{FileRef, PutErr, Store};
@@ -119,7 +119,7 @@ impl<'a> BitWriter<'a> {
         ensures grew { GrewBits self.old.name (S.files store.old) (S.files store.new) (self.old.buffered ++ digits (to_byte self.old.place) 0) }
         ensures held { length self.new.buffered < 32768 }
         ensures file { IsSome (S.files store.old) →
-            OnOk result (bits_of (bytes_at (S.files store.new) self.old.name) ≡ bits_put self.old (S.files store.old) ++ digits (to_byte self.old.place) 0) }
+            OnOk result (bits_of (bytes_at (S.files store.new) self.old.name) ≡ bits_filled self.old (S.files store.old)) }
         ensures nothing { OnOk result (self.new.buffered ≡ []) }
         ensures name { self.new.name ≡ self.old.name }
         ensures wrote { WroteTo self.old.name (S.files store.old) (S.files store.new) (S.reads store.old) (S.reads store.new) }

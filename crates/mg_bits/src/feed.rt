@@ -2,8 +2,8 @@
 ghost use Rattle.std.specs.Prelude.{◌≡◌, ◌+◌, ◌*◌, ℕ, Option, IfOk, IfSome, IsSome, OnSome, slice_get};
 ghost use Rattle.mg_dev.specs.Files.{Files};
 ghost use Rattle.mg_dev.specs.Causes.{HasCause};
-ghost use Rattle.mg_defs.specs.Bits.{Begins, FromPlace, digits};
-ghost use Rattle.mg_bits.specs.Feed.{Device, Feeding, IsPageLength, Calm, HasBits, HoldsBits, ReadsWithin, page_of};
+ghost use Rattle.mg_defs.specs.Bits.{Begins, digits};
+ghost use Rattle.mg_bits.specs.Feed.{Device, Feeding, IsPageLength, Calm, HasBits, HoldsBits, ReadsWithin, page_of, ToldBytes, KeepsPage, ToldBits};
 
 use mg_dev::Failed;
 
@@ -30,22 +30,20 @@ pub trait Feed {
         ensures calm { Calm (feeding self.old) (feeding self.new) (device dev.old) (device dev.new) }
         ensures pages { ReadsWithin (feeding self.old) (feeding self.new) (device dev.old) (device dev.new) (8 * at) (8 * at + 1) }
         ensures held { IfOk result (λ byte. OnSome byte ((feeding self.new).held ≡ Some (page_of (feeding self.old).page (8 * at)))) }
-        ensures keeps { (feeding self.old).held ≡ Some (page_of (feeding self.old).page (8 * at)) → (feeding self.new).held ≡ (feeding self.old).held }
+        ensures keeps { KeepsPage (feeding self.old) (feeding self.new) (8 * at) }
         ensures cause { HasCause (device dev.old).faults (device dev.new).faults result };
 
     /// The byte at a place, where the page that is held has it, and None elsewhere. The device is not
     /// asked.
     fn held_byte(&self, at: u64) -> Option<u8>
-        ensures told { (files : Option Files) → fits self.now files →
-            IfSome result (λ byte. IfSome ((feeding self.now).source files) (λ bytes. Some byte ≡ slice_get bytes at)) }
+        ensures told { ToldBytes (feeding self.now) (fits self.now) result (λ byte bytes. Some byte ≡ slice_get bytes at) }
         ensures held { OnSome result ((feeding self.now).held ≡ Some (page_of (feeding self.now).page (8 * at))) }
         ensures some { (files : Option Files) → fits self.now files → HasBits (feeding self.now) files (8 * at) 8 → IsSome result };
 
     /// The eight bytes from a place on as a number, the first of them highest, where the page that
     /// is held has them all, and None elsewhere. The device is not asked.
     fn word(&self, at: u64) -> Option<u64>
-        ensures told { (files : Option Files) → fits self.now files →
-            IfSome result (λ word. FromPlace ((feeding self.now).source files) (8 * at) (Begins (digits 64 word))) }
+        ensures told { ToldBits (feeding self.now) (fits self.now) (8 * at) result (λ word. Begins (digits 64 word)) }
         ensures held { IfSome result (λ word. HoldsBits (feeding self.now) (8 * at) 64) }
         ensures some { (files : Option Files) → fits self.now files → HasBits (feeding self.now) files (8 * at) 64 → IsSome result };
 

@@ -1,12 +1,11 @@
 // Laws of bytes, of what was written, and of pages that are held.
 ghost use Rattle.std.specs.Prelude.{◌≡◌, ℕ, List, Option};
-ghost use Rattle.std.specs.Option.{is_some};
-ghost use Rattle.mg_dev.specs.Files.{Files, file_at};
-ghost use Rattle.mg_defs.specs.Bits.{Bits, bits_of};
-ghost use Rattle.mg_defs.specs.CodedText.{as_bytes};
+ghost use Rattle.mg_dev.specs.Files.{Files};
+ghost use Rattle.mg_defs.specs.Bits.{Bits, bits_of, as_bytes};
 ghost use Rattle.mg_bits.specs.Pages.{Fits, Paging};
 ghost use Rattle.mg_bits.specs.Writer.{AreBytes};
 ghost use Rattle.mg_bits.specs.BitWriting.{BitWriting, Holds, bits_put};
+ghost use Rattle.mg_bits.specs.Alike.{SameAt, TellAlike};
 
 /// Bytes of the same bits are the same, and bytes are those that their bits make.
 pub fn bits_tell_bytes()
@@ -18,12 +17,12 @@ pub fn bits_tell_bytes()
 /// What was written to a file stays, and its writer may write on, where that file stays: calls that
 /// write other files don't matter.
 pub fn written_bits_stay()
-    ensures bits { (w : BitWriting) (f g : Option Files) → file_at g w.name ≡ file_at f w.name → bits_put w g ≡ bits_put w f }
-    ensures holds { (w : BitWriting) (f g : Option Files) → is_some g ≡ is_some f → file_at g w.name ≡ file_at f w.name → Holds w f → Holds w g }
+    ensures bits { (w : BitWriting) (f g : Option Files) → SameAt f g w.name → bits_put w g ≡ bits_put w f }
+    ensures holds { (w : BitWriting) (f g : Option Files) → TellAlike f g → SameAt f g w.name → Holds w f → Holds w g }
 {}
 
 /// The page that a feed holds is one of its file as long as that file stays: calls that write other
 /// files don't matter.
 pub fn held_pages_stay()
-    ensures { (feed : Paging) (f g : Option Files) → is_some g ≡ is_some f → file_at g feed.name ≡ file_at f feed.name → Fits feed f → Fits feed g }
+    ensures { (feed : Paging) (f g : Option Files) → TellAlike f g → SameAt f g feed.name → Fits feed f → Fits feed g }
 {}

@@ -4,10 +4,11 @@ ghost use Rattle.std.proofs.Common.{rules};
 ghost use Rattle.mg_dev.specs.Files.{Files, SameReads, bytes_at};
 ghost use Rattle.mg_dev.specs.Names.{full_name};
 ghost use Rattle.mg_dev.specs.Causes.{HasCause};
-ghost use Rattle.mg_defs.specs.Bits.{Begins, FromPlace, digits};
-ghost use Rattle.mg_bits.specs.Feed.{Calm, HasBits, HoldsBits, ReadPart, ReadsWithin, of_store, held_after, page_of};
+ghost use Rattle.mg_defs.specs.Bits.{Begins, digits};
+ghost use Rattle.mg_bits.specs.Feed.{Calm, HasBits, HoldsBits, ReadPart, ReadsWithin, of_store, held_after, page_of, ToldBytes, OnRange, ToldBits};
 ghost use Rattle.mg_bits.specs.FeedLaws.{same_page};
-ghost use Rattle.mg_bits.specs.Pages.{Fits, SameFile, Looked, IsFilled, feeding_of};
+ghost use Rattle.mg_bits.specs.Pages.{Fits, SameFile, Looked, IsFilled, feeding_of, CopiedBehind, AsFeed};
+ghost use Rattle.mg_dev.specs.Moments.{Between};
 
 use crate::Feed;
 use crate::window::{Window, byte_in, window_byte, word_in};
@@ -64,13 +65,10 @@ impl<'a, S: Store> PageFeed<'a, S> {
         requires fits { Fits self.old (S.files store.old) }
         ensures fits { Fits self.new (S.files store.new) }
         ensures file { SameFile self.old self.new }
-        ensures looked { Looked self.old.part (S.files store.old) (S.files store.new) (S.reads store.old) (S.reads store.new)
-            (S.faults store.old) (S.faults store.new) }
+        ensures looked { Between S.files S.reads S.faults store.old store.new (Looked self.old.part) }
         ensures told { IsSome (S.files store.old) → IfOk result (λ byte. byte ≡ slice_get (bytes_at (S.files store.old) self.old.name) at) }
-        ensures calm { Calm (feeding_of 4096 self.old) (feeding_of 4096 self.new) (of_store (S.files store.old) (S.faults store.old) (S.reads store.old))
-            (of_store (S.files store.new) (S.faults store.new) (S.reads store.new)) }
-        ensures pages { ReadsWithin (feeding_of 4096 self.old) (feeding_of 4096 self.new) (of_store (S.files store.old) (S.faults store.old)
-            (S.reads store.old)) (of_store (S.files store.new) (S.faults store.new) (S.reads store.new)) (8 * at) (8 * at + 1) }
+        ensures calm { AsFeed S.files S.reads S.faults self.old self.new store.old store.new Calm }
+        ensures pages { AsFeed S.files S.reads S.faults self.old self.new store.old store.new (OnRange (8 * at) (8 * at + 1) ReadsWithin) }
         ensures held { IfOk result (λ byte. OnSome byte (self.new.held ≡ Some (page_of 4096 (8 * at)))) }
         ensures keeps { self.old.held ≡ Some (page_of 4096 (8 * at)) → self.new.held ≡ self.old.held }
         ensures cause { HasCause (S.faults store.old) (S.faults store.new) result }
@@ -90,13 +88,10 @@ impl<'a, S: Store> PageFeed<'a, S> {
         requires fits { Fits self.old (S.files store.old) }
         ensures fits { Fits self.new (S.files store.new) }
         ensures file { SameFile self.old self.new }
-        ensures looked { Looked self.old.part (S.files store.old) (S.files store.new) (S.reads store.old) (S.reads store.new)
-            (S.faults store.old) (S.faults store.new) }
+        ensures looked { Between S.files S.reads S.faults store.old store.new (Looked self.old.part) }
         ensures told { IsSome (S.files store.old) → IfOk result (λ byte. byte ≡ slice_get (bytes_at (S.files store.old) self.old.name) at) }
-        ensures calm { Calm (feeding_of 4096 self.old) (feeding_of 4096 self.new) (of_store (S.files store.old) (S.faults store.old) (S.reads store.old))
-            (of_store (S.files store.new) (S.faults store.new) (S.reads store.new)) }
-        ensures pages { ReadsWithin (feeding_of 4096 self.old) (feeding_of 4096 self.new) (of_store (S.files store.old) (S.faults store.old)
-            (S.reads store.old)) (of_store (S.files store.new) (S.faults store.new) (S.reads store.new)) (8 * at) (8 * at + 1) }
+        ensures calm { AsFeed S.files S.reads S.faults self.old self.new store.old store.new Calm }
+        ensures pages { AsFeed S.files S.reads S.faults self.old self.new store.old store.new (OnRange (8 * at) (8 * at + 1) ReadsWithin) }
         ensures held { IfOk result (λ byte. OnSome byte (self.new.held ≡ Some (page_of 4096 (8 * at)))) }
         ensures keeps { self.old.held ≡ Some (page_of 4096 (8 * at)) → self.new.held ≡ self.old.held }
         ensures cause { HasCause (S.faults store.old) (S.faults store.new) result }
@@ -119,8 +114,7 @@ impl<'a, S: Store> PageFeed<'a, S> {
     /// The byte at a place, if the page that is held has it.
     #[inline]
     fn held_byte(&self, at: u64) -> Option<u8>
-        ensures told { (files : Option Files) → Fits self.now files →
-            IfSome result (λ byte. IfSome ((feeding_of 4096 self.now).source files) (λ bytes. Some byte ≡ slice_get bytes at)) }
+        ensures told { ToldBytes (feeding_of 4096 self.now) (Fits self.now) result (λ byte bytes. Some byte ≡ slice_get bytes at) }
         ensures held { OnSome result (self.now.held ≡ Some (page_of 4096 (8 * at))) }
         ensures some { (files : Option Files) → Fits self.now files → HasBits (feeding_of 4096 self.now) files (8 * at) 8 → IsSome result }
     {
@@ -134,8 +128,7 @@ impl<'a, S: Store> PageFeed<'a, S> {
     /// The eight bytes from a place on as a number, if the page that is held has them all.
     #[inline]
     fn held_word(&self, at: u64) -> Option<u64>
-        ensures told { (files : Option Files) → Fits self.now files →
-            IfSome result (λ word. FromPlace ((feeding_of 4096 self.now).source files) (8 * at) (Begins (digits 64 word))) }
+        ensures told { ToldBits (feeding_of 4096 self.now) (Fits self.now) (8 * at) result (λ word. Begins (digits 64 word)) }
         ensures held { IfSome result (λ word. HoldsBits (feeding_of 4096 self.now) (8 * at) 64) }
         ensures some { (files : Option Files) → Fits self.now files → HasBits (feeding_of 4096 self.now) files (8 * at) 64 → IsSome result }
     {
@@ -149,8 +142,7 @@ impl<'a, S: Store> PageFeed<'a, S> {
     /// The number of bytes of the file; a missing one has none.
     pub fn size(&mut self, store: &mut S) -> Result<u64, Failed>
         ensures same { self.new ≡ self.old }
-        ensures looked { Looked self.old.part (S.files store.old) (S.files store.new) (S.reads store.old) (S.reads store.new)
-            (S.faults store.old) (S.faults store.new) }
+        ensures looked { Between S.files S.reads S.faults store.old store.new (Looked self.old.part) }
         ensures reads { SameReads (S.reads store.old) (S.reads store.new) }
         ensures told { IsSome (S.files store.old) → IfOk result (λ size. size ≡ length (bytes_at (S.files store.old) self.old.name)) }
         ensures cause { HasCause (S.faults store.old) (S.faults store.new) result }
@@ -183,11 +175,9 @@ impl<'a, S: Store> PageFeed<'a, S> {
         requires place { at + length buf.old < 2 ^ 64 }
         ensures fits { Fits self.new (S.files store.new) }
         ensures file { SameFile self.old self.new }
-        ensures looked { Looked self.old.part (S.files store.old) (S.files store.new) (S.reads store.old) (S.reads store.new)
-            (S.faults store.old) (S.faults store.new) }
+        ensures looked { Between S.files S.reads S.faults store.old store.new (Looked self.old.part) }
         ensures told { IsSome (S.files store.old) → IfOk result (λ whole. IsFilled whole buf.new at (bytes_at (S.files store.old) self.old.name)) }
-        ensures part { ReadPart (feeding_of 4096 self.old) (feeding_of 4096 self.new) (of_store (S.files store.old) (S.faults store.old) (S.reads store.old))
-            (of_store (S.files store.new) (S.faults store.new) (S.reads store.new)) (8 * at) (8 * (at + length buf.old)) }
+        ensures part { AsFeed S.files S.reads S.faults self.old self.new store.old store.new (OnRange (8 * at) (8 * (at + length buf.old)) ReadPart) }
         ensures held { IfOk result (λ whole. whole ≡ true → self.new.held ≡ held_after 4096 self.old.held (8 * at) (8 * (at + length buf.old))) }
         ensures cause { HasCause (S.faults store.old) (S.faults store.new) result }
     {
@@ -214,7 +204,7 @@ impl<'a, S: Store> PageFeed<'a, S> {
         ensures length { length buf.new ≡ length buf.old }
         ensures within { from + result ≤ length buf.old }
         ensures told { (files : Option Files) → Fits self.now files → IsSome files →
-            take (from + result) buf.new ≡ take from buf.old ++ take result (drop at (bytes_at files self.now.name)) }
+            CopiedBehind from result buf.old buf.new (drop at (bytes_at files self.now.name)) }
         ensures held { 0 < result → HoldsBits (feeding_of 4096 self.now) (8 * at) (8 * result) }
     {
         if !self.window.has(at) {

@@ -1,12 +1,12 @@
 // One page of a file, kept in a buffer.
-ghost use Rattle.std.specs.Prelude.{◌≡◌, ◌+◌, ◌-◌, ◌*◌, ◌/◌, ◌%◌, ◌≤◌, ◌<◌, ◌^◌, ℕ, Option, Some, None, IfOk, IfSome, OnOk, OnSome, slice_get, length, take, IsSome};
+ghost use Rattle.std.specs.Prelude.{◌≡◌, ◌+◌, ◌-◌, ◌*◌, ◌/◌, ◌%◌, ◌≤◌, ◌<◌, ◌^◌, ℕ, Option, Some, None, IfOk, IfSome, OnOk, OnSome, slice_get, length, IsSome};
 ghost use Rattle.std.specs.Bool.{OnTrue, OnFalse};
-ghost use Rattle.mg_dev.specs.Files.{Files, bytes_at};
-ghost use Rattle.mg_dev.specs.Names.{full_name};
+ghost use Rattle.mg_dev.specs.Files.{bytes_at};
 ghost use Rattle.mg_dev.specs.Causes.{HasCause};
-ghost use Rattle.mg_bits.specs.Feed.{Calm, ReadsWithin, lacks, over_file, of_store, page_of, told_at};
+ghost use Rattle.mg_bits.specs.Feed.{Calm, ReadsWithin, lacks, page_of, OnRange};
 ghost use Rattle.mg_defs.specs.Bits.{bits_of, digits};
-ghost use Rattle.mg_bits.specs.Pages.{IsFirst, IsPageIn, IsWordIn};
+ghost use Rattle.mg_bits.specs.Pages.{IsFirst, IsWordIn};
+ghost use Rattle.mg_bits.specs.Windows.{file_name, KeptFrom, AsWindow};
 
 use mg_dev::{Failed, FileRef, Store};
 
@@ -74,16 +74,11 @@ fn load<S: Store>(
     requires fits { length page.old * number < 2 ^ 64 }
     requires within { window.old.count ≤ length page.old }
     requires first { IsFirst window.old.held (length page.old) window.old.first window.old.count }
-    requires agrees { IsSome (S.files store.old) → IsPageIn (length page.old) window.old.held (take window.old.count page.old)
-        (bytes_at (S.files store.old) (full_name file.now.base.now file.now.part)) }
+    requires agrees { KeptFrom file.now window.old page.old (S.files store.old) }
     ensures within { window.new.count ≤ length page.new }
     ensures first { IsFirst window.new.held (length page.new) window.new.first window.new.count }
-    ensures agrees { IsSome (S.files store.new) → IsPageIn (length page.new) window.new.held (take window.new.count page.new)
-        (bytes_at (S.files store.new) (full_name file.now.base.now file.now.part)) }
-    ensures calm { Calm (over_file (full_name file.now.base.now file.now.part) file.now.part (length page.old) window.old.held window.old.reads)
-        (over_file (full_name file.now.base.now file.now.part) file.now.part (length page.old) window.new.held window.new.reads)
-        (of_store (S.files store.old) (S.faults store.old) (S.reads store.old))
-        (of_store (S.files store.new) (S.faults store.new) (S.reads store.new)) }
+    ensures agrees { KeptFrom file.now window.new page.new (S.files store.new) }
+    ensures calm { AsWindow S.files S.reads S.faults file.now page.old window.old window.new store.old store.new Calm }
     ensures device { S.reads store.new file.now.part ≤ S.reads store.old file.now.part + lacks window.old.held number }
     ensures feed { window.new.reads ≤ window.old.reads + lacks window.old.held number }
     ensures held { OnOk result (window.new.held ≡ Some number) }
@@ -157,22 +152,14 @@ pub fn window_byte<S: Store>(
     requires some { 0 < length page.old }
     requires within { window.old.count ≤ length page.old }
     requires first { IsFirst window.old.held (length page.old) window.old.first window.old.count }
-    requires agrees { IsSome (S.files store.old) → IsPageIn (length page.old) window.old.held (take window.old.count page.old)
-        (bytes_at (S.files store.old) (full_name file.now.base.now file.now.part)) }
+    requires agrees { KeptFrom file.now window.old page.old (S.files store.old) }
     ensures within { window.new.count ≤ length page.new }
     ensures first { IsFirst window.new.held (length page.new) window.new.first window.new.count }
-    ensures agrees { IsSome (S.files store.new) → IsPageIn (length page.new) window.new.held (take window.new.count page.new)
-        (bytes_at (S.files store.new) (full_name file.now.base.now file.now.part)) }
+    ensures agrees { KeptFrom file.now window.new page.new (S.files store.new) }
     ensures told { IsSome (S.files store.old) →
-        IfOk result (λ byte. byte ≡ slice_get (bytes_at (S.files store.old) (full_name file.now.base.now file.now.part)) at) }
-    ensures calm { Calm (over_file (full_name file.now.base.now file.now.part) file.now.part (length page.old) window.old.held window.old.reads)
-        (over_file (full_name file.now.base.now file.now.part) file.now.part (length page.old) window.new.held window.new.reads)
-        (of_store (S.files store.old) (S.faults store.old) (S.reads store.old))
-        (of_store (S.files store.new) (S.faults store.new) (S.reads store.new)) }
-    ensures pages { ReadsWithin (over_file (full_name file.now.base.now file.now.part) file.now.part (length page.old) window.old.held window.old.reads)
-        (over_file (full_name file.now.base.now file.now.part) file.now.part (length page.old) window.new.held window.new.reads)
-        (of_store (S.files store.old) (S.faults store.old) (S.reads store.old))
-        (of_store (S.files store.new) (S.faults store.new) (S.reads store.new)) (8 * at) (8 * at + 1) }
+        IfOk result (λ byte. byte ≡ slice_get (bytes_at (S.files store.old) (file_name file.now)) at) }
+    ensures calm { AsWindow S.files S.reads S.faults file.now page.old window.old window.new store.old store.new Calm }
+    ensures pages { AsWindow S.files S.reads S.faults file.now page.old window.old window.new store.old store.new (OnRange (8 * at) (8 * at + 1) ReadsWithin) }
     ensures held { IfOk result (λ byte. OnSome byte (window.new.held ≡ Some (page_of (length page.old) (8 * at)))) }
     ensures keeps { window.old.held ≡ Some (page_of (length page.old) (8 * at)) → window.new.held ≡ window.old.held }
     ensures cause { HasCause (S.faults store.old) (S.faults store.new) result }
