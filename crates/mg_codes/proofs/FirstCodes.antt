@@ -63,7 +63,7 @@ golomb_first b next q value s some ones below code within = record {
       ∙ (ap (λ l. digits (q + 1) (next / 2 ^ (57 - (q + 1))) ++ l) (code ∙ behind_digits (q + 1) s next within) ∙ joined_digits (q + 1) s next within));
 }
 
-no_bits : short 1 0 ≡ []
+pub no_bits : short 1 0 ≡ []
 unfolding short shorter ceil_log2 digits
 no_bits = refl
 

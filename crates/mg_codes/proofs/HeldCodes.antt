@@ -14,12 +14,12 @@ use Rattle.mg_codes.proofs.Written.{unary_digits}
 
 -- ---- unary
 
-quotient : (k w rest next : ℕ) → w ≤ rest → rest < 2 * w → next + 1 + rest ≡ 2 * (k * w + w) → next / w ≡ k * 2
+pub quotient : (k w rest next : ℕ) → w ≤ rest → rest < 2 * w → next + 1 + rest ≡ 2 * (k * w + w) → next / w ≡ k * 2
 quotient k w rest next low high sum =
     let e : next ≡ k * 2 * w + (2 * w - 1 - rest) = omega arith in
     ap (λ n. n / w) e ∙ div-mul-add (k * 2) w (2 * w - 1 - rest) (omega arith)
 
-less_one : (p w : ℕ) → 0 < p → (p - 1) * w + w ≡ p * w
+pub less_one : (p w : ℕ) → 0 < p → (p - 1) * w + w ≡ p * w
 less_one zero w some = absurd (omega arith)
 less_one (suc k) w some = let e : suc k - 1 ≡ k = omega arith in rw e (omega arith)
 

@@ -19,7 +19,7 @@ ones_digits (suc n) =
     sym (digits_mod n n (2 ^ suc n - 1) (omega arith)) ∙ ap (digits n) (ap (λ x. x % 2 ^ n) e ∙ mod_low 1 n (2 ^ n - 1) below) in
     rw (head, tail, ones_digits n) refl
 
-one_zero : digits 1 0 ≡ false ∷ []
+pub one_zero : digits 1 0 ≡ false ∷ []
 unfolding digits
 one_zero = refl
 

@@ -1,3 +1,4 @@
 pub mod Remainders
 pub mod Refusals
 pub mod Held
+pub mod RoundTrips

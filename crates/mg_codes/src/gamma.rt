@@ -1,13 +1,13 @@
 // The gamma code.
 ghost use Rattle.std.specs.Prelude.{◌≡◌, ◌+◌, ◌-◌, ◌*◌, ◌≤◌, ◌<◌, ◌^◌, ℕ, IfOk, OnOk, OnErr, MatchResult, length};
-ghost use Rattle.mg_defs.specs.Bits.{FromPlace};
 ghost use Rattle.mg_defs.specs.Codes.{gamma};
 ghost use Rattle.mg_defs.specs.Answers.{UpTo};
-ghost use Rattle.mg_bits.specs.Feed.{Calm, Read};
-ghost use Rattle.mg_bits.specs.CodeAnswers.{AnswersCode, CodeCause, OnlyPagesOf};
+ghost use Rattle.mg_bits.specs.Feed.{Calm};
+ghost use Rattle.mg_bits.specs.CodeAnswers.{AnswersCode, CodeCause, OnlyCodePages};
 ghost use Rattle.mg_dev.specs.Causes.{HasPutCause};
 ghost use Rattle.mg_bits.specs.Writer.{WroteTo};
 ghost use Rattle.mg_bits.specs.BitWriting.{Holds, WroteBits};
+ghost use Rattle.mg_bits.specs.NextBits.{FromNext, ReadNext};
 
 use crate::held::gamma_here;
 use crate::refusals::refused_whole;
@@ -73,12 +73,10 @@ pub fn get_gamma<F: Feed>(
     requires limit { limit < 2 ^ 48 }
     ensures fits { F.fits r.new.feed (F.device dev.new).files }
     ensures calm { Calm (F.feeding r.old.feed) (F.feeding r.new.feed) (F.device dev.old) (F.device dev.new) }
-    ensures read { IfOk result
-        (λ x. Read (F.feeding r.old.feed) (F.feeding r.new.feed) (F.device dev.old) (F.device dev.new) r.old.place (r.old.place + length (gamma x))) }
-    ensures pages { OnErr result (FromPlace ((F.feeding r.old.feed).source (F.device dev.old).files) r.old.place
-        (OnlyPagesOf (UpTo limit) gamma (F.feeding r.old.feed) (F.feeding r.new.feed) (F.device dev.old) (F.device dev.new) r.old.place)) }
+    ensures read { IfOk result (λ x. ReadNext F.feeding F.device r.old r.new dev.old dev.new (length (gamma x))) }
+    ensures pages { OnErr result (OnlyCodePages F.feeding F.device r.old r.new dev.old dev.new (UpTo limit) gamma) }
     ensures place { MatchResult result (λ x. r.new.place ≡ r.old.place + length (gamma x)) (λ _. r.new.place ≡ r.old.place) }
-    ensures told { FromPlace ((F.feeding r.old.feed).source (F.device dev.old).files) r.old.place (AnswersCode result (UpTo limit) gamma limit r.old.place) }
+    ensures told { FromNext F.feeding F.device r.old dev.old (AnswersCode result (UpTo limit) gamma limit r.old.place) }
     ensures range { IfOk result (λ x. UpTo limit x) }
     ensures cause { CodeCause result (F.device dev.old).faults (F.device dev.new).faults }
 {
@@ -103,12 +101,10 @@ fn gamma_by_parts<F: Feed>(
     requires limit { limit < 2 ^ 48 }
     ensures fits { F.fits r.new.feed (F.device dev.new).files }
     ensures calm { Calm (F.feeding r.old.feed) (F.feeding r.new.feed) (F.device dev.old) (F.device dev.new) }
-    ensures read { IfOk result
-        (λ x. Read (F.feeding r.old.feed) (F.feeding r.new.feed) (F.device dev.old) (F.device dev.new) r.old.place (r.old.place + length (gamma x))) }
-    ensures pages { OnErr result (FromPlace ((F.feeding r.old.feed).source (F.device dev.old).files) r.old.place
-        (OnlyPagesOf (UpTo limit) gamma (F.feeding r.old.feed) (F.feeding r.new.feed) (F.device dev.old) (F.device dev.new) r.old.place)) }
+    ensures read { IfOk result (λ x. ReadNext F.feeding F.device r.old r.new dev.old dev.new (length (gamma x))) }
+    ensures pages { OnErr result (OnlyCodePages F.feeding F.device r.old r.new dev.old dev.new (UpTo limit) gamma) }
     ensures place { MatchResult result (λ x. r.new.place ≡ r.old.place + length (gamma x)) (λ _. r.new.place ≡ r.old.place) }
-    ensures told { FromPlace ((F.feeding r.old.feed).source (F.device dev.old).files) r.old.place (AnswersCode result (UpTo limit) gamma limit r.old.place) }
+    ensures told { FromNext F.feeding F.device r.old dev.old (AnswersCode result (UpTo limit) gamma limit r.old.place) }
     ensures range { IfOk result (λ x. UpTo limit x) }
     ensures cause { CodeCause result (F.device dev.old).faults (F.device dev.new).faults }
 {

@@ -3,11 +3,10 @@
 // A code of two parts is read from 57 bits at once, with no division: a value's quotient is counted,
 // and the value is compared with the limit.
 ghost use Rattle.std.specs.Prelude.{◌≡◌, ◌+◌, ◌-◌, ◌*◌, ◌≤◌, ◌<◌, ◌^◌, ◌/◌, ◌%◌, ℕ, Option, IfSome, length};
-ghost use Rattle.mg_dev.specs.Files.{Files};
-ghost use Rattle.mg_defs.specs.Bits.{Begins, FromPlace};
+ghost use Rattle.mg_defs.specs.Bits.{Begins};
 ghost use Rattle.mg_defs.specs.Codes.{gamma, golomb};
 ghost use Rattle.mg_defs.specs.Answers.{UpTo};
-ghost use Rattle.mg_bits.specs.Feed.{HoldsBits};
+ghost use Rattle.mg_bits.specs.Feed.{HoldsBits, ToldBits};
 ghost use Rattle.mg_codes.specs.Held.{IsFirstCode};
 
 use crate::remainder::{code_size, first_short, shorter_codes};
@@ -103,8 +102,7 @@ pub fn golomb_here<F: Feed>(r: &BitReader<F>, b: u64, limit: u64) -> Option<Held
     ensures small { IfSome result (λ code. code.size ≤ 57) }
     ensures size { IfSome result (λ code. length (golomb b code.value) ≡ code.size) }
     ensures held { IfSome result (λ code. HoldsBits (F.feeding r.now.feed) r.now.place code.size) }
-    ensures told { (files : Option Files) → F.fits r.now.feed files →
-        IfSome result (λ code. FromPlace ((F.feeding r.now.feed).source files) r.now.place (Begins (golomb b code.value))) }
+    ensures told { ToldBits (F.feeding r.now.feed) (F.fits r.now.feed) r.now.place result (λ code. Begins (golomb b code.value)) }
 {
     let Some(next) = r.peek() else {
         return None;
@@ -125,8 +123,7 @@ pub fn gamma_here<F: Feed>(r: &BitReader<F>, limit: u64) -> Option<HeldCode>
     ensures small { IfSome result (λ code. code.size ≤ 57) }
     ensures size { IfSome result (λ code. length (gamma code.value) ≡ code.size) }
     ensures held { IfSome result (λ code. HoldsBits (F.feeding r.now.feed) r.now.place code.size) }
-    ensures told { (files : Option Files) → F.fits r.now.feed files →
-        IfSome result (λ code. FromPlace ((F.feeding r.now.feed).source files) r.now.place (Begins (gamma code.value))) }
+    ensures told { ToldBits (F.feeding r.now.feed) (F.fits r.now.feed) r.now.place result (λ code. Begins (gamma code.value)) }
 {
     let Some(next) = r.peek() else {
         return None;

@@ -1,13 +1,13 @@
 // Short codes up to a bound, which are the second part of the gamma and Golomb codes.
 ghost use Rattle.std.specs.Prelude.{◌≡◌, ◌+◌, ◌-◌, ◌*◌, ◌≤◌, ◌<◌, ◌^◌, ◌/◌, ℕ, Option, IfOk, IfSome, OnErr, MatchResult, MatchOption, length, if◌then◌else◌};
-ghost use Rattle.mg_dev.specs.Files.{Files};
-ghost use Rattle.mg_defs.specs.Bits.{Begins, FromPlace, digits};
+ghost use Rattle.mg_defs.specs.Bits.{Begins, digits};
 ghost use Rattle.mg_defs.specs.Codes.{short, shorter, ceil_log2};
 ghost use Rattle.mg_defs.specs.Answers.{Below};
-ghost use Rattle.mg_bits.specs.Feed.{Calm, HoldsBits, Read};
-ghost use Rattle.mg_bits.specs.CodeAnswers.{AnswersCode, CodeCause, OnlyPagesOf};
+ghost use Rattle.mg_bits.specs.Feed.{Calm, HoldsBits, ToldBits};
+ghost use Rattle.mg_bits.specs.CodeAnswers.{AnswersCode, CodeCause, OnlyCodePages};
 ghost use Rattle.mg_codes.specs.Remainders.{IsBound, IsWholeAt, IsOpenAt, least_of};
 ghost use Rattle.mg_codes.specs.Refusals.{OverBelow};
+ghost use Rattle.mg_bits.specs.NextBits.{FromNext, ReadNext};
 
 use crate::held::HeldCode;
 use crate::refusals::refused;
@@ -98,13 +98,10 @@ pub fn get_below<F: Feed>(
     requires small { b < 2 ^ 48 }
     ensures fits { F.fits r.new.feed (F.device dev.new).files }
     ensures calm { Calm (F.feeding r.old.feed) (F.feeding r.new.feed) (F.device dev.old) (F.device dev.new) }
-    ensures read { IfOk result
-        (λ x. Read (F.feeding r.old.feed) (F.feeding r.new.feed) (F.device dev.old) (F.device dev.new) r.old.place (r.old.place + length (short b x))) }
-    ensures pages { OnErr result (FromPlace ((F.feeding r.old.feed).source (F.device dev.old).files) r.old.place
-        (OnlyPagesOf (Below bound) (short b) (F.feeding r.old.feed) (F.feeding r.new.feed) (F.device dev.old) (F.device dev.new) r.old.place)) }
+    ensures read { IfOk result (λ x. ReadNext F.feeding F.device r.old r.new dev.old dev.new (length (short b x))) }
+    ensures pages { OnErr result (OnlyCodePages F.feeding F.device r.old r.new dev.old dev.new (Below bound) (short b)) }
     ensures place { MatchResult result (λ x. r.new.place ≡ r.old.place + length (short b x)) (λ _. r.new.place ≡ r.old.place) }
-    ensures told { FromPlace ((F.feeding r.old.feed).source (F.device dev.old).files) r.old.place
-        (AnswersCode result (Below bound) (short b) bound r.old.place) }
+    ensures told { FromNext F.feeding F.device r.old dev.old (AnswersCode result (Below bound) (short b) bound r.old.place) }
     ensures range { IfOk result (λ x. x < bound) }
     ensures cause { CodeCause result (F.device dev.old).faults (F.device dev.new).faults }
     ensures over { OverBelow result bound b }
@@ -128,8 +125,7 @@ fn short_here<F: Feed>(r: &BitReader<F>, b: u64, bound: u64) -> Option<HeldCode>
     ensures size { IfSome result (λ code. length (short b code.value) ≡ code.size) }
     ensures small { IfSome result (λ code. code.size ≤ 48) }
     ensures held { IfSome result (λ code. HoldsBits (F.feeding r.now.feed) r.now.place code.size) }
-    ensures told { (files : Option Files) → F.fits r.now.feed files →
-        IfSome result (λ code. FromPlace ((F.feeding r.now.feed).source files) r.now.place (Begins (short b code.value))) }
+    ensures told { ToldBits (F.feeding r.now.feed) (F.fits r.now.feed) r.now.place result (λ code. Begins (short b code.value)) }
 {
     let size = code_size(b);
     if size == 0 {
@@ -186,13 +182,10 @@ fn below_by_bits<F: Feed>(
     requires small { b < 2 ^ 48 }
     ensures fits { F.fits r.new.feed (F.device dev.new).files }
     ensures calm { Calm (F.feeding r.old.feed) (F.feeding r.new.feed) (F.device dev.old) (F.device dev.new) }
-    ensures read { IfOk result
-        (λ x. Read (F.feeding r.old.feed) (F.feeding r.new.feed) (F.device dev.old) (F.device dev.new) r.old.place (r.old.place + length (short b x))) }
-    ensures pages { OnErr result (FromPlace ((F.feeding r.old.feed).source (F.device dev.old).files) r.old.place
-        (OnlyPagesOf (Below bound) (short b) (F.feeding r.old.feed) (F.feeding r.new.feed) (F.device dev.old) (F.device dev.new) r.old.place)) }
+    ensures read { IfOk result (λ x. ReadNext F.feeding F.device r.old r.new dev.old dev.new (length (short b x))) }
+    ensures pages { OnErr result (OnlyCodePages F.feeding F.device r.old r.new dev.old dev.new (Below bound) (short b)) }
     ensures place { MatchResult result (λ x. r.new.place ≡ r.old.place + length (short b x)) (λ _. r.new.place ≡ r.old.place) }
-    ensures told { FromPlace ((F.feeding r.old.feed).source (F.device dev.old).files) r.old.place
-        (AnswersCode result (Below bound) (short b) bound r.old.place) }
+    ensures told { FromNext F.feeding F.device r.old dev.old (AnswersCode result (Below bound) (short b) bound r.old.place) }
     ensures range { IfOk result (λ x. x < bound) }
     ensures cause { CodeCause result (F.device dev.old).faults (F.device dev.new).faults }
     ensures over { OverBelow result bound b }

@@ -1,15 +1,15 @@
 // The short code of a remainder.
 ghost use Rattle.std.specs.Prelude.{◌≡◌, ◌+◌, ◌-◌, ◌*◌, ◌≤◌, ◌<◌, ◌^◌, ℕ, IfOk, OnOk, OnErr, MatchResult, length};
-ghost use Rattle.mg_defs.specs.Bits.{FromPlace};
 ghost use Rattle.mg_defs.specs.Codes.{short};
 ghost use Rattle.mg_defs.specs.Answers.{Below};
-ghost use Rattle.mg_bits.specs.Feed.{Calm, Read};
+ghost use Rattle.mg_bits.specs.Feed.{Calm};
 ghost use Rattle.mg_bits.specs.Reader.{DeviceCause};
-ghost use Rattle.mg_bits.specs.CodeAnswers.{OnlyPagesOf};
 ghost use Rattle.mg_codes.specs.Refusals.{AnswersShort, IsNotOver, as_bits};
 ghost use Rattle.mg_dev.specs.Causes.{HasPutCause};
 ghost use Rattle.mg_bits.specs.Writer.{WroteTo};
 ghost use Rattle.mg_bits.specs.BitWriting.{Holds, WroteBits};
+ghost use Rattle.mg_bits.specs.NextBits.{FromNext, ReadNext};
+ghost use Rattle.mg_bits.specs.CodeAnswers.{OnlyCodePages};
 
 use crate::remainder::{code_size, get_below, shorter_codes};
 use mg_bits::{BitErr, BitReader, BitWriter, CodeErr, Feed};
@@ -62,12 +62,10 @@ pub fn get_short<F: Feed>(r: &mut BitReader<F>, dev: &mut F::Dev, b: u64) -> Res
     requires small { b < 2 ^ 48 }
     ensures fits { F.fits r.new.feed (F.device dev.new).files }
     ensures calm { Calm (F.feeding r.old.feed) (F.feeding r.new.feed) (F.device dev.old) (F.device dev.new) }
-    ensures read { IfOk result
-        (λ x. Read (F.feeding r.old.feed) (F.feeding r.new.feed) (F.device dev.old) (F.device dev.new) r.old.place (r.old.place + length (short b x))) }
-    ensures pages { OnErr result (FromPlace ((F.feeding r.old.feed).source (F.device dev.old).files) r.old.place
-        (OnlyPagesOf (Below b) (short b) (F.feeding r.old.feed) (F.feeding r.new.feed) (F.device dev.old) (F.device dev.new) r.old.place)) }
+    ensures read { IfOk result (λ x. ReadNext F.feeding F.device r.old r.new dev.old dev.new (length (short b x))) }
+    ensures pages { OnErr result (OnlyCodePages F.feeding F.device r.old r.new dev.old dev.new (Below b) (short b)) }
     ensures place { MatchResult result (λ x. r.new.place ≡ r.old.place + length (short b x)) (λ _. r.new.place ≡ r.old.place) }
-    ensures told { FromPlace ((F.feeding r.old.feed).source (F.device dev.old).files) r.old.place (AnswersShort result b r.old.place) }
+    ensures told { FromNext F.feeding F.device r.old dev.old (AnswersShort result b r.old.place) }
     ensures range { IfOk result (λ x. x < b) }
     ensures cause { DeviceCause result (F.device dev.old).faults (F.device dev.new).faults }
 {

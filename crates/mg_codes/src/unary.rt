@@ -1,15 +1,15 @@
 // The unary code.
 ghost use Rattle.std.specs.Prelude.{◌≡◌, ◌+◌, ◌≤◌, ◌<◌, ◌^◌, ℕ, ◌-◌, ◌*◌, Option, IfOk, IfSome, OnOk, OnErr, MatchResult, length};
-ghost use Rattle.mg_dev.specs.Files.{Files};
-ghost use Rattle.mg_defs.specs.Bits.{Begins, FromPlace};
+ghost use Rattle.mg_defs.specs.Bits.{Begins};
 ghost use Rattle.mg_defs.specs.Codes.{unary};
 ghost use Rattle.mg_defs.specs.Answers.{UpTo};
-ghost use Rattle.mg_bits.specs.Feed.{Calm, HoldsBits, Read};
+ghost use Rattle.mg_bits.specs.Feed.{Calm, HoldsBits, ToldBits};
 ghost use Rattle.mg_codes.specs.Held.{IsOnesBeforeZero};
-ghost use Rattle.mg_bits.specs.CodeAnswers.{AnswersCode, CodeCause, OnlyPagesOf};
+ghost use Rattle.mg_bits.specs.CodeAnswers.{AnswersCode, CodeCause, OnlyCodePages};
 ghost use Rattle.mg_dev.specs.Causes.{HasPutCause};
 ghost use Rattle.mg_bits.specs.Writer.{WroteTo};
 ghost use Rattle.mg_bits.specs.BitWriting.{Holds, WroteBits};
+ghost use Rattle.mg_bits.specs.NextBits.{FromNext, ReadNext};
 
 use crate::refusals::refused;
 use mg_bits::{BitReader, BitWriter, CodeErr, Feed};
@@ -56,12 +56,10 @@ pub fn get_unary<F: Feed>(
     requires limit { limit < 2 ^ 48 }
     ensures fits { F.fits r.new.feed (F.device dev.new).files }
     ensures calm { Calm (F.feeding r.old.feed) (F.feeding r.new.feed) (F.device dev.old) (F.device dev.new) }
-    ensures read { IfOk result
-        (λ x. Read (F.feeding r.old.feed) (F.feeding r.new.feed) (F.device dev.old) (F.device dev.new) r.old.place (r.old.place + length (unary x))) }
-    ensures pages { OnErr result (FromPlace ((F.feeding r.old.feed).source (F.device dev.old).files) r.old.place
-        (OnlyPagesOf (UpTo limit) unary (F.feeding r.old.feed) (F.feeding r.new.feed) (F.device dev.old) (F.device dev.new) r.old.place)) }
+    ensures read { IfOk result (λ x. ReadNext F.feeding F.device r.old r.new dev.old dev.new (length (unary x))) }
+    ensures pages { OnErr result (OnlyCodePages F.feeding F.device r.old r.new dev.old dev.new (UpTo limit) unary) }
     ensures place { MatchResult result (λ x. r.new.place ≡ r.old.place + length (unary x)) (λ _. r.new.place ≡ r.old.place) }
-    ensures told { FromPlace ((F.feeding r.old.feed).source (F.device dev.old).files) r.old.place (AnswersCode result (UpTo limit) unary limit r.old.place) }
+    ensures told { FromNext F.feeding F.device r.old dev.old (AnswersCode result (UpTo limit) unary limit r.old.place) }
     ensures range { IfOk result (λ x. UpTo limit x) }
     ensures cause { CodeCause result (F.device dev.old).faults (F.device dev.new).faults }
 {
@@ -80,8 +78,7 @@ fn unary_here<F: Feed>(r: &BitReader<F>, limit: u64) -> Option<u64>
     ensures range { IfSome result (λ x. UpTo limit x) }
     ensures small { IfSome result (λ x. x ≤ 57) }
     ensures held { IfSome result (λ x. HoldsBits (F.feeding r.now.feed) r.now.place x) }
-    ensures told { (files : Option Files) → F.fits r.now.feed files →
-        IfSome result (λ x. FromPlace ((F.feeding r.now.feed).source files) r.now.place (Begins (unary x))) }
+    ensures told { ToldBits (F.feeding r.now.feed) (F.fits r.now.feed) r.now.place result (λ x. Begins (unary x)) }
 {
     let next = match r.peek() {
         Some(next) => next,
@@ -118,12 +115,10 @@ fn unary_by_bits<F: Feed>(
     requires limit { limit < 2 ^ 48 }
     ensures fits { F.fits r.new.feed (F.device dev.new).files }
     ensures calm { Calm (F.feeding r.old.feed) (F.feeding r.new.feed) (F.device dev.old) (F.device dev.new) }
-    ensures read { IfOk result
-        (λ x. Read (F.feeding r.old.feed) (F.feeding r.new.feed) (F.device dev.old) (F.device dev.new) r.old.place (r.old.place + length (unary x))) }
-    ensures pages { OnErr result (FromPlace ((F.feeding r.old.feed).source (F.device dev.old).files) r.old.place
-        (OnlyPagesOf (UpTo limit) unary (F.feeding r.old.feed) (F.feeding r.new.feed) (F.device dev.old) (F.device dev.new) r.old.place)) }
+    ensures read { IfOk result (λ x. ReadNext F.feeding F.device r.old r.new dev.old dev.new (length (unary x))) }
+    ensures pages { OnErr result (OnlyCodePages F.feeding F.device r.old r.new dev.old dev.new (UpTo limit) unary) }
     ensures place { MatchResult result (λ x. r.new.place ≡ r.old.place + length (unary x)) (λ _. r.new.place ≡ r.old.place) }
-    ensures told { FromPlace ((F.feeding r.old.feed).source (F.device dev.old).files) r.old.place (AnswersCode result (UpTo limit) unary limit r.old.place) }
+    ensures told { FromNext F.feeding F.device r.old dev.old (AnswersCode result (UpTo limit) unary limit r.old.place) }
     ensures range { IfOk result (λ x. UpTo limit x) }
     ensures cause { CodeCause result (F.device dev.old).faults (F.device dev.new).faults }
 {
