@@ -6,7 +6,7 @@ use Rattle.std.proofs.lemmas.Nat.{shr-shr}
 use Rattle.std.proofs.lemmas.Bool.{cases_lt, cases_eq}
 use Rattle.std.specs.Prelude.{◌==◌}
 use Rattle.mg_defs.specs.Bits.{Bits, Begins, digits, is_odd}
-use Rattle.mg_defs.specs.Canon.{first, count_of, AreGood, codeword_value, codeword}
+use Rattle.mg_defs.specs.Canon.{first_codeword, count_of, AreGood, codeword_value, codeword}
 use Rattle.mg_defs.specs.Answers.{Below, CutShort, IsNone}
 use Rattle.mg_defs.proofs.BitLaws.{length_digits}
 use Rattle.mg_defs.proofs.CanonSteps.{first-step, first-zero, first-last, nth}
@@ -19,8 +19,8 @@ use Rattle.mg_canon.proofs.Placing.{room_for}
 pub tables_good : (lengths values firsts offsets symbols : List ℕ) → AreTables lengths values firsts offsets symbols → AreGood lengths
 tables_good lengths values firsts offsets symbols t = good_from lengths t.all t.full
 
-first_alone : (l : ℕ) → l ≡ 1 → first l (l ∷ []) ≡ 0
-first_alone l e = let P : ℕ → Type 0 = λ k. first k (k ∷ []) ≡ 0 in subst P (sym e) refl
+first_alone : (l : ℕ) → l ≡ 1 → first_codeword l (l ∷ []) ≡ 0
+first_alone l e = let P : ℕ → Type 0 = λ k. first_codeword k (k ∷ []) ≡ 0 in subst P (sym e) refl
 
 alone : (l : ℕ) → l ≡ 1 → digits l 0 ≡ false ∷ []
 unfolding digits
@@ -39,7 +39,7 @@ codeword-digits (l ∷ m ∷ lengths) s good h = refl
 pub record Walk (lengths : List ℕ) (read value : ℕ) : Type 0 where
   pub short : read ≤ 48
   pub start : read ≡ 0 → value ≡ 0
-  pub many : 2 ≤ length lengths → value < first read lengths + count_of read lengths
+  pub many : 2 ≤ length lengths → value < first_codeword read lengths + count_of read lengths
   pub one : length lengths ≡ 1 → (read ≤ 1) × (value ≤ read)
 
 pub walk_start : (lengths : List ℕ) → AreGood lengths → Walk lengths 0 0
@@ -50,19 +50,19 @@ walk_start lengths good = record {
   one = λ e. (omega arith, omega arith);
 }
 
-first_one : (lengths : List ℕ) → AreGood lengths → length lengths ≡ 1 → first 1 lengths ≡ 0
+first_one : (lengths : List ℕ) → AreGood lengths → length lengths ≡ 1 → first_codeword 1 lengths ≡ 0
 first_one [] good e = absurd (omega arith)
-first_one (l ∷ []) good e = let P : ℕ → Type 0 = λ k. first 1 (k ∷ []) ≡ 0 in subst P (sym good) refl
+first_one (l ∷ []) good e = let P : ℕ → Type 0 = λ k. first_codeword 1 (k ∷ []) ≡ 0 in subst P (sym good) refl
 first_one (l ∷ m ∷ lengths) good e = absurd (omega arith)
 
-first_none : (lengths : List ℕ) → AreGood lengths → length lengths ≡ 1 → first 0 lengths ≡ 0
+first_none : (lengths : List ℕ) → AreGood lengths → length lengths ≡ 1 → first_codeword 0 lengths ≡ 0
 first_none [] good e = absurd (omega arith)
-first_none (l ∷ []) good e = let P : ℕ → Type 0 = λ k. first 0 (k ∷ []) ≡ 0 in subst P (sym good) refl
+first_none (l ∷ []) good e = let P : ℕ → Type 0 = λ k. first_codeword 0 (k ∷ []) ≡ 0 in subst P (sym good) refl
 first_none (l ∷ m ∷ lengths) good e = absurd (omega arith)
 
-first_ten : (lengths : List ℕ) → AreGood lengths → length lengths ≡ 1 → first 10 lengths ≡ 0
+first_ten : (lengths : List ℕ) → AreGood lengths → length lengths ≡ 1 → first_codeword 10 lengths ≡ 0
 first_ten [] good e = absurd (omega arith)
-first_ten (l ∷ []) good e = let P : ℕ → Type 0 = λ k. first 10 (k ∷ []) ≡ 0 in subst P (sym good) refl
+first_ten (l ∷ []) good e = let P : ℕ → Type 0 = λ k. first_codeword 10 (k ∷ []) ≡ 0 in subst P (sym good) refl
 first_ten (l ∷ m ∷ lengths) good e = absurd (omega arith)
 
 count_one : (lengths : List ℕ) → AreGood lengths → length lengths ≡ 1 → count_of 1 lengths ≡ 1
@@ -110,12 +110,12 @@ digits-more l v false =
 
 module _ (lengths : List ℕ) (good : AreGood lengths) (some : 0 < length lengths) (read value : ℕ) (w : Walk lengths read value) where
   -- another bit is read: none was yet, or the number lies below the codewords of its length
-  module _ (unread : (read ≡ 0) ⊎ (value < first read lengths)) where
-    below_first : 2 ≤ length lengths → value < first read lengths
+  module _ (unread : (read ≡ 0) ⊎ (value < first_codeword read lengths)) where
+    below_first : 2 ≤ length lengths → value < first_codeword read lengths
     below_first h = ⊎_elim
         (λ e.
         let z = first-zero lengths (good_within lengths good h) (good_full lengths good h) in
-        let f = ap (λ n. first n lengths) e in
+        let f = ap (λ n. first_codeword n lengths) e in
         omega (arith, w.start e))
         (λ lt. lt)
         unread
@@ -125,7 +125,7 @@ module _ (lengths : List ℕ) (good : AreGood lengths) (some : 0 < length length
         (λ lt. ⊎_elim
         (λ z. z)
         (λ other. absurd
-        (let one : read ≡ 1 = omega (arith, w.one e) in omega (arith, ap (λ n. first n lengths) one, first_one lengths good e)))
+        (let one : read ≡ 1 = omega (arith, w.one e) in omega (arith, ap (λ n. first_codeword n lengths) one, first_one lengths good e)))
         (cases_eq read 0))
         unread
 
@@ -133,12 +133,12 @@ module _ (lengths : List ℕ) (good : AreGood lengths) (some : 0 < length length
     goes_on = ⊎_elim
         (λ h. ⊎_elim (λ lt. lt) (λ le. absurd
         (let e : read ≡ 48 = omega (arith, w.short) in
-        omega (arith, below_first h, ap (λ n. first n lengths) e, first-last lengths (good_within lengths good h))))
+        omega (arith, below_first h, ap (λ n. first_codeword n lengths) e, first-last lengths (good_within lengths good h))))
         (cases_lt read 48))
         (λ few. let e = none_read (omega arith) in omega arith)
         (cases_lt 1 (length lengths))
 
-    pub stays_small : (most : ℕ) → first read lengths ≤ most → value ≤ most
+    pub stays_small : (most : ℕ) → first_codeword read lengths ≤ most → value ≤ most
     stays_small most h = ⊎_elim (λ e. omega (arith, w.start e)) (λ lt. omega arith) unread
 
     pub cut_short : CutShort (Below (length lengths)) (codeword lengths) (digits read value)
@@ -170,54 +170,54 @@ module _ (lengths : List ℕ) (good : AreGood lengths) (some : 0 < length length
       many = λ h.
           let step = first-step read lengths goes_on (good_full lengths good h) in
           let one = add-one read in
-          subst (λ n. 2 * value + cond b 1 0 < first n lengths + count_of n lengths) (sym one) (omega (arith, below_first h, bit_small b));
+          subst (λ n. 2 * value + cond b 1 0 < first_codeword n lengths + count_of n lengths) (sym one) (omega (arith, below_first h, bit_small b));
       one = λ e. let z = none_read e in let v = w.start z in (omega arith, omega (arith, bit_small b));
     }
 
   -- a codeword was read: its number is among those of its length
-  module _ (some_read : 1 ≤ read) (stop : first read lengths ≤ value) where
+  module _ (some_read : 1 ≤ read) (stop : first_codeword read lengths ≤ value) where
     -- the place of its symbol, or one past the only symbol
-    pub in_range : count_below read lengths + (value - first read lengths) < length lengths → value < first read lengths + count_of read lengths
+    pub in_range : count_below read lengths + (value - first_codeword read lengths) < length lengths → value < first_codeword read lengths + count_of read lengths
     in_range h = ⊎_elim
         (λ many. w.many many)
         (λ few.
         let e : length lengths ≡ 1 = omega arith in
         let one : read ≡ 1 = omega (arith, w.one e) in
-        let f = ap (λ n. first n lengths) one ∙ first_one lengths good e in
+        let f = ap (λ n. first_codeword n lengths) one ∙ first_one lengths good e in
         let c = ap (λ n. count_of n lengths) one ∙ count_one lengths good e in
         let b = ap (λ n. count_below n lengths) one ∙ below_one lengths good e in
         omega arith)
         (cases_lt 1 (length lengths))
 
-    pub out_of_range : length lengths ≤ count_below read lengths + (value - first read lengths) → (length lengths ≡ 1) × (read ≡ 1) × (value ≡ 1)
+    pub out_of_range : length lengths ≤ count_below read lengths + (value - first_codeword read lengths) → (length lengths ≡ 1) × (read ≡ 1) × (value ≡ 1)
     out_of_range h = ⊎_elim
         (λ many. absurd (omega (arith, w.many many, room_for read lengths)))
         (λ few.
         let e : length lengths ≡ 1 = omega arith in
         let one : read ≡ 1 = omega (arith, w.one e) in
-        let f = ap (λ n. first n lengths) one ∙ first_one lengths good e in
+        let f = ap (λ n. first_codeword n lengths) one ∙ first_one lengths good e in
         let b = ap (λ n. count_below n lengths) one ∙ below_one lengths good e in
         let v : value ≤ read = (w.one e).1 in
         (e, one, omega arith))
         (cases_lt 1 (length lengths))
 
-    pub found : (values symbols : List ℕ) → AreNumbered lengths values symbols (length lengths) → count_below read lengths + (value - first read lengths) < length lengths →
-        (s : ℕ) × (s < length lengths) × (get_or symbols (count_below read lengths + (value - first read lengths)) 0 ≡ s) × (codeword lengths s ≡ digits read value)
+    pub found : (values symbols : List ℕ) → AreNumbered lengths values symbols (length lengths) → count_below read lengths + (value - first_codeword read lengths) < length lengths →
+        (s : ℕ) × (s < length lengths) × (get_or symbols (count_below read lengths + (value - first_codeword read lengths)) 0 ≡ s) × (codeword lengths s ≡ digits read value)
     found values symbols t h =
         let below = in_range h in
-        let n = nth lengths read (value - first read lengths) (omega arith) in
+        let n = nth lengths read (value - first_codeword read lengths) (omega arith) in
         let is_length : get_or lengths n.0 0 ≡ read = n.2 in
-        let rank : count_of read (take n.0 lengths) ≡ value - first read lengths = n.3 in
-        let place : place_of lengths n.0 ≡ count_below read lengths + (value - first read lengths) =
+        let rank : count_of read (take n.0 lengths) ≡ value - first_codeword read lengths = n.3 in
+        let place : place_of lengths n.0 ≡ count_below read lengths + (value - first_codeword read lengths) =
         ap (λ l. count_below l lengths + count_of l (take n.0 lengths)) is_length ∙ ap (λ k. count_below read lengths + k) rank in
-        let number : codeword_value lengths n.0 ≡ value = ap (λ l. first l lengths + count_of l (take n.0 lengths)) is_length ∙ (let r = rank in omega arith) in (
+        let number : codeword_value lengths n.0 ≡ value = ap (λ l. first_codeword l lengths + count_of l (take n.0 lengths)) is_length ∙ (let r = rank in omega arith) in (
           n.0,
           n.1,
           ap (λ p. get_or symbols p 0) (sym place) ∙ t.symbol_at n.0 n.1,
           codeword-digits lengths n.0 good n.1 ∙ ap (λ l. digits l (codeword_value lengths n.0)) is_length ∙ ap (λ v. digits read v) number,
         )
 
-    pub none_found : length lengths ≤ count_below read lengths + (value - first read lengths) → IsNone (Below (length lengths)) (codeword lengths) (digits read value)
+    pub none_found : length lengths ≤ count_below read lengths + (value - first_codeword read lengths) → IsNone (Below (length lengths)) (codeword lengths) (digits read value)
     none_found h =
         let out = out_of_range h in
         let bits : digits read value ≡ true ∷ [] = ap (λ l. digits l value) out.1 ∙ ap (λ v. digits 1 v) out.2 ∙ one_bit in
@@ -227,7 +227,7 @@ module _ (lengths : List ℕ) (good : AreGood lengths) (some : 0 < length length
         })
 
 -- the way begins behind no bits, or behind ten below all codewords of ten bits
-pub walk_from : (lengths : List ℕ) (read value : ℕ) → AreGood lengths → (read ≡ 0) ⊎ (read ≡ 10) → (read ≡ 0 → value ≡ 0) → (read ≡ 10 → value < first 10 lengths) → Walk lengths read value
+pub walk_from : (lengths : List ℕ) (read value : ℕ) → AreGood lengths → (read ≡ 0) ⊎ (read ≡ 10) → (read ≡ 0 → value ≡ 0) → (read ≡ 10 → value < first_codeword 10 lengths) → Walk lengths read value
 walk_from lengths read value good from none below = ⊎_elim
     (λ e. subst (λ r. Walk lengths r value) (sym e) (subst (λ v. Walk lengths 0 v) (sym (none e)) (walk_start lengths good)))
     (λ e.
@@ -235,13 +235,13 @@ walk_from lengths read value good from none below = ⊎_elim
     record {
       short = omega (arith, e);
       start = λ z. none z;
-      many = λ h. subst (λ r. value < first r lengths + count_of r lengths) (sym e) (omega (arith, lt));
+      many = λ h. subst (λ r. value < first_codeword r lengths + count_of r lengths) (sym e) (omega (arith, lt));
       one = λ h. absurd (omega (arith, lt, first_ten lengths good h));
     })
     from
 
 -- the same by the table of first codewords
-pub by_table : (lengths firsts : List ℕ) (read value : ℕ) → AreFirsts lengths firsts → read ≤ 48 → (read ≡ 0) ⊎ (value < get_or firsts read 0) → (read ≡ 0) ⊎ (value < first read lengths)
+pub by_table : (lengths firsts : List ℕ) (read value : ℕ) → AreFirsts lengths firsts → read ≤ 48 → (read ≡ 0) ⊎ (value < get_or firsts read 0) → (read ≡ 0) ⊎ (value < first_codeword read lengths)
 by_table lengths firsts read value f short more = ⊎_elim (λ e. inl e) (λ lt. inr (omega (arith, f.at read short))) more
 
 odd_or_not : (n : ℕ) → n % 2 ≡ cond (is_odd n) 1 0

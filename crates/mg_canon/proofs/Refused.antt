@@ -2,7 +2,7 @@
 use Rattle.std.proofs.Common.{◌≡◌, ℕ, zero, suc, ◌^◌, ◌<◌, ◌≤◌, List, [], ◌∷◌, length, sym, ap, ◌∙◌, subst, arith, get_or, ⊎_elim, Result, Err, ◌↔◌}
 use Rattle.std.proofs.lemmas.Bool.Decides.{nat_tests}
 use Rattle.std.proofs.lemmas.Bool.{cases_lt}
-use Rattle.mg_defs.specs.Canon.{kraft, AreWithin, AreGood}
+use Rattle.mg_defs.specs.Canon.{kraft, AreCodeLengths, AreGood}
 use Rattle.mg_defs.proofs.CanonLaws.{good_full, within_short}
 use Rattle.mg_canon.specs.Refusals.{most_bits, IsLength, HaveLengths, IsFirstBad, IsUnfilled, Refuses}
 use Rattle.mg_canon.specs.declared.canon_err.CanonErr.{CanonErr}
@@ -26,12 +26,12 @@ have_lengths (l ∷ m ∷ lengths) good s h =
     let w = within_short (l ∷ m ∷ lengths) s good.0 h in
     (w.0, omega (arith, most_many (length (l ∷ m ∷ lengths)) (omega arith), w.1))
 
-within_from : (xs : List ℕ) → ((s : ℕ) → s < length xs → (1 ≤ get_or xs s 0) × (get_or xs s 0 ≤ 48)) → AreWithin xs
+within_from : (xs : List ℕ) → ((s : ℕ) → s < length xs → (1 ≤ get_or xs s 0) × (get_or xs s 0 ≤ 48)) → AreCodeLengths xs
 within_from [] f = tt
 within_from (x ∷ xs) f = (f 0 (omega arith), within_from xs (λ s h. f (suc s) (omega arith)))
 
 -- lengths that codewords may have are at most 48
-pub are_within : (lengths : List ℕ) → HaveLengths (length lengths) lengths → AreWithin lengths
+pub are_within : (lengths : List ℕ) → HaveLengths (length lengths) lengths → AreCodeLengths lengths
 are_within lengths all = within_from lengths (λ s h. let p = all s h in (p.0, short_enough (length lengths) (get_or lengths s 0) p))
 
 pub good_from : (lengths : List ℕ) → HaveLengths (length lengths) lengths → (2 ≤ length lengths → kraft lengths ≡ 2 ^ 48) → AreGood lengths

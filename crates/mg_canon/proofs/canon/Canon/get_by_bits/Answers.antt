@@ -1,6 +1,6 @@
 use Rattle.std.proofs.Common.{◌≡◌, ℕ, suc, ◌+◌, ◌-◌, ◌*◌, ◌<◌, ◌≤◌, ◌⊎◌, List, [], ◌∷◌, ◌++◌, cond, length, get_or, sym, ap, ◌∙◌, subst, arith, add-zero, add-one}
 use Rattle.mg_defs.specs.Bits.{digits}
-use Rattle.mg_defs.specs.Canon.{AreGood, codeword, first}
+use Rattle.mg_defs.specs.Canon.{AreGood, codeword, first_codeword}
 use Rattle.mg_defs.specs.Answers.{Below}
 use Rattle.mg_defs.proofs.BitLaws.{length_digits}
 use Rattle.mg_defs.proofs.CanonLaws.{codewords_free}
@@ -37,7 +37,7 @@ loop-reader-smaller g c =
     let value : ℕ = c.loop-reader.value in
     let start : ℕ = c.place-start.result in
     let short : read ≤ 48 = i.walk.short in
-    let unread : (read ≡ 0) ⊎ (value < first read items) = by_table items s.firsts read value t.first_numbers short c.loop-reader-test.ensures.more in
+    let unread : (read ≡ 0) ⊎ (value < first_codeword read items) = by_table items s.firsts read value t.first_numbers short c.loop-reader-test.ensures.more in
     let on = goes_on items good some read value i.walk unread in
     omega arith
 
@@ -53,7 +53,7 @@ loop-reader-preserved g c =
     let value : ℕ = c.loop-reader.value in
     let start : ℕ = c.place-start.result in
     let short : read ≤ 48 = i.walk.short in
-    let unread : (read ≡ 0) ⊎ (value < first read items) = by_table items s.firsts read value t.first_numbers short c.loop-reader-test.ensures.more in
+    let unread : (read ≡ 0) ⊎ (value < first_codeword read items) = by_table items s.firsts read value t.first_numbers short c.loop-reader-test.ensures.more in
     let place : c.loop-reader.reader.place ≡ start + length (digits read value) = i.place ∙ ap (λ n. start + n) (sym (length_digits read value)) in
     let bit = c.in-Ok.bit in
     let number : c.number_of.result ≡ cond bit 1 0 = c.number_of.ensures in
@@ -83,7 +83,7 @@ returns-in-Err-clause-pages g c =
     let value : ℕ = c.loop-reader.value in
     let start : ℕ = c.place-start.result in
     let short : read ≤ 48 = i.walk.short in
-    let unread : (read ≡ 0) ⊎ (value < first read items) = by_table items s.firsts read value t.first_numbers short c.loop-reader-test.ensures.more in
+    let unread : (read ≡ 0) ⊎ (value < first_codeword read items) = by_table items s.firsts read value t.first_numbers short c.loop-reader-test.ensures.more in
     rw (← c.self.view_is, c.seek.ensures.feed, ← c.place-start.ensures)
     (walk_pages _ start (Below (length items)) (codeword items) (digits read value) (g.F.Feed.feeding c.args.reader.now.feed) (g.F.Feed.feeding c.bit.new.self.feed) (g.F.Feed.device c.args.dev.now) (g.F.Feed.device c.bit.new.dev)
     (g.met.F.Feed.whole_pages c.args.reader.now.feed).some (codewords_free items good) i.told (cut_short items good some read value i.walk unread)
@@ -102,7 +102,7 @@ returns-in-Err-clause-told g c =
     let value : ℕ = c.loop-reader.value in
     let start : ℕ = c.place-start.result in
     let short : read ≤ 48 = i.walk.short in
-    let unread : (read ≡ 0) ⊎ (value < first read items) = by_table items s.firsts read value t.first_numbers short c.loop-reader-test.ensures.more in
+    let unread : (read ≡ 0) ⊎ (value < first_codeword read items) = by_table items s.firsts read value t.first_numbers short c.loop-reader-test.ensures.more in
     let place : c.loop-reader.reader.place ≡ start + length (digits read value) = i.place ∙ ap (λ n. start + n) (sym (length_digits read value)) in
     rw (← c.self.view_is, c.refused.ensures, ← c.place-start.ensures)
     (walk_refused _ start c.loop-reader.reader.place 1 (Below (length items)) (codeword items) (digits read value) c.in-Err.refusal place
@@ -126,8 +126,8 @@ returns-then-place-len-clause-pages g c =
     let size = t.symbol_count in
     let some_read : 1 ≤ read = c.loop-reader-test.ensures.some in
     let table_stop : get_or s.firsts read 0 ≤ value = c.loop-reader-test.ensures.stop in
-    let stop : first read items ≤ value = omega arith in
-    let out : length items ≤ count_below read items + (value - first read items) = omega arith in
+    let stop : first_codeword read items ≤ value = omega arith in
+    let out : length items ≤ count_below read items + (value - first_codeword read items) = omega arith in
     rw (← c.self.view_is, c.seek-then-place-len.ensures.feed, ← c.place-start.ensures)
     (no_pages _ start (Below (length items)) (codeword items) (digits read value) (g.F.Feed.feeding c.args.reader.now.feed) (g.F.Feed.feeding c.loop-reader.reader.feed) (g.F.Feed.device c.args.dev.now) (g.F.Feed.device c.loop-reader.dev)
     i.told (none_found items good some read value i.walk some_read stop out))
@@ -149,8 +149,8 @@ returns-then-place-len-clause-told g c =
     let size = t.symbol_count in
     let some_read : 1 ≤ read = c.loop-reader-test.ensures.some in
     let table_stop : get_or s.firsts read 0 ≤ value = c.loop-reader-test.ensures.stop in
-    let stop : first read items ≤ value = omega arith in
-    let out : length items ≤ count_below read items + (value - first read items) = omega arith in
+    let stop : first_codeword read items ≤ value = omega arith in
+    let out : length items ≤ count_below read items + (value - first_codeword read items) = omega arith in
     rw (← c.self.view_is, ← c.place-start.ensures)
     (told_none _ start 1 (Below (length items)) (codeword items) (digits read value) i.told (none_found items good some read value i.walk some_read stop out))
 
@@ -171,8 +171,8 @@ returns-then-place-len-clause-over g c =
     let size = t.symbol_count in
     let some_read : 1 ≤ read = c.loop-reader-test.ensures.some in
     let table_stop : get_or s.firsts read 0 ≤ value = c.loop-reader-test.ensures.stop in
-    let stop : first read items ≤ value = omega arith in
-    let out : length items ≤ count_below read items + (value - first read items) = omega arith in
+    let stop : first_codeword read items ≤ value = omega arith in
+    let out : length items ≤ count_below read items + (value - first_codeword read items) = omega arith in
     λ at limit e. subst (λ l. length l ≡ 1) c.self.view_is (out_of_range items good some read value i.walk some_read stop out).0
 
 pub returns-clause-read : goal.returns-clause-read
@@ -192,10 +192,10 @@ returns-clause-read g c =
     let size = t.symbol_count in
     let some_read : 1 ≤ read = c.loop-reader-test.ensures.some in
     let table_stop : get_or s.firsts read 0 ≤ value = c.loop-reader-test.ensures.stop in
-    let stop : first read items ≤ value = omega arith in
-    let here : count_below read items + (value - first read items) < length items = omega arith in
+    let stop : first_codeword read items ≤ value = omega arith in
+    let here : count_below read items + (value - first_codeword read items) < length items = omega arith in
     let f = found items good some read value i.walk some_read stop s.values.items s.symbols.items t.numbered here in
-    let spot : get_or s.offsets read 0 + (value - get_or s.firsts read 0) ≡ count_below read items + (value - first read items) = omega arith in
+    let spot : get_or s.offsets read 0 + (value - get_or s.firsts read 0) ≡ count_below read items + (value - first_codeword read items) = omega arith in
     let in_symbols : get_or s.offsets read 0 + (value - get_or s.firsts read 0) < length s.symbols.items = omega arith in
     let symbol : c.index.result.now ≡ f.0 = symbol_index s.symbols.items (get_or s.offsets read 0 + (value - get_or s.firsts read 0)) c.index.result.now c.index.ensures in_symbols ∙ ap (λ p. get_or s.symbols.items p 0) spot ∙ f.2 in
     let bits : length (codeword c.args.self.now c.index.result.now) ≡ read = ap (λ l. length (codeword l c.index.result.now)) (sym c.self.view_is) ∙ ap (λ k. length (codeword items k)) symbol ∙ ap length f.3 ∙ length_digits read value in
@@ -218,10 +218,10 @@ returns-clause-place g c =
     let size = t.symbol_count in
     let some_read : 1 ≤ read = c.loop-reader-test.ensures.some in
     let table_stop : get_or s.firsts read 0 ≤ value = c.loop-reader-test.ensures.stop in
-    let stop : first read items ≤ value = omega arith in
-    let here : count_below read items + (value - first read items) < length items = omega arith in
+    let stop : first_codeword read items ≤ value = omega arith in
+    let here : count_below read items + (value - first_codeword read items) < length items = omega arith in
     let f = found items good some read value i.walk some_read stop s.values.items s.symbols.items t.numbered here in
-    let spot : get_or s.offsets read 0 + (value - get_or s.firsts read 0) ≡ count_below read items + (value - first read items) = omega arith in
+    let spot : get_or s.offsets read 0 + (value - get_or s.firsts read 0) ≡ count_below read items + (value - first_codeword read items) = omega arith in
     let in_symbols : get_or s.offsets read 0 + (value - get_or s.firsts read 0) < length s.symbols.items = omega arith in
     let symbol : c.index.result.now ≡ f.0 = symbol_index s.symbols.items (get_or s.offsets read 0 + (value - get_or s.firsts read 0)) c.index.result.now c.index.ensures in_symbols ∙ ap (λ p. get_or s.symbols.items p 0) spot ∙ f.2 in
     let bits : length (codeword c.args.self.now c.index.result.now) ≡ read = ap (λ l. length (codeword l c.index.result.now)) (sym c.self.view_is) ∙ ap (λ k. length (codeword items k)) symbol ∙ ap length f.3 ∙ length_digits read value in
@@ -244,10 +244,10 @@ returns-clause-told g c =
     let size = t.symbol_count in
     let some_read : 1 ≤ read = c.loop-reader-test.ensures.some in
     let table_stop : get_or s.firsts read 0 ≤ value = c.loop-reader-test.ensures.stop in
-    let stop : first read items ≤ value = omega arith in
-    let here : count_below read items + (value - first read items) < length items = omega arith in
+    let stop : first_codeword read items ≤ value = omega arith in
+    let here : count_below read items + (value - first_codeword read items) < length items = omega arith in
     let f = found items good some read value i.walk some_read stop s.values.items s.symbols.items t.numbered here in
-    let spot : get_or s.offsets read 0 + (value - get_or s.firsts read 0) ≡ count_below read items + (value - first read items) = omega arith in
+    let spot : get_or s.offsets read 0 + (value - get_or s.firsts read 0) ≡ count_below read items + (value - first_codeword read items) = omega arith in
     let in_symbols : get_or s.offsets read 0 + (value - get_or s.firsts read 0) < length s.symbols.items = omega arith in
     let symbol : c.index.result.now ≡ f.0 = symbol_index s.symbols.items (get_or s.offsets read 0 + (value - get_or s.firsts read 0)) c.index.result.now c.index.ensures in_symbols ∙ ap (λ p. get_or s.symbols.items p 0) spot ∙ f.2 in
     let bits : length (codeword c.args.self.now c.index.result.now) ≡ read = ap (λ l. length (codeword l c.index.result.now)) (sym c.self.view_is) ∙ ap (λ k. length (codeword items k)) symbol ∙ ap length f.3 ∙ length_digits read value in
@@ -270,10 +270,10 @@ returns-clause-symbol g c =
     let size = t.symbol_count in
     let some_read : 1 ≤ read = c.loop-reader-test.ensures.some in
     let table_stop : get_or s.firsts read 0 ≤ value = c.loop-reader-test.ensures.stop in
-    let stop : first read items ≤ value = omega arith in
-    let here : count_below read items + (value - first read items) < length items = omega arith in
+    let stop : first_codeword read items ≤ value = omega arith in
+    let here : count_below read items + (value - first_codeword read items) < length items = omega arith in
     let f = found items good some read value i.walk some_read stop s.values.items s.symbols.items t.numbered here in
-    let spot : get_or s.offsets read 0 + (value - get_or s.firsts read 0) ≡ count_below read items + (value - first read items) = omega arith in
+    let spot : get_or s.offsets read 0 + (value - get_or s.firsts read 0) ≡ count_below read items + (value - first_codeword read items) = omega arith in
     let in_symbols : get_or s.offsets read 0 + (value - get_or s.firsts read 0) < length s.symbols.items = omega arith in
     let symbol : c.index.result.now ≡ f.0 = symbol_index s.symbols.items (get_or s.offsets read 0 + (value - get_or s.firsts read 0)) c.index.result.now c.index.ensures in_symbols ∙ ap (λ p. get_or s.symbols.items p 0) spot ∙ f.2 in
     let bits : length (codeword c.args.self.now c.index.result.now) ≡ read = ap (λ l. length (codeword l c.index.result.now)) (sym c.self.view_is) ∙ ap (λ k. length (codeword items k)) symbol ∙ ap length f.3 ∙ length_digits read value in
