@@ -8,7 +8,8 @@ use Rattle.std.proofs.lemmas.List.{take_all}
 use Rattle.std.proofs.lemmas.List.Folds.{find-append}
 use Rattle.mg_dev.specs.declared.bad.Bad.{Bad}
 use Rattle.mg_defs.specs.Heads as defs
-use Rattle.mg_defs.specs.Heads.{first_damage, is_wrong, exactly, within, magic_checks, first_checks, narrow_checks, wide_checks, rest_checks, limits, read_head, narrow_head, wide_head, IsHead}
+use Rattle.mg_defs.specs.Heads.{first_damage, is_wrong, exactly, within, magic_checks, first_checks, narrow_checks, wide_checks, rest_checks, read_head, narrow_head, wide_head, IsHead}
+use Rattle.mg_defs.specs.Limits.{limits}
 use Rattle.mg_defs.proofs.NumberLaws.{slice_index-take, piece_small}
 use Rattle.mg_defs.proofs.HeadLaws.{undamaged}
 use Rattle.mg_layout.specs.declared.head.Head.{Head}

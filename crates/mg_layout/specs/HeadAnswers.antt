@@ -1,5 +1,5 @@
 -- What contracts see of a head, and what loading one answers.
-use Rattle.std.specs.Prelude.{◌≡◌, ◌≢◌, ℕ, List, [], Ok, Err, Some, None}
+use Rattle.std.specs.Prelude.{◌≡◌, ◌≢◌, ℕ, List, [], ◌++◌, Ok, Err, Some, None, MatchResult, find}
 use Rattle.std.specs.declared.option.Option.{Option}
 use Rattle.std.specs.declared.result.Result.{Result}
 use Rattle.mg_dev.specs.declared.bad.Bad as dev
@@ -7,6 +7,7 @@ use Rattle.mg_dev.specs.declared.part.Part.TheVariants as part
 use Rattle.mg_dev.specs.declared.part_err.PartErr.{PartErr}
 use Rattle.mg_dev.specs.declared.part_err.PartErr.TheVariants.{Device, Memory, Bad}
 use Rattle.mg_defs.specs.Heads as defs
+use Rattle.mg_defs.specs.Limits.{limits}
 use Rattle.mg_layout.specs.declared.head.Head.{Head}
 use Rattle.mg_layout.specs.declared.check.Check.{Check}
 
@@ -34,6 +35,18 @@ check_of c = record { at = c.at; low = c.low; high = c.high; found = c.found }
 pub record TellsOf (bad : dev.Bad) (damage : Option defs.Check) : Type 0 where
   pub part_is : bad.part ≡ part.Head
   pub damage_is : damage ≡ Some (record { at = bad.at; low = bad.low; high = bad.high; found = bad.found })
+
+-- what is checked of a head of version 1, and of version 2
+abbrev pub checks_of_narrow : List ℕ → List defs.Check
+checks_of_narrow bytes = defs.first_checks (limits 1) bytes ++ defs.narrow_checks bytes
+
+abbrev pub checks_of_wide : List ℕ → List defs.Check
+checks_of_wide bytes = defs.first_checks (limits 2) bytes ++ defs.wide_checks bytes
+
+-- the answer where these checks find nothing wrong, else what they find first
+abbrev pub AnswersChecks : {T : Type 0} → List defs.Check → Result T dev.Bad → (T → Type 0) → Type 0
+AnswersChecks checks result holds =
+    MatchResult result (λ value. (find defs.is_wrong checks ≡ None) × holds value) (λ bad. TellsOf bad (find defs.is_wrong checks))
 
 -- what is answered for a part of these bytes, where heads of a version from low to high are read
 abbrev pub AnswersHead : ℕ → ℕ → List ℕ → Result (Option Head) PartErr → Type 0

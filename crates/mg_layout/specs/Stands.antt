@@ -7,9 +7,15 @@ use Rattle.mg_dev.specs.Names.{full_name, number}
 use Rattle.mg_dev.specs.declared.part.Part.{Part}
 use Rattle.mg_dev.specs.declared.part.Part.TheVariants as part
 use Rattle.mg_defs.specs.CodedText.{TextCode}
+use Rattle.mg_defs.specs.Heads.{IsHead}
+use Rattle.mg_defs.specs.Means.{Tell}
 use Rattle.mg_defs.specs.Stands.{AreParts, Parts, Stand, head_of}
 use Rattle.mg_layout.specs.HeadAnswers.{fields_of}
 use Rattle.mg_layout.specs.declared.head.Head.{Head}
+
+-- the bytes of one part of a base
+abbrev pub part_bytes : Option Files → List ℕ → Part → List ℕ
+part_bytes files base p = bytes_at files (full_name base p)
 
 -- the bytes of a base's parts, those of merges aside
 abbrev pub parts_at : Option Files → List ℕ → Parts
@@ -43,6 +49,22 @@ pub record StandsBy (head : Head) (code : TextCode) (files : Option Files) (base
   pub told : IsSome files
   pub head_is : fields_of head ≡ head_of head.version head.cap code collection
   pub are : AreParts head.version head.cap code (parts_at files base) collection
+
+-- They do so with this head, under some codes.
+abbrev pub StandsUnder : Head → Option Files → List ℕ → List ℕ → Type 0
+StandsUnder head files base collection = (code : TextCode) × StandsBy head code files base collection
+
+-- The head's part of this base has this head.
+abbrev pub HasHead : Option Files → List ℕ → Head → Type 0
+HasHead files base head = IsHead 1 2 (parts_at files base).head (fields_of head)
+
+-- The parts of this base tell these codes, with this head.
+abbrev pub TellCode : Option Files → List ℕ → Head → TextCode → Type 0
+TellCode files base head code = Tell (parts_at files base) (fields_of head) code
+
+-- The parts stand now in this version, with so many occurrences to a run, if they did so before.
+abbrev pub StaysIn : ℕ → ℕ → Option Files → Option Files → List ℕ → List ℕ → Type 0
+StaysIn version cap before now base collection = StandsIn version cap before base collection → StandsIn version cap now base collection
 
 -- The parts of this base stand for no collection.
 abbrev pub StandsForNone : Option Files → List ℕ → Type 0

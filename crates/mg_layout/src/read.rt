@@ -1,8 +1,8 @@
 // The head that bytes write, or what is wrong first in them.
-ghost use Rattle.std.specs.Prelude.{◌≡◌, ◌+◌, ◌≤◌, ◌<◌, ◌++◌, ◌^◌, ℕ, List, None, IfOk, MatchResult, find, length, map, min, slice_index, take};
+ghost use Rattle.std.specs.Prelude.{◌≡◌, ◌+◌, ◌≤◌, ◌<◌, ◌++◌, ◌^◌, ℕ, List, IfOk, length, map, min, slice_index, take};
 ghost use Rattle.mg_defs.specs.Heads as defs;
 ghost use Rattle.mg_defs.specs.Numbers.{four_at};
-ghost use Rattle.mg_layout.specs.HeadAnswers.{check_of, fields_of, AnswersParse, TellsOf};
+ghost use Rattle.mg_layout.specs.HeadAnswers.{AnswersChecks, AnswersParse, check_of, checks_of_narrow, checks_of_wide, fields_of};
 
 use crate::check::{Check, pass_all};
 use crate::head::Head;
@@ -45,8 +45,7 @@ fn version_of(bytes: &[u8], low: u8, high: u8) -> Result<u8, Bad>
     requires long { 8 ≤ length bytes.now }
     requires low { low ≤ high }
     requires high { high ≤ 2 }
-    ensures { MatchResult result (λ version. (find defs.is_wrong (defs.magic_checks low high bytes.now) ≡ None) ×
-        (48 + version ≡ slice_index bytes.now 6)) (λ bad. TellsOf bad (find defs.is_wrong (defs.magic_checks low high bytes.now))) }
+    ensures { AnswersChecks (defs.magic_checks low high bytes.now) result (λ version. 48 + version ≡ slice_index bytes.now 6) }
 {
     match pass_all(&magic_checks(bytes, low, high)) {
         Ok(()) => Ok(bytes[6] - b'0'),
@@ -86,9 +85,7 @@ fn byte_check(bytes: &[u8], at: usize, low: u8, high: u8) -> Check
 
 fn read_narrow(bytes: &[u8]) -> Result<Head, Bad>
     requires { length bytes.now ≡ 64 }
-    ensures { MatchResult result (λ head. (find defs.is_wrong (defs.first_checks (defs.limits 1) bytes.now ++ defs.narrow_checks bytes.now) ≡ None) ×
-        (fields_of head ≡ defs.narrow_head bytes.now))
-        (λ bad. TellsOf bad (find defs.is_wrong (defs.first_checks (defs.limits 1) bytes.now ++ defs.narrow_checks bytes.now))) }
+    ensures { AnswersChecks (checks_of_narrow bytes.now) result (λ head. fields_of head ≡ defs.narrow_head bytes.now) }
 {
     match pass_all(&first_checks(bytes, 1 << 20, 1 << 20)) {
         Ok(()) => {}
@@ -118,9 +115,7 @@ fn read_narrow(bytes: &[u8]) -> Result<Head, Bad>
 fn read_wide(bytes: &[u8], version: u8) -> Result<Head, Bad>
     requires long { length bytes.now ≡ 80 }
     requires version { 48 + version ≡ slice_index bytes.now 6 }
-    ensures { MatchResult result (λ head. (find defs.is_wrong (defs.first_checks (defs.limits 2) bytes.now ++ defs.wide_checks bytes.now) ≡ None) ×
-        (fields_of head
-        ≡ defs.wide_head bytes.now)) (λ bad. TellsOf bad (find defs.is_wrong (defs.first_checks (defs.limits 2) bytes.now ++ defs.wide_checks bytes.now))) }
+    ensures { AnswersChecks (checks_of_wide bytes.now) result (λ head. fields_of head ≡ defs.wide_head bytes.now) }
 {
     match pass_all(&first_checks(bytes, 1 << 24, 1 << 22)) {
         Ok(()) => {}

@@ -2,22 +2,19 @@
 ghost use Rattle.std.specs.Prelude.{◌≡◌, ℕ, List, Option};
 ghost use Rattle.mg_dev.specs.Files.{Files};
 ghost use Rattle.mg_defs.specs.CodedText.{TextCode};
-ghost use Rattle.mg_defs.specs.Heads.{IsHead};
-ghost use Rattle.mg_defs.specs.Means.{Tell};
-ghost use Rattle.mg_layout.specs.HeadAnswers.{fields_of};
-ghost use Rattle.mg_layout.specs.Stands.{SameSet, Stands, StandsBy, StandsForNone, StandsIn, parts_at};
+ghost use Rattle.mg_layout.specs.Stands.{HasHead, SameSet, Stands, StandsBy, StandsForNone, StandsIn, StandsUnder, StaysIn, TellCode, parts_at};
 ghost use Rattle.mg_layout.specs.declared.head.Head.{Head};
 
 /// A set that stands in a version stands. Whether it stands, and in which version, is told by its
 /// eleven files alone: other files may change.
 pub fn sets_stand()
-    ensures built { (version cap : ℕ) (files : Option Files) (base collection : List ℕ) → StandsIn version cap files base collection →
-        Stands files base collection }
+    ensures built { (version cap : ℕ) (now : Option Files) (base collection : List ℕ) → StandsIn version cap now base collection →
+        Stands now base collection }
     ensures parts { (before now : Option Files) (base : List ℕ) → SameSet base before now → parts_at now base ≡ parts_at before base }
     ensures stays { (before now : Option Files) (base collection : List ℕ) → SameSet base before now →
         Stands before base collection → Stands now base collection }
     ensures stays_in { (version cap : ℕ) (before now : Option Files) (base collection : List ℕ) → SameSet base before now →
-        StandsIn version cap before base collection → StandsIn version cap now base collection }
+        StaysIn version cap before now base collection }
     ensures none { (before now : Option Files) (base : List ℕ) → SameSet base before now → StandsForNone before base → StandsForNone now base }
 {}
 
@@ -25,10 +22,8 @@ pub fn sets_stand()
 /// own under this head and one code. So a head that was loaded, and a code that the parts tell with it, are
 /// those of the collection.
 pub fn heads_tell_sets()
-    ensures loaded { (files : Option Files) (base collection : List ℕ) (head : Head) → Stands files base collection →
-        IsHead 1 2 (parts_at files base).head (fields_of head) →
-        (code : TextCode) × StandsBy head code files base collection }
-    ensures told { (files : Option Files) (base collection : List ℕ) (head : Head) (code : TextCode) → Stands files base collection →
-        Tell (parts_at files base) (fields_of head) code →
-        StandsBy head code files base collection }
+    ensures loaded { (now : Option Files) (base collection : List ℕ) (head : Head) → Stands now base collection →
+        HasHead now base head → StandsUnder head now base collection }
+    ensures told { (now : Option Files) (base collection : List ℕ) (head : Head) (code : TextCode) → Stands now base collection →
+        TellCode now base head code → StandsBy head code now base collection }
 {}
