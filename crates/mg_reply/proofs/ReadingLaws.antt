@@ -10,7 +10,7 @@ use Rattle.mg_dev.specs.StreamLaws.{prepended-nil, prepended-prepended}
 use Rattle.mg_defs.specs.Lines.{HasNoEnd, lines, without_return}
 use Rattle.mg_defs.proofs.LinesLaws.{lines-closed, lines-open, HasNoEnd-push}
 use Rattle.mg_reply.specs.Reading.{Reading, Going, IsFirst, RunsOn, AfterLine, IsEvent}
-use Rattle.mg_defs.specs.Limit.{input_limit}
+use Rattle.mg_defs.specs.Limits.{input_limit}
 use Rattle.mg_reply.specs.declared.reader.LineEvent.{LineEvent}
 use Rattle.mg_reply.specs.declared.reader.LineEvent.TheVariants.{Line, TooLong, End}
 

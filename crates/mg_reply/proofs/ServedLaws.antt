@@ -11,13 +11,14 @@ use Rattle.mg_dev.specs.StreamLaws.{appended-nil, appended-appended, grew_first,
 use Rattle.mg_defs.specs.declared.session.Settings.{Settings}
 use Rattle.mg_defs.specs.declared.session.Command.{Command}
 use Rattle.mg_defs.specs.declared.session.Command.TheVariants.{Skip, Ask, Quit, Wrong, Set}
-use Rattle.mg_defs.specs.Commands.{start, command, text_of, settings_after, stops}
+use Rattle.mg_defs.specs.Commands.{first_settings, command, command_text, settings_after, stops}
 use Rattle.mg_defs.specs.Texts.{bad_command}
 use Rattle.mg_defs.specs.Lines.{lines, HasNoEnd, without_return}
 use Rattle.mg_defs.specs.declared.session.Hearing.{Hearing}
 use Rattle.mg_defs.specs.declared.session.Hearing.TheVariants.{Commands, Questions}
 use Rattle.mg_defs.specs.Session.{hears, replies, heard_session, read, Question, questions, heard_questions, asked_by}
-use Rattle.mg_defs.specs.Limit.{is_quit, ended_lines, has_quit, is_too_much, input_limit}
+use Rattle.mg_defs.specs.InputLimit.{is_quit, ended_lines, has_quit, is_too_much}
+use Rattle.mg_defs.specs.Limits.{input_limit}
 use Rattle.mg_defs.proofs.SessionLaws.{Gives, gives_end, gives_line, ends_long, ends_short}
 use Rattle.mg_defs.proofs.LimitLaws.{ends_always, ended-line, ended-none}
 use Rattle.mg_reply.specs.Reading.{IsFirst, RunsOn}
@@ -26,7 +27,7 @@ use Rattle.mg_reply.proofs.ReadingLaws.{first_line, left_now, empty}
 
 -- ---- what was printed and answered
 
-pub served_start : {A : Type 0} (hearing : Hearing) (After : A → A → List Question → Type 0) (a : A) (reply : Settings → List ℕ → List ℕ) (left written : Option (List ℕ)) → After a a [] → Served hearing After a a reply left left written written start
+pub served_start : {A : Type 0} (hearing : Hearing) (After : A → A → List Question → Type 0) (a : A) (reply : Settings → List ℕ → List ℕ) (left written : Option (List ℕ)) → After a a [] → Served hearing After a a reply left left written written first_settings
 served_start hearing After a reply left written none = record {
   done = [];
   answered = [];
@@ -68,7 +69,7 @@ unfolding heard_session
 served_part hearing After old new reply before left next w0 w1 w2 now after line text asking size s first gives grew all told =
     let r = s.goes_on all told in
     let f = first_line line r.rest size left next first r.told in
-    let e : replies hearing reply start (lines all) ≡ s.done ++ (text ++ replies hearing reply after (lines f.0)) =
+    let e : replies hearing reply first_settings (lines all) ≡ s.done ++ (text ++ replies hearing reply after (lines f.0)) =
     r.goes_on ∙ ap (λ ls. s.done ++ replies hearing reply now ls) f.2 ∙ ap (λ t. s.done ++ t) (gives.goes_on (lines f.0)) in
     subst (GrewByPrefix w0 w2) (sym e) (grew_second w0 w1 w2 s.done (text ++ replies hearing reply after (lines f.0)) s.given (grew_first w1 w2 text (replies hearing reply after (lines f.0)) grew))
 
@@ -113,7 +114,7 @@ served_quit hearing After old new reply before left next w0 w1 now line size s f
 
 -- ---- what is said of a line's answer
 
-no_text : (reply : Settings → List ℕ → List ℕ) (wrong : List ℕ) (now : Settings) (line : List ℕ) (c : Command) → stops c ≡ true → (text_of reply wrong now line c ≡ []) × (asked_by now line c ≡ [])
+no_text : (reply : Settings → List ℕ → List ℕ) (wrong : List ℕ) (now : Settings) (line : List ℕ) (c : Command) → stops c ≡ true → (command_text reply wrong now line c ≡ []) × (asked_by now line c ≡ [])
 no_text reply wrong now line Skip h = (refl, refl)
 no_text reply wrong now line Ask h = absurd (false≢true h)
 no_text reply wrong now line Quit h = (refl, refl)
@@ -140,7 +141,7 @@ abbrev pub heard : Hearing → Settings → List ℕ → Command
 heard hearing now cut = hears hearing (command cut now)
 
 abbrev pub answer : Hearing → (Settings → List ℕ → List ℕ) → Settings → List ℕ → List ℕ
-answer hearing answering now cut = text_of answering bad_command now cut (heard hearing now cut)
+answer hearing answering now cut = command_text answering bad_command now cut (heard hearing now cut)
 
 pub answered_gives : (hearing : Hearing) (reply answering : Settings → List ℕ → List ℕ) (now : Settings) (line cut : List ℕ) → Answered reply answering now line cut → stops (command cut now) ≡ false → Gives hearing reply now line (answer hearing answering now cut) (asked_by now cut (heard hearing now cut)) (settings_after now (heard hearing now cut))
 answered_gives hearing reply answering now line cut a goes =
@@ -182,7 +183,7 @@ answered_asked hearing After old new next reply answering before left left2 w0 w
   first = λ all told.
       let r = s.goes_on all told in
       let f = first_line line r.rest size left left2 first r.told in
-      let whole : questions hearing start (lines all) ≡ s.answered ++ questions hearing now (line ∷ lines f.0) = r.asks ∙ ap (λ ls. s.answered ++ questions hearing now ls) f.2 in
+      let whole : questions hearing first_settings (lines all) ≡ s.answered ++ questions hearing now (line ∷ lines f.0) = r.asks ∙ ap (λ ls. s.answered ++ questions hearing now ls) f.2 in
       elim (cases_Bool (stops (command cut now))) [
         | inl quits ↦
             let none : asked_by now cut (heard hearing now cut) ≡ [] = (no_text answering bad_command now cut (heard hearing now cut) (stops_heard hearing (command cut now) ∙ quits)).1 in
@@ -347,7 +348,7 @@ left_at_quit before left input held line size used c first quits all told =
 -- ---- whether a line ends the session
 
 pub goes_long : (line : List ℕ) → 1024 < length line → is_quit line ≡ false
-goes_long line long = ends_long start line long
+goes_long line long = ends_long first_settings line long
 
 pub quit_is : (now : Settings) (line cut : List ℕ) (b : Bool) → length line ≤ 1024 → cut ≡ without_return line → b ≡ stops (command cut now) → is_quit line ≡ b
 quit_is now line cut b short cut_is e = sym (ends_always now line) ∙ ends_short now line short ∙ ap (λ l. stops (command l now)) (sym cut_is) ∙ sym e

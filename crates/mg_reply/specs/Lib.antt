@@ -1,3 +1,5 @@
 pub mod Reading
 pub mod Pending
 pub mod Served
+pub mod Refusals
+pub mod Printed

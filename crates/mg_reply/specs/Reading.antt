@@ -5,7 +5,7 @@ use Rattle.std.specs.declared.option.Option.{Option}
 use Rattle.mg_dev.specs.Streams.{prepended, IsAtEnd}
 use Rattle.mg_dev.specs.declared.device.Failed.{Failed}
 use Rattle.mg_defs.specs.Lines.{HasNoEnd}
-use Rattle.mg_defs.specs.Limit.{input_limit}
+use Rattle.mg_defs.specs.Limits.{input_limit, line_bytes}
 use Rattle.mg_reply.specs.declared.reader.LineEvent.{LineEvent}
 use Rattle.mg_reply.specs.declared.reader.LineEvent.TheVariants.{Line, TooLong, End}
 use Rattle.mg_reply.specs.declared.reader.LineErr.{LineErr}
@@ -29,8 +29,8 @@ AfterFill held before after (Err e) = (held ≡ []) × (after ≡ before)
 
 -- what a line of so many bytes is
 abbrev pub IsEvent : ℕ → LineEvent → Type 0
-IsEvent size Line = size ≤ 1024
-IsEvent size TooLong = 1024 < size
+IsEvent size Line = size ≤ line_bytes
+IsEvent size TooLong = line_bytes < size
 IsEvent size End = ⊥
 
 -- the line's end follows it, or the input's end follows a line that isn't empty
@@ -53,8 +53,8 @@ pub record RunsOn (size : ℕ) (before after : Option (List ℕ)) : Type 0 where
   pub taken : before ≡ prepended (front ++ byte ∷ []) after
 
 abbrev pub AfterLine : Reading → Reading → Option (List ℕ) → Option (List ℕ) → Result LineEvent LineErr → Type 0
-AfterLine old new before after (Ok Line) = (size : ℕ) × IsFirst new.line size before after × (length new.line ≤ 1024) × (new.used ≡ old.used + size) × (new.used ≤ input_limit)
-AfterLine old new before after (Ok TooLong) = (line : List ℕ) × (size : ℕ) × IsFirst line size before after × (1024 < length line) × (new.used ≡ old.used + size) × (new.used ≤ input_limit)
+AfterLine old new before after (Ok Line) = (size : ℕ) × IsFirst new.line size before after × (length new.line ≤ line_bytes) × (new.used ≡ old.used + size) × (new.used ≤ input_limit)
+AfterLine old new before after (Ok TooLong) = (line : List ℕ) × (size : ℕ) × IsFirst line size before after × (line_bytes < length line) × (new.used ≡ old.used + size) × (new.used ≤ input_limit)
 AfterLine old new before after (Ok End) = IsAtEnd before × (after ≡ before) × (new.used ≡ old.used)
 AfterLine old new before after (Err Read) = Unit {0}
 AfterLine old new before after (Err TooMuch) = (size : ℕ) × RunsOn size before after × (old.used + size ≡ input_limit)
@@ -65,4 +65,4 @@ pub record Going (before now : Option (List ℕ)) (line : List ℕ) (n : ℕ) : 
   pub plain : HasNoEnd front
   pub count : length front ≡ n
   pub taken : before ≡ prepended front now
-  pub kept : line ≡ take 1024 front
+  pub kept : line ≡ take line_bytes front

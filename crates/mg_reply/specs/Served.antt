@@ -9,11 +9,11 @@ use Rattle.mg_dev.specs.declared.part_err.PartErr.{PartErr}
 use Rattle.mg_dev.specs.declared.show_err.ShowErr.{ShowErr}
 use Rattle.mg_dev.specs.declared.show_err.ShowErr.TheVariants as show
 use Rattle.mg_defs.specs.declared.session.Settings.{Settings}
-use Rattle.mg_defs.specs.Commands.{start}
+use Rattle.mg_defs.specs.Commands.{first_settings}
 use Rattle.mg_defs.specs.Lines.{lines}
 use Rattle.mg_defs.specs.declared.session.Hearing.{Hearing}
 use Rattle.mg_defs.specs.Session.{replies, Question, questions, heard_questions}
-use Rattle.mg_defs.specs.Limit.{is_quit, ended_lines, IsReadEnough}
+use Rattle.mg_defs.specs.InputLimit.{is_quit, ended_lines, IsReadEnough}
 use Rattle.mg_reply.specs.declared.serve.ServeErr.{ServeErr}
 use Rattle.mg_reply.specs.declared.serve.ServeErr.TheVariants as serve
 
@@ -54,8 +54,8 @@ EndsFor Read Write TooMuch Stops (serve.Show show.Memory) = Unit {0}
 pub record Rests (hearing : Hearing) (reply : Settings → List ℕ → List ℕ) (now : Settings) (done : List ℕ) (answered : List Question) (all : List ℕ) (left : Option (List ℕ)) : Type 0 where
   pub rest : List ℕ
   pub told : left ≡ Some rest
-  pub goes_on : replies hearing reply start (lines all) ≡ done ++ replies hearing reply now (lines rest)
-  pub asks : questions hearing start (lines all) ≡ answered ++ questions hearing now (lines rest)
+  pub goes_on : replies hearing reply first_settings (lines all) ≡ done ++ replies hearing reply now (lines rest)
+  pub asks : questions hearing first_settings (lines all) ≡ answered ++ questions hearing now (lines rest)
 
 -- So much was printed and answered, whatever was told.
 pub record Served {A : Type 0} (hearing : Hearing) (After : A → A → List Question → Type 0) (old new : A) (reply : Settings → List ℕ → List ℕ) (before left written_old written : Option (List ℕ)) (now : Settings) : Type 0 where

@@ -1,10 +1,11 @@
 // The documents of an answer, as they are shown.
 ghost use Rattle.std.specs.Prelude.{◌≡◌, ◌++◌, Some, None};
-ghost use Rattle.mg_dev.specs.Causes.{HasPutCause};
+ghost use Rattle.mg_dev.specs.Causes.{HasPutCause, HasLack};
 ghost use Rattle.mg_defs.specs.Texts.{close};
-ghost use Rattle.mg_defs.specs.Reply.{shown_as};
-ghost use Rattle.mg_defs.specs.Replies.{shows as shows_spec, hit_text};
+ghost use Rattle.mg_defs.specs.ShownAnswers.{shown_as};
+ghost use Rattle.mg_defs.specs.Replies.{shows as shows_spec};
 ghost use Rattle.mg_reply.specs.Pending.{AfterPass};
+ghost use Rattle.mg_reply.specs.Printed.{Passes, at_score, hit_by};
 
 use crate::Pending;
 use mg_defs::{Mode, Settings};
@@ -24,6 +25,7 @@ pub fn shows(most: Option<u32>, total: u32) -> bool
 fn pass_closed<O: Sink>(pending: &mut Pending, out: &mut O, doc: &[u8]) -> Result<(), PutErr>
     ensures content { AfterPass (O.written out.old) (O.written out.new) pending.old pending.new (doc.now ++ close) result }
     ensures cause { HasPutCause (O.faults out.old) (O.faults out.new) result }
+    ensures lack { HasLack (O.lacks out.old) (O.lacks out.new) result }
 {
     match pending.put(out, doc) {
         Ok(()) => pending.close(out),
@@ -40,9 +42,9 @@ pub fn pass_shown<O: Sink>(
     score: Option<u64>,
     doc: &[u8],
 ) -> Result<(), PutErr>
-    ensures content { AfterPass (O.written out.old) (O.written out.new) pending.old pending.new
-        (shown_as doc.now mode (record { number = number; score = score })) result }
+    ensures content { Passes O.written out.old out.new pending.old pending.new result (shown_as doc.now mode (at_score number score)) }
     ensures cause { HasPutCause (O.faults out.old) (O.faults out.new) result }
+    ensures lack { HasLack (O.lacks out.old) (O.lacks out.new) result }
 {
     match mode {
         Mode::Docnums => pending.row(out, number, score),
@@ -65,9 +67,9 @@ pub fn pass_hit<O: Sink>(
     score: Option<u64>,
     doc: &[u8],
 ) -> Result<(), PutErr>
-    ensures content { AfterPass (O.written out.old) (O.written out.new) pending.old pending.new
-        (hit_text doc.now now.now.mode now.now.most total (record { number = number; score = score })) result }
+    ensures content { Passes O.written out.old out.new pending.old pending.new result (hit_by now.now doc.now total (at_score number score)) }
     ensures cause { HasPutCause (O.faults out.old) (O.faults out.new) result }
+    ensures lack { HasLack (O.lacks out.old) (O.lacks out.new) result }
 {
     if !shows(now.most, total) {
         return Ok(());

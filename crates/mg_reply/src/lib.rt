@@ -28,5 +28,5 @@ pub use pending::Pending;
 pub use reader::{LineErr, LineEvent, LineReader};
 pub use serve::{Answerer, ServeErr, serve_lines};
 pub use text::{
-    put_close, put_count, put_refusal, put_refused, put_row, put_shown, put_too_long, put_wrong,
+    answer_refused, put_close, put_count, put_refusal, put_row, put_shown, put_too_long, put_wrong,
 };

@@ -53,7 +53,7 @@ pub struct LineReader {
 
 impl Model for LineReader {
     ghost use Rattle.std.specs.Prelude.{◌≤◌};
-    ghost use Rattle.mg_defs.specs.Limit.{input_limit};
+    ghost use Rattle.mg_defs.specs.Limits.{input_limit};
     ghost use Rattle.mg_reply.specs.Reading.{Reading};
 
     ghost Value = { Reading };

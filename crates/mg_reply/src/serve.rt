@@ -1,16 +1,16 @@
 // A session: a reply to each line of an input.
-ghost use Rattle.std.specs.Prelude.{◌≡◌, ℕ, ◌≤◌, List, [], ◌∷◌, ◌++◌, length, OnOk, IfOk, IfErr, IsErrOf, true, false};
+ghost use Rattle.std.specs.Prelude.{◌≡◌, ℕ, ◌≤◌, List, [], ◌∷◌, ◌++◌, length, OnOk, IfOk, IfErr, IsErrOf, false};
 ghost use Rattle.std.specs.Option.{ForSome};
 ghost use Rattle.mg_dev.specs.Causes.{Rose};
-ghost use Rattle.mg_dev.specs.Streams.{appended, GrewByPrefix, AfterPut};
 ghost use Rattle.mg_dev.specs.declared.part_err.PartErr.{PartErr};
 ghost use Rattle.mg_dev.specs.declared.show_err.ShowErr.TheVariants.{Write};
 ghost use Rattle.mg_defs.specs.declared.session.Settings.{Settings};
-ghost use Rattle.mg_defs.specs.Commands.{command, text_of, settings_after, stops as stops_spec};
-ghost use Rattle.mg_defs.specs.Texts.{bad_command};
+ghost use Rattle.mg_defs.specs.Commands.{command, settings_after, stops as stops_spec};
 ghost use Rattle.mg_defs.specs.Session.{heard_session, hears, Question, asked_by};
-ghost use Rattle.mg_defs.specs.Limit.{is_too_much, input_limit};
-ghost use Rattle.mg_reply.specs.Served.{AnsweredSome, LeftEnough, shown_put, PartStops, EndsFor};
+ghost use Rattle.mg_defs.specs.InputLimit.{is_too_much};
+ghost use Rattle.mg_defs.specs.Limits.{input_limit};
+ghost use Rattle.mg_reply.specs.Served.{AnsweredSome, LeftEnough, shown_put, PartStops};
+ghost use Rattle.mg_reply.specs.Printed.{EndsWhere, ForEach, PrintsAll, PrintsPrefix, Puts, heard_text};
 
 use crate::{LineErr, LineEvent, LineReader, put_too_long, put_wrong, read_command};
 use mg_defs::{Command, Hearing, Settings};
@@ -50,8 +50,7 @@ pub trait Answerer {
         requires short { length line.now ≤ 1024 }
         requires fits { fits (state self.old dev.old) }
         ensures fits { fits (state self.new dev.new) }
-        ensures content { (reply : Settings → List ℕ → List ℕ) → answers (state self.old dev.old) reply →
-            AfterPut (O.written out.old) (O.written out.new) (reply now.now line.now) result }
+        ensures content { ForEach (answers (state self.old dev.old)) (λ reply. Puts O.written out.old out.new result (reply now.now line.now)) }
         ensures after { after (state self.old dev.old) (state self.new dev.new) (record { now = now.now; line = line.now } ∷ []) }
         ensures later { O.faults out.old ≤ O.faults out.new }
         ensures write { IsErrOf result Write → Rose (O.faults out.old) (O.faults out.new) }
@@ -100,8 +99,8 @@ fn serve_line<O: Sink, A: Answerer>(
     ensures fits { A.fits (A.state answerer.new dev.new) }
     ensures after { A.after (A.state answerer.old dev.old) (A.state answerer.new dev.new)
         (asked_by now.old line.now (hears hearing (command line.now now.old))) }
-    ensures text { (reply : Settings → List ℕ → List ℕ) → A.answers (A.state answerer.old dev.old) reply →
-        AfterPut (O.written out.old) (O.written out.new) (text_of reply bad_command now.old line.now (hears hearing (command line.now now.old))) result }
+    ensures text { ForEach (A.answers (A.state answerer.old dev.old))
+        (λ reply. Puts O.written out.old out.new result (heard_text hearing now.old line.now reply)) }
     ensures settings { OnOk result (now.new ≡ settings_after now.old (hears hearing (command line.now now.old))) }
     ensures stops { IfOk result (λ stop. stop ≡ stops_spec (command line.now now.old)) }
     ensures later { O.faults out.old ≤ O.faults out.new }
@@ -140,20 +139,17 @@ pub fn serve_lines<I: Source, O: Sink, A: Answerer>(
     out: &mut O,
 ) -> Result<(), ServeErr>
     requires { A.fits (A.state answerer.old dev.old) }
-    ensures all { (reply : Settings → List ℕ → List ℕ) → A.answers (A.state answerer.old dev.old) reply →
-        ForSome (I.left input.old) (λ bytes. OnOk result (O.written out.new ≡ appended (O.written out.old) (heard_session hearing reply bytes))) }
-    ensures prefix { (reply : Settings → List ℕ → List ℕ) → A.answers (A.state answerer.old dev.old) reply →
-        ForSome (I.left input.old) (λ bytes. GrewByPrefix (O.written out.old) (O.written out.new) (heard_session hearing reply bytes)) }
+    ensures all { ForEach (A.answers (A.state answerer.old dev.old))
+        (PrintsAll I.left O.written input.old out.old out.new result (heard_session hearing)) }
+    ensures prefix { ForEach (A.answers (A.state answerer.old dev.old))
+        (PrintsPrefix I.left O.written input.old out.old out.new (heard_session hearing)) }
     ensures left { ForSome (I.left input.old) (λ bytes. OnOk result (LeftEnough bytes (I.left input.new))) }
     ensures within { ForSome (I.left input.old) (λ bytes. OnOk result (is_too_much input_limit bytes ≡ false)) }
     ensures answered { AnsweredSome hearing A.after (A.state answerer.old dev.old) (A.state answerer.new dev.new) (I.left input.old) }
     ensures read_later { I.faults input.old ≤ I.faults input.new }
     ensures write_later { O.faults out.old ≤ O.faults out.new }
-    ensures cause { IfErr result (EndsFor
-        (Rose (I.faults input.old) (I.faults input.new))
-        (Rose (O.faults out.old) (O.faults out.new))
-        (ForSome (I.left input.old) (λ bytes. is_too_much input_limit bytes ≡ true))
-        (A.may_stop (A.state answerer.old dev.old) (A.state answerer.new dev.new))) }
+    ensures cause { EndsWhere I.left I.faults O.faults input.old input.new out.old out.new result
+        (A.may_stop (A.state answerer.old dev.old) (A.state answerer.new dev.new)) }
 {
     let mut reader = LineReader::new();
     let mut now = Settings::start();

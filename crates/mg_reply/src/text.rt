@@ -1,13 +1,14 @@
 // The texts of replies.
-ghost use Rattle.std.specs.Prelude.{◌≡◌, ◌≢◌, ◌++◌, decimal, codes, IfSome};
-ghost use Rattle.mg_dev.specs.Causes.{HasPutCause, HasLack};
+ghost use Rattle.std.specs.Prelude.{◌≡◌, ◌≢◌, ◌≤◌, ◌++◌, ℕ, List, decimal, codes, IfSome, IfErr, IsErrOf};
+ghost use Rattle.mg_dev.specs.Causes.{HasPutCause, HasLack, Rose};
 ghost use Rattle.mg_dev.specs.Streams.{AfterPut};
 ghost use Rattle.mg_defs.specs.Texts.{row as row_text, header as header_text, close as close_text, count as count_text, bad_command, line_too_long};
 ghost use Rattle.mg_defs.specs.Replies.{refusal};
 ghost use Rattle.mg_query.specs.RefusalOf.{refusal_of};
+ghost use Rattle.mg_reply.specs.Refusals.{AnswerStops};
 
 use crate::Pending;
-use mg_dev::{PutErr, Sink};
+use mg_dev::{PartErr, PutErr, ShowErr, Sink};
 use mg_query::QueryErr;
 
 /// Writes the row of a document.
@@ -76,16 +77,22 @@ pub fn put_refusal<O: Sink>(out: &mut O, why: &QueryErr) -> Result<(), PutErr>
     }
 }
 
-/// Writes why a line is no query, or answers that memory was wanted.
-pub fn put_refused<O: Sink>(out: &mut O, why: QueryErr) -> Result<(), PutErr>
-    ensures content { IfSome (refusal_of why) (λ refused. AfterPut (O.written out.old) (O.written out.new) (refusal refused) result) }
-    ensures memory { why ≡ QueryErr.Memory → (result ≡ Err PutErr.Memory) × (O.written out.new ≡ O.written out.old) }
-    ensures cause { HasPutCause (O.faults out.old) (O.faults out.new) result }
+/// Writes why a line is no query, or answers that the allocator lacked the memory to read it.
+pub fn answer_refused<O: Sink>(out: &mut O, why: QueryErr) -> Result<(), ShowErr>
+    ensures content { (text : List ℕ) → IfSome (refusal_of why) (λ refused. text ≡ refusal refused) →
+        AfterPut (O.written out.old) (O.written out.new) text result }
+    ensures later { O.faults out.old ≤ O.faults out.new }
+    ensures lacks { O.lacks out.old ≤ O.lacks out.new }
+    ensures cause { IfErr result (AnswerStops (Rose (O.faults out.old) (O.faults out.new)) (Rose (O.lacks out.old) (O.lacks out.new))) }
+    ensures silent { IsErrOf result (ShowErr.Part PartErr.Memory) → O.written out.new ≡ O.written out.old }
 {
     if let QueryErr::Memory = why {
-        return Err(PutErr::Memory);
+        return Err(ShowErr::Part(PartErr::Memory));
     }
-    put_refusal(out, &why)
+    match put_refusal(out, &why) {
+        Ok(()) => Ok(()),
+        Err(error) => Err(ShowErr::from(error)),
+    }
 }
 
 /// Writes a reason and its place.

@@ -1,7 +1,7 @@
 use Rattle.std.proofs.Common.{◌-◌, ◌≤◌, ℕ, List, None}
 use Rattle.mg_defs.specs.declared.session.Settings.{Settings}
 use Rattle.mg_dev.specs.Streams.{prepended}
-use Rattle.mg_defs.specs.Limit.{input_limit}
+use Rattle.mg_defs.specs.Limits.{input_limit}
 use Rattle.mg_reply.specs.Served.{Served, Counted, silent}
 use Rattle.mg_reply.proofs.serve.serve_lines.Given as goal
 

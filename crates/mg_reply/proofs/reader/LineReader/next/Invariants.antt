@@ -1,7 +1,7 @@
 use Rattle.std.proofs.Common.{◌≡◌, ◌+◌, ◌-◌, ◌≤◌}
 use Rattle.mg_dev.specs.Streams.{prepended}
 use Rattle.mg_reply.specs.Reading.{Going}
-use Rattle.mg_defs.specs.Limit.{input_limit}
+use Rattle.mg_defs.specs.Limits.{input_limit}
 use Rattle.mg_reply.proofs.reader.LineReader.next.Given as goal
 
 abbrev pub invariant-bytes : goal.invariant-bytes
