@@ -2,5 +2,7 @@
 
 -- reads of a file from its begin: none, one after another, and how many pages they take
 pub use Rattle.mg_front.proofs.ReadPages.{on_same, on_more, read_first, read_first_to}
+-- how long the front coding of entries can be
+pub use Rattle.mg_front.proofs.ReaderLaws.{front_small}
 -- what a writer took stays where its files stay
 pub use Rattle.mg_front.proofs.Stays.{took_stays}

@@ -1,13 +1,16 @@
 -- The strings of entries rise, so a string is found by the whole entries first.
-use Rattle.std.proofs.Common.{arith, min, ◌≡◌, ◌+◌, ◌-◌, ◌*◌, ◌/◌, ◌≤◌, ◌<◌, ◌⊎◌, inl, inr, ℕ, Bool, true, false, List, [], length, Some, None, refl, sym, ◌∙◌, ap, subst, slice_get, IsSome, cond, Ok, Err, Result}
+use Rattle.std.proofs.Common.{arith, min, ◌^◌, take, drop, ◌≡◌, ◌+◌, ◌-◌, ◌*◌, ◌/◌, ◌≤◌, ◌<◌, ◌⊎◌, inl, inr, ℕ, Bool, true, false, List, [], length, Some, None, refl, sym, ◌∙◌, ap, subst, slice_get, IsSome, cond, Ok, Err, Result}
 use Rattle.std.specs.declared.option.Option.{Option}
+use Rattle.std.specs.Prelude.{IfErr}
 use Rattle.std.proofs.lemmas.Bool.{cases_lt}
 use Rattle.std.proofs.lemmas.Option.{slice_get_within}
 use Rattle.mg_dev.specs.Files.{Files, bytes_at}
 use Rattle.mg_defs.specs.Front.{Entry, IsFront, AreEntries, is_below}
 use Rattle.mg_defs.proofs.FrontOrder.{below_trans, rising, not_itself, same_there}
 use Rattle.mg_defs.proofs.FrontParts.{some_cons}
-use Rattle.mg_front.specs.Reading.{Fronted, FrontStands, SameParts, Around, NoneAmong, IsAbsent, AnswersIn, AnswersFind}
+use Rattle.mg_defs.specs.Numbers.{four}
+use Rattle.mg_dev.specs.Bads.{IsBad}
+use Rattle.mg_front.specs.Reading.{IsLost, IsLostAmong, Fronted, FrontStands, SameParts, Around, NoneAmong, IsAbsent, AnswersIn, AnswersFind}
 use Rattle.mg_front.specs.declared.entry.FrontEntry.{FrontEntry}
 use Rattle.mg_dev.specs.declared.part_err.PartErr.{PartErr}
 use Rattle.mg_dev.specs.declared.part_err.PartErr.TheVariants.{Device, Memory, Bad}
@@ -87,8 +90,26 @@ stands_same r s f g es same e stands = record {
   strings = subst (λ w. IsFront w (bytes_at g s.strings.name) es) (sym same.width) (subst (λ n. IsFront r.width (bytes_at g n) es) (sym same.strings) (subst (λ h. IsFront r.width (bytes_at h r.strings.name) es) (sym e) stands.strings));
   places = ap (bytes_at g) same.places ∙ ap (λ h. bytes_at h r.places.name) e ∙ stands.places;
   count = stands.count ∙ sym same.count;
-  few = stands.few;
+  small = subst (λ n. length (bytes_at g n) < 2 ^ 32) (sym same.strings) (subst (λ h. length (bytes_at h r.strings.name) < 2 ^ 32) (sym e) stands.small);
 }
+
+-- what is told of a block stays where the reader's parts stay
+pub lost_same : (refusal : PartErr) (r s : Fronted) (f g : Option Files) (block : ℕ) → SameParts r s → g ≡ f → IsLost refusal s g block → IsLost refusal r f block
+lost_same Device r s f g block same e lost = tt
+lost_same Memory r s f g block same e lost = tt
+lost_same (Bad bad) r s f g block same e (inl none) = inl (record {
+  is = subst (λ p. IsBad bad p (4 * block) 1 1 0) same.places_part none.is;
+  short = λ told. subst (λ h. length (bytes_at h r.places.name) < 4 * block + 4) e (subst (λ n. length (bytes_at g n) < 4 * block + 4) same.places (none.short (subst IsSome (sym e) told)));
+})
+lost_same (Bad bad) r s f g block same e (inr none) = inr (record {
+  is = subst (λ p. IsBad bad p bad.at 1 1 0) same.strings_part none.is;
+  small = none.small;
+  told = λ told. subst (λ h. take 4 (drop (4 * block) (bytes_at h r.places.name)) ≡ four bad.at) e (subst (λ n. take 4 (drop (4 * block) (bytes_at g n)) ≡ four bad.at) same.places (none.told (subst IsSome (sym e) told)));
+})
+
+pub lost_among : {T : Type 0} (result : Result T PartErr) (r s : Fronted) (f g : Option Files) (block : ℕ) → 4 * block < r.count → SameParts r s → g ≡ f → IfErr result (λ refusal. IsLost refusal s g block) → IfErr result (λ refusal. IsLostAmong refusal r f)
+lost_among (Ok value) r s f g block within same e lost = tt
+lost_among (Err refusal) r s f g block within same e lost = (block, within, lost_same refusal r s f g block same e lost)
 
 -- a block of fewer than four entries is the last
 pub none_behind : (es : List Entry) (from most : ℕ) (string : List ℕ) → (length es ≤ from + most) ⊎ (4 ≤ most) → NoneAmong es from most string → NoneAmong es from 4 string

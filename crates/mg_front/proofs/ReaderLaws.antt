@@ -104,14 +104,14 @@ pub front_small : (es : List Entry) (width : ℕ) → AreEntries width 0 [] es �
 front_small es width are few wide = omega (arith, front_short width 0 [] es wide are)
 
 -- where the places stand, a block's place is that of its first entry
-pub block_place : (r : Fronted) (files : Option Files) (es : List Entry) (block place : ℕ) → r.width ≤ 24 → FrontStands r files es → 4 * block < length es → place < 2 ^ 32 → take 4 (drop (4 * block) (bytes_at files r.places.name)) ≡ four place → place ≡ length (front (take (4 * block) es))
-block_place r files es block place wide stands within small here =
+pub block_place : (r : Fronted) (files : Option Files) (es : List Entry) (block place : ℕ) → FrontStands r files es → 4 * block < length es → place < 2 ^ 32 → take 4 (drop (4 * block) (bytes_at files r.places.name)) ≡ four place → place ≡ length (front (take (4 * block) es))
+block_place r files es block place stands within small here =
     let some = some_cons es (4 * block) within in
     let head = take (4 * block) es in
     let long : length (take (4 * block) es) ≡ 4 * block = simp length-take (omega arith) in
     let there : take 4 (drop (4 * block) (whole_at es)) ≡ four (length (front (take (4 * block) es))) = ap (λ t. take 4 (drop (4 * block) (whole_at t))) some.2 ∙ place_there head some.0 some.1 block long in
     let all : length (front es) ≡ length (front (take (4 * block) es)) + length (front_from (0 + length (take (4 * block) es)) (last_string [] (take (4 * block) es)) (some.0 ∷ some.1)) = ap (λ t. length (front t)) some.2 ∙ ap length (front_append 0 [] head (some.0 ∷ some.1)) ∙ length-append (front head) (front_from (0 + length head) (last_string [] head) (some.0 ∷ some.1)) in
-    four_same place (length (front (take (4 * block) es))) small (omega (arith, all, front_small es r.width stands.strings.entries stands.few wide)) (sym here ∙ ap (λ t. take 4 (drop (4 * block) t)) stands.places ∙ there)
+    four_same place (length (front (take (4 * block) es))) small (omega (arith, all, stands.small, ap length stands.strings.bytes_are)) (sym here ∙ ap (λ t. take 4 (drop (4 * block) t)) stands.places ∙ there)
 
 -- and there is such a place
 pub block_there : (r : Fronted) (files : Option Files) (es : List Entry) (block : ℕ) → FrontStands r files es → 4 * block < length es → length (bytes_at files r.places.name) < 4 * block + 4 → ⊥

@@ -1,5 +1,5 @@
 -- What writers, walks and readers stand for stays as long as their own files do.
-use Rattle.std.proofs.Common.{◌≡◌, ◌++◌, ℕ, List, [], None, Some, refl, sym, ap, ◌∙◌, subst, is_some, unwrap_or}
+use Rattle.std.proofs.Common.{◌<◌, ◌^◌, length, ◌≡◌, ◌++◌, ℕ, List, [], None, Some, refl, sym, ap, ◌∙◌, subst, is_some, unwrap_or}
 use Rattle.std.specs.declared.option.Option.{Option}
 use Rattle.std.specs.Option.{ForSome}
 use Rattle.mg_dev.specs.Files.{Files, bytes_at, file_at}
@@ -48,5 +48,5 @@ stands_stay r f g es told strings places is = record {
   strings = subst (λ b. IsFront r.width b es) (sym (same_bytes f g r.strings.name strings)) is.strings;
   places = same_bytes f g r.places.name places ∙ is.places;
   count = is.count;
-  few = is.few;
+  small = subst (λ b. length b < 2 ^ 32) (sym (same_bytes f g r.strings.name strings)) is.small;
 }

@@ -1,8 +1,9 @@
 -- A writer of front-coded entries: what contracts see of it, and which entries it took.
-use Rattle.std.specs.Prelude.{◌≡◌, ◌≢◌, ℕ, List, [], length, None, Some}
-use Rattle.std.specs.Option.{IsSome}
+use Rattle.std.specs.Prelude.{◌≡◌, ◌≢◌, ◌++◌, ◌∷◌, ℕ, List, [], length, None, Some}
+use Rattle.std.specs.Option.{IsSome, ForSome}
 use Rattle.std.specs.declared.option.Option.{Option}
 use Rattle.mg_dev.specs.Files.{Files, Reads, SameReads, bytes_at, written}
+use Rattle.mg_bits.specs.Alike.{SameAt, TellAlike}
 use Rattle.mg_bits.specs.Writer.{Writing, put_to, WroteTo, Wrote}
 use Rattle.mg_defs.specs.Front.{Entry, AreEntries, front, whole_at, last_string}
 
@@ -40,6 +41,15 @@ pub record Took (w : Fronting) (files : Option Files) (es : List Entry) : Type 0
   pub strings : IsSome files → put_to w.strings files ≡ front es
   pub places : PlacesTook w.places w.strings.name files es
 
+-- whatever entries the writer took, it took this one too
+abbrev pub TookAlso : Fronting → Fronting → Option Files → Option Files → Entry → Type 0
+TookAlso old new before now e = (es : List Entry) → Took old before es → Took new now (es ++ e ∷ [])
+
+-- a fact where both stores tell alike and hold the same files of a writer
+abbrev pub WhereSameFronts : Fronting → Option Files → Option Files → Type 0 → Type 0
+WhereSameFronts w one other fact =
+    TellAlike one other → SameAt one other w.strings.name → ForSome w.places (λ places. SameAt one other places.name) → fact
+
 -- a name of neither file
 abbrev pub IsOther : List ℕ → List ℕ → Option Writing → Type 0
 IsOther n strings None = n ≢ strings
@@ -76,6 +86,10 @@ PlacesHold (Some places) files es = bytes_at files places.name ≡ whole_at es
 pub record Finished (w : Fronting) (files : Option Files) (es : List Entry) : Type 0 where
   pub strings : bytes_at files w.strings.name ≡ front es
   pub places : PlacesHold w.places files es
+
+-- where the files are told, they hold whatever entries the writer took
+abbrev pub FinishedAll : Fronting → Option Files → Option Files → Type 0
+FinishedAll w before now = (es : List Entry) → Took w before es → IsSome before → Finished w now es
 
 -- nothing is held back
 abbrev pub HoldsNothing : Option Writing → Type 0

@@ -1,19 +1,25 @@
 -- A reader of a part and of its places: what contracts see of it, and what it answers where both stand.
-use Rattle.std.specs.Prelude.{false, true, ◌≡◌, ◌≢◌, ◌≤◌, ◌<◌, ◌+◌, ◌*◌, ◌^◌, ℕ, List, length, take, drop, slice_get, None, Some, Result, Ok, Err}
+use Rattle.std.specs.Prelude.{◌⊎◌, false, true, ◌≡◌, ◌≢◌, ◌≤◌, ◌<◌, ◌+◌, ◌*◌, ◌^◌, ℕ, Bool, List, length, take, drop, slice_get, None, Some, Result, Ok, Err, IfOk}
 use Rattle.std.specs.Option.{IsSome}
 use Rattle.std.specs.declared.option.Option.{Option}
 use Rattle.std.specs.Int.{div_ceil}
-use Rattle.mg_dev.specs.Files.{Files, bytes_at}
+use Rattle.mg_dev.specs.Files.{Files, Reads, bytes_at}
+use Rattle.mg_dev.specs.Names.{same_part}
+use Rattle.mg_dev.specs.declared.file_ref.FileRef.{FileRef}
+use Rattle.mg_dev.specs.declared.bad as declared
 use Rattle.mg_dev.specs.declared.part.Part.{Part}
 use Rattle.mg_bits.specs.Pages.{Paging, Fits}
+use Rattle.mg_bits.specs.Alike.{WhereSame}
+use Rattle.mg_bits.specs.Windows.{file_name}
 pub use Rattle.mg_bits.specs.Pages.{LookedAt}
 pub use Rattle.mg_dev.specs.Bads.{IsNotBad}
 use Rattle.mg_defs.specs.Numbers.{four}
 use Rattle.mg_dev.specs.Bads.{IsBad}
 use Rattle.mg_front.specs.declared.reader.Scan.{Scan}
 use Rattle.mg_front.specs.declared.reader.Scan.TheVariants.{Found, Absent, Damaged}
-use Rattle.mg_defs.specs.Front.{is_below, Entry, IsFront, whole_at}
+use Rattle.mg_defs.specs.Front.{is_below, Entry, IsFront, front, whole_at}
 use Rattle.mg_front.specs.Entries.{entry_of}
+use Rattle.mg_front.specs.Looks.{ReadLooks}
 use Rattle.mg_front.specs.declared.entry.FrontEntry.{FrontEntry}
 use Rattle.mg_dev.specs.declared.part_err.PartErr.{PartErr}
 use Rattle.mg_dev.specs.declared.part_err.PartErr.TheVariants.{Device, Memory, Bad}
@@ -24,18 +30,26 @@ pub record Fronted : Type 0 where
   pub width : ℕ
   pub count : ℕ
 
+-- so many places were looked at, where the strings and the places are two parts
+abbrev pub ReaderLooks : Fronted → Reads → Reads → ℕ → Type 0
+ReaderLooks r before now times = same_part r.strings.part r.places.part ≡ false → ReadLooks r.strings.part r.places.part before now times
+
+-- a fact where both stores tell alike and hold the same parts of a reader
+abbrev pub WhereSameParts : Fronted → Option Files → Option Files → Type 0 → Type 0
+WhereSameParts r one other fact = WhereSame one other r.strings.name r.places.name fact
+
 -- what it keeps agrees with its parts
 pub record FrontFits (r : Fronted) (files : Option Files) : Type 0 where
   pub strings : Fits r.strings files
   pub places : Fits r.places files
 
--- its parts are these entries, front-coded, and the places of the whole ones
+-- its parts are these entries, front-coded, and the places of the whole ones, for which four bytes do
 pub record FrontStands (r : Fronted) (files : Option Files) (es : List Entry) : Type 0 where
   pub told : IsSome files
   pub strings : IsFront r.width (bytes_at files r.strings.name) es
   pub places : bytes_at files r.places.name ≡ whole_at es
   pub count : length es ≡ r.count
-  pub few : length es ≤ 2 ^ 22
+  pub small : length (bytes_at files r.strings.name) < 2 ^ 32
 
 -- where the parts stand: the entry of a number, and never that a part is bad
 abbrev pub AnswersAt : {T : Type 0} → Result T PartErr → ℕ → ℕ → FrontEntry → List Entry → Type 0
@@ -56,6 +70,27 @@ pub record SameParts (old new : Fronted) : Type 0 where
 abbrev pub AnswersPlace : Option ℕ → ℕ → List ℕ → Type 0
 AnswersPlace None block bytes = length bytes < 4 * block + 4
 AnswersPlace (Some place) block bytes = take 4 (drop (4 * block) bytes) ≡ four place
+
+-- the places end before that of this block
+pub record NoPlace (bad : declared.Bad.Bad) (r : Fronted) (files : Option Files) (block : ℕ) : Type 0 where
+  pub is : IsBad bad r.places.part (4 * block) 1 1 0
+  pub short : IsSome files → length (bytes_at files r.places.name) < 4 * block + 4
+
+-- an entry is missing from the place on that is told of this block
+pub record NoEntries (bad : declared.Bad.Bad) (r : Fronted) (files : Option Files) (block : ℕ) : Type 0 where
+  pub is : IsBad bad r.strings.part bad.at 1 1 0
+  pub small : bad.at < 2 ^ 32
+  pub told : IsSome files → take 4 (drop (4 * block) (bytes_at files r.places.name)) ≡ four bad.at
+
+-- what a refusal tells of this block, where it says that a part is bad
+abbrev pub IsLost : PartErr → Fronted → Option Files → ℕ → Type 0
+IsLost Device r files block = Unit {0}
+IsLost Memory r files block = Unit {0}
+IsLost (Bad bad) r files block = NoPlace bad r files block ⊎ NoEntries bad r files block
+
+-- and of one of the blocks that the reader knows of
+abbrev pub IsLostAmong : PartErr → Fronted → Option Files → Type 0
+IsLostAmong refusal r files = (block : ℕ) × (4 * block < r.count) × IsLost refusal r files block
 
 -- no entry has this string
 abbrev pub IsAbsent : List ℕ → List Entry → Type 0
@@ -91,7 +126,26 @@ AnswersPlaces part wanted bytes (Err Device) = Unit {0}
 AnswersPlaces part wanted bytes (Err Memory) = length bytes ≡ wanted
 AnswersPlaces part wanted bytes (Err (Bad bad)) = (length bytes ≢ wanted) × IsBad bad part 0 wanted wanted (length bytes)
 
+-- the same by a file and the number of the entries, where the files are told
+abbrev pub AnswersPlacesOf : {T : Type 0} → FileRef → ℕ → Option Files → Result T PartErr → Type 0
+AnswersPlacesOf file count files result = IsSome files → AnswersPlaces file.part (places_size count) (bytes_at files (file_name file)) result
+
+-- a fact where the files are told and a file holds the places of so many entries
+abbrev pub WherePlacesStand : FileRef → Option Files → ℕ → Type 0 → Type 0
+WherePlacesStand file files count fact =
+    (es : List Entry) → IsSome files → bytes_at files (file_name file) ≡ whole_at es → length es ≡ count → fact
+
 -- ---- looking a string up
+
+-- a fact on entries and one of their blocks of four, where the files are told: a feed's file is the front coding of the entries, and the block begins at this place
+abbrev pub AtBlock : Paging → Option Files → ℕ → ℕ → (List Entry → ℕ → Type 0) → Type 0
+AtBlock feed files width from fact = IsSome files → (es : List Entry) (block : ℕ) → IsFront width (bytes_at files feed.name) es →
+    from ≡ length (front (take (4 * block) es)) → fact es block
+
+-- the entry of a number in a block is read, where there is one
+abbrev pub GivesEntry : {E : Type 0} → Result Bool E → ℕ → ℕ → FrontEntry → List Entry → ℕ → Type 0
+GivesEntry result number width out es block = 4 * block + number < length es →
+    IfOk result (λ there. (there ≡ true) × (slice_get es (4 * block + number) ≡ Some (entry_of width out)))
 
 -- the first strings of the blocks before low are not above the string, and those of the others are
 pub record Around (es : List Entry) (string : List ℕ) (low : ℕ) : Type 0 where
@@ -115,6 +169,10 @@ abbrev pub AnswersScan : Scan → ℕ → ℕ → List ℕ → ℕ → FrontEntr
 AnswersScan (Found number) from count string width out es = (number < count) × (slice_get es (from + number) ≡ Some (entry_of width out)) × (take out.length out.string ≡ string)
 AnswersScan Absent from count string width out es = NoneAmong es from count string
 AnswersScan Damaged from count string width out es = ⊥
+
+-- so many entries of a block are read for a string, where there are so many
+abbrev pub ScansBlock : {E : Type 0} → Result Scan E → ℕ → List ℕ → ℕ → FrontEntry → List Entry → ℕ → Type 0
+ScansBlock result most string width out es block = 4 * block + most ≤ length es → IfOk result (λ scan. AnswersScan scan (4 * block) most string width out es)
 
 -- the number of the string among those of a block
 abbrev pub AnswersIn : Result (Option ℕ) PartErr → ℕ → ℕ → List ℕ → FrontEntry → List Entry → Type 0

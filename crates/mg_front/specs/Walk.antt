@@ -1,10 +1,10 @@
 -- A walk over front-coded entries: what contracts see of it, which entries it gave, and what its next call answers.
-use Rattle.std.specs.Prelude.{◌≡◌, ◌<◌, ◌+◌, ◌++◌, ◌⊎◌, ℕ, Bool, true, false, List, [], ◌∷◌, length, drop, Some, Result, Ok, Err, slice_get}
+use Rattle.std.specs.Prelude.{◌≡◌, ◌<◌, ◌+◌, ◌++◌, ◌⊎◌, ℕ, Bool, true, false, List, [], ◌∷◌, length, drop, Some, Result, Ok, Err, IfOk, slice_get}
 use Rattle.std.specs.Option.{IsSome}
 use Rattle.std.specs.declared.option.Option.{Option}
 use Rattle.mg_dev.specs.Files.{Files, Reads, bytes_at}
 use Rattle.mg_bits.specs.Pages.{Paging, Fits}
-use Rattle.mg_defs.specs.Front.{NoEntry, Entry, IsEntry, AreEntries, entry_bytes, front, last_string}
+use Rattle.mg_defs.specs.Front.{NoEntry, Entry, IsEntry, IsFront, AreEntries, entry_bytes, front, last_string}
 use Rattle.mg_front.specs.Entries.{entry_of}
 use Rattle.mg_front.specs.Looks.{ReadOn, ReadTo}
 use Rattle.mg_front.specs.declared.entry.FrontEntry.{FrontEntry}
@@ -37,6 +37,14 @@ pub record Gave (w : Walking) (files : Option Files) (es : List Entry) : Type 0 
 abbrev pub with_next : List Entry → Bool → Entry → List Entry
 with_next es true e = es ++ e ∷ []
 with_next es false e = es
+
+-- whatever entries the walk gave, it gave the next one too, where there was one
+abbrev pub GaveNext : Walking → Walking → Option Files → Option Files → Result Bool PartErr → FrontEntry → Type 0
+GaveNext old new before now result out = (es : List Entry) → Gave old before es → IfOk result (λ more. Gave new now (with_next es more (entry_of old.width out)))
+
+-- a fact on entries, where the files are told: the walk's file is their front coding, and they are as many as the walk was told
+abbrev pub WhereFront : Walking → Option Files → (List Entry → Type 0) → Type 0
+WhereFront w files fact = (all : List Entry) → IsSome files → IsFront w.width (bytes_at files w.feed.name) all → length all ≡ w.count → fact all
 
 pub record SameWalk (old new : Walking) : Type 0 where
   pub name : new.feed.name ≡ old.feed.name

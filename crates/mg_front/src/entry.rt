@@ -1,11 +1,12 @@
 // One entry, and how it is read.
-ghost use Rattle.std.specs.Prelude.{◌≡◌, ◌≤◌, ◌<◌, ◌+◌, ◌^◌, ◌%◌, ◌==◌, ◌||◌, [], IfOk, IfSome, OnSome, IsSome, true, length, take, drop, slice_get};
+ghost use Rattle.std.specs.Prelude.{◌≡◌, ◌≤◌, ◌<◌, ◌+◌, ◌^◌, ◌%◌, ◌==◌, ◌||◌, [], IfOk, IfSome, OnSome, IsSome, true, length, drop, slice_get};
 ghost use Rattle.mg_dev.specs.Files.{bytes_at};
 ghost use Rattle.mg_dev.specs.Causes.{HasCause};
 ghost use Rattle.mg_bits.specs.Pages.{Fits, SameFile, Looked};
-ghost use Rattle.mg_defs.specs.Front.{is_below, rises, read_entry, read_whole, read_cut};
-ghost use Rattle.mg_front.specs.Entries.{string_of, found_of, IsPut};
+ghost use Rattle.mg_defs.specs.Front.{is_below, rises_after_prefix, read_entry, read_whole, read_cut};
+ghost use Rattle.mg_front.specs.Entries.{string_of, found_of, IsPut, FoundFrom};
 ghost use Rattle.mg_front.specs.Looks.{ReadOn, ReadTo};
+ghost use Rattle.mg_dev.specs.Moments.{Between};
 
 use mg_bits::PageFeed;
 use mg_dev::{Failed, Store};
@@ -39,7 +40,7 @@ pub fn is_below(before: &[u8], string: &[u8]) -> bool
 
 /// Whether a suffix rises above what followed the shared prefix before.
 pub fn rises(before: &[u8], suffix: &[u8]) -> bool
-    ensures { result ≡ rises before.now suffix.now }
+    ensures { result ≡ rises_after_prefix before.now suffix.now }
 {
     match (before, suffix) {
         (_, []) => false,
@@ -58,8 +59,7 @@ fn read_byte<S: Store>(
     requires fits { Fits feed.old (S.files store.old) }
     ensures fits { Fits feed.new (S.files store.new) }
     ensures file { SameFile feed.old feed.new }
-    ensures looked { Looked feed.old.part (S.files store.old) (S.files store.new) (S.reads store.old) (S.reads store.new)
-        (S.faults store.old) (S.faults store.new) }
+    ensures looked { Between S.files S.reads S.faults store.old store.new (Looked feed.old.part) }
     ensures told { IsSome (S.files store.old) → IfOk result (λ byte. byte ≡ slice_get (bytes_at (S.files store.old) feed.old.name) at) }
     ensures read_on { IfOk result (λ byte. OnSome byte (ReadOn feed.old feed.new (S.reads store.old) (S.reads store.new) at (at + 1))) }
     ensures read_to { ReadTo feed.old (S.reads store.old) (S.reads store.new) at (at + 1) }
@@ -84,8 +84,7 @@ pub fn read_bytes<S: Store>(
     requires small { length out.old < 2 ^ 16 }
     ensures fits { Fits feed.new (S.files store.new) }
     ensures file { SameFile feed.old feed.new }
-    ensures looked { Looked feed.old.part (S.files store.old) (S.files store.new) (S.reads store.old) (S.reads store.new)
-        (S.faults store.old) (S.faults store.new) }
+    ensures looked { Between S.files S.reads S.faults store.old store.new (Looked feed.old.part) }
     ensures told { IsSome (S.files store.old) → IfOk result (λ whole. IsPut whole out.old out.new from count at (bytes_at (S.files store.old) feed.old.name)) }
     ensures read_on { IfOk result (λ whole. whole ≡ true → ReadOn feed.old feed.new (S.reads store.old) (S.reads store.new) at (at + count)) }
     ensures read_to { ReadTo feed.old (S.reads store.old) (S.reads store.new) at (at + count) }
@@ -126,10 +125,8 @@ pub fn read_whole<S: Store>(
     requires place { at < 2 ^ 62 }
     ensures fits { Fits feed.new (S.files store.new) }
     ensures file { SameFile feed.old feed.new }
-    ensures looked { Looked feed.old.part (S.files store.old) (S.files store.new) (S.reads store.old) (S.reads store.new)
-        (S.faults store.old) (S.faults store.new) }
-    ensures told { IsSome (S.files store.old) → IfOk result
-        (λ size. read_whole width number (string_of before.now) (drop at (bytes_at (S.files store.old) feed.old.name)) ≡ found_of width out.new size) }
+    ensures looked { Between S.files S.reads S.faults store.old store.new (Looked feed.old.part) }
+    ensures told { FoundFrom feed.old (S.files store.old) at (read_whole width number (string_of before.now)) result (found_of width out.new) }
     ensures size { IfOk result (λ size. IfSome size (λ n. n ≤ 281)) }
     ensures read_on { IfOk result (λ size. IfSome size (λ n. ReadOn feed.old feed.new (S.reads store.old) (S.reads store.new) at (at + n))) }
     ensures read_to { ReadTo feed.old (S.reads store.old) (S.reads store.new) at (at + 281) }
@@ -156,7 +153,7 @@ pub fn read_whole<S: Store>(
 pub fn suffix_rises(before: &FrontEntry, entry: &FrontEntry, from: u8) -> bool
     requires before { from ≤ length (string_of before.now) }
     requires entry { from ≤ length (string_of entry.now) }
-    ensures { result ≡ rises (drop from (string_of before.now)) (drop from (string_of entry.now)) }
+    ensures { result ≡ rises_after_prefix (drop from (string_of before.now)) (drop from (string_of entry.now)) }
 {
     rises(
         &before.bytes()[usize::from(from)..],
@@ -178,10 +175,8 @@ pub fn read_cut<S: Store>(
     requires place { at < 2 ^ 62 }
     ensures fits { Fits feed.new (S.files store.new) }
     ensures file { SameFile feed.old feed.new }
-    ensures looked { Looked feed.old.part (S.files store.old) (S.files store.new) (S.reads store.old) (S.reads store.new)
-        (S.faults store.old) (S.faults store.new) }
-    ensures told { IsSome (S.files store.old) →
-        IfOk result (λ size. read_cut width (string_of before.now) (drop at (bytes_at (S.files store.old) feed.old.name)) ≡ found_of width out.new size) }
+    ensures looked { Between S.files S.reads S.faults store.old store.new (Looked feed.old.part) }
+    ensures told { FoundFrom feed.old (S.files store.old) at (read_cut width (string_of before.now)) result (found_of width out.new) }
     ensures size { IfOk result (λ size. IfSome size (λ n. n ≤ 281)) }
     ensures read_on { IfOk result (λ size. IfSome size (λ n. ReadOn feed.old feed.new (S.reads store.old) (S.reads store.new) at (at + n))) }
     ensures read_to { ReadTo feed.old (S.reads store.old) (S.reads store.new) at (at + 281) }
@@ -232,10 +227,8 @@ pub fn read_entry<S: Store>(
     requires place { at < 2 ^ 62 }
     ensures fits { Fits feed.new (S.files store.new) }
     ensures file { SameFile feed.old feed.new }
-    ensures looked { Looked feed.old.part (S.files store.old) (S.files store.new) (S.reads store.old) (S.reads store.new)
-        (S.faults store.old) (S.faults store.new) }
-    ensures told { IsSome (S.files store.old) → IfOk result
-        (λ size. read_entry width number (string_of before.now) (drop at (bytes_at (S.files store.old) feed.old.name)) ≡ found_of width out.new size) }
+    ensures looked { Between S.files S.reads S.faults store.old store.new (Looked feed.old.part) }
+    ensures told { FoundFrom feed.old (S.files store.old) at (read_entry width number (string_of before.now)) result (found_of width out.new) }
     ensures size { IfOk result (λ size. IfSome size (λ n. n ≤ 281)) }
     ensures read_on { IfOk result (λ size. IfSome size (λ n. ReadOn feed.old feed.new (S.reads store.old) (S.reads store.new) at (at + n))) }
     ensures read_to { ReadTo feed.old (S.reads store.old) (S.reads store.new) at (at + 281) }

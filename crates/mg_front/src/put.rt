@@ -1,11 +1,11 @@
 // How an entry is written.
-ghost use Rattle.std.specs.Prelude.{◌≡◌, ◌≤◌, ◌<◌, ◌+◌, ◌-◌, ◌++◌, ◌∷◌, ◌%◌, ◌^◌, ◌==◌, if◌then◌else◌, ℕ, List, [], IfOk, OnOk, length, take, drop, IsSome};
+ghost use Rattle.std.specs.Prelude.{◌≡◌, ◌≤◌, ◌<◌, ◌+◌, ◌-◌, ◌++◌, ◌∷◌, ◌%◌, ◌^◌, ◌==◌, if◌then◌else◌, ℕ, [], IfOk, OnOk, length};
 ghost use Rattle.mg_dev.specs.Causes.{HasPutCause};
-ghost use Rattle.mg_bits.specs.Writer.{Writing, put_to, WroteTo, Wrote};
+ghost use Rattle.mg_bits.specs.Writer.{WroteTo, Wrote};
 ghost use Rattle.mg_defs.specs.Numbers.{four};
-ghost use Rattle.mg_defs.specs.Front.{Entry, shared, entry_bytes};
+ghost use Rattle.mg_defs.specs.Front.{shared, entry_bytes};
 ghost use Rattle.mg_front.specs.Fronting.{PlaceWrote, WroteToPlaces};
-ghost use Rattle.mg_front.specs.Entries.{string_of};
+ghost use Rattle.mg_front.specs.Entries.{cut_bytes, coded_entry};
 
 use mg_bits::PageWriter;
 use mg_dev::{PutErr, Store};
@@ -55,8 +55,7 @@ pub fn put_cut<S: Store>(
 ) -> Result<(), PutErr>
     requires short { length string.now ≤ 255 }
     requires within { from ≤ length string.now }
-    ensures bytes { OnOk result
-        (Wrote strings.old strings.new (S.files store.old) (S.files store.new) (from ∷ (length string.now - from) ∷ (drop from string.now ++ field.now))) }
+    ensures bytes { OnOk result (Wrote strings.old strings.new (S.files store.old) (S.files store.new) (cut_bytes from string.now field.now)) }
     ensures wrote { WroteTo strings.old.name (S.files store.old) (S.files store.new) (S.reads store.old) (S.reads store.new) }
     ensures cause { HasPutCause (S.faults store.old) (S.faults store.new) result }
 {
@@ -79,9 +78,8 @@ pub fn put_entry<S: Store>(
 ) -> Result<u64, PutErr>
     requires short { length string.now ≤ 255 }
     requires field { length field.now ≤ 24 }
-    ensures bytes { OnOk result (Wrote strings.old strings.new (S.files store.old) (S.files store.new)
-        (entry_bytes number before.now (record { string = string.now; field = field.now }))) }
-    ensures size { IfOk result (λ size. size ≡ length (entry_bytes number before.now (record { string = string.now; field = field.now }))) }
+    ensures bytes { OnOk result (Wrote strings.old strings.new (S.files store.old) (S.files store.new) (coded_entry number before.now string.now field.now)) }
+    ensures size { IfOk result (λ size. size ≡ length (coded_entry number before.now string.now field.now)) }
     ensures most { IfOk result (λ size. size ≤ 281) }
     ensures wrote { WroteTo strings.old.name (S.files store.old) (S.files store.new) (S.reads store.old) (S.reads store.new) }
     ensures cause { HasPutCause (S.faults store.old) (S.faults store.new) result }

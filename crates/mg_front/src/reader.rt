@@ -1,18 +1,19 @@
 // Entries of a part by their number.
-ghost use Rattle.std.specs.Prelude.{◌⊎◌, Err, ◌≡◌, ◌≢◌, ◌-◌, if◌then◌else◌, ◌≤◌, ◌<◌, ◌+◌, ◌*◌, ◌%◌, ◌/◌, ◌^◌, List, IfErr, IfOk, IfSome, IsSome, length, take, drop, slice_get, None, Some, ℕ, true, false};
+ghost use Rattle.std.specs.Prelude.{◌⊎◌, Err, ◌≡◌, ◌≢◌, ◌-◌, if◌then◌else◌, ◌≤◌, ◌<◌, ◌+◌, ◌*◌, ◌%◌, ◌/◌, ◌^◌, List, IfErr, IfOk, IfSome, IsSome, None, Some, ℕ, true, false};
 ghost use Rattle.mg_dev.specs.Files.{bytes_at};
 ghost use Rattle.mg_dev.specs.Causes.{HasCause};
 ghost use Rattle.mg_bits.specs.Pages.{Fits, SameFile, Looked};
 ghost use Rattle.mg_defs.specs.Numbers.{four};
-ghost use Rattle.mg_defs.specs.Front.{Entry, IsFront, front, whole_at};
-ghost use Rattle.mg_front.specs.Entries.{entry_of, string_of};
-ghost use Rattle.mg_front.specs.Reading.{Around, AnswersPlace, Fronted, FrontFits, FrontStands, AnswersAt, AnswersBlock, AnswersFind, AnswersIn, AnswersPlaces, AnswersScan, IsNotBad, IsInBlock, IsReader, LookedAt, SameParts, places_size};
+ghost use Rattle.mg_defs.specs.Front.{Entry, front};
+ghost use Rattle.mg_front.specs.Entries.{string_of};
+ghost use Rattle.mg_front.specs.Reading.{AnswersPlace, Fronted, FrontFits, FrontStands, AnswersAt, AnswersBlock, AnswersFind, AnswersIn, IsNotBad, IsInBlock, IsLost, IsLostAmong, IsReader, LookedAt, SameParts, GivesEntry, ScansBlock, AnswersPlacesOf, AtBlock, WherePlacesStand, ReaderLooks};
 ghost use Rattle.mg_dev.specs.Files.{SameReads};
-ghost use Rattle.mg_dev.specs.Names.{full_name, same_part};
-ghost use Rattle.mg_front.specs.Looks.{ReadTo, ReadLooks, halvings, looks};
+ghost use Rattle.mg_front.specs.Looks.{ReadTo, halvings, looks};
 ghost use Rattle.std.specs.Bool.{OnTrue, OnFalse};
 ghost use Rattle.std.specs.Int.{div_ceil};
 ghost use Rattle.mg_dev.specs.PartCauses.{HasPartCause};
+ghost use Rattle.mg_dev.specs.Moments.{Between};
+ghost use Rattle.mg_bits.specs.Windows.{file_name};
 
 use crate::FrontEntry;
 use crate::entry::{is_below, read_entry};
@@ -38,8 +39,7 @@ pub fn place_of<S: Store>(
     requires fits { Fits places.old (S.files store.old) }
     ensures fits { Fits places.new (S.files store.new) }
     ensures file { SameFile places.old places.new }
-    ensures looked { Looked places.old.part (S.files store.old) (S.files store.new) (S.reads store.old) (S.reads store.new)
-        (S.faults store.old) (S.faults store.new) }
+    ensures looked { Between S.files S.reads S.faults store.old store.new (Looked places.old.part) }
     ensures told { IsSome (S.files store.old) → IfOk result (λ place. AnswersPlace place block (bytes_at (S.files store.old) places.old.name)) }
     ensures small { IfOk result (λ place. IfSome place (λ at. at < 2 ^ 32)) }
     ensures page { S.reads store.new places.old.part ≤ S.reads store.old places.old.part + 1 }
@@ -67,11 +67,8 @@ pub fn read_block<S: Store>(
     requires last { last < 4 }
     ensures fits { Fits strings.new (S.files store.new) }
     ensures file { SameFile strings.old strings.new }
-    ensures looked { Looked strings.old.part (S.files store.old) (S.files store.new) (S.reads store.old) (S.reads store.new)
-        (S.faults store.old) (S.faults store.new) }
-    ensures told { IsSome (S.files store.old) → (es : List Entry) (block : ℕ) → IsFront width (bytes_at (S.files store.old) strings.old.name) es →
-        from ≡ length (front (take (4 * block) es)) → 4 * block + last < length es →
-        IfOk result (λ there. (there ≡ true) × (slice_get es (4 * block + last) ≡ Some (entry_of width out.new))) }
+    ensures looked { Between S.files S.reads S.faults store.old store.new (Looked strings.old.part) }
+    ensures told { AtBlock strings.old (S.files store.old) width from (GivesEntry result last width out.new) }
     ensures read_to { ReadTo strings.old (S.reads store.old) (S.reads store.new) from (from + 1124) }
     ensures cause { HasCause (S.faults store.old) (S.faults store.new) result }
 {
@@ -116,11 +113,8 @@ fn scan_block<S: Store>(
     requires most { most ≤ 4 }
     ensures fits { Fits strings.new (S.files store.new) }
     ensures file { SameFile strings.old strings.new }
-    ensures looked { Looked strings.old.part (S.files store.old) (S.files store.new) (S.reads store.old) (S.reads store.new)
-        (S.faults store.old) (S.faults store.new) }
-    ensures told { IsSome (S.files store.old) → (es : List Entry) (block : ℕ) → IsFront width (bytes_at (S.files store.old) strings.old.name) es →
-        from ≡ length (front (take (4 * block) es)) → 4 * block + most ≤ length es →
-        IfOk result (λ scan. AnswersScan scan (4 * block) most string.now width out.new es) }
+    ensures looked { Between S.files S.reads S.faults store.old store.new (Looked strings.old.part) }
+    ensures told { AtBlock strings.old (S.files store.old) width from (ScansBlock result most string.now width out.new) }
     ensures number { IfOk result (λ scan. IsInBlock scan most) }
     ensures read_to { ReadTo strings.old (S.reads store.old) (S.reads store.new) from (from + 1124) }
     ensures cause { HasCause (S.faults store.old) (S.faults store.new) result }
@@ -144,8 +138,7 @@ fn scan_block<S: Store>(
 
 // Compares the size of the places with that of a place for each whole entry.
 fn expect_places<S: Store>(store: &mut S, places: &FileRef<'_>, count: u32) -> Result<(), PartErr>
-    ensures answer { IsSome (S.files store.old) →
-        AnswersPlaces places.now.part (places_size count) (bytes_at (S.files store.old) (full_name places.now.base.now places.now.part)) result }
+    ensures answer { AnswersPlacesOf places.now count (S.files store.old) result }
     ensures memory { result ≢ Err PartErr.Memory }
     ensures files { S.files store.new ≡ S.files store.old }
     ensures reads { SameReads (S.reads store.old) (S.reads store.new) }
@@ -205,12 +198,9 @@ impl<'a, S: Store> FrontReader<'a, S> {
     ) -> Result<Self, PartErr>
         requires width { width ≤ 24 }
         ensures fits { IfOk result (λ reader. FrontFits reader (S.files store.new)) }
-        ensures reader { IfOk result (λ reader. IsReader reader (full_name strings.entry.base.now strings.entry.part) strings.entry.part
-            (full_name places.entry.base.now places.entry.part) places.entry.part width count) }
-        ensures answer { IsSome (S.files store.old) →
-            AnswersPlaces places.entry.part (places_size count) (bytes_at (S.files store.old) (full_name places.entry.base.now places.entry.part)) result }
-        ensures stands { (es : List Entry) → IsSome (S.files store.old) → bytes_at (S.files store.old) (full_name places.entry.base.now places.entry.part)
-            ≡ whole_at es → length es ≡ count → IfErr result (λ refusal. IsNotBad refusal) }
+        ensures reader { IfOk result (λ reader. IsReader reader (file_name strings.entry) strings.entry.part (file_name places.entry) places.entry.part width count) }
+        ensures answer { AnswersPlacesOf places.entry count (S.files store.old) result }
+        ensures stands { WherePlacesStand places.entry (S.files store.old) count (IfErr result (λ refusal. IsNotBad refusal)) }
         ensures files { S.files store.new ≡ S.files store.old }
         ensures reads { SameReads (S.reads store.old) (S.reads store.new) }
         ensures cause { HasPartCause (S.faults store.old) (S.faults store.new) result }
@@ -248,12 +238,11 @@ impl<'a, S: Store> FrontReader<'a, S> {
         requires below { i < self.old.count }
         ensures fits { FrontFits self.new (S.files store.new) }
         ensures same { SameParts self.old self.new }
-        ensures looked { LookedAt self.old.strings.part self.old.places.part (S.files store.old) (S.files store.new) (S.reads store.old) (S.reads store.new)
-            (S.faults store.old) (S.faults store.new) }
+        ensures looked { Between S.files S.reads S.faults store.old store.new (LookedAt self.old.strings.part self.old.places.part) }
         ensures entry { (es : List Entry) → FrontStands self.old (S.files store.old) es → AnswersAt result self.old.width i out.new es }
+        ensures bad { IfErr result (λ refusal. IsLost refusal self.old (S.files store.old) (i / 4)) }
         ensures memory { result ≢ Err PartErr.Memory }
-        ensures reads { same_part self.old.strings.part self.old.places.part ≡ false →
-            ReadLooks self.old.strings.part self.old.places.part (S.reads store.old) (S.reads store.new) 1 }
+        ensures reads { ReaderLooks self.old (S.reads store.old) (S.reads store.new) 1 }
         ensures cause { HasPartCause (S.faults store.old) (S.faults store.new) result }
     {
         let place = match place_of(&mut self.places, store, i / 4) {
@@ -295,12 +284,11 @@ impl<'a, S: Store> FrontReader<'a, S> {
         requires fits { FrontFits self.old (S.files store.old) }
         ensures fits { FrontFits self.new (S.files store.new) }
         ensures same { SameParts self.old self.new }
-        ensures looked { LookedAt self.old.strings.part self.old.places.part (S.files store.old) (S.files store.new) (S.reads store.old) (S.reads store.new)
-            (S.faults store.old) (S.faults store.new) }
+        ensures looked { Between S.files S.reads S.faults store.old store.new (LookedAt self.old.strings.part self.old.places.part) }
         ensures found { (es : List Entry) → FrontStands self.old (S.files store.old) es → AnswersFind result self.old.width string.now out.new es }
+        ensures bad { IfErr result (λ refusal. IsLostAmong refusal self.old (S.files store.old)) }
         ensures memory { result ≢ Err PartErr.Memory }
-        ensures reads { same_part self.old.strings.part self.old.places.part ≡ false →
-            ReadLooks self.old.strings.part self.old.places.part (S.reads store.old) (S.reads store.new) (looks self.old.count) }
+        ensures reads { ReaderLooks self.old (S.reads store.old) (S.reads store.new) (looks self.old.count) }
         ensures cause { HasPartCause (S.faults store.old) (S.faults store.new) result }
     {
         let block = match self.block_of(store, string, out) {
@@ -321,13 +309,12 @@ impl<'a, S: Store> FrontReader<'a, S> {
         requires fits { FrontFits self.old (S.files store.old) }
         ensures fits { FrontFits self.new (S.files store.new) }
         ensures same { SameParts self.old self.new }
-        ensures looked { LookedAt self.old.strings.part self.old.places.part (S.files store.old) (S.files store.new) (S.reads store.old) (S.reads store.new)
-            (S.faults store.old) (S.faults store.new) }
+        ensures looked { Between S.files S.reads S.faults store.old store.new (LookedAt self.old.strings.part self.old.places.part) }
         ensures found { (es : List Entry) → FrontStands self.old (S.files store.old) es → AnswersBlock result string.now es }
         ensures below { IfOk result (λ block. IfSome block (λ b. 4 * b < self.old.count)) }
+        ensures bad { IfErr result (λ refusal. IsLostAmong refusal self.old (S.files store.old)) }
         ensures memory { result ≢ Err PartErr.Memory }
-        ensures reads { same_part self.old.strings.part self.old.places.part ≡ false →
-            ReadLooks self.old.strings.part self.old.places.part (S.reads store.old) (S.reads store.new) (halvings (div_ceil self.old.count 4)) }
+        ensures reads { ReaderLooks self.old (S.reads store.old) (S.reads store.new) (halvings (div_ceil self.old.count 4)) }
         ensures cause { HasPartCause (S.faults store.old) (S.faults store.new) result }
     {
         let mut low = 0u32;
@@ -360,12 +347,11 @@ impl<'a, S: Store> FrontReader<'a, S> {
         requires below { 4 * block < self.old.count }
         ensures fits { FrontFits self.new (S.files store.new) }
         ensures same { SameParts self.old self.new }
-        ensures looked { LookedAt self.old.strings.part self.old.places.part (S.files store.old) (S.files store.new) (S.reads store.old) (S.reads store.new)
-            (S.faults store.old) (S.faults store.new) }
+        ensures looked { Between S.files S.reads S.faults store.old store.new (LookedAt self.old.strings.part self.old.places.part) }
         ensures found { (es : List Entry) → FrontStands self.old (S.files store.old) es → AnswersIn result block self.old.width string.now out.new es }
+        ensures bad { IfErr result (λ refusal. IsLost refusal self.old (S.files store.old) block) }
         ensures memory { result ≢ Err PartErr.Memory }
-        ensures reads { same_part self.old.strings.part self.old.places.part ≡ false →
-            ReadLooks self.old.strings.part self.old.places.part (S.reads store.old) (S.reads store.new) 1 }
+        ensures reads { ReaderLooks self.old (S.reads store.old) (S.reads store.new) 1 }
         ensures cause { HasPartCause (S.faults store.old) (S.faults store.new) result }
     {
         let place = match place_of(&mut self.places, store, block) {

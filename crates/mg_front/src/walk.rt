@@ -1,13 +1,13 @@
 // All entries of a part, in order.
-ghost use Rattle.std.specs.Prelude.{Err, None, ◌≢◌, ◌≡◌, ◌≤◌, ◌<◌, ◌+◌, ◌^◌, List, [], IfOk, IfErr, IsSome, length, take, drop};
+ghost use Rattle.std.specs.Prelude.{Err, None, ◌≢◌, ◌≡◌, ◌≤◌, ◌<◌, ◌+◌, ◌^◌, List, [], IfOk, IfErr, IsSome};
 ghost use Rattle.mg_dev.specs.Files.{bytes_at};
-ghost use Rattle.mg_dev.specs.Names.{full_name};
 ghost use Rattle.mg_dev.specs.PartCauses.{HasPartCause};
-ghost use Rattle.mg_bits.specs.Pages.{Fits, SameFile, Looked};
-ghost use Rattle.mg_defs.specs.Front.{Entry, IsFront};
-ghost use Rattle.mg_front.specs.Entries.{entry_of};
-ghost use Rattle.mg_front.specs.Walk.{Gave, with_next, SameWalk, AnswersNext, AfterNext, AnswersAmong, ReadsNext};
+ghost use Rattle.mg_bits.specs.Pages.{Looked};
+ghost use Rattle.mg_defs.specs.Front.{Entry};
+ghost use Rattle.mg_front.specs.Walk.{Gave, SameWalk, AnswersNext, AfterNext, AnswersAmong, ReadsNext, WhereFront, GaveNext};
 ghost use Rattle.mg_dev.specs.declared.part_err.PartErr.TheVariants.{Memory};
+ghost use Rattle.mg_dev.specs.Moments.{Between};
+ghost use Rattle.mg_bits.specs.Windows.{file_name};
 
 use crate::FrontEntry;
 use crate::entry::read_entry;
@@ -35,14 +35,14 @@ pub struct FrontWalk<'a, S> {
 impl<'a, S> Model for FrontWalk<'a, S> {
     ghost use Rattle.std.specs.Prelude.{◌≡◌, ◌≤◌, ◌*◌};
     ghost use Rattle.mg_front.specs.Entries.{string_of};
-    ghost use Rattle.mg_dev.specs.Names.{full_name};
+    ghost use Rattle.mg_bits.specs.Windows.{file_name};
     ghost use Rattle.mg_front.specs.Walk.{Walking};
 
     ghost Value = { Walking };
 
     ghost view = { λ w. record { feed = w.feed; width = w.width; count = w.count; done = w.done; place = w.place; last = string_of w.last } };
 
-    ghost invariant = { λ w. (w.width ≤ 24) × (w.done ≤ w.count) × (w.place ≤ 281 * w.done) × (w.feed.name ≡ full_name w.strings.base.now w.strings.part) ×
+    ghost invariant = { λ w. (w.width ≤ 24) × (w.done ≤ w.count) × (w.place ≤ 281 * w.done) × (w.feed.name ≡ file_name w.strings) ×
         (w.feed.part ≡ w.strings.part) };
 }
 
@@ -57,7 +57,7 @@ impl<'a, S: Store> FrontWalk<'a, S> {
     ) -> Result<Self, PartErr>
         requires width { width ≤ 24 }
         ensures gave { IfOk result (λ walk. Gave walk (S.files _store.new) []) }
-        ensures name { IfOk result (λ walk. walk.feed.name ≡ full_name strings.entry.base.now strings.entry.part) }
+        ensures name { IfOk result (λ walk. walk.feed.name ≡ file_name strings.entry) }
         ensures part { IfOk result (λ walk. walk.feed.part ≡ strings.entry.part) }
         ensures held { IfOk result (λ walk. walk.feed.held ≡ None) }
         ensures place { IfOk result (λ walk. walk.place ≡ 0) }
@@ -82,17 +82,14 @@ impl<'a, S: Store> FrontWalk<'a, S> {
     /// calls together read each page at most once, up to the first refusal.
     pub fn next(&mut self, store: &mut S, out: &mut FrontEntry) -> Result<bool, PartErr>
         requires gave { (es : List Entry) × Gave self.old (S.files store.old) es }
-        ensures gave { (es : List Entry) → Gave self.old (S.files store.old) es →
-            IfOk result (λ more. Gave self.new (S.files store.new) (with_next es more (entry_of self.old.width out.new))) }
+        ensures gave { GaveNext self.old self.new (S.files store.old) (S.files store.new) result out.new }
         ensures answer { IsSome (S.files store.old) → AnswersNext result self.old out.new (bytes_at (S.files store.old) self.old.feed.name) }
         ensures step { IfOk result (λ more. AfterNext more self.old self.new) }
         ensures same { SameWalk self.old self.new }
-        ensures looked { Looked self.old.feed.part (S.files store.old) (S.files store.new) (S.reads store.old) (S.reads store.new)
-            (S.faults store.old) (S.faults store.new) }
+        ensures looked { Between S.files S.reads S.faults store.old store.new (Looked self.old.feed.part) }
         ensures reads { ReadsNext result self.old self.new (S.reads store.old) (S.reads store.new) }
         ensures cause { HasPartCause (S.faults store.old) (S.faults store.new) result }
-        ensures among { (all : List Entry) → IsSome (S.files store.old) → IsFront self.old.width (bytes_at (S.files store.old) self.old.feed.name) all →
-            length all ≡ self.old.count → AnswersAmong result self.old out.new all }
+        ensures among { WhereFront self.old (S.files store.old) (AnswersAmong result self.old out.new) }
         ensures memory { result ≢ Err PartErr.Memory }
     {
         self.step(store, out)
@@ -101,13 +98,11 @@ impl<'a, S: Store> FrontWalk<'a, S> {
     // The next entry, over any bytes.
     fn step(&mut self, store: &mut S, out: &mut FrontEntry) -> Result<bool, PartErr>
         requires gave { (es : List Entry) × Gave self.old (S.files store.old) es }
-        ensures gave { (es : List Entry) → Gave self.old (S.files store.old) es →
-            IfOk result (λ more. Gave self.new (S.files store.new) (with_next es more (entry_of self.old.width out.new))) }
+        ensures gave { GaveNext self.old self.new (S.files store.old) (S.files store.new) result out.new }
         ensures answer { IsSome (S.files store.old) → AnswersNext result self.old out.new (bytes_at (S.files store.old) self.old.feed.name) }
         ensures step { IfOk result (λ more. AfterNext more self.old self.new) }
         ensures same { SameWalk self.old self.new }
-        ensures looked { Looked self.old.feed.part (S.files store.old) (S.files store.new) (S.reads store.old) (S.reads store.new)
-            (S.faults store.old) (S.faults store.new) }
+        ensures looked { Between S.files S.reads S.faults store.old store.new (Looked self.old.feed.part) }
         ensures reads { ReadsNext result self.old self.new (S.reads store.old) (S.reads store.new) }
         ensures cause { HasPartCause (S.faults store.old) (S.faults store.new) result }
         ensures memory { result ≢ Err PartErr.Memory }

@@ -1,12 +1,12 @@
 // Entries into a part, in order.
-ghost use Rattle.std.specs.Prelude.{◌≡◌, ◌≢◌, ◌≤◌, ◌<◌, ◌+◌, ◌++◌, ◌∷◌, ◌^◌, List, ℕ, [], IfOk, OnOk, IsSome, length, take, None, Some};
+ghost use Rattle.std.specs.Prelude.{◌≡◌, ◌≢◌, ◌≤◌, ◌<◌, ◌+◌, ◌++◌, ◌∷◌, ◌^◌, List, ℕ, [], IfOk, OnOk, length, take, None, Some};
 ghost use Rattle.std.specs.Option.{is_some, option_map, ForSome};
-ghost use Rattle.mg_dev.specs.Files.{bytes_at, file_at, written, SameReads};
-ghost use Rattle.mg_dev.specs.Names.{full_name};
+ghost use Rattle.mg_dev.specs.Files.{written, SameReads};
 ghost use Rattle.mg_dev.specs.Causes.{HasPutCause};
-ghost use Rattle.mg_defs.specs.Front.{Entry, IsEntry, front, whole_at};
-ghost use Rattle.mg_bits.specs.Writer.{put_to};
-ghost use Rattle.mg_front.specs.Fronting.{Took, IsOther, StartedPlaces, WroteToAsked, IsNotAsked, Finished, HoldsNothing, PlaceWrote, WroteToPlaces, with_empty};
+ghost use Rattle.mg_defs.specs.Front.{Entry, IsEntry};
+ghost use Rattle.mg_front.specs.Fronting.{TookAlso, Took, IsOther, StartedPlaces, WroteToAsked, IsNotAsked, HoldsNothing, PlaceWrote, WroteToPlaces, with_empty, FinishedAll};
+ghost use Rattle.mg_bits.specs.Alike.{SameAt};
+ghost use Rattle.mg_bits.specs.Windows.{file_name};
 
 use crate::put::{put_entry, put_place};
 use mg_bits::PageWriter;
@@ -52,9 +52,9 @@ fn start_places<'a, S: Store>(
     places: Option<FileRef<'a>>,
 ) -> Result<Option<PageWriter<'a>>, PutErr>
     ensures started { IfOk result
-        (λ writer. StartedPlaces (option_map (λ file. full_name file.base.now file.part) places.entry) writer (S.files store.old) (S.files store.new)) }
-    ensures empty { OnOk result (S.files store.new ≡ with_empty (S.files store.old) (option_map (λ file. full_name file.base.now file.part) places.entry)) }
-    ensures wrote { WroteToAsked (option_map (λ file. full_name file.base.now file.part) places.entry) (S.files store.old) (S.files store.new)
+        (λ writer. StartedPlaces (option_map file_name places.entry) writer (S.files store.old) (S.files store.new)) }
+    ensures empty { OnOk result (S.files store.new ≡ with_empty (S.files store.old) (option_map file_name places.entry)) }
+    ensures wrote { WroteToAsked (option_map file_name places.entry) (S.files store.old) (S.files store.new)
         (S.reads store.old) (S.reads store.new) }
     ensures cause { HasPutCause (S.faults store.old) (S.faults store.new) result }
 {
@@ -91,16 +91,16 @@ impl<'a> FrontWriter<'a> {
         width: usize,
     ) -> Result<Self, PutErr>
         requires width { width ≤ 24 }
-        requires apart { ForSome (option_map (λ file. full_name file.base.now file.part) places) (λ name. name ≢ full_name strings.base.now strings.part) }
+        requires apart { ForSome (option_map file_name places) (λ name. name ≢ file_name strings) }
         ensures took { IfOk result (λ writer. Took writer (S.files store.new) []) }
-        ensures empty { OnOk result (S.files store.new ≡ with_empty (written (S.files store.old) (full_name strings.entry.base.now strings.entry.part) [])
-            (option_map (λ file. full_name file.base.now file.part) places.entry)) }
-        ensures name { IfOk result (λ writer. writer.strings.name ≡ full_name strings.entry.base.now strings.entry.part) }
+        ensures empty { OnOk result (S.files store.new ≡ with_empty (written (S.files store.old) (file_name strings.entry) [])
+            (option_map file_name places.entry)) }
+        ensures name { IfOk result (λ writer. writer.strings.name ≡ file_name strings.entry) }
         ensures places { IfOk result (λ writer. option_map (λ places. places.name) writer.places
-            ≡ option_map (λ file. full_name file.base.now file.part) places.entry) }
+            ≡ option_map file_name places.entry) }
         ensures width { IfOk result (λ writer. writer.width ≡ width) }
-        ensures others { (n : List ℕ) → IsNotAsked n (full_name strings.entry.base.now strings.entry.part)
-            (option_map (λ file. full_name file.base.now file.part) places.entry) → file_at (S.files store.new) n ≡ file_at (S.files store.old) n }
+        ensures others { (n : List ℕ) → IsNotAsked n (file_name strings.entry)
+            (option_map file_name places.entry) → SameAt (S.files store.old) (S.files store.new) n }
         ensures told { is_some (S.files store.new) ≡ is_some (S.files store.old) }
         ensures reads { SameReads (S.reads store.old) (S.reads store.new) }
         ensures cause { HasPutCause (S.faults store.old) (S.faults store.new) result }
@@ -135,14 +135,13 @@ impl<'a> FrontWriter<'a> {
         requires few { self.old.count < 2 ^ 22 }
         requires width { self.old.width ≤ 24 }
         requires entry { IsEntry self.old.width self.old.count self.old.last (record { string = string.now; field = field.now }) }
-        ensures took { OnOk result ((es : List Entry) → Took self.old (S.files store.old) es →
-            Took self.new (S.files store.new) (es ++ record { string = string.now; field = field.now } ∷ [])) }
+        ensures took { OnOk result (TookAlso self.old self.new (S.files store.old) (S.files store.new) (record { string = string.now; field = field.now })) }
         ensures count { OnOk result (self.new.count ≡ self.old.count + 1) }
         ensures last { OnOk result (self.new.last ≡ string.now) }
         ensures name { OnOk result (self.new.strings.name ≡ self.old.strings.name) }
         ensures places { OnOk result (option_map (λ places. places.name) self.new.places ≡ option_map (λ places. places.name) self.old.places) }
         ensures width { self.new.width ≡ self.old.width }
-        ensures others { (n : List ℕ) → IsOther n self.old.strings.name self.old.places → file_at (S.files store.new) n ≡ file_at (S.files store.old) n }
+        ensures others { (n : List ℕ) → IsOther n self.old.strings.name self.old.places → SameAt (S.files store.old) (S.files store.new) n }
         ensures told { is_some (S.files store.new) ≡ is_some (S.files store.old) }
         ensures reads { SameReads (S.reads store.old) (S.reads store.new) }
         ensures cause { HasPutCause (S.faults store.old) (S.faults store.new) result }
@@ -167,10 +166,9 @@ impl<'a> FrontWriter<'a> {
     /// whole ones.
     pub fn finish<S: Store>(&mut self, store: &mut S) -> Result<(), PutErr>
         requires took { (es : List Entry) × Took self.old (S.files store.old) es }
-        ensures finished { OnOk result ((es : List Entry) → Took self.old (S.files store.old) es → IsSome (S.files store.old) →
-            Finished self.old (S.files store.new) es) }
+        ensures finished { OnOk result (FinishedAll self.old (S.files store.old) (S.files store.new)) }
         ensures width { self.new.width ≡ self.old.width }
-        ensures others { (n : List ℕ) → IsOther n self.old.strings.name self.old.places → file_at (S.files store.new) n ≡ file_at (S.files store.old) n }
+        ensures others { (n : List ℕ) → IsOther n self.old.strings.name self.old.places → SameAt (S.files store.old) (S.files store.new) n }
         ensures told { is_some (S.files store.new) ≡ is_some (S.files store.old) }
         ensures reads { SameReads (S.reads store.old) (S.reads store.new) }
         ensures cause { HasPutCause (S.faults store.old) (S.faults store.new) result }

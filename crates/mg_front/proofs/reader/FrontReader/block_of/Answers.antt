@@ -1,8 +1,8 @@
-use Rattle.std.proofs.Common.{arith, refl, sym, ◌∙◌, ap, cond, Bool, true, false, ◌≤◌, ◌<◌, ℕ, ◌≡◌, ◌+◌, ◌-◌, ◌/◌, ◌^◌, subst}
+use Rattle.std.proofs.Common.{arith, refl, sym, ◌∙◌, ap, cond, Bool, true, false, ◌≤◌, ◌<◌, ℕ, ◌≡◌, ◌+◌, ◌-◌, ◌*◌, ◌/◌, ◌^◌, subst}
 use Rattle.std.specs.Int.{div_ceil}
 use Rattle.mg_defs.specs.Front.{is_below}
 use Rattle.mg_front.specs.Entries.{entry_of}
-use Rattle.mg_front.proofs.OrderLaws.{between_start, between_step, around_of, stands_same}
+use Rattle.mg_front.proofs.OrderLaws.{between_start, between_step, around_of, lost_same, stands_same}
 use Rattle.mg_dev.specs.Files.{Reads}
 use Rattle.mg_dev.specs.declared.part.Part.{Part}
 use Rattle.mg_front.specs.Looks.{halvings}
@@ -65,3 +65,11 @@ returns-then-low-eq0-clause-reads g c = λ apart. halved_done _ _ _ _ _ _ (c.loo
 
 pub returns-clause-reads : goal.returns-clause-reads
 returns-clause-reads g c = λ apart. halved_done _ _ _ _ _ _ (c.loop-low.invariant.reads apart)
+
+pub returns-in-Err-clause-bad : goal.returns-in-Err-clause-bad
+returns-in-Err-clause-bad g c =
+    let inv = c.loop-low.invariant in (
+      4 * (c.loop-low.low + (c.loop-low.high - c.loop-low.low) / 2) / 4,
+      omega (arith, inv.high),
+      lost_same _ _ _ _ _ _ inv.same inv.looked.files c.in-Err.ensures.bad,
+    )

@@ -1,7 +1,7 @@
 use Rattle.std.proofs.Common.{arith, subst, Ok}
 use Rattle.mg_front.specs.Reading.{AnswersBlock}
 use Rattle.mg_front.proofs.ReadPages.{look_as, looks_more, looks_wider}
-use Rattle.mg_front.proofs.OrderLaws.{stands_same, none_at_all, found_in}
+use Rattle.mg_front.proofs.OrderLaws.{lost_among, stands_same, none_at_all, found_in}
 use Rattle.mg_front.proofs.reader.FrontReader.find.Goals as goal
 
 pub returns-in-Ok-None-clause-found : goal.returns-in-Ok-None-clause-found
@@ -21,3 +21,6 @@ returns-in-Err-clause-reads g c = λ apart. looks_wider _ _ _ _ _ _ (omega arith
 
 pub returns-clause-reads : goal.returns-clause-reads
 returns-clause-reads g c = λ apart. looks_more _ _ _ _ _ _ _ (c.in-Ok-Some.ensures.reads apart) (look_as _ _ _ _ _ _ c.in-Ok-Some.ensures.same.strings_part c.in-Ok-Some.ensures.same.places_part apart c.find_in.ensures.reads)
+
+pub returns-clause-bad : goal.returns-clause-bad
+returns-clause-bad g c = lost_among _ _ _ _ _ c.in-Ok-Some.block (rw c.in-Ok-Some.field-0-is at c.in-Ok-Some.ensures.below) c.in-Ok-Some.ensures.same c.in-Ok-Some.ensures.looked.files c.find_in.ensures.bad

@@ -1,4 +1,4 @@
-use Rattle.std.proofs.Common.{arith, sym, subst, IsSome, length, ◌≡◌, ◌≤◌, ◌<◌, ◌+◌, ◌*◌, ◌-◌, min}
+use Rattle.std.proofs.Common.{arith, inl, inr, refl, ap, ◌∙◌, sym, subst, IsSome, length, ◌≡◌, ◌≤◌, ◌<◌, ◌+◌, ◌*◌, ◌-◌, min}
 use Rattle.mg_dev.specs.Files.{bytes_at}
 use Rattle.mg_defs.specs.Front.{IsFront}
 use Rattle.mg_front.specs.Reading.{AnswersScan, IsInBlock}
@@ -27,7 +27,7 @@ returns-clause-found g c =
     (λ es stands.
     let same = sym c.in-Ok-Some.ensures.looked.files in
     let told = subst IsSome same stands.told in
-    let place = block_place _ _ es c.args.block c.in-Ok-Some.place c.self.invariant.0 stands (omega (arith, below, stands.count)) (rw c.in-Ok-Some.field-0-is at c.in-Ok-Some.ensures.small) (rw c.in-Ok-Some.field-0-is at (c.in-Ok-Some.ensures.told stands.told)) in
+    let place = block_place _ _ es c.args.block c.in-Ok-Some.place stands (omega (arith, below, stands.count)) (rw c.in-Ok-Some.field-0-is at c.in-Ok-Some.ensures.small) (rw c.in-Ok-Some.field-0-is at (c.in-Ok-Some.ensures.told stands.told)) in
     let strings = subst (λ f. IsFront c.self.inside.width (bytes_at f c.self.inside.strings.name) es) same stands.strings in
     let most : c.min-most.result ≡ min (c.self.inside.count - 4 * c.args.block) 4 = c.min-most.ensures in
     let within : 4 * c.args.block + c.min-most.result ≤ length es = omega (arith, below, stands.count, most) in
@@ -42,7 +42,7 @@ returns-in-Absent-clause-found g c =
     (λ es stands.
     let same = sym c.in-Ok-Some.ensures.looked.files in
     let told = subst IsSome same stands.told in
-    let place = block_place _ _ es c.args.block c.in-Ok-Some.place c.self.invariant.0 stands (omega (arith, below, stands.count)) (rw c.in-Ok-Some.field-0-is at c.in-Ok-Some.ensures.small) (rw c.in-Ok-Some.field-0-is at (c.in-Ok-Some.ensures.told stands.told)) in
+    let place = block_place _ _ es c.args.block c.in-Ok-Some.place stands (omega (arith, below, stands.count)) (rw c.in-Ok-Some.field-0-is at c.in-Ok-Some.ensures.small) (rw c.in-Ok-Some.field-0-is at (c.in-Ok-Some.ensures.told stands.told)) in
     let strings = subst (λ f. IsFront c.self.inside.width (bytes_at f c.self.inside.strings.name) es) same stands.strings in
     let most : c.min-most.result ≡ min (c.self.inside.count - 4 * c.args.block) 4 = c.min-most.ensures in
     let within : 4 * c.args.block + c.min-most.result ≤ length es = omega (arith, below, stands.count, most) in
@@ -57,7 +57,7 @@ returns-in-Damaged-clause-found g c =
     (λ es stands.
     let same = sym c.in-Ok-Some.ensures.looked.files in
     let told = subst IsSome same stands.told in
-    let place = block_place _ _ es c.args.block c.in-Ok-Some.place c.self.invariant.0 stands (omega (arith, below, stands.count)) (rw c.in-Ok-Some.field-0-is at c.in-Ok-Some.ensures.small) (rw c.in-Ok-Some.field-0-is at (c.in-Ok-Some.ensures.told stands.told)) in
+    let place = block_place _ _ es c.args.block c.in-Ok-Some.place stands (omega (arith, below, stands.count)) (rw c.in-Ok-Some.field-0-is at c.in-Ok-Some.ensures.small) (rw c.in-Ok-Some.field-0-is at (c.in-Ok-Some.ensures.told stands.told)) in
     let strings = subst (λ f. IsFront c.self.inside.width (bytes_at f c.self.inside.strings.name) es) same stands.strings in
     let most : c.min-most.result ≡ min (c.self.inside.count - 4 * c.args.block) 4 = c.min-most.ensures in
     let within : 4 * c.args.block + c.min-most.result ≤ length es = omega (arith, below, stands.count, most) in
@@ -81,3 +81,20 @@ returns-in-Damaged-clause-reads g c = rw (← c.self.view_is) (λ apart. one_loo
 
 pub returns-clause-reads : goal.returns-clause-reads
 returns-clause-reads g c = rw (← c.self.view_is) (λ apart. one_look _ _ _ _ _ _ _ _ _ _ _ _ apart c.in-Ok-Some.ensures.page c.in-Ok-Some.ensures.looked c.scan_block.ensures.looked c.scan_block.ensures.read_to)
+
+pub returns-in-Ok-None-clause-bad : goal.returns-in-Ok-None-clause-bad
+returns-in-Ok-None-clause-bad g c =
+    rw (← c.self.view_is)
+    (inl (record {
+      is = record { part_is = c.part.ensures ∙ c.in-Ok-None.ensures.file.part; at_is = ap (λ n. 4 * n) c.from.ensures; low_is = refl; high_is = refl; found_is = refl };
+      short = λ told. rw c.in-Ok-None.field-0-is at (c.in-Ok-None.ensures.told told);
+    }))
+
+pub returns-in-Damaged-clause-bad : goal.returns-in-Damaged-clause-bad
+returns-in-Damaged-clause-bad g c =
+    rw (← c.self.view_is)
+    (inr (record {
+      is = record { part_is = c.part-in-Damaged.ensures ∙ c.in-Ok.ensures.file.part; at_is = refl; low_is = refl; high_is = refl; found_is = refl };
+      small = rw c.in-Ok-Some.field-0-is at c.in-Ok-Some.ensures.small;
+      told = λ told. rw c.in-Ok-Some.field-0-is at (c.in-Ok-Some.ensures.told told);
+    }))
