@@ -32,7 +32,7 @@ use Rattle.mg_lex.specs.Reading.{AnswersTerm, IsInfo, IsLexicon, IsNoTerm, LexSt
 use Rattle.mg_lex.specs.Writing.{LexWriting, TermsStand, TookTerms, places_name}
 use Rattle.mg_lex.specs.Terms.{FitsField, Term, entries_of, entry_of_term, terms_of}
 use Rattle.mg_bits.proofs.CallerLemmas.{held_page_stays}
-use Rattle.mg_front.proofs.CallerLemmas.{took_stays}
+use Rattle.mg_front.proofs.CallerLemmas.{front_small, took_stays}
 
 -- ---- fields
 
@@ -105,7 +105,7 @@ front_stands lex files collection width stands = record {
   strings = record { entries = subst (λ w. AreEntries w 0 [] (lexicon collection)) (sym width) (lexicon_entries collection); bytes_are = stands.lex };
   places = stands.lex_at;
   count = lexicon_long collection ∙ stands.terms;
-  few = omega (arith, lexicon_long collection, stands.few);
+  small = subst (λ n. n < 2 ^ 32) (sym (ap length stands.lex)) (front_small (lexicon collection) 16 (lexicon_entries collection) (omega (arith, lexicon_long collection, stands.few)) (omega arith));
 }
 
 -- a reader of the parts of a base

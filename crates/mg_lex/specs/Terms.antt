@@ -1,5 +1,5 @@
 -- Terms with what the lexicon tells of them, and their entries.
-use Rattle.std.specs.Prelude.{◌<◌, ◌^◌, ℕ, List, map}
+use Rattle.std.specs.Prelude.{◌≡◌, ◌<◌, ◌^◌, ℕ, List, map, slice_get, Some}
 use Rattle.std.specs.List.{enumerate_from}
 use Rattle.mg_defs.specs.Front.{Entry}
 use Rattle.mg_defs.specs.Lexicon.{TermInfo, info_bytes, info_of}
@@ -25,3 +25,7 @@ pub record FitsField (info : TermInfo) : Type 0 where
   pub docs : info.docs < 2 ^ 32
   pub post_at : info.post_at < 2 ^ 64
   pub skip_at : info.skip_at < 2 ^ 32
+
+-- what stands of a term that has this number in a collection fits in its field
+abbrev pub TermFits : List ℕ → ℕ → List ℕ → Type 0
+TermFits collection number term = slice_get (dictionary collection) number ≡ Some term → FitsField (info_of collection number term)

@@ -1,13 +1,16 @@
 -- A writer of a lexicon: what contracts see of it, and which terms it took.
-use Rattle.std.specs.Prelude.{◌≡◌, ℕ, List, [], Some}
+use Rattle.std.specs.Prelude.{◌≡◌, ◌≢◌, ◌≤◌, ◌^◌, ◌++◌, ◌∷◌, ℕ, List, [], length, Some}
 use Rattle.std.specs.declared.option.Option.{Option}
-use Rattle.std.specs.Option.{option_map}
-use Rattle.mg_dev.specs.Files.{Files, bytes_at, written}
+use Rattle.std.specs.Option.{IsSome, is_some, option_map}
+use Rattle.mg_dev.specs.Files.{Files, bytes_at, file_at, written}
 use Rattle.mg_dev.specs.Names.{full_name}
 use Rattle.mg_dev.specs.declared.part.Part.TheVariants.{Lex, LexAt}
 use Rattle.mg_defs.specs.Front.{front, whole_at}
+use Rattle.mg_defs.specs.Terms.{dictionary}
 use Rattle.mg_front.specs.Fronting.{Fronting, Took}
-use Rattle.mg_lex.specs.Terms.{Term, entries_of}
+use Rattle.mg_layout.specs.Infos.{info_of}
+use Rattle.mg_layout.specs.declared.term_info.TermInfo.{TermInfo}
+use Rattle.mg_lex.specs.Terms.{Term, entries_of, terms_of}
 
 pub record LexWriting : Type 0 where
   pub base : List ℕ
@@ -32,3 +35,33 @@ pub record TookTerms (w : LexWriting) (files : Option Files) (ts : List Term) : 
 pub record TermsStand (base : List ℕ) (files : Option Files) (ts : List Term) : Type 0 where
   pub lex : bytes_at files (full_name base Lex) ≡ front (entries_of ts)
   pub lex_at : bytes_at files (full_name base LexAt) ≡ whole_at (entries_of ts)
+
+-- a term and what is told of it
+abbrev pub told_term : List ℕ → TermInfo → Term
+told_term string info = record { string = string; info = info_of info }
+
+-- whatever terms it stood for, it stands for them and for this one
+abbrev pub TookTermMore : LexWriting → LexWriting → Option Files → Option Files → Term → Type 0
+TookTermMore old new files files_now term = (ts : List Term) → TookTerms old files ts → TookTerms new files_now (ts ++ term ∷ [])
+
+-- where the store tells its files, the parts are the lexicon of the terms that the writer stood for
+abbrev pub TookTermsStand : LexWriting → Option Files → Option Files → Type 0
+TookTermsStand w files files_now = (ts : List Term) → TookTerms w files ts → IsSome files → TermsStand w.base files_now ts
+
+-- the store tells the parts of a base: those of the terms of this collection, which are few enough
+pub record IsWritten (base : List ℕ) (files : Option Files) (collection : List ℕ) : Type 0 where
+  pub told : IsSome files
+  pub stand : TermsStand base files (terms_of collection)
+  pub few : length (dictionary collection) ≤ 2 ^ 22
+
+-- no file changes but the two parts of a lexicon
+abbrev pub OnlyLexiconChanges : List ℕ → Option Files → Option Files → Type 0
+OnlyLexiconChanges base files files_now = (n : List ℕ) → n ≢ full_name base Lex → n ≢ full_name base LexAt → file_at files_now n ≡ file_at files n
+
+-- this holds where the store tells its files as before, and these two files are as before
+abbrev pub WhereBothStay : List ℕ → List ℕ → Option Files → Option Files → Type 0 → Type 0
+WhereBothStay one other files files_now holds = is_some files_now ≡ is_some files → file_at files_now one ≡ file_at files one → file_at files_now other ≡ file_at files other → holds
+
+-- this holds where the two parts of a lexicon are as before
+abbrev pub WhereLexiconStays : List ℕ → Option Files → Option Files → Type 0 → Type 0
+WhereLexiconStays base files files_now holds = WhereBothStay (full_name base Lex) (full_name base LexAt) files files_now holds

@@ -1,15 +1,14 @@
 // What a lexicon tells of a term.
-ghost use Rattle.std.specs.Prelude.{◌≡◌, ◌≢◌, ◌≤◌, Err, IfErr, IfOk, IsSome, List, ℕ, take};
-ghost use Rattle.mg_dev.specs.Files.{SameReads, bytes_at};
-ghost use Rattle.mg_dev.specs.Names.{full_name};
+ghost use Rattle.std.specs.Prelude.{◌≡◌, ◌≢◌, Err, IfErr, IfOk, IsSome, List, ℕ, take};
+ghost use Rattle.mg_dev.specs.Files.{SameReads};
+ghost use Rattle.mg_dev.specs.Moments.{Between};
 ghost use Rattle.mg_dev.specs.PartCauses.{HasPartCause};
 ghost use Rattle.mg_dev.specs.declared.part.Part.TheVariants as part;
 ghost use Rattle.mg_defs.specs.Lexicon.{info_bytes};
-ghost use Rattle.mg_defs.specs.Limits.{IsWithinLimits};
 ghost use Rattle.mg_front.specs.Looks.{ReadLooks, looks};
-ghost use Rattle.mg_front.specs.Reading.{AnswersPlaces, FrontFits, IsNotBad, IsReader, LookedAt, SameParts, places_size};
+ghost use Rattle.mg_front.specs.Reading.{FrontFits, IsNotBad, LookedAt, SameParts};
 ghost use Rattle.mg_layout.specs.Infos.{info_of};
-ghost use Rattle.mg_lex.specs.Reading.{AnswersInfo, AnswersTerm, IsLexicon, LexStands};
+ghost use Rattle.mg_lex.specs.Reading.{AnswersInfo, AnswersTerm, AnswersTermCount, ForEachWithinLimits, WhereLexicon, IsLexiconReader, LexStands};
 ghost use Rattle.mg_lex.specs.Terms.{FitsField};
 
 use mg_dev::{FileRef, Part, PartErr, Store};
@@ -48,14 +47,11 @@ impl<'a, S: Store> Lex<'a, S> {
     /// `Device` where the store failed; `Memory` where a page wants it.
     pub fn load(alloc: Global, store: &mut S, base: &'a str, head: &Head) -> Result<Self, PartErr>
         ensures fits { IfOk result (λ lex. FrontFits lex (S.files store.new)) }
-        ensures lex { IfOk result
-            (λ lex. IsReader lex (full_name base.entry.now part.Lex) part.Lex (full_name base.entry.now part.LexAt) part.LexAt 16 head.now.terms) }
-        ensures answer { IsSome (S.files store.old) →
-            AnswersPlaces part.LexAt (places_size head.now.terms) (bytes_at (S.files store.old) (full_name base.entry.now part.LexAt)) result }
-        ensures stands { (collection : List ℕ) → IsLexicon base.entry.now (S.files store.old) head.now.terms collection →
-            IfOk result (λ lex. LexStands lex (S.files store.new) collection) }
-        ensures never_bad { (collection : List ℕ) → IsLexicon base.entry.now (S.files store.old) head.now.terms collection →
-            IfErr result (λ refusal. IsNotBad refusal) }
+        ensures lex { IfOk result (λ lex. IsLexiconReader base.entry.now head.now.terms lex) }
+        ensures answer { IsSome (S.files store.old) → AnswersTermCount base.entry.now head.now.terms (S.files store.old) result }
+        ensures stands { WhereLexicon base.entry.now (S.files store.old) head.now.terms
+            (λ collection. IfOk result (λ r. LexStands r (S.files store.new) collection)) }
+        ensures never_bad { WhereLexicon base.entry.now (S.files store.old) head.now.terms (λ collection. IfErr result (λ refusal. IsNotBad refusal)) }
         ensures files { S.files store.new ≡ S.files store.old }
         ensures reads { SameReads (S.reads store.old) (S.reads store.new) }
         ensures cause { HasPartCause (S.faults store.old) (S.faults store.new) result }
@@ -88,11 +84,9 @@ impl<'a, S: Store> Lex<'a, S> {
         requires fits { FrontFits self.old (S.files store.old) }
         ensures fits { FrontFits self.new (S.files store.new) }
         ensures same { SameParts self.old self.new }
-        ensures looked { LookedAt part.Lex part.LexAt (S.files store.old) (S.files store.new) (S.reads store.old) (S.reads store.new)
-            (S.faults store.old) (S.faults store.new) }
+        ensures looked { Between S.files S.reads S.faults store.old store.new (LookedAt part.Lex part.LexAt) }
         ensures found { (collection : List ℕ) → LexStands self.old (S.files store.old) collection → AnswersTerm result collection term.now }
-        ensures info { (version : ℕ) (collection : List ℕ) → IsWithinLimits version collection → LexStands self.old (S.files store.old) collection →
-            AnswersInfo result collection term.now }
+        ensures info { ForEachWithinLimits (λ collection. LexStands self.old (S.files store.old) collection → AnswersInfo result collection term.now) }
         ensures reads { ReadLooks part.Lex part.LexAt (S.reads store.old) (S.reads store.new) (looks self.old.count) }
         ensures memory { result ≢ Err PartErr.Memory }
         ensures cause { HasPartCause (S.faults store.old) (S.faults store.new) result }

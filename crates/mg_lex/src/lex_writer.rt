@@ -1,14 +1,11 @@
 // Terms into a lexicon, in order.
-ghost use Rattle.std.specs.Prelude.{◌≡◌, ◌≢◌, ◌≤◌, ◌<◌, ◌+◌, ◌++◌, ◌∷◌, ◌^◌, ◌==◌, ◌||◌, List, ℕ, [], IfOk, OnOk, IsSome, length, true};
+ghost use Rattle.std.specs.Prelude.{◌≡◌, ◌≤◌, ◌<◌, ◌+◌, ◌^◌, ◌==◌, ◌||◌, List, [], IfOk, OnOk, length, true};
 ghost use Rattle.std.specs.Option.{is_some};
 ghost use Rattle.mg_dev.specs.Causes.{HasPutCause};
-ghost use Rattle.mg_dev.specs.Files.{SameReads, file_at};
-ghost use Rattle.mg_dev.specs.Names.{full_name};
-ghost use Rattle.mg_dev.specs.declared.part.Part.TheVariants as part;
+ghost use Rattle.mg_dev.specs.Files.{SameReads};
 ghost use Rattle.mg_defs.specs.Front.{is_below};
-ghost use Rattle.mg_layout.specs.Infos.{info_of};
 ghost use Rattle.mg_lex.specs.Terms.{Term};
-ghost use Rattle.mg_lex.specs.Writing.{TermsStand, TookTerms, with_empty_lexicon};
+ghost use Rattle.mg_lex.specs.Writing.{OnlyLexiconChanges, TookTermMore, TookTerms, TookTermsStand, told_term, with_empty_lexicon};
 
 use mg_dev::{FileRef, Part, PutErr, Store};
 use mg_front::FrontWriter;
@@ -45,8 +42,7 @@ impl<'a> LexWriter<'a> {
         ensures took { IfOk result (λ writer. TookTerms writer (S.files store.new) []) }
         ensures empty { OnOk result (S.files store.new ≡ with_empty_lexicon (S.files store.old) base.entry.now) }
         ensures base { IfOk result (λ writer. writer.base ≡ base.entry.now) }
-        ensures others { (n : List ℕ) → n ≢ full_name base.entry.now part.Lex → n ≢ full_name base.entry.now part.LexAt →
-            file_at (S.files store.new) n ≡ file_at (S.files store.old) n }
+        ensures others { OnlyLexiconChanges base.entry.now (S.files store.old) (S.files store.new) }
         ensures told { is_some (S.files store.new) ≡ is_some (S.files store.old) }
         ensures reads { SameReads (S.reads store.old) (S.reads store.new) }
         ensures cause { HasPutCause (S.faults store.old) (S.faults store.new) result }
@@ -79,13 +75,11 @@ impl<'a> LexWriter<'a> {
         requires few { self.old.front.count < 2 ^ 22 }
         requires short { length term.now ≤ 255 }
         requires above { (self.old.front.count == 0 || is_below self.old.front.last term.now) ≡ true }
-        ensures took { OnOk result ((ts : List Term) → TookTerms self.old (S.files store.old) ts →
-            TookTerms self.new (S.files store.new) (ts ++ record { string = term.now; info = info_of info.now } ∷ [])) }
+        ensures took { OnOk result (TookTermMore self.old self.new (S.files store.old) (S.files store.new) (told_term term.now info.now)) }
         ensures count { OnOk result (self.new.front.count ≡ self.old.front.count + 1) }
         ensures last { OnOk result (self.new.front.last ≡ term.now) }
         ensures base { self.new.base ≡ self.old.base }
-        ensures others { (n : List ℕ) → n ≢ full_name self.old.base part.Lex → n ≢ full_name self.old.base part.LexAt →
-            file_at (S.files store.new) n ≡ file_at (S.files store.old) n }
+        ensures others { OnlyLexiconChanges self.old.base (S.files store.old) (S.files store.new) }
         ensures told { is_some (S.files store.new) ≡ is_some (S.files store.old) }
         ensures reads { SameReads (S.reads store.old) (S.reads store.new) }
         ensures cause { HasPutCause (S.faults store.old) (S.faults store.new) result }
@@ -101,10 +95,8 @@ impl<'a> LexWriter<'a> {
     /// The store's: `Failed` where it failed, `Memory` where it wants memory.
     pub fn finish<S: Store>(&mut self, store: &mut S) -> Result<(), PutErr>
         requires took { (ts : List Term) × TookTerms self.old (S.files store.old) ts }
-        ensures finished { OnOk result ((ts : List Term) → TookTerms self.old (S.files store.old) ts → IsSome (S.files store.old) →
-            TermsStand self.old.base (S.files store.new) ts) }
-        ensures others { (n : List ℕ) → n ≢ full_name self.old.base part.Lex → n ≢ full_name self.old.base part.LexAt →
-            file_at (S.files store.new) n ≡ file_at (S.files store.old) n }
+        ensures finished { OnOk result (TookTermsStand self.old (S.files store.old) (S.files store.new)) }
+        ensures others { OnlyLexiconChanges self.old.base (S.files store.old) (S.files store.new) }
         ensures told { is_some (S.files store.new) ≡ is_some (S.files store.old) }
         ensures reads { SameReads (S.reads store.old) (S.reads store.new) }
         ensures cause { HasPutCause (S.faults store.old) (S.faults store.new) result }

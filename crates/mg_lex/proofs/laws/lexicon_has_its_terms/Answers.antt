@@ -9,10 +9,10 @@ pub returns-clause-count : goal.returns-clause-count
 returns-clause-count c = terms_long
 
 pub returns-clause-stays : goal.returns-clause-stays
-returns-clause-stays c = lex_stays
+returns-clause-stays c = λ lex now collection same files files_now told strings places stands. lex_stays lex now files files_now collection same told strings places stands
 
 pub returns-clause-fits : goal.returns-clause-fits
 returns-clause-fits c = lex_fits
 
 pub returns-clause-written : goal.returns-clause-written
-returns-clause-written c = written_is
+returns-clause-written c = λ base files collection written. written_is base files collection written.told written.stand written.few
