@@ -7,7 +7,7 @@ use Rattle.mg_defs.specs.Bits.{Bits, bits_of, digits}
 use Rattle.mg_defs.specs.Codes.{gamma}
 use Rattle.mg_defs.specs.Postings.{IsBefore, AllAfter}
 use Rattle.std.specs.List.{AllByRecursion}
-use Rattle.mg_defs.specs.RunBits.{posting_bits, doc_gap}
+use Rattle.mg_defs.specs.RunBits.{run_posting_bits, doc_gap}
 use Rattle.mg_defs.specs.declared.TermPosting.{TermPosting}
 use Rattle.mg_defs.proofs.BitLaws.{length_digits}
 use Rattle.mg_runs.specs.Decoding.{IsSmall}
@@ -53,13 +53,13 @@ in_slot n start place offset room slot file code rest is at size fits e =
     ∙ take-append-add code rest (room - length code)
 
 -- a posting is short
-pub posting_short : (last x : TermPosting) → IsBefore last x → IsSmall x → length (posting_bits last x) ≤ 198
-unfolding posting_bits
+pub posting_short : (last x : TermPosting) → IsBefore last x → IsSmall x → length (run_posting_bits last x) ≤ 198
+unfolding run_posting_bits
 posting_short last x before small =
     let g : Bits = gamma (x.term - last.term + 1) in
     let d : Bits = gamma (doc_gap last x) in
     let n : Bits = gamma x.count in
-    let p : Plan (posting_bits last x ++ []) 0 last x [] = plan (posting_bits last x ++ []) 0 last x [] before small refl in
+    let p : Plan (run_posting_bits last x ++ []) 0 last x [] = plan (run_posting_bits last x ++ []) 0 last x [] before small refl in
     omega (arith, length-append g (d ++ n), length-append d n, gamma_short (x.term - last.term + 1) p.gap.0 (omega (arith, p.gap.1)), gamma_short (doc_gap last x) p.doc.0 (omega (arith, p.doc.1)), gamma_short x.count p.count.0 (omega (arith, p.count.1)))
 
 -- behind a code that stands whole, the place is still in the file
@@ -78,30 +78,30 @@ take_min : (n : ℕ) (xs : List ℕ) → take (min n (length xs)) xs ≡ take n 
 take_min n xs = grind (arith, common_steps)
 
 -- the next posting stands first in the slot, behind the offset
-pub stands : (cursor : Cursor) (slot file bytes : List ℕ) (x y : TermPosting) (ys : List TermPosting) (offset : ℕ) → IsAtPosting cursor slot file x (y ∷ ys) → IsNear cursor → bytes ≡ take (min cursor.count (length slot)) slot → offset ≡ cursor.place - 8 * cursor.start → (more : Bits) × (drop offset (bits_of bytes) ≡ posting_bits x y ++ more)
+pub stands : (cursor : Cursor) (slot file bytes : List ℕ) (x y : TermPosting) (ys : List TermPosting) (offset : ℕ) → IsAtPosting cursor slot file x (y ∷ ys) → IsNear cursor → bytes ≡ take (min cursor.count (length slot)) slot → offset ≡ cursor.place - 8 * cursor.start → (more : Bits) × (drop offset (bits_of bytes) ≡ run_posting_bits x y ++ more)
 stands cursor slot file bytes x y ys offset at near is off =
-    let short : length (posting_bits x y) ≤ 198 = posting_short x y at.after.0 at.run.small.0 in
+    let short : length (run_posting_bits x y) ≤ 198 = posting_short x y at.after.0 at.run.small.0 in
     let low = at.near in
     let high = near.high in
     let room : ℕ = 512 - offset in
     let rest : Bits = postings_bits y ys ++ at.more in
-    let e : drop cursor.place (bits_of file) ≡ posting_bits x y ++ rest = at.bits ∙ append_assoc (posting_bits x y) (postings_bits y ys) at.more in
-    (take (room - length (posting_bits x y)) rest, in_slot 64 cursor.start cursor.place offset room bytes file (posting_bits x y) rest (is ∙ take_min cursor.count slot ∙ at.window) (omega arith) (omega arith) (omega arith) e)
+    let e : drop cursor.place (bits_of file) ≡ run_posting_bits x y ++ rest = at.bits ∙ append_assoc (run_posting_bits x y) (postings_bits y ys) at.more in
+    (take (room - length (run_posting_bits x y)) rest, in_slot 64 cursor.start cursor.place offset room bytes file (run_posting_bits x y) rest (is ∙ take_min cursor.count slot ∙ at.window) (omega arith) (omega arith) (omega arith) e)
 
 -- behind it the cursor is at that posting
-pub moved : (cursor : Cursor) (slot file : List ℕ) (x y : TermPosting) (ys : List TermPosting) (offset : ℕ) (found : Decoded) → IsAtPosting cursor slot file x (y ∷ ys) → found.posting ≡ y → found.next ≡ offset + length (posting_bits x y) → IsAtPosting (record { posting = found.posting; left = cursor.left - 1; place = cursor.place + (found.next - offset); start = cursor.start; count = cursor.count }) slot file y ys
+pub moved : (cursor : Cursor) (slot file : List ℕ) (x y : TermPosting) (ys : List TermPosting) (offset : ℕ) (found : Decoded) → IsAtPosting cursor slot file x (y ∷ ys) → found.posting ≡ y → found.next ≡ offset + length (run_posting_bits x y) → IsAtPosting (record { posting = found.posting; left = cursor.left - 1; place = cursor.place + (found.next - offset); start = cursor.start; count = cursor.count }) slot file y ys
 moved cursor slot file x y ys offset found at posting next =
     let rest : Bits = postings_bits y ys ++ at.more in
-    let e : drop cursor.place (bits_of file) ≡ posting_bits x y ++ rest = at.bits ∙ append_assoc (posting_bits x y) (postings_bits y ys) at.more in
-    let to : cursor.place + (found.next - offset) ≡ cursor.place + length (posting_bits x y) = omega arith in
+    let e : drop cursor.place (bits_of file) ≡ run_posting_bits x y ++ rest = at.bits ∙ append_assoc (run_posting_bits x y) (postings_bits y ys) at.more in
+    let to : cursor.place + (found.next - offset) ≡ cursor.place + length (run_posting_bits x y) = omega arith in
     let left = at.left in
     let near = at.near in
     record {
       posting = posting;
       left = omega arith;
       more = at.more;
-      bits = ap (λ k. drop k (bits_of file)) to ∙ behind_code cursor.place (bits_of file) (posting_bits x y) rest e;
-      below = let b = place_below cursor.place (bits_of file) (posting_bits x y) rest at.below e in omega arith;
+      bits = ap (λ k. drop k (bits_of file)) to ∙ behind_code cursor.place (bits_of file) (run_posting_bits x y) rest e;
+      below = let b = place_below cursor.place (bits_of file) (run_posting_bits x y) rest at.below e in omega arith;
       short = at.short;
       near = omega arith;
       within = at.within;

@@ -8,7 +8,7 @@ use Rattle.mg_defs.specs.Answers.{Answer, Answers, UpTo, value, end, over}
 use Rattle.mg_defs.specs.Bits.{Bits}
 use Rattle.mg_defs.specs.Codes.{gamma}
 use Rattle.mg_defs.specs.Postings.{IsBefore}
-use Rattle.mg_defs.specs.RunBits.{posting_bits, doc_gap}
+use Rattle.mg_defs.specs.RunBits.{run_posting_bits, doc_gap}
 use Rattle.mg_defs.specs.declared.TermPosting.{TermPosting}
 use Rattle.mg_bits.specs.Feed.{over_slice}
 use Rattle.mg_bits.specs.CodeAnswers.{AnswersCode, CodeCause}
@@ -59,15 +59,15 @@ pub record Plan (bits : Bits) (at : ℕ) (last x : TermPosting) (more : Bits) : 
   pub first : drop at bits ≡ gamma (x.term - last.term + 1) ++ behind_gap
   pub second : drop (at + length (gamma (x.term - last.term + 1))) bits ≡ gamma (doc_gap last x) ++ behind_doc
   pub third : drop (at + length (gamma (x.term - last.term + 1)) + length (gamma (doc_gap last x))) bits ≡ gamma x.count ++ more
-  pub total : at + length (gamma (x.term - last.term + 1)) + length (gamma (doc_gap last x)) + length (gamma x.count) ≡ at + length (posting_bits last x)
+  pub total : at + length (gamma (x.term - last.term + 1)) + length (gamma (doc_gap last x)) + length (gamma x.count) ≡ at + length (run_posting_bits last x)
 
 gap_fits : (last x : TermPosting) → IsBefore last x → IsSmall x → UpTo (2 ^ 32 - 1) (doc_gap last x)
 gap_fits last x before small =
     let d = before.doc in let some = small.doc_some in let most = small.doc in let t = before.term in
     (grind (arith, nat_tests), grind (arith, nat_tests))
 
-pub plan : (bits : Bits) (at : ℕ) (last x : TermPosting) (more : Bits) → IsBefore last x → IsSmall x → drop at bits ≡ posting_bits last x ++ more → Plan bits at last x more
-unfolding posting_bits
+pub plan : (bits : Bits) (at : ℕ) (last x : TermPosting) (more : Bits) → IsBefore last x → IsSmall x → drop at bits ≡ run_posting_bits last x ++ more → Plan bits at last x more
+unfolding run_posting_bits
 plan bits at last x more before small e =
     let g : Bits = gamma (x.term - last.term + 1) in
     let d : Bits = gamma (doc_gap last x) in

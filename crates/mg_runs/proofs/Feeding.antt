@@ -9,10 +9,11 @@ use Rattle.mg_dev.specs.Names.{full_name}
 use Rattle.mg_dev.specs.declared.part.Part.TheVariants.{Run}
 use Rattle.mg_defs.specs.Bits.{filled}
 use Rattle.mg_defs.specs.declared.TermPosting.{TermPosting}
-use Rattle.mg_defs.specs.Postings.{once, gathered, postings}
-use Rattle.mg_defs.specs.Runs.{first_runs, finished}
+use Rattle.mg_defs.specs.Postings.{once, gathered, term_postings}
+use Rattle.mg_defs.specs.Runs.{first_runs}
+use Rattle.mg_runs.specs.FinishedRuns.{finished}
 use Rattle.mg_defs.specs.RunBits.{run_bits, runs_bits}
-use Rattle.mg_defs.proofs.Segments.{finished-room, finished-full, finished-low, first_runs-more, first_runs-full, map-end}
+use Rattle.mg_runs.proofs.Segments.{finished-room, finished-full, finished-low, first_runs-more, first_runs-full, map-end}
 use Rattle.mg_bits.specs.BitWriting.{Holds, WroteBits, bits_put}
 use Rattle.mg_runs.specs.Bytes.{AreEntries}
 use Rattle.mg_runs.specs.Fed.{Inverting, IsFed, IsOccurrence, AreOccurrences, cap_of, starts}
@@ -165,7 +166,7 @@ fed_full r0 r1 f0 f1 fed o is full doc room_left told wrote holds whole below en
     let e2 : finished cap (length (fed ++ o ∷ [])) ≡ suc q = ap (λ k. finished cap k) e1 ∙ finished-full cap n some (sym len ∙ full) in
     let e3 : finished (cap_of r1.pool) (length (fed ++ o ∷ [])) ≡ suc q = ap (λ k. finished k (length (fed ++ o ∷ []))) e0 ∙ e2 in
     let at : finished (cap_of r1.pool) (length (fed ++ o ∷ [])) * cap_of r1.pool ≡ suc q * cap = ap (λ k. k * cap_of r1.pool) e3 ∙ ap (λ k. suc q * k) e0 in
-    let run : List TermPosting = postings (drop (q * cap) fed) in
+    let run : List TermPosting = term_postings (drop (q * cap) fed) in
     let run_is : gathered r0.pool.entries ≡ run = ap (λ xs. gathered xs) is.entries in
     let runs : first_runs (cap_of r1.pool) (finished (cap_of r1.pool) (length (fed ++ o ∷ []))) (fed ++ o ∷ []) ≡ first_runs cap q fed ++ run ∷ [] = ap (λ k. first_runs k (finished k (length (fed ++ o ∷ []))) (fed ++ o ∷ [])) e0 ∙ ap (λ k. first_runs cap k (fed ++ o ∷ [])) e2 ∙ first_runs-more cap (suc q) fed o fits ∙ first_runs-full cap q fed whole_n in
     let bits : runs_bits (first_runs cap q fed ++ run ∷ []) ≡ runs_bits (first_runs cap q fed) ++ filled (run_bits (gathered r0.pool.entries)) =

@@ -5,7 +5,7 @@ use Rattle.std.proofs.lemmas.Bool.Decides.{nat_tests}
 use Rattle.std.proofs.lemmas.Grind.{common_steps}
 use Rattle.mg_defs.specs.declared.TermPosting.{TermPosting}
 use Rattle.mg_defs.specs.Postings.{IsBefore, AllAfter}
-use Rattle.mg_defs.specs.PostingOrder.{NoLater}
+use Rattle.mg_runs.specs.PostingOrder.{NoLater}
 use Rattle.mg_runs.specs.Decoding.{IsSmall}
 use Rattle.mg_runs.specs.Cursors.{IsAt, IsRun}
 use Rattle.mg_runs.specs.Merging.{first, AllFrom, IsShaped, StandFor, key_of, no_cursor}

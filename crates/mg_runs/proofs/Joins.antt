@@ -1,5 +1,5 @@
 -- Postings that are counted and written.
-use Rattle.std.proofs.Common.{◌≡◌, ℕ, zero, suc, ◌+◌, ◌-◌, ◌*◌, ◌%◌, ◌^◌, ◌<◌, ◌≤◌, List, [], ◌∷◌, ◌++◌, length, drop, refl, sym, ap, ◌∙◌, subst, arith, Some, None, is_some, unwrap_or, ◌≢◌, append_assoc, append-nil}
+use Rattle.std.proofs.Common.{◌≡◌, ℕ, zero, suc, ◌+◌, ◌-◌, ◌*◌, ◌%◌, ◌^◌, ◌<◌, ◌≤◌, List, [], ◌∷◌, ◌++◌, length, drop, refl, sym, ap, ◌∙◌, subst, arith, Some, None, is_some, unwrap_or, ◌≢◌, append_assoc, append-nil, length-append, IsSome}
 use Rattle.std.proofs.lemmas.List.{drop-drop}
 use Rattle.std.specs.Prelude.{Err}
 use Rattle.std.specs.declared.option.Option.{Option}
@@ -14,11 +14,11 @@ use Rattle.mg_defs.specs.Bits.{Bits, digits, filled, to_byte}
 use Rattle.mg_defs.specs.Codes.{gamma}
 use Rattle.mg_defs.proofs.BitLaws.{length_digits}
 use Rattle.mg_defs.specs.Postings.{IsBefore, AllAfter}
-use Rattle.mg_defs.specs.RunBits.{before_first, posting_bits, postings_bits, run_bits}
+use Rattle.mg_defs.specs.RunBits.{before_first, run_posting_bits, postings_bits, run_bits}
 use Rattle.mg_defs.specs.declared.TermPosting.{TermPosting}
 use Rattle.mg_bits.specs.Pages.{Looked}
 use Rattle.mg_bits.specs.Writer.{WroteTo}
-use Rattle.mg_bits.specs.BitWriting.{BitWriting, WroteBits}
+use Rattle.mg_bits.specs.BitWriting.{BitWriting, WroteBits, bits_put}
 use Rattle.mg_bits.proofs.CallerLemmas.{bits_more, bits_none}
 use Rattle.mg_runs.specs.Cursors.{IsRun}
 use Rattle.mg_runs.specs.Merging.{first, AreLeft}
@@ -63,7 +63,15 @@ putting_first slots cursors file f0 f1 w0 w1 last bits is p e =
     let room = is.room in
     (before.0, run.small.0.doc_some, run.small.0.count_some, omega arith)
 
-pub put_more : (slots news : List (List ℕ)) (cursors nexts : List Cursor) (file : List ℕ) (f0 f1 f2 : Option Files) (w0 w1 w2 : BitWriting) (last : TermPosting) (bits : Bits) (is : IsPutting slots cursors file f0 f1 w0 w1 last bits) (p : TermPosting) → Some p ≡ first is.left → AreLeft news nexts file (drop 1 is.left) → is_some f0 ≡ is_some f1 → WroteBits w1 w2 f1 f2 (posting_bits last p) → w2.place ≤ w1.place + 256 → IsPutting news nexts file f0 f2 w0 w2 p bits
+-- bits behind others, where the files were told between the two
+bits_behind : (f0 f1 f2 : Option Files) (w0 w1 w2 : BitWriting) (a b : Bits) → IsSome f1 → WroteBits w0 w1 f0 f1 a → WroteBits w1 w2 f1 f2 b → WroteBits w0 w2 f0 f2 (a ++ b)
+bits_behind f0 f1 f2 w0 w1 w2 a b told one two = record {
+  name = two.name ∙ one.name;
+  place = omega (arith, length-append a b, one.place, two.place);
+  told = λ t. two.told told ∙ ap (λ l. l ++ b) (one.told t) ∙ append_assoc (bits_put w0 f0) a b;
+}
+
+pub put_more : (slots news : List (List ℕ)) (cursors nexts : List Cursor) (file : List ℕ) (f0 f1 f2 : Option Files) (w0 w1 w2 : BitWriting) (last : TermPosting) (bits : Bits) (is : IsPutting slots cursors file f0 f1 w0 w1 last bits) (p : TermPosting) → Some p ≡ first is.left → AreLeft news nexts file (drop 1 is.left) → IsSome f1 → WroteBits w1 w2 f1 f2 (run_posting_bits last p) → w2.place ≤ w1.place + 256 → IsPutting news nexts file f0 f2 w0 w2 p bits
 put_more slots news cursors nexts file f0 f1 f2 w0 w1 w2 last bits is p e has told wrote place =
     let s = split_first is.left p (sym e) in
     let run = subst (λ xs. IsRun xs) s.1 is.run in
@@ -72,9 +80,9 @@ put_more slots news cursors nexts file f0 f1 f2 w0 w1 w2 last bits is p e has to
     record {
       left = s.0;
       has = subst (λ xs. AreLeft news nexts file xs) (ap (λ xs. drop 1 xs) s.1) has;
-      done = is.done ++ posting_bits last p;
-      wrote = bits_more f0 f1 f2 w0 w1 w2 is.done (posting_bits last p) (sym told) is.wrote wrote;
-      rest = append_assoc is.done (posting_bits last p) (postings_bits p s.0) ∙ ap (λ xs. is.done ++ postings_bits last xs) (sym s.1) ∙ is.rest;
+      done = is.done ++ run_posting_bits last p;
+      wrote = bits_behind f0 f1 f2 w0 w1 w2 is.done (run_posting_bits last p) told is.wrote wrote;
+      rest = append_assoc is.done (run_posting_bits last p) (postings_bits p s.0) ∙ ap (λ xs. is.done ++ postings_bits last xs) (sym s.1) ∙ is.rest;
       before = run.rising.0;
       run = record { rising = run.rising.1; small = run.small.1 };
       room = omega arith;

@@ -23,3 +23,5 @@ mod JoinedGroups
 mod Working
 mod LastRun
 mod Kept
+mod PostingGroups
+pub mod Segments

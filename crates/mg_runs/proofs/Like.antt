@@ -5,8 +5,8 @@ use Rattle.std.proofs.lemmas.Grind.{common_steps}
 use Rattle.std.proofs.lemmas.List.{drop_more}
 use Rattle.mg_defs.specs.declared.TermPosting.{TermPosting}
 use Rattle.mg_defs.specs.Postings.{IsBefore, AllAfter, with_count, added, gathered}
-use Rattle.mg_defs.specs.PostingOrder.{NoLater, NotFalling, added_times}
-use Rattle.mg_defs.proofs.PostingGroups.{AllAfter-no_later, AllAfter-gathered, added_times-end, group-count}
+use Rattle.mg_runs.specs.PostingOrder.{NoLater, NotFalling, added_times}
+use Rattle.mg_runs.proofs.PostingGroups.{AllAfter-no_later, AllAfter-gathered, added_times-end, group-count}
 use Rattle.mg_runs.specs.Bytes.{entry_in, number_in}
 use Rattle.mg_runs.specs.Groups.{IsGroup, IsLike}
 

@@ -6,8 +6,8 @@ use Rattle.std.proofs.lemmas.Bool.Decides.{nat_tests}
 use Rattle.std.proofs.lemmas.List.{get_or-set_same, get_or-set_other}
 use Rattle.std.proofs.lemmas.List.Sums.{sum_by-set, sum_by-cons}
 use Rattle.mg_defs.specs.declared.TermPosting.{TermPosting}
-use Rattle.mg_defs.specs.Postings.{IsBefore, AllAfter, Rising, AllCount, part_at, times, with_count, joined, merged}
-use Rattle.mg_defs.specs.PostingOrder.{NoLater}
+use Rattle.mg_defs.specs.Postings.{IsBefore, AllAfter, RisingByTerm, AllCount, part_at, times, with_count, merged_two, merged}
+use Rattle.mg_runs.specs.PostingOrder.{NoLater}
 use Rattle.mg_defs.proofs.Gathering.{only_one, times-joined, Rising-joined, AllCount-joined, AllAfter-added}
 use Rattle.mg_runs.specs.Decoding.{IsSmall}
 use Rattle.mg_runs.specs.Cursors.{IsRun}
@@ -26,7 +26,7 @@ times-merged t d (run ∷ runs) =
 All-tail : (P : List TermPosting → Type 0) (x : List TermPosting) (xs : List (List TermPosting)) → All P (x ∷ xs) → All P xs
 All-tail P x xs all k d h = all (suc k) d (omega arith)
 
-pub Rising-merged : (lefts : List (List TermPosting)) → All (λ left. IsRun left) lefts → Rising (merged lefts)
+pub Rising-merged : (lefts : List (List TermPosting)) → All (λ left. IsRun left) lefts → RisingByTerm (merged lefts)
 Rising-merged [] all = tt
 Rising-merged (run ∷ runs) all = Rising-joined run (merged runs) (Rising-merged runs (All-tail (λ l. IsRun l) run runs all))
 
@@ -36,9 +36,9 @@ AllCount-merged (run ∷ runs) all =
     let one : IsRun run = all 0 run (omega arith) in
     AllCount-joined run (merged runs) (all_count run one.small) (AllCount-merged runs (All-tail (λ l. IsRun l) run runs all))
 
-AllAfter-joined : (p : TermPosting) (xs ys : List TermPosting) → AllAfter p xs → AllAfter p ys → AllAfter p (joined xs ys)
+AllAfter-joined : (p : TermPosting) (xs ys : List TermPosting) → AllAfter p xs → AllAfter p ys → AllAfter p (merged_two xs ys)
 AllAfter-joined p [] ys a b = b
-AllAfter-joined p (x ∷ xs) ys a b = AllAfter-added p x (joined xs ys) a.0 (AllAfter-joined p xs ys a.1 b)
+AllAfter-joined p (x ∷ xs) ys a b = AllAfter-added p x (merged_two xs ys) a.0 (AllAfter-joined p xs ys a.1 b)
 
 AllAfter-merged : (p : TermPosting) (lefts : List (List TermPosting)) → ((k : ℕ) → k < length lefts → AllAfter p (get_or lefts k [])) → AllAfter p (merged lefts)
 AllAfter-merged p [] all = tt
@@ -138,7 +138,7 @@ merged_none [] h = refl
 merged_none (run ∷ runs) h =
     let e : run ≡ [] = h 0 in
     let r : merged runs ≡ [] = merged_none runs (λ k. h (suc k)) in
-    ap (λ xs. joined xs (merged runs)) e ∙ r
+    ap (λ xs. merged_two xs (merged runs)) e ∙ r
 
 -- where the least first posting is another one, or there is none, all are after this one
 pub all_after_none : (p : TermPosting) (lefts : List (List TermPosting)) → ((k : ℕ) → get_or lefts k [] ≡ []) → (k : ℕ) → AllAfter p (get_or lefts k [])

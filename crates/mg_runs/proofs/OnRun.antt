@@ -6,10 +6,10 @@ use Rattle.std.proofs.lemmas.Grind.{common_steps}
 use Rattle.mg_dev.specs.Files.{Files, Reads}
 use Rattle.mg_defs.specs.Codes.{gamma}
 use Rattle.mg_defs.specs.declared.TermPosting.{TermPosting}
-use Rattle.mg_defs.specs.Postings.{IsBefore, AllAfter, Rising, with_count, added, gathered}
-use Rattle.mg_defs.specs.RunBits.{before_first, posting_bits, postings_bits, run_bits}
+use Rattle.mg_defs.specs.Postings.{IsBefore, AllAfter, RisingByTerm, with_count, added, gathered}
+use Rattle.mg_defs.specs.RunBits.{before_first, run_posting_bits, postings_bits, run_bits}
 use Rattle.mg_defs.proofs.Gathering.{Rising-gathered, added-cases}
-use Rattle.mg_defs.proofs.PostingGroups.{AllAfter-gathered}
+use Rattle.mg_runs.proofs.PostingGroups.{AllAfter-gathered}
 use Rattle.mg_bits.specs.Writer.{WroteTo}
 use Rattle.mg_bits.specs.BitWriting.{BitWriting, Holds, WroteBits}
 use Rattle.mg_bits.proofs.CallerLemmas.{bits_more, to_more}
@@ -50,16 +50,16 @@ group_first entries from next p group a b d =
 pub on_run_before : (f0 f1 : Option Files) (r0 r1 : Reads) (w0 w1 : BitWriting) (entries : List (List ℕ)) (from next : ℕ) (last p : TermPosting) → IsOnRun f0 f1 r0 r1 w0 w1 entries from last → gathered (map entry_in (drop from entries)) ≡ p ∷ gathered (map entry_in (drop next entries)) → IsBefore last p
 on_run_before f0 f1 r0 r1 w0 w1 entries from next last p run e = (subst (λ xs. AllAfter last xs) e run.before).0
 
-pub on_run_step : (f0 f1 f2 : Option Files) (r0 r1 r2 : Reads) (w0 w1 w2 : BitWriting) (entries : List (List ℕ)) (from next : ℕ) (last p : TermPosting) → IsOnRun f0 f1 r0 r1 w0 w1 entries from last → gathered (map entry_in (drop from entries)) ≡ p ∷ gathered (map entry_in (drop next entries)) → from < next → next ≤ length entries → WroteBits w1 w2 f1 f2 (posting_bits last p) → Holds w2 f2 → w2.place ≤ w1.place + 256 → WroteTo w1.name f1 f2 r1 r2 → IsOnRun f0 f2 r0 r2 w0 w2 entries next p
+pub on_run_step : (f0 f1 f2 : Option Files) (r0 r1 r2 : Reads) (w0 w1 w2 : BitWriting) (entries : List (List ℕ)) (from next : ℕ) (last p : TermPosting) → IsOnRun f0 f1 r0 r1 w0 w1 entries from last → gathered (map entry_in (drop from entries)) ≡ p ∷ gathered (map entry_in (drop next entries)) → from < next → next ≤ length entries → WroteBits w1 w2 f1 f2 (run_posting_bits last p) → Holds w2 f2 → w2.place ≤ w1.place + 256 → WroteTo w1.name f1 f2 r1 r2 → IsOnRun f0 f2 r0 r2 w0 w2 entries next p
 on_run_step f0 f1 f2 r0 r1 r2 w0 w1 w2 entries from next last p run e after within bits holds place wrote =
     let left : List TermPosting = gathered (map entry_in (drop next entries)) in
     let old : w1.place ≤ w0.place + 66 + 256 * from = run.place in
     record {
       within = within;
-      done = run.done ++ posting_bits last p;
-      bits = bits_more f0 f1 f2 w0 w1 w2 run.done (posting_bits last p) run.wrote.told run.bits bits;
-      rest = append_assoc run.done (posting_bits last p) (postings_bits p left) ∙ ap (λ xs. run.done ++ postings_bits last xs) (sym e) ∙ run.rest;
-      before = (subst (λ xs. Rising xs) e (Rising-gathered (map entry_in (drop from entries)))).0;
+      done = run.done ++ run_posting_bits last p;
+      bits = bits_more f0 f1 f2 w0 w1 w2 run.done (run_posting_bits last p) run.wrote.told run.bits bits;
+      rest = append_assoc run.done (run_posting_bits last p) (postings_bits p left) ∙ ap (λ xs. run.done ++ postings_bits last xs) (sym e) ∙ run.rest;
+      before = (subst (λ xs. RisingByTerm xs) e (Rising-gathered (map entry_in (drop from entries)))).0;
       place = omega arith;
       holds = holds;
       wrote = to_more w0.name f0 f1 f2 r0 r1 r2 run.wrote (subst (λ n. WroteTo n f1 f2 r1 r2) run.bits.name wrote);

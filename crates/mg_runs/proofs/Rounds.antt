@@ -11,9 +11,9 @@ use Rattle.std.proofs.lemmas.List.{drop-drop, length-drop, length-take, length-m
 use Rattle.std.proofs.lemmas.List.Elements.{All-nil, All-push, All-take, All-drop, All-tail}
 use Rattle.std.proofs.lemmas.List.Sums.{sum_by-cons, sum_by-take-drop, sum_by-take-le}
 use Rattle.mg_defs.specs.declared.TermPosting.{TermPosting}
-use Rattle.mg_defs.specs.Postings.{AllCount, part_at, times, added, joined, merged}
+use Rattle.mg_defs.specs.Postings.{AllCount, part_at, times, added, merged_two, merged}
 use Rattle.mg_defs.proofs.Gathering.{added-cases, only_one}
-use Rattle.mg_defs.proofs.Segments.{map-end}
+use Rattle.mg_runs.proofs.Segments.{map-end}
 use Rattle.mg_runs.specs.Decoding.{IsSmall}
 use Rattle.mg_runs.specs.Cursors.{IsRun}
 use Rattle.mg_runs.specs.Merging.{AreRuns, times_all}
@@ -139,9 +139,9 @@ placed_added e (x ∷ xs) h all =
     (λ b. (all.0, placed_added e xs h all.1))
     (λ p q. let k : IsPlaced x = all.0 in (record { term = k.term; some = k.some; doc = k.doc }, all.1))
 
-pub placed_joined : (xs ys : List TermPosting) → AllByRecursion (λ x. IsPlaced x) xs → AllByRecursion (λ x. IsPlaced x) ys → AllByRecursion (λ x. IsPlaced x) (joined xs ys)
+pub placed_joined : (xs ys : List TermPosting) → AllByRecursion (λ x. IsPlaced x) xs → AllByRecursion (λ x. IsPlaced x) ys → AllByRecursion (λ x. IsPlaced x) (merged_two xs ys)
 placed_joined [] ys a b = b
-placed_joined (x ∷ xs) ys a b = placed_added x (joined xs ys) a.0 (placed_joined xs ys a.1 b)
+placed_joined (x ∷ xs) ys a b = placed_added x (merged_two xs ys) a.0 (placed_joined xs ys a.1 b)
 
 placed_small : (xs : List TermPosting) → AllByRecursion (λ x. IsSmall x) xs → AllByRecursion (λ x. IsPlaced x) xs
 placed_small [] all = tt
@@ -237,13 +237,13 @@ length_added e (x ∷ xs) =
     (λ b. record { most = omega arith; least = omega arith; some = omega arith })
     (λ p q. record { most = omega arith; least = omega arith; some = omega arith })
 
-length_joined : (xs ys : List TermPosting) → length (joined xs ys) ≤ length xs + length ys
+length_joined : (xs ys : List TermPosting) → length (merged_two xs ys) ≤ length xs + length ys
 length_joined [] ys = omega arith
-length_joined (x ∷ xs) ys = let a = (length_added x (joined xs ys)).most in omega (arith, length_joined xs ys)
+length_joined (x ∷ xs) ys = let a = (length_added x (merged_two xs ys)).most in omega (arith, length_joined xs ys)
 
-joined_more_than : (xs ys : List TermPosting) → length ys ≤ length (joined xs ys)
+joined_more_than : (xs ys : List TermPosting) → length ys ≤ length (merged_two xs ys)
 joined_more_than [] ys = omega arith
-joined_more_than (x ∷ xs) ys = let a = (length_added x (joined xs ys)).least in omega (arith, joined_more_than xs ys)
+joined_more_than (x ∷ xs) ys = let a = (length_added x (merged_two xs ys)).least in omega (arith, joined_more_than xs ys)
 
 pub length_merged : (runs : List (List TermPosting)) → length (merged runs) ≤ all_postings runs
 length_merged [] = omega arith
@@ -253,9 +253,9 @@ pub some_merged : (runs : List (List TermPosting)) → 1 ≤ length runs → All
 some_merged [] more all = absurd (omega arith)
 some_merged (run ∷ runs) more all = first_some run (all 0 run (omega arith))
   where
-    first_some : (run : List TermPosting) → 1 ≤ length run → 1 ≤ length (joined run (merged runs))
+    first_some : (run : List TermPosting) → 1 ≤ length run → 1 ≤ length (merged_two run (merged runs))
     first_some [] h = absurd (omega arith)
-    first_some (x ∷ xs) h = (length_added x (joined xs (merged runs))).some
+    first_some (x ∷ xs) h = (length_added x (merged_two xs (merged runs))).some
 
 pub all_first_joined : (w k : ℕ) (runs : List (List TermPosting)) → all_postings (first_joined w k runs) ≤ all_postings runs
 all_first_joined w zero runs = omega arith

@@ -9,7 +9,7 @@ use Rattle.mg_defs.specs.declared.TermPosting.{TermPosting}
 use Rattle.mg_defs.specs.Bits.{Bits, bits_of, digits, to_byte, filled}
 use Rattle.mg_defs.specs.Codes.{gamma}
 use Rattle.mg_defs.specs.Postings.{AllAfter}
-use Rattle.mg_defs.specs.RunBits.{posting_bits, postings_bits, before_first, run_bits, runs_bits}
+use Rattle.mg_defs.specs.RunBits.{run_posting_bits, postings_bits, before_first, run_bits, runs_bits}
 use Rattle.mg_defs.proofs.BitLaws.{length_digits}
 use Rattle.mg_runs.specs.Cursors.{IsRun, IsRunAt}
 use Rattle.mg_runs.specs.Fed.{starts}
@@ -23,9 +23,9 @@ use Rattle.mg_runs.proofs.Rounds.{all_groups, all_first_joined, first_joined_run
 postings_short : (last : TermPosting) (xs : List TermPosting) → AllAfter last xs → IsRun xs → length (postings_bits last xs) ≤ 198 * length xs
 postings_short last [] after run = omega arith
 postings_short last (x ∷ xs) after run =
-    let one : length (posting_bits last x) ≤ 198 = posting_short last x after.0 run.small.0 in
+    let one : length (run_posting_bits last x) ≤ 198 = posting_short last x after.0 run.small.0 in
     let rest : length (postings_bits x xs) ≤ 198 * length xs = postings_short x xs run.rising.0 (record { rising = run.rising.1; small = run.small.1 }) in
-    omega (arith, one, rest, length-append (posting_bits last x) (postings_bits x xs))
+    omega (arith, one, rest, length-append (run_posting_bits last x) (postings_bits x xs))
 
 length_filled : (bits : Bits) → length (filled bits) ≡ length bits + to_byte (length bits)
 unfolding filled

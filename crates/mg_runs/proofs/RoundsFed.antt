@@ -10,12 +10,13 @@ use Rattle.std.proofs.lemmas.List.Elements.{All-nil, All-cons}
 use Rattle.std.proofs.lemmas.List.Sums.{sum_by-cons}
 use Rattle.mg_defs.specs.declared.TermPosting.{TermPosting}
 use Rattle.mg_defs.specs.Bits.{filled}
-use Rattle.mg_defs.specs.Postings.{once, part_at, times, postings, merged}
+use Rattle.mg_defs.specs.Postings.{once, part_at, times, term_postings, merged}
 use Rattle.mg_defs.specs.RunBits.{run_bits, runs_bits}
-use Rattle.mg_defs.specs.Runs.{first_runs, runs_of, finished}
+use Rattle.mg_defs.specs.Runs.{first_runs, runs_of}
+use Rattle.mg_runs.specs.FinishedRuns.{finished}
 use Rattle.mg_defs.proofs.Gathering.{Rising-gathered, AllCount-gathered, times-gathered}
 use Rattle.mg_defs.proofs.Joining.{AllCount-once, merged-all}
-use Rattle.mg_defs.proofs.Segments.{map-end}
+use Rattle.mg_runs.proofs.Segments.{map-end}
 use Rattle.mg_runs.specs.Cursors.{IsRun}
 use Rattle.mg_runs.specs.Fed.{IsOccurrence, AreOccurrences, starts}
 use Rattle.mg_runs.specs.Merging.{AreRuns}
@@ -36,11 +37,11 @@ occurrences_take zero s all = tt
 occurrences_take (suc k) [] all = tt
 occurrences_take (suc k) (o ∷ s) all = (all.0, occurrences_take k s all.1)
 
-placed_postings : (s : List (ℕ × ℕ)) → AreOccurrences s → AllByRecursion (λ x. IsPlaced x) (postings s)
+placed_postings : (s : List (ℕ × ℕ)) → AreOccurrences s → AllByRecursion (λ x. IsPlaced x) (term_postings s)
 placed_postings [] all = tt
 placed_postings (o ∷ s) all =
     let k : IsOccurrence o = all.0 in
-    placed_added (once o) (postings s) (record { term = k.term; some = k.some; doc = k.doc }) (placed_postings s all.1)
+    placed_added (once o) (term_postings s) (record { term = k.term; some = k.some; doc = k.doc }) (placed_postings s all.1)
 
 part_once : (t d : ℕ) (o : ℕ × ℕ) → part_at t d (once o) ≤ 1
 part_once t d o = grind (arith, nat_tests)
@@ -49,7 +50,7 @@ times_at_most : (t d : ℕ) (s : List (ℕ × ℕ)) → times t d (map once s) �
 times_at_most t d [] = omega arith
 times_at_most t d (o ∷ s) = omega (arith, part_once t d o, times_at_most t d s)
 
-pub times_postings : (t d : ℕ) (s : List (ℕ × ℕ)) → times t d (postings s) ≤ length s
+pub times_postings : (t d : ℕ) (s : List (ℕ × ℕ)) → times t d (term_postings s) ≤ length s
 times_postings t d s = omega (arith, times-gathered t d (map once s), times_at_most t d s)
 
 -- whether it is this term in this document
@@ -64,30 +65,30 @@ times_once t d [] = refl
 times_once t d (o ∷ s) = omega (arith, part_here t d o, times_once t d s, sum_by-cons (λ (o : ℕ × ℕ). cond (is_here t d o) 1 0) o s)
 
 -- a term stands in a document as often as it occurs there
-pub times_counted : (t d : ℕ) (s : List (ℕ × ℕ)) → times t d (postings s) ≡ count_by (λ o. is_here t d o) s
+pub times_counted : (t d : ℕ) (s : List (ℕ × ℕ)) → times t d (term_postings s) ≡ count_by (λ o. is_here t d o) s
 times_counted t d s = times-gathered t d (map once s) ∙ times_once t d s
 
 -- the postings of occurrences are a run
-pub postings_run : (s : List (ℕ × ℕ)) → AreOccurrences s → length s < 2 ^ 32 → IsRun (postings s)
+pub postings_run : (s : List (ℕ × ℕ)) → AreOccurrences s → length s < 2 ^ 32 → IsRun (term_postings s)
 postings_run s all few = record {
   rising = Rising-gathered (map once s);
-  small = small_of (postings s) (placed_postings s all) (AllCount-gathered (map once s) (AllCount-once s)) (λ t d. omega (arith, times_postings t d s));
+  small = small_of (term_postings s) (placed_postings s all) (AllCount-gathered (map once s) (AllCount-once s)) (λ t d. omega (arith, times_postings t d s));
 }
 
-pub length_postings : (s : List (ℕ × ℕ)) → length (postings s) ≤ length s
+pub length_postings : (s : List (ℕ × ℕ)) → length (term_postings s) ≤ length s
 length_postings [] = omega arith
-length_postings (o ∷ s) = let a = (length_added (once o) (postings s)).most in omega (arith, length_postings s)
+length_postings (o ∷ s) = let a = (length_added (once o) (term_postings s)).most in omega (arith, length_postings s)
 
-pub some_postings : (s : List (ℕ × ℕ)) → 1 ≤ length s → 1 ≤ length (postings s)
+pub some_postings : (s : List (ℕ × ℕ)) → 1 ≤ length s → 1 ≤ length (term_postings s)
 some_postings [] h = absurd (omega arith)
-some_postings (o ∷ s) h = (length_added (once o) (postings s)).some
+some_postings (o ∷ s) h = (length_added (once o) (term_postings s)).some
 
 -- ---- all runs
 
 runs_are : (cap count : ℕ) (s : List (ℕ × ℕ)) → AreOccurrences s → length s < 2 ^ 32 → All (λ run. IsRun run) (first_runs cap count s)
 runs_are cap zero s all few = All-nil (λ run. IsRun run)
 runs_are cap (suc count) s all few =
-    All-cons (λ run. IsRun run) (postings (take cap s)) (first_runs cap count (drop cap s))
+    All-cons (λ run. IsRun run) (term_postings (take cap s)) (first_runs cap count (drop cap s))
     (postings_run (take cap s) (occurrences_take cap s all) (omega (arith, few, length-take cap s)))
     (runs_are cap count (drop cap s) (occurrences_drop cap s all) (omega (arith, few, length-drop cap s)))
 
@@ -96,21 +97,21 @@ runs_some cap zero s some more = All-nil (λ run. 1 ≤ length run)
 runs_some cap (suc count) s some more =
     let z : 0 * cap ≡ 0 = omega arith in
     let there : 1 ≤ length (take cap s) = omega (arith, more 0 (omega arith), z, length-take cap s) in
-    All-cons (λ run. 1 ≤ length run) (postings (take cap s)) (first_runs cap count (drop cap s))
+    All-cons (λ run. 1 ≤ length run) (term_postings (take cap s)) (first_runs cap count (drop cap s))
     (some_postings (take cap s) there)
     (runs_some cap count (drop cap s) some (λ i less. let next : suc i * cap ≡ cap + i * cap = omega arith in omega (arith, more (suc i) (omega arith), next, length-drop cap s)))
 
 runs_short : (cap count : ℕ) (s : List (ℕ × ℕ)) → cap < 2 ^ 31 → All (λ run. 1 + length run < 2 ^ 32) (first_runs cap count s)
 runs_short cap zero s small = All-nil (λ run. 1 + length run < 2 ^ 32)
 runs_short cap (suc count) s small =
-    All-cons (λ run. 1 + length run < 2 ^ 32) (postings (take cap s)) (first_runs cap count (drop cap s))
+    All-cons (λ run. 1 + length run < 2 ^ 32) (term_postings (take cap s)) (first_runs cap count (drop cap s))
     (omega (arith, small, length_postings (take cap s), length-take cap s))
     (runs_short cap count (drop cap s) small)
 
 pub all_first_runs : (cap count : ℕ) (s : List (ℕ × ℕ)) → all_postings (first_runs cap count s) ≤ length s
 all_first_runs cap zero s = omega arith
 all_first_runs cap (suc count) s =
-    omega (arith, sum_by-cons (λ (l : List TermPosting). length l) (postings (take cap s)) (first_runs cap count (drop cap s)), length_postings (take cap s), all_first_runs cap count (drop cap s), length-take cap s, length-drop cap s)
+    omega (arith, sum_by-cons (λ (l : List TermPosting). length l) (term_postings (take cap s)) (first_runs cap count (drop cap s)), length_postings (take cap s), all_first_runs cap count (drop cap s), length-take cap s, length-drop cap s)
 
 pub fed_all : (cap : ℕ) (fed : List (ℕ × ℕ)) → all_postings (runs_of cap fed) ≤ length fed
 fed_all cap fed = all_first_runs cap ((length fed + cap - 1) / cap) fed
@@ -121,7 +122,7 @@ fed_written cap fed some small all few =
     let are : AreRuns (runs_of cap fed) = record {
       runs = runs_are cap count fed all few;
       fits = λ t d.
-          let whole : times t d (merged (runs_of cap fed)) ≡ times t d (postings fed) = ap (λ l. times t d l) (merged-all cap fed some) in
+          let whole : times t d (merged (runs_of cap fed)) ≡ times t d (term_postings fed) = ap (λ l. times t d l) (merged-all cap fed some) in
           omega (arith, few, whole, times-merged t d (runs_of cap fed), times_postings t d fed);
     } in
     record {
@@ -139,7 +140,7 @@ runs_count cap n some more =
     ap (λ m. m / cap) order ∙ add-div_right (n - 1) some
 
 pub length_runs_of : (cap : ℕ) (fed : List (ℕ × ℕ)) → length (runs_of cap fed) ≡ (length fed + cap - 1) / cap
-length_runs_of cap fed = length-map (first_chunks cap ((length fed + cap - 1) / cap) fed) (λ s. postings s) ∙ length_chunks cap ((length fed + cap - 1) / cap) fed
+length_runs_of cap fed = length-map (first_chunks cap ((length fed + cap - 1) / cap) fed) (λ s. term_postings s) ∙ length_chunks cap ((length fed + cap - 1) / cap) fed
 
 pub runs_of_none : (cap : ℕ) → 1 ≤ cap → runs_of cap [] ≡ []
 runs_of_none cap some =
@@ -149,24 +150,24 @@ runs_of_none cap some =
 rest_fits : (cap n : ℕ) → 1 ≤ cap → n - finished cap n * cap ≤ cap
 rest_fits cap n some = grind arith
 
-pub runs_of_last : (cap : ℕ) (fed : List (ℕ × ℕ)) → 1 ≤ cap → 1 ≤ length fed → runs_of cap fed ≡ first_runs cap (finished cap (length fed)) fed ++ postings (drop (finished cap (length fed) * cap) fed) ∷ []
+pub runs_of_last : (cap : ℕ) (fed : List (ℕ × ℕ)) → 1 ≤ cap → 1 ≤ length fed → runs_of cap fed ≡ first_runs cap (finished cap (length fed)) fed ++ term_postings (drop (finished cap (length fed) * cap) fed) ∷ []
 runs_of_last cap fed some more =
     let q : ℕ = finished cap (length fed) in
     let rest : List (ℕ × ℕ) = drop (q * cap) fed in
     let one : q + 1 ≡ suc q = omega arith in
     let all : take cap rest ≡ rest = take_all cap rest (omega (arith, length-drop (q * cap) fed, rest_fits cap (length fed) some)) in
     ap (λ k. first_runs cap k fed) (runs_count cap (length fed) some more ∙ one)
-    ∙ ap (λ t. map (λ s. postings s) t) (chunks_more cap q fed)
-    ∙ map-end (λ s. postings s) (first_chunks cap q fed) (take cap rest)
-    ∙ ap (λ t. first_runs cap q fed ++ postings t ∷ []) all
+    ∙ ap (λ t. map (λ s. term_postings s) t) (chunks_more cap q fed)
+    ∙ map-end (λ s. term_postings s) (first_chunks cap q fed) (take cap rest)
+    ∙ ap (λ t. first_runs cap q fed ++ term_postings t ∷ []) all
 
 -- the bits and the places, where the last run is put behind those that are finished
-pub bits_of_last : (cap : ℕ) (fed : List (ℕ × ℕ)) → 1 ≤ cap → 1 ≤ length fed → runs_bits (runs_of cap fed) ≡ runs_bits (first_runs cap (finished cap (length fed)) fed) ++ filled (run_bits (postings (drop (finished cap (length fed) * cap) fed)))
+pub bits_of_last : (cap : ℕ) (fed : List (ℕ × ℕ)) → 1 ≤ cap → 1 ≤ length fed → runs_bits (runs_of cap fed) ≡ runs_bits (first_runs cap (finished cap (length fed)) fed) ++ filled (run_bits (term_postings (drop (finished cap (length fed) * cap) fed)))
 bits_of_last cap fed some more =
     let q : ℕ = finished cap (length fed) in
-    ap (λ rs. runs_bits rs) (runs_of_last cap fed some more) ∙ runs_bits_more (first_runs cap q fed) (postings (drop (q * cap) fed))
+    ap (λ rs. runs_bits rs) (runs_of_last cap fed some more) ∙ runs_bits_more (first_runs cap q fed) (term_postings (drop (q * cap) fed))
 
 pub starts_of_last : (cap : ℕ) (fed : List (ℕ × ℕ)) → 1 ≤ cap → 1 ≤ length fed → starts 0 (runs_of cap fed) ≡ starts 0 (first_runs cap (finished cap (length fed)) fed) ++ length (runs_bits (first_runs cap (finished cap (length fed)) fed)) ∷ []
 starts_of_last cap fed some more =
     let q : ℕ = finished cap (length fed) in
-    ap (λ rs. starts 0 rs) (runs_of_last cap fed some more) ∙ starts_more (first_runs cap q fed) (postings (drop (q * cap) fed))
+    ap (λ rs. starts 0 rs) (runs_of_last cap fed some more) ∙ starts_more (first_runs cap q fed) (term_postings (drop (q * cap) fed))

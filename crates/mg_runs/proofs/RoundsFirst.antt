@@ -5,15 +5,16 @@ use Rattle.std.proofs.lemmas.Nat.{div_below}
 use Rattle.mg_dev.specs.Files.{Files}
 use Rattle.mg_defs.specs.declared.TermPosting.{TermPosting}
 use Rattle.mg_defs.specs.Bits.{Bits, bits_of, digits, filled, to_byte}
-use Rattle.mg_defs.specs.Postings.{gathered, postings, merged}
+use Rattle.mg_defs.specs.Postings.{gathered, term_postings, merged}
 use Rattle.mg_defs.specs.RunBits.{run_bits, runs_bits, run_part_bits}
-use Rattle.mg_defs.specs.Runs.{first_runs, runs_of, finished}
+use Rattle.mg_defs.specs.Runs.{first_runs, runs_of}
+use Rattle.mg_runs.specs.FinishedRuns.{finished}
 use Rattle.mg_bits.specs.BitWriting.{bits_put}
 use Rattle.mg_runs.specs.Fed.{Inverting, IsFed, cap_of, starts}
 use Rattle.mg_runs.specs.Merging.{AreLeft, StandFor}
 use Rattle.mg_runs.specs.Rounds.{AreStored}
 use Rattle.mg_runs.specs.declared.cursor.Cursor.{Cursor}
-use Rattle.mg_defs.proofs.Segments.{finished-low}
+use Rattle.mg_runs.proofs.Segments.{finished-low}
 use Rattle.mg_runs.proofs.Feeding.{fed_length}
 use Rattle.mg_runs.proofs.RoundsFed.{runs_of_none, bits_of_last, starts_of_last}
 use Rattle.mg_runs.proofs.RoundsLoop.{stored_fed, stored_count}
@@ -37,7 +38,7 @@ fed_none runs files (o ∷ fed) is none =
 pub fed_some : (runs : Inverting) (files : Option Files) (fed : List (ℕ × ℕ)) → IsFed runs files fed → 1 ≤ length runs.pool.entries → 1 ≤ length fed
 fed_some runs files fed is some = let size = fed_length runs files fed is in omega arith
 
-rest_is : (runs : Inverting) (files : Option Files) (fed : List (ℕ × ℕ)) → IsFed runs files fed → gathered runs.pool.entries ≡ postings (drop (finished (cap_of runs.pool) (length fed) * cap_of runs.pool) fed)
+rest_is : (runs : Inverting) (files : Option Files) (fed : List (ℕ × ℕ)) → IsFed runs files fed → gathered runs.pool.entries ≡ term_postings (drop (finished (cap_of runs.pool) (length fed) * cap_of runs.pool) fed)
 rest_is runs files fed is = ap (λ xs. gathered xs) is.entries
 
 -- with the pool's entries behind the finished runs, all runs are written
@@ -87,7 +88,7 @@ finished_bits place bits whole =
     ap (λ n. bits ++ digits n 0) none ∙ append-nil bits
 
 -- the runs as the rounds take them
-pub fed_stored : (runs : Inverting) (files : Option Files) (fed : List (ℕ × ℕ)) (file places : List ℕ) → IsFed runs files fed → bits_of file ≡ run_part_bits (cap_of runs.pool) fed → places ≡ starts 0 (runs_of (cap_of runs.pool) fed) → AreStored file places (postings fed)
+pub fed_stored : (runs : Inverting) (files : Option Files) (fed : List (ℕ × ℕ)) (file places : List ℕ) → IsFed runs files fed → bits_of file ≡ run_part_bits (cap_of runs.pool) fed → places ≡ starts 0 (runs_of (cap_of runs.pool) fed) → AreStored file places (term_postings fed)
 fed_stored runs files fed file places is bits at =
     let cap = fed_cap runs files fed is in
     stored_fed file places (cap_of runs.pool) fed bits at cap.0 cap.1 is.occurrences is.few

@@ -5,7 +5,7 @@ use Rattle.std.proofs.lemmas.Nat.{le-div}
 use Rattle.mg_defs.specs.Heads.{run_count}
 use Rattle.mg_defs.specs.declared.TermPosting.{TermPosting}
 use Rattle.mg_defs.specs.Bits.{Bits, bits_of, filled}
-use Rattle.mg_defs.specs.Postings.{postings, merged}
+use Rattle.mg_defs.specs.Postings.{term_postings, merged}
 use Rattle.mg_defs.specs.RunBits.{run_bits, runs_bits, run_part_bits}
 use Rattle.mg_defs.specs.Runs.{runs_of}
 use Rattle.mg_defs.proofs.Joining.{merged-all}
@@ -151,7 +151,7 @@ stored_fewer file places nexts whole w is some more at =
     omega arith
 
 -- the runs of occurrences
-pub stored_fed : (file places : List ℕ) (cap : ℕ) (fed : List (ℕ × ℕ)) → bits_of file ≡ run_part_bits cap fed → places ≡ starts 0 (runs_of cap fed) → 1 ≤ cap → cap < 2 ^ 31 → AreOccurrences fed → length fed < 2 ^ 32 → AreStored file places (postings fed)
+pub stored_fed : (file places : List ℕ) (cap : ℕ) (fed : List (ℕ × ℕ)) → bits_of file ≡ run_part_bits cap fed → places ≡ starts 0 (runs_of cap fed) → 1 ≤ cap → cap < 2 ^ 31 → AreOccurrences fed → length fed < 2 ^ 32 → AreStored file places (term_postings fed)
 stored_fed file places cap fed bits at some small all few = record {
   runs = runs_of cap fed;
   written = fed_written cap fed some small all few;

@@ -6,15 +6,16 @@ use Rattle.std.specs.Prelude.{Ok, Err}
 use Rattle.mg_dev.specs.declared.part_err.PartErr.{PartErr}
 use Rattle.mg_dev.specs.declared.part_err.PartErr.TheVariants.{Device, Memory, Bad}
 use Rattle.mg_defs.specs.Bits.{Bits, bits_of}
-use Rattle.mg_defs.specs.Postings.{AllAfter, Rising}
+use Rattle.mg_defs.specs.Postings.{AllAfter, RisingByTerm}
 use Rattle.mg_defs.specs.RunBits.{postings_bits, run_bits}
 use Rattle.mg_defs.specs.declared.TermPosting.{TermPosting}
 use Rattle.mg_runs.specs.Decoding.{IsInDocument, IsSmall}
+use Rattle.mg_runs.specs.Pooled.{Pooled, slot_bytes}
 use Rattle.mg_runs.specs.declared.cursor.Cursor.{Cursor}
 
 -- postings as a run has them
 pub record IsRun (xs : List TermPosting) : Type 0 where
-  pub rising : Rising xs
+  pub rising : RisingByTerm xs
   pub small : AllByRecursion (λ x. IsSmall x) xs
 
 -- The cursor is at a posting, behind whose bits the others' follow. Its slot has the bytes of the file from its start on.
@@ -68,3 +69,19 @@ NoDamage (Ok value) = Unit {0}
 NoDamage (Err Device) = Unit {0}
 NoDamage (Err Memory) = Unit {0}
 NoDamage (Err (Bad bad)) = ⊥
+
+-- for each posting behind the one that the cursor is at, with those after it: by the bytes of the file
+abbrev pub ForNextAt : Cursor → List ℕ → (List ℕ → TermPosting → List TermPosting → Type 0) → Type 0
+ForNextAt cursor slot claim = (file : List ℕ) (x y : TermPosting) (ys : List TermPosting) → IsAtPosting cursor slot file x (y ∷ ys) → claim file y ys
+
+-- for each run that begins at a place, where so many bytes of the slot are its first: by the bytes of the file
+abbrev pub ForHeader : ℕ → ℕ → List ℕ → (List ℕ → List TermPosting → Type 0) → Type 0
+ForHeader place count slot claim = (file : List ℕ) (xs : List TermPosting) → IsRunAt file place xs → count ≤ 64 → take count slot ≡ take 64 (drop (place / 8) file) → claim file xs
+
+-- by a slot of the pool, a cursor is at this posting, with these behind it
+abbrev pub IsAtPostingBy : Pooled → ℕ → List ℕ → TermPosting → List TermPosting → Cursor → Type 0
+IsAtPostingBy pool slot file x xs cursor = IsAtPosting cursor (slot_bytes pool slot) file x xs
+
+-- by a slot of the pool, a cursor stands for these postings
+abbrev pub IsAtBy : Pooled → ℕ → List ℕ → List TermPosting → Cursor → Type 0
+IsAtBy pool slot file xs cursor = IsAt cursor (slot_bytes pool slot) file xs

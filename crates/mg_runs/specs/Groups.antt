@@ -2,7 +2,7 @@
 use Rattle.std.specs.Prelude.{◌≡◌, ◌-◌, ◌<◌, ◌≤◌, ℕ, List, [], ◌∷◌, map, length, drop, slice_index_or}
 use Rattle.mg_defs.specs.declared.TermPosting.{TermPosting}
 use Rattle.mg_defs.specs.Postings.{gathered, with_count}
-use Rattle.mg_defs.specs.PostingOrder.{added_times}
+use Rattle.mg_runs.specs.PostingOrder.{added_times}
 use Rattle.mg_runs.specs.Bytes.{entry_in}
 
 -- the postings of the entries from here on are one of this many, and those of the entries after

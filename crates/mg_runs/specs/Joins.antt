@@ -5,9 +5,9 @@ use Rattle.mg_dev.specs.declared.part.Part.{Part}
 use Rattle.mg_dev.specs.declared.part.Part.TheVariants.{Run, MergeA, MergeB}
 use Rattle.mg_dev.specs.Files.{Files, Reads, file_at}
 use Rattle.mg_dev.specs.Names.{full_name, number, same_part}
-use Rattle.mg_defs.specs.Bits.{Bits}
-use Rattle.mg_defs.specs.Postings.{AllAfter}
-use Rattle.mg_defs.specs.RunBits.{postings_bits, runs_bits}
+use Rattle.mg_defs.specs.Bits.{Bits, filled}
+use Rattle.mg_defs.specs.Postings.{AllAfter, merged}
+use Rattle.mg_defs.specs.RunBits.{before_first, postings_bits, run_bits, runs_bits}
 use Rattle.mg_defs.specs.declared.TermPosting.{TermPosting}
 use Rattle.mg_bits.specs.BitWriting.{BitWriting, WroteBits}
 use Rattle.mg_runs.specs.Cursors.{IsRun}
@@ -15,6 +15,8 @@ use Rattle.mg_runs.specs.Fed.{starts}
 use Rattle.mg_runs.specs.Rounds.{AreJoined, joined_runs}
 use Rattle.mg_runs.specs.Merging.{AreLeft}
 use Rattle.mg_runs.specs.declared.cursor.Cursor.{Cursor}
+use Rattle.mg_runs.specs.declared.join.Counted.{Counted}
+use Rattle.mg_runs.specs.declared.round.Joined.{Joined}
 
 -- calls that read this part alone, and write to the file of this name alone
 pub record Passed (part : Part) (name : List ℕ) (files_before files_now : Option Files) (reads_before reads_now : Reads) (faults_before faults_now : ℕ) : Type 0 where
@@ -73,3 +75,19 @@ pub record Worked (base : List ℕ) (files_before files_now : Option Files) (rea
   pub later : (p : Part) → reads_before p ≤ reads_now p
   pub reads : (p : Part) → same_part p Run ≡ false → same_part p MergeA ≡ false → same_part p MergeB ≡ false → reads_now p ≡ reads_before p
   pub faults : faults_before ≤ faults_now
+
+-- these postings, the first of a run, were written
+abbrev pub WrotePostings : {X : Type 0} → (X → Option Files) → X → X → BitWriting → BitWriting → List TermPosting → Type 0
+WrotePostings files before now old new xs = WroteBits old new (files before) (files now) (postings_bits before_first xs)
+
+-- these runs, merged into one that ends at a byte, were written
+abbrev pub WroteRun : {X : Type 0} → (X → Option Files) → X → X → BitWriting → BitWriting → List (List TermPosting) → Type 0
+WroteRun files before now old new runs = WroteBits old new (files before) (files now) (filled (run_bits (merged runs)))
+
+-- so many postings were counted as these runs have, merged
+abbrev pub Counts : Counted → List (List TermPosting) → Type 0
+Counts counted runs = counted.count ≡ length (merged runs)
+
+-- the groups of these runs were joined into runs that were written, and begin at the places that were made
+abbrev pub GroupsJoined : {X : Type 0} → ℕ → List (List TermPosting) → (X → Option Files) → X → X → BitWriting → BitWriting → Joined → Type 0
+GroupsJoined width runs files before now old new made = IsJoined width runs made.places.items (files before) (files now) old new

@@ -4,9 +4,11 @@ use Rattle.std.specs.Option.{IsSome}
 use Rattle.std.specs.declared.option.Option.{Option}
 use Rattle.mg_dev.specs.Files.{Files, bytes_at}
 use Rattle.mg_dev.specs.Names.{full_name}
+use Rattle.mg_dev.specs.declared.part.Part.{Part}
 use Rattle.mg_defs.specs.declared.TermPosting.{TermPosting}
 use Rattle.mg_runs.specs.Merging.{AreLeft, IsShaped, left_together}
 use Rattle.mg_runs.specs.Joins.{IsRunPart}
+use Rattle.mg_runs.specs.Stays.{SamePart}
 use Rattle.mg_runs.specs.declared.group.Group.{Group}
 
 -- a merge: the runs in use, none where there is no run, the base of their files, the number of first runs, and the greatest use of the pool
@@ -38,3 +40,11 @@ IsLeftIn (Some group) files base left = IsOpen group files base left
 -- these postings are left, where the files are told
 pub record IsMerging (merge : Merging) (files : Option Files) (left : List TermPosting) : Type 0 where
   pub has : IsLeftIn merge.group files merge.base left
+
+-- for all postings that may be left
+abbrev pub ForMerging : Merging → Option Files → (List TermPosting → Type 0) → Type 0
+ForMerging merge files claim = (left : List TermPosting) → IsMerging merge files left → claim left
+
+-- the parts of the runs of a base are as before
+abbrev pub SameRuns : List ℕ → Option Files → Option Files → Type 0
+SameRuns base files_before files_now = (part : Part) → IsRunPart part → SamePart base part files_before files_now

@@ -13,3 +13,6 @@ pub mod Rounds
 pub mod Left
 pub mod Reading
 pub mod Damages
+pub mod Stays
+pub mod PostingOrder
+pub mod FinishedRuns

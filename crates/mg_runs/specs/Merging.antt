@@ -4,7 +4,7 @@ use Rattle.std.specs.List.{AllByRecursion, All}
 use Rattle.std.specs.declared.option.Option.{Option}
 use Rattle.mg_defs.specs.declared.TermPosting.{TermPosting}
 use Rattle.mg_defs.specs.Postings.{AllAfter, part_at, times, with_count, merged}
-use Rattle.mg_defs.specs.PostingOrder.{NoLater}
+use Rattle.mg_runs.specs.PostingOrder.{NoLater}
 use Rattle.mg_defs.specs.RunBits.{before_first}
 use Rattle.mg_runs.specs.Cursors.{HasPosting, IsAt, IsRun, IsRunAt}
 use Rattle.mg_runs.specs.declared.cursor.Cursor.{Cursor}
@@ -16,6 +16,10 @@ first (x ∷ xs) = Some x
 -- none of them comes before this one
 abbrev pub AllFrom : TermPosting → List TermPosting → Type 0
 AllFrom p left = AllByRecursion (λ x. NoLater p x) left
+
+-- nothing that is left of any run comes before this one
+abbrev pub NoneBefore : TermPosting → List (List TermPosting) → Type 0
+NoneBefore p lefts = (k : ℕ) → AllFrom p (slice_index_or lefts k [])
 
 -- how often a term stands in a document, by all that is left
 abbrev pub times_all : ℕ → ℕ → List (List TermPosting) → ℕ
@@ -95,3 +99,7 @@ pub record AreRunsAt (file places : List ℕ) (runs : List (List TermPosting)) :
 -- the first so many cursors are at the first postings of their runs
 pub record AreOpen (slots : List (List ℕ)) (cursors : List Cursor) (file : List ℕ) (runs : List (List TermPosting)) (seen : ℕ) : Type 0 where
   pub at : (k : ℕ) → k < seen → IsAt (slice_index_or cursors k no_cursor) (slice_index_or slots k []) file (slice_index_or runs k [])
+
+-- those of all places are
+abbrev pub AllOpen : List (List ℕ) → List Cursor → List ℕ → List (List TermPosting) → List ℕ → Type 0
+AllOpen slots cursors file runs places = AreOpen slots cursors file runs (length places)

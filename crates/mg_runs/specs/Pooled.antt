@@ -1,5 +1,5 @@
 -- What contracts see of a pool.
-use Rattle.std.specs.Prelude.{◌≤◌, ◌+◌, ◌*◌, ◌^◌, ◌≡◌, ℕ, List, [], length}
+use Rattle.std.specs.Prelude.{◌≤◌, ◌+◌, ◌*◌, ◌^◌, ◌≡◌, ℕ, List, [], length, slice_index_or}
 use Rattle.mg_defs.specs.declared.TermPosting.{TermPosting}
 
 -- the entries, the bytes of the slots in use, the greatest use so far, and the budget
@@ -25,3 +25,7 @@ pub record SamePool (old new : Pooled) : Type 0 where
   pub entries : old.entries ≡ [] → new.entries ≡ []
   pub peak : new.peak ≡ old.peak
   pub limit : new.limit ≡ old.limit
+
+-- the bytes of a slot in use
+abbrev pub slot_bytes : Pooled → ℕ → List ℕ
+slot_bytes pool slot = slice_index_or pool.slots slot []

@@ -1,12 +1,11 @@
 // Numbers and postings from bits in memory.
-ghost use Rattle.std.specs.Prelude.{◌≡◌, ◌+◌, ◌-◌, ◌≤◌, ◌<◌, ◌^◌, ◌++◌, ℕ, Some, IfSome, drop, length};
+ghost use Rattle.std.specs.Prelude.{◌≡◌, ◌+◌, ◌-◌, ◌≤◌, ◌<◌, ◌^◌, ℕ, Some, IfSome, length};
 ghost use Rattle.mg_defs.specs.Answers.{UpTo};
-ghost use Rattle.mg_defs.specs.Bits.{Bits, bits_of};
+ghost use Rattle.mg_defs.specs.Bits.{Bits};
 ghost use Rattle.mg_defs.specs.Codes.{gamma};
-ghost use Rattle.mg_defs.specs.Postings.{IsBefore};
-ghost use Rattle.mg_defs.specs.RunBits.{posting_bits, doc_gap as gap_of};
+ghost use Rattle.mg_defs.specs.RunBits.{run_posting_bits, doc_gap as gap_of};
 ghost use Rattle.mg_defs.specs.declared.TermPosting.{TermPosting};
-ghost use Rattle.mg_runs.specs.Decoding.{IsInDocument, IsSmall};
+ghost use Rattle.mg_runs.specs.Decoding.{IsInDocument, HasCode, ForFollowing, decoded_at};
 
 use mg_bits::{BitReader, NoDev, SliceFeed};
 use mg_codes::{get_gamma, what_was_put_is_got};
@@ -40,7 +39,7 @@ pub fn number_in(bytes: &[u8], at: u64, limit: u64) -> Option<Number>
     requires place { at ≤ 2 ^ 63 }
     requires some { 1 ≤ limit }
     requires limit { limit ≤ 2 ^ 32 }
-    ensures told { (x : ℕ) (more : Bits) → UpTo limit x → drop at (bits_of bytes.now) ≡ gamma x ++ more →
+    ensures told { (x : ℕ) (more : Bits) → UpTo limit x → HasCode bytes.now at (gamma x) more →
         result ≡ Some (record { value = x; next = at + length (gamma x) }) }
     ensures range { IfSome result (λ number. UpTo limit number.value) }
     ensures next { IfSome result (λ number. number.next ≤ at + 66) }
@@ -63,8 +62,7 @@ fn behind(last: &TermPosting, term_gap: u64, doc_gap: u64) -> Option<(u32, u32)>
     requires term { term_gap ≤ 2 ^ 32 }
     requires doc { doc_gap ≤ 2 ^ 32 }
     requires doc_some { 1 ≤ doc_gap }
-    ensures told { (x : TermPosting) → IsBefore last.now x → IsSmall x → term_gap ≡ x.term - last.now.term + 1 → doc_gap ≡ gap_of last.now x →
-        result ≡ Some (x.term, x.doc) }
+    ensures told { ForFollowing last.now (λ x. term_gap ≡ x.term - last.now.term + 1 → doc_gap ≡ gap_of last.now x → result ≡ Some (x.term, x.doc)) }
     ensures doc { IfSome result (λ found. 1 ≤ found.1) }
 {
     let term = u64::from(last.term) + (term_gap - 1);
@@ -82,8 +80,8 @@ fn behind(last: &TermPosting, term_gap: u64, doc_gap: u64) -> Option<(u32, u32)>
 /// The posting whose bits stand at a bit place, behind another posting.
 pub fn posting_in(bytes: &[u8], at: u64, last: &TermPosting) -> Option<Decoded>
     requires place { at ≤ 2 ^ 62 }
-    ensures told { (x : TermPosting) (more : Bits) → IsBefore last.now x → IsSmall x → drop at (bits_of bytes.now) ≡ posting_bits last.now x ++ more →
-        result ≡ Some (record { posting = x; next = at + length (posting_bits last.now x) }) }
+    ensures told { ForFollowing last.now (λ x. (more : Bits) → HasCode bytes.now at (run_posting_bits last.now x) more →
+        result ≡ Some (decoded_at last.now at x)) }
     ensures in_document { IfSome result (λ found. IsInDocument found.posting) }
     ensures next { IfSome result (λ found. found.next ≤ at + 198) }
     ensures onward { IfSome result (λ found. at ≤ found.next) }

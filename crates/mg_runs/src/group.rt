@@ -1,15 +1,16 @@
 // Runs that are merged.
-ghost use Rattle.std.specs.Prelude.{◌≡◌, ◌≤◌, ◌<◌, ◌+◌, ◌-◌, ◌*◌, ◌/◌, ◌^◌, ℕ, List, [], ◌∷◌, Some, IfErr, IfOk, IfSome, OnOk, OnSome, IsSome, length, max, slice_index, slice_index_or, slice_set, drop};
+ghost use Rattle.std.specs.Prelude.{◌≡◌, ◌≤◌, ◌<◌, ◌+◌, ◌-◌, ◌*◌, ◌/◌, ◌^◌, ℕ, [], Some, IfErr, IfOk, IfSome, OnOk, OnSome, length, max, slice_index, slice_index_or, drop};
 ghost use Rattle.std.specs.List.{All};
 ghost use Rattle.mg_dev.specs.PartCauses.{HasPartCause};
 ghost use Rattle.mg_bits.specs.Pages.{Looked};
 ghost use Rattle.mg_defs.specs.declared.TermPosting.{TermPosting};
 ghost use Rattle.mg_runs.specs.Pooled.{SamePool};
-ghost use Rattle.mg_runs.specs.Cursors.{HasPosting, IsAt, NoDamage, NoMemory};
+ghost use Rattle.mg_runs.specs.Cursors.{HasPosting, NoDamage, NoMemory};
 ghost use Rattle.mg_runs.specs.Damages.{NamesPart, TellsBitOf};
 ghost use Rattle.mg_runs.specs.Decoding.{IsInDocument};
-ghost use Rattle.mg_runs.specs.Merging.{AllFrom, AreRuns, IsAlike, IsHead, IsShaped, AreOpen, AreRunsAt, IsTaking, key_of as key, left_together, no_cursor, first as first_of};
-ghost use Rattle.mg_runs.specs.Reading.{GroupHas, GroupMerged, GroupStands, file_bytes};
+ghost use Rattle.mg_runs.specs.Merging.{IsAlike, IsHead, IsShaped, key_of as key, left_together, no_cursor, first as first_of, NoneBefore, AllOpen};
+ghost use Rattle.mg_runs.specs.Reading.{GroupHas, GroupMerged, GroupStands, ForLefts, ForRuns, ForStep, ForTaken, ForLeft};
+ghost use Rattle.mg_dev.specs.Moments.{Between};
 
 use crate::Pool;
 use crate::cursor::Cursor;
@@ -52,13 +53,11 @@ fn open_all<S: Store>(
     ensures slots { length pool.new.slots ≡ length places.now }
     ensures postings { IfOk result (λ cursors. All (λ c. HasPosting c) cursors.items) }
     ensures total { IfOk result (λ cursors. left_together cursors.items ≤ 2 ^ 32 * length places.now) }
-    ensures told { IsSome (S.files store.old) → (runs : List (List TermPosting)) → AreRunsAt (file_bytes file.now (S.files store.old)) places.now runs →
-        IfOk result (λ cursors. AreOpen pool.new.slots cursors.items (file_bytes file.now (S.files store.old)) runs (length places.now)) }
-    ensures undamaged { IsSome (S.files store.old) → (runs : List (List TermPosting)) → AreRunsAt (file_bytes file.now (S.files store.old)) places.now runs →
-        NoDamage result }
+    ensures told { ForRuns file.now (S.files store.old) places.now
+        (λ bytes runs. IfOk result (λ made. AllOpen pool.new.slots made.items bytes runs places.now)) }
+    ensures undamaged { ForRuns file.now (S.files store.old) places.now (λ _ _. NoDamage result) }
     ensures pool { SamePool pool.old pool.new }
-    ensures looked { Looked file.now.part (S.files store.old) (S.files store.new)
-        (S.reads store.old) (S.reads store.new) (S.faults store.old) (S.faults store.new) }
+    ensures looked { Between S.files S.reads S.faults store.old store.new (Looked file.now.part) }
     ensures cause { HasPartCause (S.faults store.old) (S.faults store.new) result }
     ensures names { IfErr result (NamesPart file.now.part) }
 {
@@ -109,16 +108,13 @@ impl<'a> Group<'a> {
         requires entries { pool.entries ≡ [] }
         ensures shape { IfOk result (λ g. IsShaped g.pool.slots g.cursors.items g.tournament) }
         ensures total { IfOk result (λ g. left_together g.cursors.items ≤ 2 ^ 32 * length places.now) }
-        ensures told { IsSome (S.files store.old) → (runs : List (List TermPosting)) → AreRunsAt (file_bytes file.entry (S.files store.old)) places.now runs →
-            IfOk result (λ g. GroupStands g (file_bytes file.entry (S.files store.old)) runs) }
-        ensures undamaged { IsSome (S.files store.old) → (runs : List (List TermPosting)) →
-            AreRunsAt (file_bytes file.entry (S.files store.old)) places.now runs → NoDamage result }
+        ensures told { ForRuns file.entry (S.files store.old) places.now (λ bytes runs. IfOk result (λ g. GroupStands g bytes runs)) }
+        ensures undamaged { ForRuns file.entry (S.files store.old) places.now (λ _ _. NoDamage result) }
         ensures entries { IfOk result (λ g. g.pool.entries ≡ []) }
         ensures limit { IfOk result (λ g. g.pool.limit ≡ pool.limit) }
         ensures peak { IfOk result (λ g. g.pool.peak ≡ max pool.peak (64 * length places.now)) }
         ensures file { IfOk result (λ g. g.file ≡ file.entry) }
-        ensures looked { Looked file.entry.part (S.files store.old) (S.files store.new)
-            (S.reads store.old) (S.reads store.new) (S.faults store.old) (S.faults store.new) }
+        ensures looked { Between S.files S.reads S.faults store.old store.new (Looked file.entry.part) }
         ensures cause { HasPartCause (S.faults store.old) (S.faults store.new) result }
         ensures names { IfErr result (NamesPart file.entry.part) }
     {
@@ -147,7 +143,7 @@ impl<'a> Group<'a> {
     /// The least of the postings at which cursors are, and whose it is.
     fn head(&self) -> Option<(u32, TermPosting)>
         requires shape { IsShaped self.now.pool.slots self.now.cursors.items self.now.tournament }
-        ensures told { (file : List ℕ) (lefts : List (List TermPosting)) → GroupStands self.now file lefts → IsHead result lefts }
+        ensures told { ForLefts self.now (λ lefts. IsHead result lefts) }
         ensures within { IfSome result (λ head. head.0 < length self.now.cursors.items) }
         ensures left { IfSome result (λ head. 1 ≤ (slice_index_or self.now.cursors.items head.0 no_cursor).left) }
         ensures in_document { IfSome result (λ head. IsInDocument head.1) }
@@ -166,17 +162,13 @@ impl<'a> Group<'a> {
         requires within { run < length self.old.cursors.items }
         requires left { 1 ≤ (slice_index_or self.old.cursors.items run no_cursor).left }
         ensures shape { OnOk result (IsShaped self.new.pool.slots self.new.cursors.items self.new.tournament) }
-        ensures told { IsSome (S.files store.old) → (lefts : List (List TermPosting)) (x : TermPosting) (xs : List TermPosting) →
-            GroupStands self.old (file_bytes self.old.file (S.files store.old)) lefts → slice_index_or lefts run [] ≡ x ∷ xs →
-            OnOk result (GroupStands self.new (file_bytes self.old.file (S.files store.old)) (slice_set lefts run xs)) }
-        ensures undamaged { IsSome (S.files store.old) → (lefts : List (List TermPosting)) (x : TermPosting) (xs : List TermPosting) →
-            GroupStands self.old (file_bytes self.old.file (S.files store.old)) lefts → slice_index_or lefts run [] ≡ x ∷ xs → NoDamage result }
+        ensures told { ForStep run self.old (S.files store.old) (λ bytes lefts. OnOk result (GroupStands self.new bytes lefts)) }
+        ensures undamaged { ForStep run self.old (S.files store.old) (λ _ _. NoDamage result) }
         ensures total { OnOk result (left_together self.new.cursors.items + 1 ≡ left_together self.old.cursors.items) }
         ensures rest { left_together self.new.cursors.items ≤ left_together self.old.cursors.items }
         ensures pool { SamePool self.old.pool self.new.pool }
         ensures file { self.new.file ≡ self.old.file }
-        ensures looked { Looked self.old.file.part (S.files store.old) (S.files store.new)
-            (S.reads store.old) (S.reads store.new) (S.faults store.old) (S.faults store.new) }
+        ensures looked { Between S.files S.reads S.faults store.old store.new (Looked self.old.file.part) }
         ensures cause { HasPartCause (S.faults store.old) (S.faults store.new) result }
         ensures memory { NoMemory result }
         ensures names { IfErr result (NamesPart self.old.file.part) }
@@ -197,8 +189,7 @@ impl<'a> Group<'a> {
     /// The run whose posting has this term and document, and how much it counts there.
     fn alike(&self, posting: &TermPosting) -> Option<(u32, u32)>
         requires shape { IsShaped self.now.pool.slots self.now.cursors.items self.now.tournament }
-        ensures some { (file : List ℕ) (lefts : List (List TermPosting)) → GroupStands self.now file lefts →
-            ((k : ℕ) → AllFrom posting.now (slice_index_or lefts k [])) → IsAlike posting.now lefts result }
+        ensures some { ForLefts self.now (λ lefts. NoneBefore posting.now lefts → IsAlike posting.now lefts result) }
         ensures within { IfSome result (λ found. found.0 < length self.now.cursors.items) }
         ensures left { IfSome result (λ found. 1 ≤ (slice_index_or self.now.cursors.items found.0 no_cursor).left) }
     {
@@ -218,19 +209,15 @@ impl<'a> Group<'a> {
     ) -> Result<TermPosting, PartErr>
         requires shape { IsShaped self.old.pool.slots self.old.cursors.items self.old.tournament }
         ensures shape { OnOk result (IsShaped self.new.pool.slots self.new.cursors.items self.new.tournament) }
-        ensures told { IsSome (S.files store.old) → (base lefts : List (List TermPosting)) →
-            GroupStands self.old (file_bytes self.old.file (S.files store.old)) lefts → IsTaking first.now base lefts first.now.count → AreRuns base →
-            1 ≤ first.now.count → IfOk result (λ p. GroupMerged self.new (file_bytes self.old.file (S.files store.old)) base p) }
-        ensures undamaged { IsSome (S.files store.old) → (base lefts : List (List TermPosting)) →
-            GroupStands self.old (file_bytes self.old.file (S.files store.old)) lefts → IsTaking first.now base lefts first.now.count → AreRuns base →
-            NoDamage result }
+        ensures told { ForTaken first.now self.old (S.files store.old)
+            (λ bytes base. 1 ≤ first.now.count → IfOk result (λ p. GroupMerged self.new bytes base p)) }
+        ensures undamaged { ForTaken first.now self.old (S.files store.old) (λ _ _. NoDamage result) }
         ensures rest { left_together self.new.cursors.items ≤ left_together self.old.cursors.items }
         ensures doc { IfOk result (λ p. p.doc ≡ first.now.doc) }
         ensures count { IfOk result (λ p. first.now.count ≤ p.count) }
         ensures pool { SamePool self.old.pool self.new.pool }
         ensures file { self.new.file ≡ self.old.file }
-        ensures looked { Looked self.old.file.part (S.files store.old) (S.files store.new)
-            (S.reads store.old) (S.reads store.new) (S.faults store.old) (S.faults store.new) }
+        ensures looked { Between S.files S.reads S.faults store.old store.new (Looked self.old.file.part) }
         ensures cause { HasPartCause (S.faults store.old) (S.faults store.new) result }
         ensures memory { NoMemory result }
         ensures names { IfErr result (NamesPart self.old.file.part) }
@@ -258,18 +245,15 @@ impl<'a> Group<'a> {
     pub fn next<S: Store>(&mut self, store: &mut S) -> Result<Option<TermPosting>, PartErr>
         requires shape { IsShaped self.old.pool.slots self.old.cursors.items self.old.tournament }
         ensures shape { OnOk result (IsShaped self.new.pool.slots self.new.cursors.items self.new.tournament) }
-        ensures told { IsSome (S.files store.old) → (left : List TermPosting) → GroupHas self.old (file_bytes self.old.file (S.files store.old)) left →
-            IfOk result (λ p. (p ≡ first_of left) × GroupHas self.new (file_bytes self.old.file (S.files store.old)) (drop 1 left)) }
-        ensures undamaged { IsSome (S.files store.old) → (left : List TermPosting) → GroupHas self.old (file_bytes self.old.file (S.files store.old)) left →
-            NoDamage result }
+        ensures told { ForLeft self.old (S.files store.old) (λ bytes left. IfOk result (λ p. (p ≡ first_of left) × GroupHas self.new bytes (drop 1 left))) }
+        ensures undamaged { ForLeft self.old (S.files store.old) (λ _ _. NoDamage result) }
         ensures doc { IfOk result (λ p. IfSome p (λ x. 1 ≤ x.doc)) }
         ensures count { IfOk result (λ p. IfSome p (λ x. 1 ≤ x.count)) }
         ensures fall { IfOk result (λ p. OnSome p (left_together self.new.cursors.items < left_together self.old.cursors.items)) }
         ensures rest { left_together self.new.cursors.items ≤ left_together self.old.cursors.items }
         ensures pool { SamePool self.old.pool self.new.pool }
         ensures file { self.new.file ≡ self.old.file }
-        ensures looked { Looked self.old.file.part (S.files store.old) (S.files store.new)
-            (S.reads store.old) (S.reads store.new) (S.faults store.old) (S.faults store.new) }
+        ensures looked { Between S.files S.reads S.faults store.old store.new (Looked self.old.file.part) }
         ensures cause { HasPartCause (S.faults store.old) (S.faults store.new) result }
         ensures memory { NoMemory result }
         ensures names { IfErr result (NamesPart self.old.file.part) }

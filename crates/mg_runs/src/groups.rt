@@ -3,7 +3,7 @@ ghost use Rattle.std.specs.Prelude.{◌≡◌, ◌≤◌, ◌<◌, ◌+◌, ◌-
 ghost use Rattle.std.specs.List.{All};
 ghost use Rattle.std.specs.List.Sorted.{IsPermutation};
 ghost use Rattle.mg_defs.specs.Postings.{gathered, with_count};
-ghost use Rattle.mg_defs.specs.PostingOrder.{NotFalling};
+ghost use Rattle.mg_runs.specs.PostingOrder.{NotFalling};
 ghost use Rattle.mg_runs.specs.Bytes.{entry_in, number_in};
 ghost use Rattle.mg_runs.specs.Groups.{IsGroup};
 

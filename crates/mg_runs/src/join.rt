@@ -1,24 +1,20 @@
 // Runs of one file that are joined into runs of another.
-ghost use Rattle.std.specs.Prelude.{◌≡◌, ◌≢◌, ◌≤◌, ◌<◌, ◌+◌, ◌*◌, ◌↔◌, ◌^◌, ℕ, List, Err, IfErr, IfOk, OnOk, OnSome, IsSome, IsTrue, [], length, max, is_some, ◌%◌, ◌/◌};
-ghost use Rattle.mg_dev.specs.Files.{Files};
+ghost use Rattle.std.specs.Prelude.{◌≡◌, ◌≢◌, ◌≤◌, ◌<◌, ◌+◌, ◌*◌, ◌↔◌, ◌^◌, ℕ, Err, IfErr, IfOk, OnOk, OnSome, IsTrue, [], length, max, ◌%◌, ◌/◌};
 ghost use Rattle.mg_dev.specs.Names.{full_name};
 ghost use Rattle.mg_dev.specs.declared.part.Part.{Part as AnyPart};
 ghost use Rattle.mg_dev.specs.Causes.{HasPutCause};
 ghost use Rattle.mg_dev.specs.PartCauses.{HasPartCause};
 ghost use Rattle.mg_bits.specs.Pages.{Looked};
-ghost use Rattle.mg_bits.specs.BitWriting.{BitWriting, Holds, WroteBits};
-ghost use Rattle.mg_defs.specs.Bits.{Bits, filled};
+ghost use Rattle.mg_bits.specs.BitWriting.{Holds};
 ghost use Rattle.mg_defs.specs.Postings.{IsBefore, merged};
-ghost use Rattle.mg_defs.specs.RunBits.{before_first, postings_bits, run_bits};
 ghost use Rattle.mg_defs.specs.declared.TermPosting.{TermPosting};
-ghost use Rattle.std.specs.declared.option.Option.{Option};
 ghost use Rattle.mg_runs.specs.Pooled.{SamePool};
-ghost use Rattle.mg_runs.specs.Cursors.{IsRun, NoDamage};
+ghost use Rattle.mg_runs.specs.Cursors.{NoDamage};
 ghost use Rattle.mg_runs.specs.Damages.{NamesItsPart, NamesPart};
-ghost use Rattle.mg_runs.specs.Merging.{AreRuns, AreRunsAt, IsShaped, left_together};
-ghost use Rattle.mg_runs.specs.Joins.{Passed};
-ghost use Rattle.mg_runs.specs.Rounds.{IsGroupAt};
-ghost use Rattle.mg_runs.specs.Reading.{GroupHas, GroupPut, GroupPutting, file_bytes};
+ghost use Rattle.mg_runs.specs.Merging.{AreRuns, IsShaped, left_together};
+ghost use Rattle.mg_runs.specs.Joins.{Passed, WrotePostings, WroteRun, Counts};
+ghost use Rattle.mg_runs.specs.Reading.{ForRuns, ForGroup, ForLeft, ForLeftRun, ForPutting, PutSince};
+ghost use Rattle.mg_dev.specs.Moments.{Between};
 
 use crate::Pool;
 use crate::decode::MOST_LEFT;
@@ -49,15 +45,12 @@ pub fn refused(refusal: PutErr) -> PartErr
 /// How many postings the runs have.
 fn count_postings<S: Store>(group: &mut Group<'_>, store: &mut S) -> Result<u64, PartErr>
     requires shape { IsShaped group.old.pool.slots group.old.cursors.items group.old.tournament }
-    ensures told { IsSome (S.files store.old) → (left : List TermPosting) → GroupHas group.old (file_bytes group.old.file (S.files store.old)) left →
-        IfOk result (λ count. count ≡ length left) }
-    ensures undamaged { IsSome (S.files store.old) → (left : List TermPosting) → length left < 2 ^ 32 →
-        GroupHas group.old (file_bytes group.old.file (S.files store.old)) left → NoDamage result }
+    ensures told { ForLeft group.old (S.files store.old) (λ _ left. IfOk result (λ count. count ≡ length left)) }
+    ensures undamaged { ForLeft group.old (S.files store.old) (λ _ left. length left < 2 ^ 32 → NoDamage result) }
     ensures few { IfOk result (λ count. count < 2 ^ 32) }
     ensures pool { SamePool group.old.pool group.new.pool }
     ensures file { group.new.file ≡ group.old.file }
-    ensures looked { Looked group.old.file.part (S.files store.old) (S.files store.new)
-        (S.reads store.old) (S.reads store.new) (S.faults store.old) (S.faults store.new) }
+    ensures looked { Between S.files S.reads S.faults store.old store.new (Looked group.old.file.part) }
     ensures cause { HasPartCause (S.faults store.old) (S.faults store.new) result }
     ensures names { IfErr result (NamesPart group.old.file.part) }
 {
@@ -96,19 +89,15 @@ fn put_next<S: Store>(
     requires holds { Holds w.old (S.files store.old) }
     requires apart { full_name group.old.file.base.now group.old.file.part ≢ w.old.name }
     ensures shape { OnOk result (IsShaped group.new.pool.slots group.new.cursors.items group.new.tournament) }
-    ensures told { IsSome (S.files store.old) → (files : Option Files) (before : BitWriting) (bits : Bits) → is_some files ≡ is_some (S.files store.old) →
-        GroupPutting group.old (file_bytes group.old.file (S.files store.old)) files (S.files store.old) before w.old last.now bits →
-        IfOk result (λ put. GroupPut group.new (file_bytes group.old.file (S.files store.old)) files (S.files store.new) before w.new put bits) }
-    ensures undamaged { IsSome (S.files store.old) → (files : Option Files) (before : BitWriting) (bits : Bits) →
-        GroupPutting group.old (file_bytes group.old.file (S.files store.old)) files (S.files store.old) before w.old last.now bits → NoDamage result }
+    ensures told { ForPutting last.now group.old (S.files store.old) w.old (λ from. IfOk result (PutSince from group.new (S.files store.new) w.new)) }
+    ensures undamaged { ForPutting last.now group.old (S.files store.old) w.old (λ _. NoDamage result) }
     ensures total { IfOk result (λ put. OnSome put (left_together group.new.cursors.items < left_together group.old.cursors.items)) }
     ensures holds { OnOk result (Holds w.new (S.files store.new)) }
     ensures place { OnOk result (w.old.place ≤ 2 ^ 61 + 256 → w.new.place ≤ 2 ^ 61 + 256) }
     ensures pool { SamePool group.old.pool group.new.pool }
     ensures file { group.new.file ≡ group.old.file }
     ensures name { w.new.name ≡ w.old.name }
-    ensures passed { Passed group.old.file.part w.old.name (S.files store.old) (S.files store.new)
-        (S.reads store.old) (S.reads store.new) (S.faults store.old) (S.faults store.new) }
+    ensures passed { Between S.files S.reads S.faults store.old store.new (Passed group.old.file.part w.old.name) }
     ensures cause { HasPartCause (S.faults store.old) (S.faults store.new) result }
     ensures names { IfErr result (NamesPart group.old.file.part) }
 {
@@ -137,18 +126,14 @@ fn put_postings<S: Store>(
     requires holds { Holds w.old (S.files store.old) }
     requires apart { full_name group.old.file.base.now group.old.file.part ≢ w.old.name }
     requires place { w.old.place ≤ 2 ^ 61 + 256 }
-    ensures told { IsSome (S.files store.old) → (left : List TermPosting) → GroupHas group.old (file_bytes group.old.file (S.files store.old)) left →
-        IsRun left → w.old.place + 256 * length left ≤ 2 ^ 61 →
-        OnOk result (WroteBits w.old w.new (S.files store.old) (S.files store.new) (postings_bits before_first left)) }
-    ensures undamaged { IsSome (S.files store.old) → (left : List TermPosting) → GroupHas group.old (file_bytes group.old.file (S.files store.old)) left →
-        IsRun left → w.old.place + 256 * length left ≤ 2 ^ 61 → NoDamage result }
+    ensures told { ForLeftRun group.old (S.files store.old) w.old.place (λ left. OnOk result (WrotePostings S.files store.old store.new w.old w.new left)) }
+    ensures undamaged { ForLeftRun group.old (S.files store.old) w.old.place (λ _. NoDamage result) }
     ensures holds { OnOk result (Holds w.new (S.files store.new)) }
     ensures place { OnOk result (w.new.place ≤ 2 ^ 61 + 256) }
     ensures pool { SamePool group.old.pool group.new.pool }
     ensures file { group.new.file ≡ group.old.file }
     ensures name { w.new.name ≡ w.old.name }
-    ensures passed { Passed group.old.file.part w.old.name (S.files store.old) (S.files store.new)
-        (S.reads store.old) (S.reads store.new) (S.faults store.old) (S.faults store.new) }
+    ensures passed { Between S.files S.reads S.faults store.old store.new (Passed group.old.file.part w.old.name) }
     ensures cause { HasPartCause (S.faults store.old) (S.faults store.new) result }
     ensures names { IfErr result (NamesPart group.old.file.part) }
 {
@@ -185,16 +170,13 @@ fn count_runs<S: Store>(
     requires room { length places.now ≤ pool.limit / 64 }
     requires limit { pool.limit ≤ 2 ^ 30 }
     requires entries { pool.entries ≡ [] }
-    ensures told { IsSome (S.files store.old) → (runs : List (List TermPosting)) → AreRunsAt (file_bytes file.entry (S.files store.old)) places.now runs →
-        AreRuns runs → IfOk result (λ made. made.count ≡ length (merged runs)) }
-    ensures undamaged { IsSome (S.files store.old) → (runs : List (List TermPosting)) → AreRunsAt (file_bytes file.entry (S.files store.old)) places.now runs →
-        AreRuns runs → length (merged runs) < 2 ^ 32 → NoDamage result }
+    ensures told { ForRuns file.entry (S.files store.old) places.now (λ _ runs. AreRuns runs → IfOk result (λ made. Counts made runs)) }
+    ensures undamaged { ForRuns file.entry (S.files store.old) places.now (λ _ runs. AreRuns runs → length (merged runs) < 2 ^ 32 → NoDamage result) }
     ensures few { IfOk result (λ made. made.count < 2 ^ 32) }
     ensures entries { IfOk result (λ made. made.pool.entries ≡ []) }
     ensures limit { IfOk result (λ made. made.pool.limit ≡ pool.limit) }
     ensures peak { IfOk result (λ made. made.pool.peak ≡ max pool.peak (64 * length places.now)) }
-    ensures looked { Looked file.entry.part (S.files store.old) (S.files store.new)
-        (S.reads store.old) (S.reads store.new) (S.faults store.old) (S.faults store.new) }
+    ensures looked { Between S.files S.reads S.faults store.old store.new (Looked file.entry.part) }
     ensures cause { HasPartCause (S.faults store.old) (S.faults store.new) result }
     ensures names { IfErr result (NamesPart file.entry.part) }
 {
@@ -231,11 +213,9 @@ fn put_run<S: Store>(
     requires apart { full_name file.base.now file.part ≢ w.old.name }
     requires whole { w.old.place % 8 ≡ 0 }
     requires place { w.old.place ≤ 2 ^ 61 }
-    ensures told { IsSome (S.files store.old) → (runs : List (List TermPosting)) → AreRunsAt (file_bytes file.entry (S.files store.old)) places.now runs →
-        IsGroupAt runs w.old.place → counted.count ≡ length (merged runs) →
-        OnOk result (WroteBits w.old w.new (S.files store.old) (S.files store.new) (filled (run_bits (merged runs)))) }
-    ensures undamaged { IsSome (S.files store.old) → (runs : List (List TermPosting)) → AreRunsAt (file_bytes file.entry (S.files store.old)) places.now runs →
-        IsGroupAt runs w.old.place → NoDamage result }
+    ensures told { ForGroup file.entry (S.files store.old) places.now w.old.place
+        (λ runs. Counts counted runs → OnOk result (WroteRun S.files store.old store.new w.old w.new runs)) }
+    ensures undamaged { ForGroup file.entry (S.files store.old) places.now w.old.place (λ _. NoDamage result) }
     ensures entries { IfOk result (λ made. made.entries ≡ []) }
     ensures limit { IfOk result (λ made. made.limit ≡ counted.pool.limit) }
     ensures peak { IfOk result (λ made. made.peak ≡ max counted.pool.peak (64 * length places.now)) }
@@ -243,8 +223,7 @@ fn put_run<S: Store>(
     ensures place { OnOk result (w.new.place ≤ 2 ^ 61 + 264) }
     ensures whole { OnOk result (w.new.place % 8 ≡ 0) }
     ensures name { w.new.name ≡ w.old.name }
-    ensures passed { Passed file.entry.part w.old.name (S.files store.old) (S.files store.new)
-        (S.reads store.old) (S.reads store.new) (S.faults store.old) (S.faults store.new) }
+    ensures passed { Between S.files S.reads S.faults store.old store.new (Passed file.entry.part w.old.name) }
     ensures cause { HasPartCause (S.faults store.old) (S.faults store.new) result }
     ensures names { IfErr result (NamesPart file.entry.part) }
 {
@@ -284,10 +263,9 @@ pub fn join<S: Store>(
     requires holds { Holds w.old (S.files store.old) }
     requires apart { full_name file.base.now file.part ≢ w.old.name }
     requires whole { w.old.place % 8 ≡ 0 }
-    ensures told { IsSome (S.files store.old) → (runs : List (List TermPosting)) → AreRunsAt (file_bytes file.entry (S.files store.old)) places.now runs →
-        IsGroupAt runs w.old.place → OnOk result (WroteBits w.old w.new (S.files store.old) (S.files store.new) (filled (run_bits (merged runs)))) }
-    ensures undamaged { IsSome (S.files store.old) → (runs : List (List TermPosting)) → AreRunsAt (file_bytes file.entry (S.files store.old)) places.now runs →
-        IsGroupAt runs w.old.place → NoDamage result }
+    ensures told { ForGroup file.entry (S.files store.old) places.now w.old.place
+        (λ runs. OnOk result (WroteRun S.files store.old store.new w.old w.new runs)) }
+    ensures undamaged { ForGroup file.entry (S.files store.old) places.now w.old.place (λ _. NoDamage result) }
     ensures entries { IfOk result (λ made. made.entries ≡ []) }
     ensures limit { IfOk result (λ made. made.limit ≡ pool.limit) }
     ensures peak { IfOk result (λ made. made.peak ≡ max pool.peak (64 * length places.now)) }
@@ -295,8 +273,7 @@ pub fn join<S: Store>(
     ensures place { OnOk result (w.new.place ≤ 2 ^ 61 + 264) }
     ensures whole { OnOk result (w.new.place % 8 ≡ 0) }
     ensures name { w.new.name ≡ w.old.name }
-    ensures passed { Passed file.entry.part w.old.name (S.files store.old) (S.files store.new)
-        (S.reads store.old) (S.reads store.new) (S.faults store.old) (S.faults store.new) }
+    ensures passed { Between S.files S.reads S.faults store.old store.new (Passed file.entry.part w.old.name) }
     ensures cause { HasPartCause (S.faults store.old) (S.faults store.new) result }
     ensures names { IfErr result (NamesPart file.entry.part) }
 {

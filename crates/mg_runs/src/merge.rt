@@ -1,15 +1,15 @@
 // The postings of all runs.
-ghost use Rattle.std.specs.Prelude.{◌≡◌, ◌≤◌, ◌<◌, ◌+◌, ◌*◌, ◌/◌, ◌^◌, List, [], IfErr, IfOk, IfSome, OnOk, OnSome, IsSome, length, drop, max};
+ghost use Rattle.std.specs.Prelude.{◌≡◌, ◌≤◌, ◌<◌, ◌*◌, ◌/◌, ◌^◌, List, [], IfErr, IfOk, IfSome, OnOk, OnSome, IsSome, length, drop, max};
 ghost use Rattle.mg_dev.specs.PartCauses.{HasPartCause};
 ghost use Rattle.mg_bits.specs.Pages.{Looked};
 ghost use Rattle.mg_defs.specs.declared.TermPosting.{TermPosting};
 ghost use Rattle.mg_runs.specs.Cursors.{NoDamage, NoMemory};
 ghost use Rattle.mg_runs.specs.Damages.{NamesItsPart, NamesPart, NamesPartOf, TellsBitIn};
 ghost use Rattle.mg_runs.specs.Joins.{IsRunPart, Worked};
-ghost use Rattle.mg_runs.specs.Left.{IsMerging, postings_left};
+ghost use Rattle.mg_runs.specs.Left.{IsMerging, postings_left, ForMerging};
 ghost use Rattle.mg_runs.specs.Merging.{first as first_of};
-ghost use Rattle.mg_runs.specs.Rounds.{AreStored};
-ghost use Rattle.mg_runs.specs.Reading.{file_bytes};
+ghost use Rattle.mg_runs.specs.Reading.{RoundTells, ForRound};
+ghost use Rattle.mg_dev.specs.Moments.{Between};
 
 use crate::group::Group;
 use crate::round::Round;
@@ -51,17 +51,14 @@ impl<'a> Merge<'a> {
         requires limit { round.pool.limit ≤ 2 ^ 30 }
         requires entries { round.pool.entries ≡ [] }
         requires part { IsRunPart round.file.part }
-        ensures left { (whole : List TermPosting) →
-            (IsSome (S.files store.old) → AreStored (file_bytes round.entry.file (S.files store.old)) round.entry.places.items whole) →
-            IfOk result (λ merge. IsMerging merge (S.files store.new) whole) }
-        ensures undamaged { IsSome (S.files store.old) → (whole : List TermPosting) →
-            AreStored (file_bytes round.entry.file (S.files store.old)) round.entry.places.items whole → NoDamage result }
+        ensures left { (whole : List TermPosting) → RoundTells round.entry (S.files store.old) whole →
+            IfOk result (λ made. IsMerging made (S.files store.new) whole) }
+        ensures undamaged { ForRound round.entry (S.files store.old) (λ _. NoDamage result) }
         ensures few { IfOk result (λ merge. postings_left merge ≤ 2 ^ 56) }
         ensures base { IfOk result (λ merge. merge.base ≡ round.entry.file.base.now) }
         ensures runs { IfOk result (λ merge. merge.runs ≡ runs) }
         ensures peak { IfOk result (λ merge. merge.peak ≡ max round.entry.pool.peak (64 * length round.entry.places.items)) }
-        ensures looked { Looked round.entry.file.part (S.files store.old) (S.files store.new)
-            (S.reads store.old) (S.reads store.new) (S.faults store.old) (S.faults store.new) }
+        ensures looked { Between S.files S.reads S.faults store.old store.new (Looked round.entry.file.part) }
         ensures cause { HasPartCause (S.faults store.old) (S.faults store.new) result }
         ensures names { IfErr result (NamesPart round.entry.file.part) }
     {
@@ -93,10 +90,8 @@ impl<'a> Merge<'a> {
     /// left.
     pub fn next<S: Store>(&mut self, store: &mut S) -> Result<Option<TermPosting>, PartErr>
         requires left { (left : List TermPosting) × IsMerging self.old (S.files store.old) left }
-        ensures told { IsSome (S.files store.old) → (left : List TermPosting) → IsMerging self.old (S.files store.old) left →
-            IfOk result (λ posting. posting ≡ first_of left) }
-        ensures left { (left : List TermPosting) → IsMerging self.old (S.files store.old) left →
-            OnOk result (IsMerging self.new (S.files store.new) (drop 1 left)) }
+        ensures told { IsSome (S.files store.old) → ForMerging self.old (S.files store.old) (λ left. IfOk result (λ posting. posting ≡ first_of left)) }
+        ensures left { ForMerging self.old (S.files store.old) (λ left. OnOk result (IsMerging self.new (S.files store.new) (drop 1 left))) }
         ensures doc { IfOk result (λ posting. IfSome posting (λ p. 1 ≤ p.doc)) }
         ensures count { IfOk result (λ posting. IfSome posting (λ p. 1 ≤ p.count)) }
         ensures fall { IfOk result (λ posting. OnSome posting (postings_left self.new < postings_left self.old)) }
@@ -110,8 +105,7 @@ impl<'a> Merge<'a> {
         ensures runs { self.new.runs ≡ self.old.runs }
         ensures peak { self.new.peak ≡ self.old.peak }
         ensures files { S.files store.new ≡ S.files store.old }
-        ensures worked { Worked self.old.base (S.files store.old) (S.files store.new)
-            (S.reads store.old) (S.reads store.new) (S.faults store.old) (S.faults store.new) }
+        ensures worked { Between S.files S.reads S.faults store.old store.new (Worked self.old.base) }
         ensures cause { HasPartCause (S.faults store.old) (S.faults store.new) result }
     {
         match &mut self.group {

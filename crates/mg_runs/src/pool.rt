@@ -1,10 +1,10 @@
 // Memory of fixed size.
-ghost use Rattle.std.specs.Prelude.{◌≡◌, ◌≤◌, ◌<◌, ◌+◌, ◌*◌, ◌/◌, ◌^◌, ◌++◌, ◌↔◌, [], ◌∷◌, IfOk, IsTrue, length, max, slice_index_or, slice_set};
+ghost use Rattle.std.specs.Prelude.{◌≡◌, ◌≤◌, ◌<◌, ◌+◌, ◌*◌, ◌/◌, ◌^◌, ◌++◌, ◌↔◌, [], ◌∷◌, IfOk, IsTrue, length, max, slice_index_or};
 ghost use Rattle.mg_dev.specs.Causes.{HasCause};
-ghost use Rattle.mg_dev.specs.Names.{full_name};
 ghost use Rattle.mg_bits.specs.Pages.{Looked};
-ghost use Rattle.mg_runs.specs.Pooled.{used};
-ghost use Rattle.mg_runs.specs.Slots.{IsFilled};
+ghost use Rattle.mg_runs.specs.Pooled.{used, slot_bytes};
+ghost use Rattle.mg_runs.specs.Slots.{FillsFrom, ChangesOneSlot};
+ghost use Rattle.mg_dev.specs.Moments.{Between};
 
 use crate::entry::put_entry;
 use crate::slot::{fill_slot, slot_of};
@@ -139,14 +139,12 @@ impl Pool {
         slot: usize,
     ) -> Result<usize, Failed>
         requires { slot < length self.old.slots }
-        ensures slots { self.new.slots ≡ slice_set self.old.slots slot (slice_index_or self.new.slots slot []) }
+        ensures slots { ChangesOneSlot slot self.old.slots self.new.slots }
         ensures entries { self.old.entries ≡ [] → self.new.entries ≡ [] }
         ensures peak { self.new.peak ≡ self.old.peak }
         ensures limit { self.new.limit ≡ self.old.limit }
-        ensures filled { IfOk result (λ count. IsFilled (S.files store.old) (full_name file.now.base.now file.now.part) at count
-            (slice_index_or self.new.slots slot [])) }
-        ensures looked { Looked file.now.part (S.files store.old) (S.files store.new)
-            (S.reads store.old) (S.reads store.new) (S.faults store.old) (S.faults store.new) }
+        ensures filled { FillsFrom file.now (S.files store.old) at (slot_bytes self.new slot) result }
+        ensures looked { Between S.files S.reads S.faults store.old store.new (Looked file.now.part) }
         ensures cause { HasCause (S.faults store.old) (S.faults store.new) result }
     {
         fill_slot(store, file, at, &mut self.bytes, slot)

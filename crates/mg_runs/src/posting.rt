@@ -3,7 +3,7 @@ ghost use Rattle.std.specs.Prelude.{◌≡◌, ◌+◌, ◌≤◌, ◌<◌, ◌^
 ghost use Rattle.mg_dev.specs.Causes.{HasPutCause};
 ghost use Rattle.mg_defs.specs.Codes.{gamma};
 ghost use Rattle.mg_defs.specs.Postings.{IsBefore};
-ghost use Rattle.mg_defs.specs.RunBits.{posting_bits, doc_gap as gap_of};
+ghost use Rattle.mg_defs.specs.RunBits.{run_posting_bits, doc_gap as gap_of};
 ghost use Rattle.mg_bits.specs.Writer.{WroteTo};
 ghost use Rattle.mg_bits.specs.BitWriting.{Holds, WroteBits};
 
@@ -54,7 +54,7 @@ pub fn put_posting<S: Store>(
     requires doc { 1 ≤ posting.now.doc }
     requires count { 1 ≤ posting.now.count }
     ensures holds { OnOk result (Holds w.new (S.files store.new)) }
-    ensures bits { OnOk result (WroteBits w.old w.new (S.files store.old) (S.files store.new) (posting_bits last.now posting.now)) }
+    ensures bits { OnOk result (WroteBits w.old w.new (S.files store.old) (S.files store.new) (run_posting_bits last.now posting.now)) }
     ensures place { OnOk result (w.new.place ≤ w.old.place + 256) }
     ensures name { w.new.name ≡ w.old.name }
     ensures wrote { WroteTo w.old.name (S.files store.old) (S.files store.new) (S.reads store.old) (S.reads store.new) }

@@ -1,15 +1,14 @@
 // Rounds: the runs of one part, joined into fewer runs of another.
-ghost use Rattle.std.specs.Prelude.{◌≡◌, ◌≢◌, ◌≤◌, ◌<◌, ◌+◌, ◌-◌, ◌*◌, ◌/◌, ◌%◌, ◌^◌, List, [], IfErr, IfOk, OnOk, IsSome, length, max, min};
-ghost use Rattle.mg_dev.specs.Files.{file_at};
+ghost use Rattle.std.specs.Prelude.{◌≡◌, ◌≢◌, ◌≤◌, ◌<◌, ◌+◌, ◌-◌, ◌*◌, ◌/◌, ◌%◌, ◌^◌, [], IfErr, IfOk, OnOk, length, max};
 ghost use Rattle.mg_dev.specs.Names.{full_name};
 ghost use Rattle.mg_dev.specs.PartCauses.{HasPartCause};
 ghost use Rattle.mg_bits.specs.BitWriting.{Holds};
-ghost use Rattle.mg_defs.specs.declared.TermPosting.{TermPosting};
 ghost use Rattle.mg_runs.specs.Cursors.{NoDamage};
 ghost use Rattle.mg_runs.specs.Damages.{NamesItsPart, NamesPart};
-ghost use Rattle.mg_runs.specs.Joins.{IsJoined, IsRunPart, Passed, Worked, other};
-ghost use Rattle.mg_runs.specs.Rounds.{AreStored};
-ghost use Rattle.mg_runs.specs.Reading.{file_bytes};
+ghost use Rattle.mg_runs.specs.Joins.{IsRunPart, Passed, Worked, other, GroupsJoined};
+ghost use Rattle.mg_runs.specs.Stays.{SamePart};
+ghost use Rattle.mg_runs.specs.Reading.{ForStored, RoundHas, ForRound, peak_with, next_name};
+ghost use Rattle.mg_dev.specs.Moments.{Between};
 
 use crate::Pool;
 use crate::join::{join, refused};
@@ -61,10 +60,8 @@ fn join_groups<S: Store>(
     requires holds { Holds w.old (S.files store.old) }
     requires apart { full_name file.base.now file.part ≢ w.old.name }
     requires place { w.old.place ≡ 0 }
-    ensures told { IsSome (S.files store.old) → (whole : List TermPosting) (is : AreStored (file_bytes file.entry (S.files store.old)) places.now whole) →
-        IfOk result (λ made. IsJoined width is.runs made.places.items (S.files store.old) (S.files store.new) w.old w.new) }
-    ensures undamaged { IsSome (S.files store.old) → (whole : List TermPosting) → AreStored (file_bytes file.entry (S.files store.old)) places.now whole →
-        NoDamage result }
+    ensures told { ForStored file.entry (S.files store.old) places.now (λ runs. IfOk result (GroupsJoined width runs S.files store.old store.new w.old w.new)) }
+    ensures undamaged { ForStored file.entry (S.files store.old) places.now (λ _. NoDamage result) }
     ensures count { IfOk result (λ made. length made.places.items ≡ (length places.now + width - 1) / width) }
     ensures entries { IfOk result (λ made. made.pool.entries ≡ []) }
     ensures limit { IfOk result (λ made. made.pool.limit ≡ pool.limit) }
@@ -73,8 +70,7 @@ fn join_groups<S: Store>(
     ensures place { OnOk result (w.new.place ≤ 2 ^ 61 + 264) }
     ensures whole { OnOk result (w.new.place % 8 ≡ 0) }
     ensures name { w.new.name ≡ w.old.name }
-    ensures passed { Passed file.entry.part w.old.name (S.files store.old) (S.files store.new)
-        (S.reads store.old) (S.reads store.new) (S.faults store.old) (S.faults store.new) }
+    ensures passed { Between S.files S.reads S.faults store.old store.new (Passed file.entry.part w.old.name) }
     ensures cause { HasPartCause (S.faults store.old) (S.faults store.new) result }
     ensures names { IfErr result (NamesPart file.entry.part) }
 {
@@ -113,19 +109,15 @@ impl<'a> Round<'a> {
         requires limit { self.pool.limit ≤ 2 ^ 30 }
         requires entries { self.pool.entries ≡ [] }
         requires part { IsRunPart self.file.part }
-        ensures told { IsSome (S.files store.old) → (whole : List TermPosting) →
-            AreStored (file_bytes self.entry.file (S.files store.old)) self.entry.places.items whole →
-            IfOk result (λ next. AreStored (file_bytes next.file (S.files store.new)) next.places.items whole) }
-        ensures undamaged { IsSome (S.files store.old) → (whole : List TermPosting) →
-            AreStored (file_bytes self.entry.file (S.files store.old)) self.entry.places.items whole → NoDamage result }
+        ensures told { ForRound self.entry (S.files store.old) (λ whole. IfOk result (λ next. RoundHas next (S.files store.new) whole)) }
+        ensures undamaged { ForRound self.entry (S.files store.old) (λ _. NoDamage result) }
         ensures count { IfOk result (λ next. length next.places.items ≡ (length self.entry.places.items + width - 1) / width) }
         ensures entries { IfOk result (λ next. next.pool.entries ≡ []) }
         ensures limit { IfOk result (λ next. next.pool.limit ≡ self.entry.pool.limit) }
         ensures peak { IfOk result (λ next. next.pool.peak ≡ max self.entry.pool.peak (64 * width)) }
         ensures base { IfOk result (λ next. next.file.base ≡ self.entry.file.base) }
         ensures part { IfOk result (λ next. next.file.part ≡ other self.entry.file.part) }
-        ensures passed { Passed self.entry.file.part (full_name self.entry.file.base.now (other self.entry.file.part)) (S.files store.old) (S.files store.new)
-            (S.reads store.old) (S.reads store.new) (S.faults store.old) (S.faults store.new) }
+        ensures passed { Between S.files S.reads S.faults store.old store.new (Passed self.entry.file.part (next_name self.entry.file)) }
         ensures cause { HasPartCause (S.faults store.old) (S.faults store.new) result }
         ensures names { IfErr result (NamesPart self.entry.file.part) }
     {
@@ -163,23 +155,17 @@ impl<'a> Round<'a> {
         requires limit { self.pool.limit ≤ 2 ^ 30 }
         requires entries { self.pool.entries ≡ [] }
         requires part { IsRunPart self.file.part }
-        ensures told { IsSome (S.files store.old) → (whole : List TermPosting) →
-            AreStored (file_bytes self.entry.file (S.files store.old)) self.entry.places.items whole →
-            IfOk result (λ last. AreStored (file_bytes last.file (S.files store.new)) last.places.items whole) }
-        ensures undamaged { IsSome (S.files store.old) → (whole : List TermPosting) →
-            AreStored (file_bytes self.entry.file (S.files store.old)) self.entry.places.items whole → NoDamage result }
+        ensures told { ForRound self.entry (S.files store.old) (λ whole. IfOk result (λ last. RoundHas last (S.files store.new) whole)) }
+        ensures undamaged { ForRound self.entry (S.files store.old) (λ _. NoDamage result) }
         ensures few { IfOk result (λ last. length last.places.items ≤ width) }
         ensures count { IfOk result (λ last. length last.places.items ≡ 0 → length self.entry.places.items ≡ 0) }
         ensures entries { IfOk result (λ last. last.pool.entries ≡ []) }
         ensures limit { IfOk result (λ last. last.pool.limit ≡ self.entry.pool.limit) }
-        ensures peak { IfOk result (λ last. max last.pool.peak (64 * min (length last.places.items) width) ≡ max self.entry.pool.peak
-            (64 * min (length self.entry.places.items) width)) }
+        ensures peak { IfOk result (λ last. peak_with width last ≡ peak_with width self.entry) }
         ensures base { IfOk result (λ last. last.file.base ≡ self.entry.file.base) }
         ensures part { IfOk result (λ last. IsRunPart last.file.part) }
-        ensures run { file_at (S.files store.new) (full_name self.entry.file.base.now Part.Run) ≡ file_at (S.files store.old)
-            (full_name self.entry.file.base.now Part.Run) }
-        ensures worked { Worked self.entry.file.base.now (S.files store.old) (S.files store.new)
-            (S.reads store.old) (S.reads store.new) (S.faults store.old) (S.faults store.new) }
+        ensures run { SamePart self.entry.file.base.now Part.Run (S.files store.old) (S.files store.new) }
+        ensures worked { Between S.files S.reads S.faults store.old store.new (Worked self.entry.file.base.now) }
         ensures cause { HasPartCause (S.faults store.old) (S.faults store.new) result }
         ensures names { IfErr result NamesItsPart }
     {

@@ -4,7 +4,7 @@ ghost use Rattle.std.specs.List.{All};
 ghost use Rattle.mg_dev.specs.Causes.{HasPutCause};
 ghost use Rattle.mg_defs.specs.Bits.{filled};
 ghost use Rattle.mg_defs.specs.Postings.{gathered};
-ghost use Rattle.mg_defs.specs.PostingOrder.{NotFalling};
+ghost use Rattle.mg_runs.specs.PostingOrder.{NotFalling};
 ghost use Rattle.mg_defs.specs.RunBits.{run_bits};
 ghost use Rattle.mg_bits.specs.Writer.{WroteTo};
 ghost use Rattle.mg_bits.specs.BitWriting.{Holds, WroteBits};

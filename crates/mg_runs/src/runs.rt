@@ -1,13 +1,12 @@
 // Occurrences that are taken, and written as runs.
-ghost use Rattle.std.specs.Prelude.{◌≡◌, ◌≢◌, ◌+◌, ◌-◌, ◌*◌, ◌/◌, ◌%◌, ◌≤◌, ◌<◌, ◌^◌, ◌++◌, ◌∷◌, [], ℕ, List, Some, IfErr, IfOk, OnOk, IsSome, is_some, length, max, min};
+ghost use Rattle.std.specs.Prelude.{◌≡◌, ◌+◌, ◌-◌, ◌*◌, ◌/◌, ◌%◌, ◌≤◌, ◌<◌, ◌^◌, [], ℕ, List, Some, IfErr, IfOk, OnOk, IsSome, is_some, length};
 ghost use Rattle.mg_dev.specs.Causes.{HasPutCause};
 ghost use Rattle.mg_dev.specs.Files.{SameReads, bytes_at, file_at};
 ghost use Rattle.mg_dev.specs.Names.{full_name};
 ghost use Rattle.mg_dev.specs.PartCauses.{HasPartCause};
-ghost use Rattle.mg_defs.specs.Bits.{bits_of, filled};
-ghost use Rattle.mg_defs.specs.Postings.{gathered, postings};
-ghost use Rattle.mg_defs.specs.CodedText.{as_bytes};
-ghost use Rattle.mg_defs.specs.RunBits.{run_bits, run_part_bits};
+ghost use Rattle.mg_defs.specs.Bits.{filled};
+ghost use Rattle.mg_defs.specs.Postings.{gathered, term_postings};
+ghost use Rattle.mg_defs.specs.RunBits.{run_bits};
 ghost use Rattle.mg_defs.specs.Heads.{run_count};
 ghost use Rattle.mg_defs.specs.Runs.{runs_of};
 ghost use Rattle.mg_defs.specs.Summaries.{pool_peak};
@@ -16,9 +15,11 @@ ghost use Rattle.mg_bits.specs.BitWriting.{Holds, WroteBits};
 ghost use Rattle.mg_runs.specs.Bytes.{AreEntries};
 ghost use Rattle.mg_runs.specs.Cursors.{NoDamage};
 ghost use Rattle.mg_runs.specs.Damages.{NamesItsPart};
-ghost use Rattle.mg_runs.specs.Fed.{IsFed, cap_of, starts};
+ghost use Rattle.mg_runs.specs.Fed.{IsFed, cap_of, starts, ForFed, TookOne, HasRunBits, HasRunBytes, peak_of};
 ghost use Rattle.mg_runs.specs.Joins.{Worked};
 ghost use Rattle.mg_runs.specs.Left.{IsMerging, postings_left};
+ghost use Rattle.mg_runs.specs.Stays.{SameButRuns};
+ghost use Rattle.mg_dev.specs.Moments.{Between};
 
 use crate::join::refused;
 use crate::round::Round;
@@ -104,8 +105,7 @@ impl<'a> Runs<'a> {
         ensures run { IsSome (S.files store.old) → OnOk result (file_at (S.files store.new) (full_name base.entry.now Part.Run) ≡ Some []) }
         ensures merge_a { IsSome (S.files store.old) → OnOk result (file_at (S.files store.new) (full_name base.entry.now Part.MergeA) ≡ Some []) }
         ensures merge_b { IsSome (S.files store.old) → OnOk result (file_at (S.files store.new) (full_name base.entry.now Part.MergeB) ≡ Some []) }
-        ensures others { (n : List ℕ) → n ≢ full_name base.entry.now Part.Run → n ≢ full_name base.entry.now Part.MergeA →
-            n ≢ full_name base.entry.now Part.MergeB → file_at (S.files store.new) n ≡ file_at (S.files store.old) n }
+        ensures others { SameButRuns base.entry.now (S.files store.old) (S.files store.new) }
         ensures told { is_some (S.files store.new) ≡ is_some (S.files store.old) }
         ensures reads { SameReads (S.reads store.old) (S.reads store.new) }
         ensures cause { HasPutCause (S.faults store.old) (S.faults store.new) result }
@@ -135,8 +135,7 @@ impl<'a> Runs<'a> {
     pub fn add<S: Store>(&mut self, store: &mut S, term: u32, doc: u32) -> Result<(), PutErr>
         requires fed { (fed : List (ℕ × ℕ)) × (length fed < 2 ^ 32 - 1) × IsFed self.old (S.files store.old) fed }
         requires doc { 1 ≤ doc }
-        ensures fed { OnOk result ((fed : List (ℕ × ℕ)) → length fed < 2 ^ 32 - 1 → IsFed self.old (S.files store.old) fed →
-            IsFed self.new (S.files store.new) (fed ++ (term, doc) ∷ [])) }
+        ensures fed { OnOk result (TookOne S.files store.old store.new self.old self.new (term, doc)) }
         ensures cap { cap_of self.new.pool ≡ cap_of self.old.pool }
         ensures limit { self.new.pool.limit ≡ self.old.pool.limit }
         ensures base { self.new.base ≡ self.old.base }
@@ -156,11 +155,10 @@ impl<'a> Runs<'a> {
     /// gives no run.
     fn finish<S: Store>(self, store: &mut S) -> Result<Round<'a>, PartErr>
         requires fed { (fed : List (ℕ × ℕ)) × IsFed self (S.files store.old) fed }
-        ensures run { IsSome (S.files store.old) → (fed : List (ℕ × ℕ)) → IsFed self.entry (S.files store.old) fed →
-            OnOk result (bits_of (bytes_at (S.files store.new) (full_name self.entry.base Part.Run)) ≡ run_part_bits (cap_of self.entry.pool) fed) }
+        ensures run { IsSome (S.files store.old) → ForFed self.entry (S.files store.old) (λ fed. OnOk result (HasRunBits self.entry (S.files store.new) fed)) }
         ensures bytes { IsSome (S.files store.old) → OnOk result (AreBytes (bytes_at (S.files store.new) (full_name self.entry.base Part.Run))) }
-        ensures places { (fed : List (ℕ × ℕ)) → IsFed self.entry (S.files store.old) fed →
-            IfOk result (λ round. round.places.items ≡ starts 0 (runs_of (cap_of self.entry.pool) fed)) }
+        ensures places { ForFed self.entry (S.files store.old)
+            (λ fed. IfOk result (λ round. round.places.items ≡ starts 0 (runs_of (cap_of self.entry.pool) fed))) }
         ensures undamaged { NoDamage result }
         ensures entries { IfOk result (λ round. round.pool.entries ≡ []) }
         ensures limit { IfOk result (λ round. round.pool.limit ≡ self.entry.pool.limit) }
@@ -210,22 +208,16 @@ impl<'a> Runs<'a> {
         requires fed { (fed : List (ℕ × ℕ)) × IsFed self (S.files store.old) fed }
         requires some { 2 ≤ width }
         requires room { width ≤ self.pool.limit / 64 }
-        ensures left { (fed : List (ℕ × ℕ)) → IsFed self.entry (S.files store.old) fed →
-            IfOk result (λ merge. IsMerging merge (S.files store.new) (postings fed)) }
-        ensures run { IsSome (S.files store.old) → (fed : List (ℕ × ℕ)) → IsFed self.entry (S.files store.old) fed →
-            OnOk result (bits_of (bytes_at (S.files store.new) (full_name self.entry.base Part.Run)) ≡ run_part_bits (cap_of self.entry.pool) fed) }
-        ensures run_bytes { IsSome (S.files store.old) → (fed : List (ℕ × ℕ)) → IsFed self.entry (S.files store.old) fed →
-            OnOk result (bytes_at (S.files store.new) (full_name self.entry.base Part.Run) ≡ as_bytes (run_part_bits (cap_of self.entry.pool) fed)) }
-        ensures runs { (fed : List (ℕ × ℕ)) → IsFed self.entry (S.files store.old) fed →
-            IfOk result (λ merge. merge.runs ≡ run_count (length fed) (cap_of self.entry.pool)) }
-        ensures peak { (fed : List (ℕ × ℕ)) → IsFed self.entry (S.files store.old) fed →
-            IfOk result (λ merge. merge.peak ≡ max (12 * min (length fed) (cap_of self.entry.pool))
-            (64 * min (run_count (length fed) (cap_of self.entry.pool)) width)) }
+        ensures left { ForFed self.entry (S.files store.old) (λ fed. IfOk result (λ merge. IsMerging merge (S.files store.new) (term_postings fed))) }
+        ensures run { IsSome (S.files store.old) → ForFed self.entry (S.files store.old) (λ fed. OnOk result (HasRunBits self.entry (S.files store.new) fed)) }
+        ensures run_bytes { IsSome (S.files store.old) → ForFed self.entry (S.files store.old)
+            (λ fed. OnOk result (HasRunBytes self.entry (S.files store.new) fed)) }
+        ensures runs { ForFed self.entry (S.files store.old) (λ fed. IfOk result (λ merge. merge.runs ≡ run_count (length fed) (cap_of self.entry.pool))) }
+        ensures peak { ForFed self.entry (S.files store.old) (λ fed. IfOk result (λ merge. merge.peak ≡ peak_of (length fed) (cap_of self.entry.pool) width)) }
         ensures few { IfOk result (λ merge. postings_left merge ≤ 2 ^ 56) }
         ensures base { IfOk result (λ merge. merge.base ≡ self.entry.base) }
         ensures undamaged { IsSome (S.files store.old) → NoDamage result }
-        ensures worked { Worked self.entry.base (S.files store.old) (S.files store.new)
-            (S.reads store.old) (S.reads store.new) (S.faults store.old) (S.faults store.new) }
+        ensures worked { Between S.files S.reads S.faults store.old store.new (Worked self.entry.base) }
         ensures cause { HasPartCause (S.faults store.old) (S.faults store.new) result }
         ensures names { IfErr result NamesItsPart }
     {
@@ -248,21 +240,16 @@ impl<'a> Runs<'a> {
     /// merge part and writes the other.
     pub fn merge<S: Store>(self, store: &mut S) -> Result<Merge<'a>, PartErr>
         requires fed { (fed : List (ℕ × ℕ)) × IsFed self (S.files store.old) fed }
-        ensures left { (fed : List (ℕ × ℕ)) → IsFed self.entry (S.files store.old) fed →
-            IfOk result (λ merge. IsMerging merge (S.files store.new) (postings fed)) }
-        ensures run { IsSome (S.files store.old) → (fed : List (ℕ × ℕ)) → IsFed self.entry (S.files store.old) fed →
-            OnOk result (bits_of (bytes_at (S.files store.new) (full_name self.entry.base Part.Run)) ≡ run_part_bits (cap_of self.entry.pool) fed) }
-        ensures run_bytes { IsSome (S.files store.old) → (fed : List (ℕ × ℕ)) → IsFed self.entry (S.files store.old) fed →
-            OnOk result (bytes_at (S.files store.new) (full_name self.entry.base Part.Run) ≡ as_bytes (run_part_bits (cap_of self.entry.pool) fed)) }
-        ensures runs { (fed : List (ℕ × ℕ)) → IsFed self.entry (S.files store.old) fed →
-            IfOk result (λ merge. merge.runs ≡ run_count (length fed) (cap_of self.entry.pool)) }
-        ensures peak { (fed : List (ℕ × ℕ)) → IsFed self.entry (S.files store.old) fed →
-            IfOk result (λ merge. merge.peak ≡ pool_peak (length fed) self.entry.pool.limit) }
+        ensures left { ForFed self.entry (S.files store.old) (λ fed. IfOk result (λ merge. IsMerging merge (S.files store.new) (term_postings fed))) }
+        ensures run { IsSome (S.files store.old) → ForFed self.entry (S.files store.old) (λ fed. OnOk result (HasRunBits self.entry (S.files store.new) fed)) }
+        ensures run_bytes { IsSome (S.files store.old) → ForFed self.entry (S.files store.old)
+            (λ fed. OnOk result (HasRunBytes self.entry (S.files store.new) fed)) }
+        ensures runs { ForFed self.entry (S.files store.old) (λ fed. IfOk result (λ merge. merge.runs ≡ run_count (length fed) (cap_of self.entry.pool))) }
+        ensures peak { ForFed self.entry (S.files store.old) (λ fed. IfOk result (λ merge. merge.peak ≡ pool_peak (length fed) self.entry.pool.limit)) }
         ensures few { IfOk result (λ merge. postings_left merge ≤ 2 ^ 56) }
         ensures base { IfOk result (λ merge. merge.base ≡ self.entry.base) }
         ensures undamaged { IsSome (S.files store.old) → NoDamage result }
-        ensures worked { Worked self.entry.base (S.files store.old) (S.files store.new)
-            (S.reads store.old) (S.reads store.new) (S.faults store.old) (S.faults store.new) }
+        ensures worked { Between S.files S.reads S.faults store.old store.new (Worked self.entry.base) }
         ensures cause { HasPartCause (S.faults store.old) (S.faults store.new) result }
         ensures names { IfErr result NamesItsPart }
     {

@@ -1,11 +1,10 @@
 // Slots of 64 bytes, as buffers of a file.
-ghost use Rattle.std.specs.Prelude.{◌≡◌, ◌≤◌, ◌<◌, ◌*◌, ◌+◌, ℕ, [], IfOk, IsSome, length, drop, take, slice_index_or, slice_set};
+ghost use Rattle.std.specs.Prelude.{◌≡◌, ◌≤◌, ◌<◌, ◌*◌, ◌+◌, ℕ, [], length, slice_index_or};
 ghost use Rattle.std.specs.Simd.{first_chunks};
 ghost use Rattle.mg_dev.specs.Causes.{HasCause};
-ghost use Rattle.mg_dev.specs.Files.{bytes_at};
-ghost use Rattle.mg_dev.specs.Names.{full_name};
 ghost use Rattle.mg_bits.specs.Pages.{Looked};
-ghost use Rattle.mg_runs.specs.Slots.{IsFilled};
+ghost use Rattle.mg_runs.specs.Slots.{FillsFrom, slots_in, slot_at, ChangesOneSlot, ForSlots};
+ghost use Rattle.mg_dev.specs.Moments.{Between};
 
 use mg_dev::{Failed, FileRef, Store};
 
@@ -17,9 +16,8 @@ fn read_slot<S: Store>(
     slot: &mut [u8],
 ) -> Result<usize, Failed>
     requires { length slot.old ≡ 64 }
-    ensures filled { IfOk result (λ count. IsFilled (S.files store.old) (full_name file.now.base.now file.now.part) at count slot.new) }
-    ensures looked { Looked file.now.part (S.files store.old) (S.files store.new)
-        (S.reads store.old) (S.reads store.new) (S.faults store.old) (S.faults store.new) }
+    ensures filled { FillsFrom file.now (S.files store.old) at slot.new result }
+    ensures looked { Between S.files S.reads S.faults store.old store.new (Looked file.now.part) }
     ensures cause { HasCause (S.faults store.old) (S.faults store.new) result }
 {
     store.read_at(file, at, slot)
@@ -34,13 +32,9 @@ fn fill_in<S: Store>(
     slot: usize,
 ) -> Result<usize, Failed>
     requires room { 64 * slot + 64 ≤ length bytes.old }
-    ensures slots { (count : ℕ) → slot < count → 64 * count ≤ length bytes.old →
-        first_chunks 64 count bytes.new ≡ slice_set (first_chunks 64 count bytes.old) slot (slice_index_or (first_chunks 64 count bytes.new) slot []) }
-    ensures filled { (count : ℕ) → slot < count → 64 * count ≤ length bytes.old →
-        IfOk result (λ n. IsFilled (S.files store.old) (full_name file.now.base.now file.now.part) at n
-        (slice_index_or (first_chunks 64 count bytes.new) slot [])) }
-    ensures looked { Looked file.now.part (S.files store.old) (S.files store.new)
-        (S.reads store.old) (S.reads store.new) (S.faults store.old) (S.faults store.new) }
+    ensures slots { ForSlots slot bytes.old (λ count. ChangesOneSlot slot (slots_in count bytes.old) (slots_in count bytes.new)) }
+    ensures filled { ForSlots slot bytes.old (λ count. FillsFrom file.now (S.files store.old) at (slot_at (slots_in count bytes.new) slot) result) }
+    ensures looked { Between S.files S.reads S.faults store.old store.new (Looked file.now.part) }
     ensures cause { HasCause (S.faults store.old) (S.faults store.new) result }
 {
     let from = 64 * slot;
@@ -58,14 +52,9 @@ pub fn fill_slot<S: Store>(
 ) -> Result<usize, Failed>
     requires room { 64 * slot + 64 ≤ length bytes.old.items }
     ensures len { length bytes.new.items ≡ length bytes.old.items }
-    ensures slots { (count : ℕ) → slot < count → 64 * count ≤ length bytes.old.items →
-        first_chunks 64 count bytes.new.items ≡ slice_set (first_chunks 64 count bytes.old.items) slot
-        (slice_index_or (first_chunks 64 count bytes.new.items) slot []) }
-    ensures filled { (count : ℕ) → slot < count → 64 * count ≤ length bytes.old.items →
-        IfOk result (λ n. IsFilled (S.files store.old) (full_name file.now.base.now file.now.part) at n
-        (slice_index_or (first_chunks 64 count bytes.new.items) slot [])) }
-    ensures looked { Looked file.now.part (S.files store.old) (S.files store.new)
-        (S.reads store.old) (S.reads store.new) (S.faults store.old) (S.faults store.new) }
+    ensures slots { ForSlots slot bytes.old.items (λ count. ChangesOneSlot slot (slots_in count bytes.old.items) (slots_in count bytes.new.items)) }
+    ensures filled { ForSlots slot bytes.old.items (λ count. FillsFrom file.now (S.files store.old) at (slot_at (slots_in count bytes.new.items) slot) result) }
+    ensures looked { Between S.files S.reads S.faults store.old store.new (Looked file.now.part) }
     ensures cause { HasCause (S.faults store.old) (S.faults store.new) result }
 {
     fill_in(store, file, at, bytes, slot)

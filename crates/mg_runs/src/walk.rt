@@ -1,13 +1,15 @@
 // The postings of a run, one after the other.
-ghost use Rattle.std.specs.Prelude.{◌≡◌, ◌≤◌, ◌<◌, ◌+◌, ◌-◌, ◌*◌, ◌/◌, ◌^◌, ℕ, List, [], ◌∷◌, Err, IfErr, IfOk, IsOkAnd, IsSome, length, slice_index_or, slice_set, take, drop};
+ghost use Rattle.std.specs.Prelude.{◌≡◌, ◌≤◌, ◌<◌, ◌+◌, ◌-◌, ◌*◌, ◌/◌, ◌^◌, ℕ, Err, IfErr, IfOk, IsOkAnd, length};
 ghost use Rattle.mg_dev.specs.PartCauses.{HasPartCause, IsCaused};
 ghost use Rattle.mg_bits.specs.Pages.{Looked};
 ghost use Rattle.mg_defs.specs.RunBits.{before_first};
 ghost use Rattle.mg_defs.specs.declared.TermPosting.{TermPosting};
-ghost use Rattle.mg_runs.specs.Pooled.{SamePool};
+ghost use Rattle.mg_runs.specs.Pooled.{SamePool, slot_bytes};
 ghost use Rattle.mg_runs.specs.Damages.{NamesPart, TellsBit};
-ghost use Rattle.mg_runs.specs.Cursors.{HasPosting, IsAt, IsAtPosting, IsNear, IsRunAt, NoDamage, NoMemory};
-ghost use Rattle.mg_runs.specs.Reading.{file_bytes};
+ghost use Rattle.mg_runs.specs.Cursors.{HasPosting, IsNear, NoDamage, NoMemory, ForNextAt, ForHeader, IsAtPostingBy, IsAtBy};
+ghost use Rattle.mg_runs.specs.Slots.{ChangesOneSlot};
+ghost use Rattle.mg_runs.specs.Reading.{ForPosting, ForRun};
+ghost use Rattle.mg_dev.specs.Moments.{Between};
 
 use crate::Pool;
 use crate::cursor::Cursor;
@@ -40,17 +42,14 @@ fn refreshed<S: Store>(
     cursor: &Cursor,
 ) -> Result<Cursor, PartErr>
     requires { slot < length pool.old.slots }
-    ensures at { IsSome (S.files store.old) → (x : TermPosting) (xs : List TermPosting) →
-        IsAtPosting cursor.now (slice_index_or pool.old.slots slot []) (file_bytes file.now (S.files store.old)) x xs →
-        IfOk result (λ c. IsAtPosting c (slice_index_or pool.new.slots slot []) (file_bytes file.now (S.files store.old)) x xs) }
+    ensures at { ForPosting cursor.now pool.old slot file.now (S.files store.old) (λ bytes x xs. IfOk result (IsAtPostingBy pool.new slot bytes x xs)) }
     ensures undamaged { NoDamage result }
     ensures near { IfOk result (λ c. IsNear c) }
     ensures left { IfOk result (λ c. c.left ≡ cursor.now.left) }
     ensures place { IfOk result (λ c. c.place ≡ cursor.now.place) }
-    ensures slots { pool.new.slots ≡ slice_set pool.old.slots slot (slice_index_or pool.new.slots slot []) }
+    ensures slots { ChangesOneSlot slot pool.old.slots pool.new.slots }
     ensures pool { SamePool pool.old pool.new }
-    ensures looked { Looked file.now.part (S.files store.old) (S.files store.new)
-        (S.reads store.old) (S.reads store.new) (S.faults store.old) (S.faults store.new) }
+    ensures looked { Between S.files S.reads S.faults store.old store.new (Looked file.now.part) }
     ensures cause { HasPartCause (S.faults store.old) (S.faults store.new) result }
     ensures memory { NoMemory result }
     ensures names { IfErr result (NamesPart file.now.part) }
@@ -77,9 +76,7 @@ fn read_behind(pool: &Pool, part: Part, slot: usize, cursor: &Cursor) -> Result<
     requires slot { slot < length pool.now.slots }
     requires near { IsNear cursor.now }
     requires left { 1 ≤ cursor.now.left }
-    ensures told { (file : List ℕ) (x y : TermPosting) (ys : List TermPosting) →
-        IsAtPosting cursor.now (slice_index_or pool.now.slots slot []) file x (y ∷ ys) →
-        IsOkAnd result (λ c. IsAtPosting c (slice_index_or pool.now.slots slot []) file y ys) }
+    ensures told { ForNextAt cursor.now (slot_bytes pool.now slot) (λ file y ys. IsOkAnd result (IsAtPostingBy pool.now slot file y ys)) }
     ensures left { IfOk result (λ c. c.left + 1 ≡ cursor.now.left) }
     ensures posting { IfOk result (λ c. HasPosting c) }
     ensures caused { (f g : ℕ) → IsCaused f g result }
@@ -115,17 +112,13 @@ pub fn advanced<S: Store>(
 ) -> Result<Cursor, PartErr>
     requires slot { slot < length pool.old.slots }
     requires left { 1 ≤ cursor.now.left }
-    ensures told { IsSome (S.files store.old) → (x : TermPosting) (xs : List TermPosting) →
-        IsAt cursor.now (slice_index_or pool.old.slots slot []) (file_bytes file.now (S.files store.old)) (x ∷ xs) →
-        IfOk result (λ c. IsAt c (slice_index_or pool.new.slots slot []) (file_bytes file.now (S.files store.old)) xs) }
-    ensures undamaged { IsSome (S.files store.old) → (x : TermPosting) (xs : List TermPosting) →
-        IsAt cursor.now (slice_index_or pool.old.slots slot []) (file_bytes file.now (S.files store.old)) (x ∷ xs) → NoDamage result }
+    ensures told { ForPosting cursor.now pool.old slot file.now (S.files store.old) (λ bytes _ xs. IfOk result (IsAtBy pool.new slot bytes xs)) }
+    ensures undamaged { ForPosting cursor.now pool.old slot file.now (S.files store.old) (λ _ _ _. NoDamage result) }
     ensures left { IfOk result (λ c. c.left + 1 ≡ cursor.now.left) }
     ensures posting { IfOk result (λ c. HasPosting c) }
-    ensures slots { pool.new.slots ≡ slice_set pool.old.slots slot (slice_index_or pool.new.slots slot []) }
+    ensures slots { ChangesOneSlot slot pool.old.slots pool.new.slots }
     ensures pool { SamePool pool.old pool.new }
-    ensures looked { Looked file.now.part (S.files store.old) (S.files store.new)
-        (S.reads store.old) (S.reads store.new) (S.faults store.old) (S.faults store.new) }
+    ensures looked { Between S.files S.reads S.faults store.old store.new (Looked file.now.part) }
     ensures cause { HasPartCause (S.faults store.old) (S.faults store.new) result }
     ensures memory { NoMemory result }
     ensures names { IfErr result (NamesPart file.now.part) }
@@ -155,9 +148,7 @@ fn read_header(
     count: usize,
 ) -> Result<Cursor, PartErr>
     requires slot { slot < length pool.now.slots }
-    ensures told { (file : List ℕ) (xs : List TermPosting) → IsRunAt file place xs → count ≤ 64 →
-        take count (slice_index_or pool.now.slots slot []) ≡ take 64 (drop (place / 8) file) →
-        IsOkAnd result (λ c. IsAtPosting c (slice_index_or pool.now.slots slot []) file before_first xs) }
+    ensures told { ForHeader place count (slot_bytes pool.now slot) (λ file xs. IsOkAnd result (IsAtPostingBy pool.now slot file before_first xs)) }
     ensures left { IfOk result (λ c. 1 ≤ c.left) }
     ensures left_below { IfOk result (λ c. c.left < 2 ^ 32) }
     ensures caused { (f g : ℕ) → IsCaused f g result }
@@ -196,15 +187,13 @@ pub fn opened<S: Store>(
     place: u64,
 ) -> Result<Cursor, PartErr>
     requires slot { slot < length pool.old.slots }
-    ensures told { IsSome (S.files store.old) → (xs : List TermPosting) → IsRunAt (file_bytes file.now (S.files store.old)) place xs →
-        IfOk result (λ c. IsAt c (slice_index_or pool.new.slots slot []) (file_bytes file.now (S.files store.old)) xs) }
-    ensures undamaged { IsSome (S.files store.old) → (xs : List TermPosting) → IsRunAt (file_bytes file.now (S.files store.old)) place xs → NoDamage result }
+    ensures told { ForRun place file.now (S.files store.old) (λ bytes xs. IfOk result (IsAtBy pool.new slot bytes xs)) }
+    ensures undamaged { ForRun place file.now (S.files store.old) (λ _ _. NoDamage result) }
     ensures left { IfOk result (λ c. c.left < 2 ^ 32) }
     ensures posting { IfOk result (λ c. HasPosting c) }
-    ensures slots { pool.new.slots ≡ slice_set pool.old.slots slot (slice_index_or pool.new.slots slot []) }
+    ensures slots { ChangesOneSlot slot pool.old.slots pool.new.slots }
     ensures pool { SamePool pool.old pool.new }
-    ensures looked { Looked file.now.part (S.files store.old) (S.files store.new)
-        (S.reads store.old) (S.reads store.new) (S.faults store.old) (S.faults store.new) }
+    ensures looked { Between S.files S.reads S.faults store.old store.new (Looked file.now.part) }
     ensures cause { HasPartCause (S.faults store.old) (S.faults store.new) result }
     ensures memory { NoMemory result }
     ensures names { IfErr result (NamesPart file.now.part) }

@@ -1,7 +1,7 @@
 use Rattle.std.proofs.Common.{rules, ◌+◌, ℕ, List, refl, arith, get_or}
 use Rattle.std.proofs.lemmas.List.Sorted.{answers_always}
 use Rattle.mg_runs.specs.Bytes.{entry_in, number_in}
-use Rattle.mg_defs.proofs.PostingGroups.{not_falling, no_later-from_test}
+use Rattle.mg_runs.proofs.PostingGroups.{not_falling, no_later-from_test}
 use Rattle.mg_runs.proofs.groups.sort_entries.Goals as goal
 
 pub returns-clause-order : goal.returns-clause-order

@@ -23,18 +23,18 @@ pub returns-then-place-gt-MOST_BITS-clause-cause : goal.returns-then-place-gt-MO
 returns-then-place-gt-MOST_BITS-clause-cause g c = record { later = c.next.ensures.looked.faults; device = c.damage.ensures.caused _ _ }
 
 pub returns-in-Ok-clause-told : goal.returns-in-Ok-clause-told
-returns-in-Ok-clause-told g c = λ told files before bits same is.
+returns-in-Ok-clause-told g c = λ told files before bits is.
     let now = c.in-Ok-Some.ensures.told told _ is.has in
     let e = sym c.in-Ok-Some.field-0-is ∙ now.0 in
     let wrote = rw c.next.ensures.looked.files at c.in-Ok.ensures.bits in
-    put_more _ _ _ _ _ _ _ _ _ _ _ _ _ is _ e now.1 same wrote c.in-Ok.ensures.place
+    put_more _ _ _ _ _ _ _ _ _ _ _ _ _ is _ e now.1 told wrote c.in-Ok.ensures.place
 
 pub returns-in-Err-put_posting-clause-cause : goal.returns-in-Err-put_posting-clause-cause
 returns-in-Err-put_posting-clause-cause g c =
     put_cause (Option TermPosting) _ _ _ _ c.next.ensures.looked.faults (c.refused.ensures.cause _ _ (put_as (Unit {0}) ℕ _ _ _ c.in-Err-put_posting.ensures.cause))
 
 pub returns-in-Ok-None-clause-told : goal.returns-in-Ok-None-clause-told
-returns-in-Ok-None-clause-told g c = λ told files before bits same is.
+returns-in-Ok-None-clause-told g c = λ told files before bits is.
     let now = c.in-Ok-None.ensures.told told _ is.has in
     let e = sym c.in-Ok-None.field-0-is ∙ now.0 in
     subst (λ f. WroteBits before c.args.w.now files f bits) (sym c.next.ensures.looked.files) (put_end _ _ _ _ _ _ _ _ _ is e)

@@ -29,6 +29,6 @@ loop-posting-preserved g c =
       told = λ told left has run room.
           let same = passed_bytes _ _ _ _ _ _ _ _ _ inv.passed apart in
           let next = rw (inv.file, same) at c.in-Ok-Some.ensures.told in
-          rw c.in-Ok-Some.field-0-is at (next (inv.passed.told ∙ told) _ _ _ (sym inv.passed.told) (inv.told told left has run room));
+          rw c.in-Ok-Some.field-0-is at (next (inv.passed.told ∙ told) _ _ _ (inv.told told left has run room));
       passed = passed_more _ _ _ _ _ _ _ _ _ _ _ inv.passed (rw (inv.file, inv.name) at c.put_next.ensures.passed);
     }

@@ -8,7 +8,7 @@ returns-in-Some-clause-told c = λ file x y ys at.
     let slot : List ℕ = get_or c.args.pool.now.slots c.args.slot [] in
     let told = rw at.posting at c.posting_in.ensures.told in
     let s = stands c.args.cursor.now slot file _ x y ys _ at c.requires.near (first_bytes c.min.result c.args.cursor.now.count c.slot-all.result.now slot c.min.ensures c.slot-all.ensures) refl in
-    let f = one_some _ _ _ c.in-Some.is (told y s.0 at.after.0 at.run.small.0 s.1) in
+    let f = one_some _ _ _ c.in-Some.is (told y at.after.0 at.run.small.0 s.0 s.1) in
     moved c.args.cursor.now slot file x y ys _ c.in-Some.found at (ap (λ d. d.posting) f) (ap (λ d. d.next) f)
 
 pub returns-in-None-clause-told : goal.returns-in-None-clause-told
@@ -16,4 +16,4 @@ returns-in-None-clause-told c = λ file x y ys at.
     let slot : List ℕ = get_or c.args.pool.now.slots c.args.slot [] in
     let told = rw at.posting at c.posting_in.ensures.told in
     let s = stands c.args.cursor.now slot file _ x y ys _ at c.requires.near (first_bytes c.min.result c.args.cursor.now.count c.slot-all.result.now slot c.min.ensures c.slot-all.ensures) refl in
-    none_or_some _ _ c.in-None.is (told y s.0 at.after.0 at.run.small.0 s.1)
+    none_or_some _ _ c.in-None.is (told y at.after.0 at.run.small.0 s.0 s.1)

@@ -5,7 +5,7 @@ use Rattle.mg_dev.specs.Names.{full_name}
 use Rattle.mg_dev.specs.declared.part.Part.TheVariants.{Run}
 use Rattle.mg_bits.specs.Writer.{AreBytes}
 use Rattle.mg_defs.specs.Bits.{bits_of}
-use Rattle.mg_defs.specs.Postings.{postings}
+use Rattle.mg_defs.specs.Postings.{term_postings}
 use Rattle.mg_runs.specs.declared.round.Round.{Round}
 use Rattle.mg_runs.specs.declared.merge.Merge.{Merge}
 use Rattle.mg_runs.specs.Left.{Merging}
@@ -27,12 +27,12 @@ overflow_cast-runs g c =
 
 pub returns-in-Ok-rounds-clause-left : goal.returns-in-Ok-rounds-clause-left
 returns-in-Ok-rounds-clause-left g c = λ fed is.
-    c.open.ensures.left (postings fed) (λ told.
+    c.open.ensures.left (term_postings fed) (λ told.
     let now = sym c.rounds.ensures.worked.told ∙ told in
     let was = sym c.finish.ensures.wrote.told ∙ now in
     let stored = fed_stored _ _ fed _ _ is (c.in-Ok.ensures.run was fed is) (c.in-Ok.ensures.places fed is) in
     let next = rw (c.in-Ok.ensures.base, c.in-Ok.ensures.part) at c.in-Ok-rounds.ensures.told in
-    next now (postings fed) stored)
+    next now (term_postings fed) stored)
 
 pub returns-in-Ok-rounds-clause-run : goal.returns-in-Ok-rounds-clause-run
 returns-in-Ok-rounds-clause-run g c = λ told fed is.
@@ -63,7 +63,7 @@ returns-in-Ok-rounds-clause-undamaged g c = λ told.
     let now = c.finish.ensures.wrote.told ∙ told in
     let stored = fed_stored _ _ fed _ _ is (c.in-Ok.ensures.run told fed is) (c.in-Ok.ensures.places fed is) in
     let next = rw (c.in-Ok.ensures.base, c.in-Ok.ensures.part) at c.in-Ok-rounds.ensures.told in
-    c.open.ensures.undamaged (c.rounds.ensures.worked.told ∙ now) (postings fed) (next now (postings fed) stored)
+    c.open.ensures.undamaged (c.rounds.ensures.worked.told ∙ now) (term_postings fed) (next now (term_postings fed) stored)
 
 pub returns-in-Ok-rounds-clause-worked : goal.returns-in-Ok-rounds-clause-worked
 returns-in-Ok-rounds-clause-worked g c =
@@ -82,7 +82,7 @@ returns-in-Err-rounds-clause-undamaged g c = λ told.
     let now = c.finish.ensures.wrote.told ∙ told in
     let stored = fed_stored _ _ fed _ _ is (c.in-Ok.ensures.run told fed is) (c.in-Ok.ensures.places fed is) in
     let next = rw (c.in-Ok.ensures.base, c.in-Ok.ensures.part) at c.in-Err-rounds.ensures.undamaged in
-    undamaged_as Round Merge c.in-Err-rounds.refusal (next now (postings fed) stored)
+    undamaged_as Round Merge c.in-Err-rounds.refusal (next now (term_postings fed) stored)
 
 pub returns-in-Ok-rounds-clause-names : goal.returns-in-Ok-rounds-clause-names
 returns-in-Ok-rounds-clause-names g c = refusal_names_its c.in-Ok-rounds.last.file.part c.open.result c.in-Ok-rounds.ensures.part c.open.ensures.names
