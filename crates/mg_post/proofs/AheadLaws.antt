@@ -1,8 +1,8 @@
 -- Codes that stand first of bits that were looked at.
-use Rattle.std.proofs.Common.{arith, suc, zero, ◌≡◌, ◌+◌, ◌*◌, ◌/◌, ◌%◌, ◌^◌, ◌≤◌, ◌<◌, ◌-◌, inl, inr, ℕ, false, List, [], ◌∷◌, ◌++◌, length, drop, Option, Some, None, Ok, refl, sym, ◌∙◌, ap, subst, append_assoc, add-zero, length-append}
+use Rattle.std.proofs.Common.{arith, suc, ◌≡◌, ◌+◌, ◌*◌, ◌/◌, ◌%◌, ◌^◌, ◌≤◌, ◌<◌, ◌-◌, inl, inr, ℕ, false, List, [], ◌∷◌, ◌++◌, length, drop, Option, Some, None, Ok, refl, sym, ◌∙◌, ap, subst, append_assoc, length-append}
 use Rattle.std.proofs.lemmas.Bool.{cases_lt}
 use Rattle.std.proofs.lemmas.List.{drop-drop}
-use Rattle.std.proofs.lemmas.Nat.{pow_pos, mod_low, shr_high, shr-shr, pow-add, div-mul-add, div_below}
+use Rattle.std.proofs.lemmas.Nat.{pow_pos, shr-shr, pow-add, div_below}
 use Rattle.std.proofs.Math.Nat.{two-pow-succ}
 use Rattle.std.proofs.Math.Pow.{pow_mono}
 use Rattle.mg_dev.specs.Files.{Files}
@@ -11,13 +11,14 @@ use Rattle.mg_defs.specs.Bits.{Begins, Bits, FromPlace, bits_of, digits}
 use Rattle.mg_defs.specs.Codes.{ceil_log2, gamma, golomb, ones, short, shorter, unary}
 use Rattle.mg_defs.specs.Lists.{posting_bits, Follows}
 use Rattle.mg_defs.specs.declared.Posting.{Posting}
-use Rattle.mg_defs.proofs.BitLaws.{digits_append, digits_mod, length_digits}
+use Rattle.mg_defs.proofs.BitLaws.{digits_append, length_digits}
 use Rattle.mg_defs.proofs.CodeLaws.{IsCeil, is_ceil, one_ceil, gamma_is, golomb_is, length_unary_after, short_high, short_low, unary_after}
 use Rattle.mg_defs.proofs.FixedLaws.{IsLog}
 use Rattle.mg_defs.proofs.FrontLaws.{begins_first, begins_second}
 use Rattle.mg_bits.specs.CodeAnswers.{AnswersCode}
 use Rattle.mg_bits.specs.Feed.{Device as Seen, Feeding, HoldsBits, Read}
 use Rattle.mg_bits.proofs.CallerLemmas.{holds_inside, read_held, told_nothing}
+use Rattle.mg_codes.proofs.CallerLemmas.{less_one, no_bits, one_zero, quotient, unary_digits, with_highest}
 use Rattle.mg_post.specs.Ahead.{IsAhead, IsGapCode, Takes}
 use Rattle.mg_post.specs.Stands.{Shows}
 use Rattle.mg_post.proofs.ReadLaws.{freq_got, gap_got}
@@ -50,35 +51,8 @@ takes_both one two bits count rest left last behind a b = record {
 
 -- ---- unary
 
-quotient : (k w rest next : ℕ) → w ≤ rest → rest < 2 * w → next + 1 + rest ≡ 2 * (k * w + w) → next / w ≡ k * 2
-quotient k w rest next low high sum =
-    let e : next ≡ k * 2 * w + (2 * w - 1 - rest) = omega arith in
-    ap (λ n. n / w) e ∙ div-mul-add (k * 2) w (2 * w - 1 - rest) (omega arith)
-
-less_one : (p w : ℕ) → 0 < p → (p - 1) * w + w ≡ p * w
-less_one zero w some = absurd (omega arith)
-less_one (suc k) w some = let e : suc k - 1 ≡ k = omega arith in rw e (omega arith)
-
-ones_digits : (n : ℕ) → digits n (2 ^ n - 1) ≡ ones n
-unfolding ones digits
-ones_digits zero = refl
-ones_digits (suc n) =
-    let p : 0 < 2 ^ n = pow_pos n in
-    let e : 2 ^ suc n - 1 ≡ 1 * 2 ^ n + (2 ^ n - 1) = omega (arith, two-pow-succ n) in
-    let below : 2 ^ n - 1 < 2 ^ n = omega arith in
-    let head : (2 ^ suc n - 1) / 2 ^ n ≡ 1 = ap (λ x. x / 2 ^ n) e ∙ shr_high 1 n (2 ^ n - 1) below in
-    let tail : digits n (2 ^ suc n - 1) ≡ digits n (2 ^ n - 1) =
-    sym (digits_mod n n (2 ^ suc n - 1) (omega arith)) ∙ ap (digits n) (ap (λ x. x % 2 ^ n) e ∙ mod_low 1 n (2 ^ n - 1) below) in
-    rw (head, tail, ones_digits n) refl
-
-one_zero : digits 1 0 ≡ false ∷ []
-unfolding digits
-one_zero = refl
-
-unary_digits : (n : ℕ) → digits (n + 1) ((2 ^ n - 1) * 2) ≡ unary (1 + n)
-unary_digits n =
-    let one : digits 1 0 ≡ false ∷ [] = one_zero in
-    ap (digits (n + 1)) (sym (add-zero ((2 ^ n - 1) * 2))) ∙ digits_append n 1 (2 ^ n - 1) 0 (omega arith) ∙ rw (ones_digits n, one) (sym (unary_after n))
+unary_bits : (n : ℕ) → digits (n + 1) ((2 ^ n - 1) * 2) ≡ unary (1 + n)
+unary_bits n = unary_digits n ∙ sym (unary_after n)
 
 pub below_count : (e count bits rest : ℕ) → rest ≡ 2 ^ count - 1 - bits → 2 ^ e ≤ rest → e < count
 below_count e count bits rest is low =
@@ -95,7 +69,7 @@ unary_takes count bits rest e n small is low high at =
     let all : bits + 1 + rest ≡ 2 ^ count = omega (arith, is, small) in
     let sum : bits + 1 + rest ≡ 2 * ((2 ^ n - 1) * 2 ^ e + 2 ^ e) = all ∙ wide ∙ ap (λ x. 2 * x) (sym (less_one (2 ^ n) (2 ^ e) (pow_pos n))) in
     let first : bits / 2 ^ e ≡ (2 ^ n - 1) * 2 = quotient (2 ^ n - 1) (2 ^ e) rest bits low high sum in
-    takes_first (unary (1 + n)) (n + 1) e count bits (omega (arith, total)) (sym (unary_digits n) ∙ ap (digits (n + 1)) (sym first))
+    takes_first (unary (1 + n)) (n + 1) e count bits (omega (arith, total)) (sym (unary_bits n) ∙ ap (digits (n + 1)) (sym first))
 
 -- ---- short codes
 
@@ -136,10 +110,6 @@ low_size : (b size few : ℕ) → IsGapCode b size few → 1 ≤ size → 2 ^ (s
 low_size b size few code some =
     let c : IsCeil b (ceil_log2 b) = is_ceil b code.some (omega (arith, code.small)) in
     rw code.size_is (c.low (omega (arith, code.size_is, some)))
-
-no_bits : short 1 0 ≡ []
-unfolding short shorter ceil_log2 digits
-no_bits = refl
 
 pub none_takes : (b size few bits count : ℕ) → IsGapCode b size few → size ≡ 0 → bits < 2 ^ count → Takes (short b 0) bits count bits count
 none_takes b size few bits count code none small =
@@ -200,11 +170,6 @@ one_takes bits count c some at none =
     let same : bits % 2 ^ c ≡ bits = (let e : 0 * 2 ^ c + bits % 2 ^ c ≡ bits = rw none at parts in omega (arith, e)) in
     let takes : Takes (gamma 1) bits count (bits % 2 ^ c) c = takes_first (gamma 1) 1 c count bits (omega (arith, at, some)) (gamma_of_one ∙ sym one_zero ∙ ap (digits 1) (sym none)) in
     subst (λ n. Takes (gamma 1) bits count n c) same takes
-
-with_highest : (q v : ℕ) → v < 2 ^ q → digits q (2 ^ q + v) ≡ digits q v
-with_highest q v below =
-    let e : 2 ^ q + v ≡ 1 * 2 ^ q + v = omega arith in
-    sym (digits_mod q q (2 ^ q + v) (omega arith)) ∙ ap (digits q) (ap (λ n. n % 2 ^ q) e ∙ mod_low 1 q v below)
 
 few_ones : (bits count rest left n : ℕ) → count ≤ 57 → n ≤ left → Takes (unary (1 + n)) bits count rest left → n ≤ 28
 few_ones bits count rest left n few le one = omega (arith, few, le, one.fewer, length_unary_after n)

@@ -1,34 +1,15 @@
 -- The bytes of skip entries and their bits.
-use Rattle.std.proofs.Common.{arith, suc, zero, ◌≡◌, ◌+◌, ◌*◌, ◌<◌, ◌/◌, ◌^◌, ℕ, List, [], ◌∷◌, ◌++◌, refl, sym, ◌∙◌, ap}
+use Rattle.std.proofs.Common.{arith, suc, zero, ◌≡◌, ◌+◌, ◌<◌, ◌^◌, ℕ, List, [], ◌∷◌, ◌++◌, refl, ◌∙◌, ap}
 use Rattle.std.specs.Prelude.{flat_map}
 use Rattle.std.specs.Int.{bytes_high_first, byte_at}
 use Rattle.std.proofs.lemmas.List.Elements.{All-nil, All-cons, All-append}
-use Rattle.std.proofs.lemmas.Nat.{pow-add}
 use Rattle.mg_defs.specs.Bits.{bits_of, digits}
 use Rattle.mg_defs.specs.Lists.{SkipEntry, entry_bits}
 use Rattle.mg_defs.specs.Numbers.{eight}
-use Rattle.mg_defs.proofs.BitLaws.{bits_of_append, digits_mod}
+use Rattle.mg_defs.proofs.BitLaws.{bits_of_append}
 use Rattle.mg_bits.specs.Writer.{AreBytes}
-use Rattle.mg_bits.proofs.CallerLemmas.{digits_split}
+use Rattle.mg_bits.proofs.CallerLemmas.{bits_of_high}
 use Rattle.mg_post.specs.Writing.{entry_bytes}
-
-power_of_bytes : (k : ℕ) → 256 ^ k ≡ 2 ^ (8 * k)
-power_of_bytes zero = refl
-power_of_bytes (suc k) =
-    let e : 1 + k ≡ suc k = omega arith in
-    let d : 8 + 8 * k ≡ 8 * suc k = omega arith in
-    ap (λ n. 256 ^ n) (sym e) ∙ pow-add 256 1 k ∙ ap (λ x. 256 * x) (power_of_bytes k) ∙ sym (pow-add 2 8 (8 * k)) ∙ ap (λ n. 2 ^ n) d
-
-bits_of_byte : (k n : ℕ) → digits 8 (byte_at k n) ≡ digits 8 (n / 2 ^ (8 * k))
-bits_of_byte zero n = digits_mod 8 8 n (omega arith) ∙ ap (digits 8) (omega arith)
-bits_of_byte (suc k) n = digits_mod 8 8 (n / 256 ^ suc k) (omega arith) ∙ ap (λ p. digits 8 (n / p)) (power_of_bytes (suc k))
-
-bits_of_high : (k n : ℕ) → bits_of (bytes_high_first k n) ≡ digits (8 * k) n
-unfolding bits_of digits
-bits_of_high zero n = refl
-bits_of_high (suc k) n =
-    let e : 8 + 8 * k ≡ 8 * suc k = omega arith in
-    ap (λ l. digits 8 (byte_at k n) ++ l) (bits_of_high k n) ∙ ap (λ d. d ++ digits (8 * k) n) (bits_of_byte k n) ∙ sym (digits_split 8 (8 * k) n) ∙ ap (λ m. digits m n) e
 
 bits_of_eight : (n : ℕ) → bits_of (eight n) ≡ digits 64 n
 unfolding eight

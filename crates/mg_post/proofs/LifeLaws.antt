@@ -12,7 +12,7 @@ use Rattle.mg_defs.specs.PageBounds.{in_range, met_pages}
 use Rattle.mg_laws.proofs.BoundLaws.{range_true, met_rises, met_enters, met_whole, list_few}
 use Rattle.mg_laws.proofs.MetBlocks.{few_postings, met_all}
 use Rattle.mg_post.specs.Finding.{entries_pages}
-use Rattle.mg_post.specs.Cursor.{Cursoring, CursorStands, SameList, blocks_of, entered_pages, post_pages, Enters, EntersFor, ReadsBlock, ReadsTwo}
+use Rattle.mg_post.specs.Cursor.{Cursoring, CursorStands, SameList, entered_pages, post_pages, Enters, EntersFor, ReadsBlock, ReadsTwo}
 use Rattle.mg_post.specs.TermLists.{IsAmong, EnteredFor}
 
 -- in a call that was answered
@@ -44,14 +44,14 @@ entered_more asked ps c v doc found may same forward enters before =
         ]
 
 -- in a call that was refused, too
-pub entered_most : (asked : List ℕ) (ps : List Posting) (c v : Cursoring) (doc : ℕ) (r : Result (Option Posting) PartErr) → IsAmong asked ps doc → Enters r ps c doc v → EnteredFor asked ps c → entered_pages v ≤ met_pages asked c.parameter (8 * c.post_at) (block_count ps) ps
+pub entered_most : (asked : List ℕ) (ps : List Posting) (c v : Cursoring) (doc : ℕ) (r : Result (Option Posting) PartErr) → IsAmong asked ps doc → Enters r ps c doc v → EnteredFor asked ps c → entered_pages v ≤ met_pages asked c.parameter (8 * c.post_at) (block_count (length ps)) ps
 entered_most asked ps c v doc (Ok found) may enters before =
     elim (cases_lt c.last doc) [
       | inl past ↦ by_found found (enters.1 past)
       | inr here ↦ omega (arith, enters.0 here, before, met_all asked c.parameter (8 * c.post_at) c.reached ps)
     ]
   where
-    by_found : (o : Option Posting) → EntersFor o ps c doc v → entered_pages v ≤ met_pages asked c.parameter (8 * c.post_at) (block_count ps) ps
+    by_found : (o : Option Posting) → EntersFor o ps c doc v → entered_pages v ≤ met_pages asked c.parameter (8 * c.post_at) (block_count (length ps)) ps
     by_found None still = omega (arith, still, before, met_all asked c.parameter (8 * c.post_at) c.reached ps)
     by_found (Some p) entered = omega (arith, entered.pages, before, met_enters asked c.parameter (8 * c.post_at) c.reached entered.block ps entered.before (may entered.block entered.range), met_all asked c.parameter (8 * c.post_at) (entered.block + 1) ps)
 entered_most asked ps c v doc (Err refusal) may enters before =
@@ -60,13 +60,13 @@ entered_most asked ps c v doc (Err refusal) may enters before =
       | inr same ↦ omega (arith, same, before, met_all asked c.parameter (8 * c.post_at) c.reached ps)
     ]
 
-pub pages_few : (asked : List ℕ) (ps : List Posting) (files : Option Files) (c : Cursoring) → CursorStands c files ps → met_pages asked c.parameter (8 * c.post_at) (block_count ps) ps < 2 ^ 50
+pub pages_few : (asked : List ℕ) (ps : List Posting) (files : Option Files) (c : Cursoring) → CursorStands c files ps → met_pages asked c.parameter (8 * c.post_at) (block_count (length ps)) ps < 2 ^ 50
 pages_few asked ps files c stands =
     let few : length ps + 0 ≤ c.all = few_postings c.all 0 ps (omega arith) stands.list.entries.rises in
-    let blocks : block_count ps < 2 ^ 32 = omega (arith, few, stands.list.few) in
-    omega (arith, met_whole asked c.parameter (8 * c.post_at) (block_count ps) ps, list_few c.parameter (8 * c.post_at) (block_count ps) ps stands.list.entries.small blocks)
+    let blocks : block_count (length ps) < 2 ^ 32 = omega (arith, few, stands.list.few) in
+    omega (arith, met_whole asked c.parameter (8 * c.post_at) (block_count (length ps)) ps, list_few c.parameter (8 * c.post_at) (block_count (length ps)) ps stands.list.entries.small blocks)
 
-pub entries_few : (skip_at docs : ℕ) → docs < 2 ^ 32 → entries_pages skip_at (blocks_of docs) < 2 ^ 50
+pub entries_few : (skip_at docs : ℕ) → docs < 2 ^ 32 → entries_pages skip_at (block_count docs) < 2 ^ 50
 entries_few skip_at docs few = grind (arith)
 
 -- the count of Post rises by no more than the cursor's own

@@ -16,7 +16,7 @@ use Rattle.mg_post.specs.Stands.{ListStands}
 use Rattle.std.specs.declared.option.Option.{Option}
 use Rattle.mg_dev.specs.Files.{Files, file_at}
 use Rattle.mg_bits.specs.Feed.{told_at}
-use Rattle.mg_post.specs.Cursor.{blocks_of, CursorFits, Cursoring, CursorStands, SameList, StandsAt}
+use Rattle.mg_post.specs.Cursor.{CursorFits, Cursoring, CursorStands, SameList, StandsAt}
 use Rattle.mg_post.proofs.WriterLaws.{lists_whole, length_entries_to}
 use Rattle.mg_post.proofs.CursorLaws.{ended_after}
 use Rattle.mg_bits.proofs.CallerLemmas.{bits_stay, held_page_stays, holds_stay}
@@ -70,7 +70,7 @@ entries_split all a rest ps =
 
 pub list_stands : (all n : ℕ) (lists : List (List Posting)) (ps : List Posting) (post skip : List ℕ) → bits_of post ≡ lists_bits all lists → bits_of skip ≡ flat_map entry_bits (lists_entries all lists) →
     slice_get lists n ≡ Some ps → Rises all 0 ps → all < 2 ^ 32 - 1 → length (lists_bits all lists) ≤ 2 ^ 63 →
-    ListStands all (golomb_parameter all (length ps)) (Some post) (Some skip) (8 * (length (lists_bits all (take n lists)) / 8)) (length (lists_entries all (take n lists))) (length ps) (blocks_of (length ps)) ps
+    ListStands all (golomb_parameter all (length ps)) (Some post) (Some skip) (8 * (length (lists_bits all (take n lists)) / 8)) (length (lists_entries all (take n lists))) (length ps) (block_count (length ps)) ps
 list_stands all n lists ps post skip p s is rises few small =
     let a : List (List Posting) = take n lists in
     let rest : List (List Posting) = drop (suc n) lists in
@@ -89,7 +89,7 @@ list_stands all n lists ps post skip p s is rises few small =
         small = omega (arith, long, small);
         entries = λ k lt.
             let here : Begins (entry_bits (entry_of (golomb_parameter all (length ps)) k ps)) (drop (128 * k) (drop (length (flat_map entry_bits (lists_entries all a))) (bits_of skip))) =
-            entry_stands (golomb_parameter all (length ps)) (block_count ps) k ps _ lt front in
+            entry_stands (golomb_parameter all (length ps)) (block_count (length ps)) k ps _ lt front in
             let there : Begins (entry_bits (entry_of (golomb_parameter all (length ps)) k ps)) (drop (length (flat_map entry_bits (lists_entries all a)) + 128 * k) (bits_of skip)) = rw drop-drop at here in
             let e : length (flat_map entry_bits (lists_entries all a)) + 128 * k ≡ 128 * (length (lists_entries all a) + k) = omega (arith, length_entries (lists_entries all a)) in
             subst (λ m. Begins (entry_bits (entry_of (golomb_parameter all (length ps)) k ps)) (drop m (bits_of skip))) e there;
@@ -111,7 +111,7 @@ got_mapped collection (u ∷ terms) (suc n) t is = got_mapped collection terms n
 
 pub term_stands : (collection : List ℕ) (n : ℕ) (t : List ℕ) (post skip : List ℕ) → length collection < 2 ^ 32 → length (documents collection) < 2 ^ 32 - 1 → bits_of post ≡ post_bits collection → bits_of skip ≡ skip_bits collection →
     slice_get (dictionary collection) n ≡ Some t → length (post_bits collection) ≤ 2 ^ 63 →
-    ListStands (length (documents collection)) (golomb_parameter (length (documents collection)) (length (postings collection t))) (Some post) (Some skip) (8 * list_byte collection n) (first_entry collection n) (length (postings collection t)) (blocks_of (length (postings collection t))) (postings collection t)
+    ListStands (length (documents collection)) (golomb_parameter (length (documents collection)) (length (postings collection t))) (Some post) (Some skip) (8 * list_byte collection n) (first_entry collection n) (length (postings collection t)) (block_count (length (postings collection t))) (postings collection t)
 term_stands collection n t post skip short few p s is small =
     list_stands (length (documents collection)) n (inverted collection) (postings collection t) post skip p s (got_mapped collection (dictionary collection) n t is) (list_rises collection t short) few small
 

@@ -105,12 +105,12 @@ asked_answer base collection asked t doc files c v (Err (err.Bad bad)) m same fo
 
 -- ---- how many pages
 
-pub pages_are : (base collection asked t : List ℕ) (n : ℕ) (c : Cursoring) → CursorFor base collection asked t n c → met_pages asked c.parameter (8 * c.post_at) (block_count (postings collection t)) (postings collection t) ≡ pages_for collection asked t
+pub pages_are : (base collection asked t : List ℕ) (n : ℕ) (c : Cursoring) → CursorFor base collection asked t n c → met_pages asked c.parameter (8 * c.post_at) (block_count (length (postings collection t))) (postings collection t) ≡ pages_for collection asked t
 unfolding pages_for
 pages_are base collection asked t n c f =
     let ps = postings collection t in
     let at : 8 * c.post_at ≡ list_bit collection t = ap (λ x. 8 * x) f.over.post_at_is ∙ ap (λ k. 8 * list_byte collection k) (sym (number_is collection f.number t f.term)) in
-    ap (λ x. met_pages asked x (8 * c.post_at) (block_count ps) ps) f.parameter ∙ ap (λ x. met_pages asked (parameter_of collection t) x (block_count ps) ps) at
+    ap (λ x. met_pages asked x (8 * c.post_at) (block_count (length ps)) ps) f.parameter ∙ ap (λ x. met_pages asked (parameter_of collection t) x (block_count (length ps)) ps) at
 
 pub asked_pages : (base collection asked t : List ℕ) (doc : ℕ) (files : Option Files) (c v : Cursoring) (r : Result (Option Posting) PartErr) (before now : Reads) → MayAsk base collection asked t doc files c → ReadsTwo c v before now → Entered files c doc r v →
     PagesWithin (pages_for collection asked t) (post_pages c) (post_pages v) before now

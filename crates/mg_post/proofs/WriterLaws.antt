@@ -8,9 +8,8 @@ use Rattle.mg_dev.specs.Files.{Files, Reads, bytes_at}
 use Rattle.mg_bits.specs.Writer.{AreBytes, Writing, Wrote, WroteTo, put_to}
 use Rattle.mg_bits.specs.BitWriting.{BitWriting, Holds, WroteBits, bits_put}
 use Rattle.mg_bits.proofs.CallerLemmas.{bits_stay, holds_stay, bytes_again}
-use Rattle.mg_defs.specs.CodedText.{as_bytes}
 use Rattle.mg_defs.specs.declared.Posting.{Posting}
-use Rattle.mg_defs.specs.Bits.{Bits, bits_of, digits, filled, to_byte}
+use Rattle.mg_defs.specs.Bits.{Bits, bits_of, digits, filled, to_byte, as_bytes}
 use Rattle.mg_defs.specs.Codes.{golomb_parameter}
 use Rattle.mg_defs.specs.Lists.{SkipEntry, posting_bits, bits_after, last_doc, doc_before, bits_before, block_count, entry_of, entries_to, entry_bits, bits_of_list, entries_of_list, lists_bits, lists_entries}
 use Rattle.mg_defs.proofs.BitLaws.{length_digits}
@@ -176,7 +175,7 @@ took_entry w q k f g h r s t lists ps p at wrote to holds short within few entry
 
 -- the entries of all blocks of the list are written
 pub record SkipEnded (w : Listing) (k : Writing) (g : Option Files) (lists : List (List Posting)) (ps : List Posting) (blocks : ℕ) : Type 0 where
-  pub blocks_is : blocks ≡ block_count ps
+  pub blocks_is : blocks ≡ block_count (length ps)
   pub name : k.name ≡ w.skip.name
   pub bytes : IsSome g → put_to k g ≡ flat_map entry_bytes (lists_entries w.all lists ++ entries_to w.parameter blocks ps)
   pub few : blocks ≤ w.pushed
@@ -270,7 +269,7 @@ took_ended w q k f g h r s t lists ps blocks ended to align align_to align_holds
     ap length (one_list_more w.all lists ps ∙ ap (λ l. lists_bits w.all lists ++ l) (sym full))
     ∙ length-append (lists_bits w.all lists) (bits_after w.parameter 0 ps ++ digits (to_byte w.post.place) 0)
     ∙ ap (λ n. length (lists_bits w.all lists) + n) (length-append (bits_after w.parameter 0 ps) (digits (to_byte w.post.place) 0)) in
-    let its : entries_to w.parameter blocks ps ≡ entries_of_list w.all ps = ap (λ n. entries_to w.parameter n ps) ended.blocks_is ∙ ap (λ b. entries_to b (block_count ps) ps) b_is in
+    let its : entries_to w.parameter blocks ps ≡ entries_of_list w.all ps = ap (λ n. entries_to w.parameter n ps) ended.blocks_is ∙ ap (λ b. entries_to b (block_count (length ps)) ps) b_is in
     let start_is : q.place ≡ length (lists_bits w.all (lists ++ ps ∷ [])) = omega (arith, long, align.place, took.place, took.start) in
     record {
       apart = λ same. apart_k (sym same ∙ align.name);

@@ -41,6 +41,10 @@ OrDevice (Ok value) fact = fact value
 OrDevice (Err Device) fact = Unit {0}
 OrDevice (Err (Damaged at)) fact = ⊥
 
+-- this is answered, or the device failed
+abbrev pub AnswersThis : {T : Type 0} → Result T Refusal → T → Type 0
+AnswersThis result value = OrDevice result (λ answer. answer ≡ value)
+
 -- a device's failure has a cause
 abbrev pub RefusalCause : {T : Type 0} → Result T Refusal → ℕ → ℕ → Type 0
 RefusalCause (Ok value) before now = Unit {0}

@@ -1,5 +1,5 @@
 -- A cursor over a list: what contracts see of it, and where it stands in its list.
-use Rattle.std.specs.Prelude.{◌≡◌, ◌≢◌, ℕ, ◌+◌, ◌-◌, ◌*◌, ◌/◌, ◌^◌, ◌<◌, ◌≤◌, ◌⊎◌, Bool, true, false, List, [], ◌∷◌, ◌++◌, length, take, drop, min, Option, Some, None, Result, Ok, Err}
+use Rattle.std.specs.Prelude.{◌≡◌, ◌≢◌, ℕ, ◌+◌, ◌-◌, ◌*◌, ◌^◌, ◌<◌, ◌≤◌, ◌⊎◌, Bool, true, false, List, [], ◌∷◌, ◌++◌, length, take, drop, min, Option, Some, None, Result, Ok, Err}
 use Rattle.mg_dev.specs.Bads.{IsBad}
 use Rattle.mg_dev.specs.Files.{Files, Reads}
 use Rattle.mg_dev.specs.declared.part.Part.{Part}
@@ -8,10 +8,12 @@ use Rattle.mg_dev.specs.declared.part_err.PartErr.{PartErr}
 use Rattle.mg_dev.specs.declared.part_err.PartErr.TheVariants as err
 use Rattle.mg_bits.specs.Feed.{told_at, raised}
 use Rattle.mg_bits.specs.Pages.{Paging, Fits}
+use Rattle.mg_bits.specs.Alike.{WhereSame}
 use Rattle.mg_defs.specs.declared.Posting.{Posting}
-use Rattle.mg_defs.specs.Lists.{from_doc, block_of, block_pages, InRange, Rises, doc_before, last_doc}
+use Rattle.mg_defs.specs.Lists.{from_doc, block_of, block_count, block_pages, InRange, Rises, doc_before, last_doc}
 use Rattle.mg_post.specs.Stands.{ListStands}
 use Rattle.mg_post.specs.Finding.{SkipReads}
+use Rattle.mg_post.specs.Answers.{AnswersList}
 
 abbrev pub head_of : List Posting → Option Posting
 head_of [] = None
@@ -64,10 +66,6 @@ pub record Cursoring : Type 0 where
   -- the pages of the blocks that were entered; of one whose reading was refused, those that were read
   pub entered : ℕ
 
--- how many blocks so many postings have
-abbrev pub blocks_of : ℕ → ℕ
-blocks_of docs = (docs + 63) / 64
-
 -- ---- the three numbers: each stands still at 2^64 - 1
 
 -- the pages of Post that were read
@@ -92,7 +90,11 @@ pub record CursorFits (c : Cursoring) (files : Option Files) : Type 0 where
 
 -- its parts hold this list and its skip entries
 pub record CursorStands (c : Cursoring) (files : Option Files) (ps : List Posting) : Type 0 where
-  pub list : ListStands c.all c.parameter (told_at files c.post.name) (told_at files c.skip.name) (8 * c.post_at) c.skip_at c.docs (blocks_of c.docs) ps
+  pub list : ListStands c.all c.parameter (told_at files c.post.name) (told_at files c.skip.name) (8 * c.post_at) c.skip_at c.docs (block_count c.docs) ps
+
+-- a fact where both stores tell alike and hold the same two parts of a cursor
+abbrev pub WhereSameLists : Cursoring → Option Files → Option Files → Type 0 → Type 0
+WhereSameLists c one other fact = WhereSame one other c.post.name c.skip.name fact
 
 -- it is over the same list
 pub record SameList (old new : Cursoring) : Type 0 where
@@ -128,6 +130,14 @@ StandsOn false ps reached last held left = Walks ps reached last held left
 -- of this list, these postings are left from the current one on; before the first one, all
 pub record StandsAt (c : Cursoring) (ps left : List Posting) : Type 0 where
   pub on : StandsOn c.ended ps c.reached c.last c.held left
+
+-- a fact on a list over which a cursor is, and on the postings of it that are left
+abbrev pub ForList : Cursoring → Option Files → (List Posting → List Posting → Type 0) → Type 0
+ForList c files fact = (ps left : List Posting) → CursorStands c files ps → StandsAt c ps left → fact ps left
+
+-- the first of these postings of the list is answered, and the cursor stands before them
+abbrev pub AnswersRest : Result (Option Posting) PartErr → Cursoring → List Posting → List Posting → Type 0
+AnswersRest result c ps rest = AnswersList result (λ found. (found ≡ head_of rest) × StandsAt c ps rest)
 
 -- a cursor over the list that the lexicon tells of
 pub record IsOver (c : Cursoring) (post skip : List ℕ) (post_byte first_entry count documents : ℕ) : Type 0 where

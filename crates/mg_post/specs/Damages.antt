@@ -8,7 +8,8 @@ use Rattle.mg_dev.specs.declared.part_err.PartErr.{PartErr}
 use Rattle.mg_dev.specs.declared.part_err.PartErr.TheVariants.{Device, Memory, Bad}
 use Rattle.mg_bits.specs.Feed.{told_at}
 use Rattle.mg_defs.specs.declared.Posting.{Posting}
-use Rattle.mg_post.specs.Cursor.{Cursoring, blocks_of}
+use Rattle.mg_defs.specs.Lists.{block_count}
+use Rattle.mg_post.specs.Cursor.{Cursoring}
 use Rattle.mg_post.specs.Finding.{LacksAnEntry, TellsBlock}
 use Rattle.mg_post.specs.Stands.{BlockStands, SkipStands}
 
@@ -26,7 +27,7 @@ IfNames own (Bad bad) fact = bad.part ≡ own → fact
 
 -- the skip entries of this list stand where the cursor reads them, whatever Post has
 pub record EntriesStand (c : Cursoring) (files : Option Files) (ps : List Posting) : Type 0 where
-  pub entries : SkipStands c.all c.parameter (told_at files c.skip.name) c.skip_at (blocks_of c.docs) ps
+  pub entries : SkipStands c.all c.parameter (told_at files c.skip.name) c.skip_at (block_count c.docs) ps
   pub few : c.all < 2 ^ 32 - 1
 
 -- the skip entries lead from where the cursor stands to a block whose range holds the document, and no such block stands in Post
@@ -36,7 +37,7 @@ pub record BlockIsMissing (c : Cursoring) (files : Option Files) (doc : ℕ) : T
   pub last : ℕ
   pub bits : ℕ
   pub from : c.reached ≤ block
-  pub there : block < blocks_of c.docs
+  pub there : block < block_count c.docs
   pub after : before < doc
   pub within : doc ≤ last
   pub most : last ≤ c.all
@@ -49,4 +50,4 @@ HasPostCause c files doc refusal = IfNames Post refusal (BlockIsMissing c files 
 
 -- a damage of Skip has a cause: of a block from where the cursor stands on, no entry stands
 abbrev pub HasSkipCause : Cursoring → Option Files → PartErr → Type 0
-HasSkipCause c files refusal = IfNames Skip refusal (LacksAnEntry (told_at files c.skip.name) c.skip_at c.all c.reached (blocks_of c.docs))
+HasSkipCause c files refusal = IfNames Skip refusal (LacksAnEntry (told_at files c.skip.name) c.skip_at c.all c.reached (block_count c.docs))

@@ -1,10 +1,13 @@
 -- The block whose range holds a document, and the pages of the skip entries that were read for it.
-use Rattle.std.specs.Prelude.{◌≡◌, ℕ, ◌+◌, ◌-◌, ◌*◌, ◌/◌, ◌<◌, ◌≤◌, ◌⊎◌, List, length, Option, Some, None}
+use Rattle.std.specs.Prelude.{◌≡◌, ℕ, ◌+◌, ◌-◌, ◌*◌, ◌/◌, ◌<◌, ◌≤◌, ◌⊎◌, List, length, Option, Some, None, Result, IfOk}
 use Rattle.mg_defs.specs.Bits.{Begins, FromPlace, digits}
 use Rattle.mg_defs.specs.declared.Posting.{Posting}
 use Rattle.mg_defs.specs.Lists.{InRange, doc_before, bits_before}
 use Rattle.mg_defs.specs.PagesOf.{pages}
+use Rattle.mg_post.specs.Answers.{OrDevice}
+use Rattle.mg_post.specs.Stands.{SkipStands}
 use Rattle.mg_post.specs.declared.find.Found.{Found}
+use Rattle.mg_post.specs.declared.refusal.Refusal.{Refusal}
 
 -- what was found of the block whose range holds a document
 pub record IsFoundAt (b : ℕ) (ps : List Posting) (blocks doc block before last at : ℕ) : Type 0 where
@@ -48,6 +51,14 @@ pub record TellsBlock (skip : Option (List ℕ)) (skip_at reached known block be
   pub last_is : TellsLast skip skip_at block last
   pub at_is : TellsBits skip skip_at block at
 
+-- the same of a block that was found
+abbrev pub TellsFound : Option (List ℕ) → ℕ → ℕ → ℕ → Found → Type 0
+TellsFound skip skip_at reached known f = TellsBlock skip skip_at reached known f.block f.before f.last f.at
+
+-- where the last document of the last block is told by its entry, what was found is told by the entries
+abbrev pub TellsOnPage : Option (List ℕ) → ℕ → ℕ → ℕ → ℕ → ℕ → Result Found Refusal → Type 0
+TellsOnPage skip skip_at low high before last result = TellsLast skip skip_at high last → IfOk result (TellsFound skip skip_at low before)
+
 -- no entry of a block among so many documents stands: Skip ends before its end, or its last document is beyond all
 abbrev pub LacksEntry : Option (List ℕ) → ℕ → ℕ → ℕ → Type 0
 LacksEntry skip skip_at all block = FromPlace skip (128 * (skip_at + block)) (λ bits. length bits < 128) ⊎ ((last : ℕ) × (all < last) × TellsLast skip skip_at block last)
@@ -80,3 +91,15 @@ pub record SkipReads (skip_at low : ℕ) (held : Option ℕ) (count : ℕ) : Typ
 abbrev pub blocks_after : ℕ → Option Found → ℕ
 blocks_after blocks None = blocks
 blocks_after blocks (Some f) = f.block + 1
+
+-- ---- what a search answers where the entries stand
+
+-- among the blocks from one to another, whose entries lie on one page, the block whose range holds the document is found; the last documents before and of these blocks are known
+abbrev pub FindsOnPage : Option (List ℕ) → ℕ → ℕ → ℕ → ℕ → ℕ → ℕ → ℕ → Result Found Refusal → Type 0
+FindsOnPage skip skip_at all low high before last doc result = (ps : List Posting) (b blocks : ℕ) → SkipStands all b skip skip_at blocks ps → high < blocks →
+    before ≡ doc_before (64 * low) ps → last ≡ doc_before (64 * (high + 1)) ps → OrDevice result (λ f. IsFoundAt b ps blocks doc f.block f.before f.last f.at)
+
+-- of so many blocks the one whose range holds the document is found, or none where all end before it; the last document before the blocks that are left is known
+abbrev pub FindsBlock : Option (List ℕ) → ℕ → ℕ → ℕ → ℕ → ℕ → ℕ → Result (Option Found) Refusal → Type 0
+FindsBlock skip skip_at all blocks reached last doc result = (ps : List Posting) (b : ℕ) → SkipStands all b skip skip_at blocks ps →
+    last ≡ doc_before (64 * reached) ps → OrDevice result (IsFound b ps blocks doc)

@@ -1,8 +1,11 @@
 pub mod Ahead
 pub mod Answers
-pub mod Cursor
-pub mod Damages
-pub mod Finding
 pub mod Stands
+pub mod Reading
+pub mod Finding
+pub mod Cursor
+pub mod Entering
+pub mod Damages
+pub mod Laws
 pub mod TermLists
 pub mod Writing

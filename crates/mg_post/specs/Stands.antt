@@ -2,12 +2,16 @@
 use Rattle.std.specs.Prelude.{◌≡◌, ℕ, ◌+◌, ◌-◌, ◌*◌, ◌^◌, ◌<◌, ◌≤◌, List, length, drop, Option, Some, None}
 use Rattle.mg_defs.specs.declared.Posting.{Posting}
 use Rattle.mg_defs.specs.Bits.{Bits, bits_of, Begins}
-use Rattle.mg_defs.specs.Lists.{bits_after, last_doc, Rises, entry_of, entry_bits}
+use Rattle.mg_defs.specs.Lists.{SkipEntry, bits_after, last_doc, Rises, entry_of, entry_bits}
 
 -- these bits stand at this place of bytes that are told
 abbrev pub Shows : Option (List ℕ) → ℕ → Bits → Type 0
 Shows None place bits = ⊥
 Shows (Some bytes) place bits = Begins bits (drop place (bits_of bytes))
+
+-- this skip entry stands as that of a block, the first block's being the entry of a number
+abbrev pub ShowsEntry : Option (List ℕ) → ℕ → ℕ → SkipEntry → Type 0
+ShowsEntry skip skip_at block e = Shows skip (128 * (skip_at + block)) (entry_bits e)
 
 -- the skip entries of so many blocks stand, from the entry of this number on
 pub record SkipStands (all b : ℕ) (skip : Option (List ℕ)) (skip_at blocks : ℕ) (ps : List Posting) : Type 0 where

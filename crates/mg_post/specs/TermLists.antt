@@ -1,5 +1,5 @@
 -- A cursor over the list of a term of a collection, and the pages that it enters over its life.
-use Rattle.std.specs.Prelude.{◌≡◌, ◌≢◌, ℕ, ◌+◌, ◌-◌, ◌*◌, ◌^◌, ◌<◌, ◌≤◌, true, List, length, slice_get, Option, Some}
+use Rattle.std.specs.Prelude.{◌≡◌, ◌≢◌, ℕ, ◌+◌, ◌-◌, ◌*◌, ◌^◌, ◌<◌, ◌≤◌, true, List, length, slice_get, Option, Some, Result, Ok}
 use Rattle.std.specs.Option.{IsSome}
 use Rattle.mg_dev.specs.Files.{Files, Reads, bytes_at}
 use Rattle.mg_dev.specs.Names.{full_name}
@@ -10,12 +10,14 @@ use Rattle.mg_defs.specs.Bits.{bits_of}
 use Rattle.mg_defs.specs.Codes.{golomb_parameter}
 use Rattle.mg_defs.specs.Split.{documents}
 use Rattle.mg_defs.specs.Terms.{dictionary}
-use Rattle.mg_defs.specs.Lists.{postings, from_doc, InRange, post_bits, skip_bits, list_byte, first_entry}
+use Rattle.mg_defs.specs.Lists.{block_count, postings, from_doc, InRange, post_bits, skip_bits, list_byte, first_entry}
 use Rattle.mg_defs.specs.Lexicon as defs
-use Rattle.mg_defs.specs.PageBounds.{is_met, met_pages}
+use Rattle.mg_defs.specs.PageBounds.{is_met, met_pages, pages_for}
 use Rattle.mg_layout.specs.Infos.{info_of}
 use Rattle.mg_layout.specs.declared.term_info.TermInfo.{TermInfo}
-use Rattle.mg_post.specs.Cursor.{Cursoring, IsOver, StandsAt, entered_pages, head_of, post_pages}
+use Rattle.mg_dev.specs.declared.part_err.PartErr.{PartErr}
+use Rattle.mg_post.specs.Answers.{AnswersList}
+use Rattle.mg_post.specs.Cursor.{Cursoring, Enters, SameList, IsOver, StandsAt, entered_pages, head_of, post_pages}
 
 -- ---- the pages that are entered over a cursor's life
 
@@ -26,6 +28,18 @@ IsAmong asked ps doc = (k : ℕ) → InRange k ps doc → is_met asked ps k ≡ 
 -- no pages were entered but those of the blocks, up to the last that was reached, whose range holds a document of these: each block once
 abbrev pub EnteredFor : List ℕ → List Posting → Cursoring → Type 0
 EnteredFor asked ps c = entered_pages c ≤ met_pages asked c.parameter (8 * c.post_at) c.reached ps
+
+-- the pages of all blocks of the cursor's list whose range holds a document of these
+abbrev pub all_met : List ℕ → Cursoring → List Posting → ℕ
+all_met asked c ps = met_pages asked c.parameter (8 * c.post_at) (block_count (length ps)) ps
+
+-- where a call was answered that is over the same list and goes no block back, the cursor keeps to these documents
+abbrev pub KeepsEntered : List ℕ → List Posting → Cursoring → Cursoring → ℕ → Option Posting → Type 0
+KeepsEntered asked ps c v doc found = SameList c v → c.reached ≤ v.reached → Enters (Ok found) ps c doc v → EnteredFor asked ps c → EnteredFor asked ps v
+
+-- where the cursor kept to these documents, a call comes to no more pages than all of their blocks have
+abbrev pub MostEntered : List ℕ → List Posting → Cursoring → Cursoring → ℕ → Result (Option Posting) PartErr → Type 0
+MostEntered asked ps c v doc result = Enters result ps c doc v → EnteredFor asked ps c → entered_pages v ≤ all_met asked c ps
 
 -- ---- the lists of a collection
 
@@ -55,6 +69,15 @@ pub record CursorFor (base collection asked t : List ℕ) (n : ℕ) (c : Cursori
   pub first : post_pages c ≤ entered_pages c
   pub within : EnteredFor asked (postings collection t) c
 
+-- a cursor over the list that the lexicon tells of, of a base
+abbrev pub IsOverInfo : Cursoring → List ℕ → TermInfo → ℕ → Type 0
+IsOverInfo c base info all = IsOver c (full_name base part.Post) (full_name base part.Skip) info.post_at info.skip_at info.docs all
+
+-- a cursor over the list of each term of which the lexicon tells this
+abbrev pub CursorForInfo : List ℕ → TermInfo → ℕ → Cursoring → Type 0
+CursorForInfo base info all c =
+    (collection asked t : List ℕ) (n : ℕ) → IsInfoOf collection t info → all ≡ length (documents collection) → CursorFor base collection asked t n c
+
 -- it may be asked for the document: the lists stand, and each block of its list whose range holds the document is one that may be read
 pub record MayAsk (base collection asked t : List ℕ) (doc : ℕ) (files : Option Files) (c : Cursoring) : Type 0 where
   pub stand : ListsStand base files collection
@@ -65,6 +88,14 @@ pub record MayAsk (base collection asked t : List ℕ) (doc : ℕ) (files : Opti
 pub record AnswersAsk (base collection asked t : List ℕ) (doc : ℕ) (found : Option Posting) (c : Cursoring) : Type 0 where
   pub found_is : found ≡ head_of (from_doc doc (postings collection t))
   pub cursor : CursorFor base collection asked t doc c
+
+-- a fact on a base, its collection, the documents that are asked, and a term over whose list a cursor is that may be asked for a document
+abbrev pub ForTerm : ℕ → Option Files → Cursoring → (List ℕ → List ℕ → List ℕ → List ℕ → Type 0) → Type 0
+ForTerm doc files c fact = (base collection asked t : List ℕ) → MayAsk base collection asked t doc files c → fact base collection asked t
+
+-- the first posting from the document on is answered, or the device failed
+abbrev pub AnswersForTerm : Result (Option Posting) PartErr → ℕ → Cursoring → List ℕ → List ℕ → List ℕ → List ℕ → Type 0
+AnswersForTerm result doc c base collection asked t = AnswersList result (λ found. AnswersAsk base collection asked t doc found c)
 
 -- ---- what a call reads
 
@@ -77,3 +108,11 @@ pub record ReadsLists (before now : Reads) : Type 0 where
 pub record PagesWithin (bound old new : ℕ) (before now : Reads) : Type 0 where
   pub within : new ≤ bound
   pub post : now part.Post + old ≤ before part.Post + new
+
+-- the pages of Post that a cursor over the list of a term read before and now are within those that may be read
+abbrev pub TermPages : Cursoring → Cursoring → Reads → Reads → List ℕ → List ℕ → List ℕ → List ℕ → Type 0
+TermPages old new before now base collection asked t = PagesWithin (pages_for collection asked t) (post_pages old) (post_pages new) before now
+
+-- the store's count of Post rose by no more than the pages of it that the cursor read
+abbrev pub PostRises : Cursoring → Cursoring → Reads → Reads → Type 0
+PostRises old new before now = now part.Post + post_pages old ≤ before part.Post + post_pages new

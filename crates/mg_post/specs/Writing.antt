@@ -1,13 +1,15 @@
 -- A writer of lists: what contracts see of it, and which lists it was handed.
-use Rattle.std.specs.Prelude.{◌≡◌, ◌≢◌, ◌≤◌, ◌<◌, ◌+◌, ◌*◌, ◌^◌, ◌++◌, ℕ, List, length, flat_map}
+use Rattle.std.specs.Prelude.{◌≡◌, ◌≢◌, ◌≤◌, ◌<◌, ◌+◌, ◌*◌, ◌^◌, ◌/◌, ◌++◌, ◌∷◌, ℕ, List, [], length, flat_map}
 use Rattle.std.specs.Option.{IsSome}
 use Rattle.std.specs.declared.option.Option.{Option}
-use Rattle.mg_dev.specs.Files.{Files, bytes_at}
+use Rattle.mg_dev.specs.Files.{Files, bytes_at, written}
+use Rattle.mg_dev.specs.Names.{full_name}
+use Rattle.mg_dev.specs.declared.part.Part.TheVariants as part
 use Rattle.mg_bits.specs.BitWriting.{BitWriting, Holds, bits_put}
-use Rattle.mg_bits.specs.Writer.{Writing, put_to}
+use Rattle.mg_bits.specs.Alike.{WhereSame}
+use Rattle.mg_bits.specs.Writer.{Writing, Wrote, put_to}
 use Rattle.mg_defs.specs.declared.Posting.{Posting}
-use Rattle.mg_defs.specs.Bits.{bits_of}
-use Rattle.mg_defs.specs.CodedText.{as_bytes}
+use Rattle.mg_defs.specs.Bits.{bits_of, as_bytes}
 use Rattle.mg_defs.specs.Codes.{golomb_parameter}
 use Rattle.mg_defs.specs.Numbers.{eight}
 use Rattle.mg_defs.specs.Lists.{SkipEntry, bits_after, bits_before, last_doc, entry_bits, entries_to, lists_bits, lists_entries}
@@ -66,6 +68,38 @@ pub record Took (w : Listing) (files : Option Files) (lists : List (List Posting
   pub bound : w.post.place + 2 ^ 25 * w.pushed ≤ 2 ^ 26 * w.total
   pub room : w.first + w.pushed ≤ w.total
   pub total : w.total ≤ 2 ^ 32
+
+-- a fact on the lists and the postings that a writer took
+abbrev pub ForTook : Listing → Option Files → (List (List Posting) → List Posting → Type 0) → Type 0
+ForTook w files fact = (lists : List (List Posting)) (ps : List Posting) → Took w files lists ps → fact lists ps
+
+-- whatever lists and postings the writer took, it took this posting too
+abbrev pub TookPosting : Listing → Listing → Option Files → Option Files → Posting → Type 0
+TookPosting old new before now p = ForTook old before (λ lists ps. Took new now lists (ps ++ p ∷ []))
+
+-- whatever lists and postings the writer took, the postings are a list now
+abbrev pub TookList : Listing → Listing → Option Files → Option Files → Type 0
+TookList old new before now = ForTook old before (λ lists ps. Took new now (lists ++ ps ∷ []) [])
+
+-- a fact where both stores tell alike and hold the same two files of a writer
+abbrev pub WhereSameFiles : Listing → Option Files → Option Files → Type 0 → Type 0
+WhereSameFiles w one other fact = WhereSame one other w.post.name w.skip.name fact
+
+-- a fact on the lists that a writer took, where the files are told and no list is begun
+abbrev pub WhereTaken : Listing → Option Files → (List (List Posting) → Type 0) → Type 0
+WhereTaken w files fact = (lists : List (List Posting)) → Took w files lists [] → IsSome files → fact lists
+
+-- the bytes of these lists, and the number of their skip entries
+abbrev pub AreSizesOf : ℕ → List (List Posting) → ℕ × ℕ → Type 0
+AreSizesOf all lists sizes = (sizes.0 ≡ length (lists_bits all lists) / 8) × (sizes.1 ≡ length (lists_entries all lists))
+
+-- the skip entry of a block, by its last document and the bits before it, was written
+abbrev pub WroteEntry : Writing → Writing → Option Files → Option Files → ℕ → ℕ → Type 0
+WroteEntry old new before now last bits = Wrote old new before now (entry_bytes (skip_entry last bits))
+
+-- the files with the two parts of a base there and empty
+abbrev pub with_empty_lists : List ℕ → Option Files → Option Files
+with_empty_lists base files = written (written files (full_name base part.Post) []) (full_name base part.Skip) []
 
 -- what every call keeps
 pub record SameFiles (old new : Listing) : Type 0 where

@@ -1,12 +1,12 @@
 // The postings of one block, from the current one on.
 ghost use Rattle.std.specs.Prelude.{◌≡◌, ◌+◌, ◌-◌, ◌*◌, ◌<◌, ◌≤◌, ◌^◌, ℕ, List, [], ◌++◌, length, take, drop, IfOk, OnOk, OnErr, MatchResult};
-ghost use Rattle.std.specs.Bool.{OnTrue, OnFalse};
-ghost use Rattle.mg_bits.specs.Feed.{Calm, Read, ReadsWithin};
+ghost use Rattle.mg_bits.specs.Feed.{Calm};
 ghost use Rattle.mg_defs.specs.declared.Posting.{Posting};
 ghost use Rattle.mg_defs.specs.Lists.{bits_after, Rises, from_doc, last_doc};
-ghost use Rattle.mg_post.specs.Stands.{Shows};
 ghost use Rattle.mg_post.specs.Cursor.{head_of, GoesOn};
 ghost use Rattle.mg_post.specs.Answers.{OrDevice, RefusalCause};
+ghost use Rattle.mg_post.specs.Reading.{OnlyListPages, ForNextList};
+ghost use Rattle.mg_bits.specs.NextBits.{ReadNext};
 
 use crate::read::read_block;
 use crate::refusal::Refusal;
@@ -115,19 +115,12 @@ impl Block {
         requires room { count ≤ 64 }
         ensures fits { F.fits r.new.feed (F.device dev.new).files }
         ensures calm { Calm (F.feeding r.old.feed) (F.feeding r.new.feed) (F.device dev.old) (F.device dev.new) }
-        ensures read { OnOk result (Read (F.feeding r.old.feed) (F.feeding r.new.feed) (F.device dev.old) (F.device dev.new) r.old.place
-            (r.old.place + length (bits_after parameter before self.new))) }
-        ensures pages { OnErr result ((ps : List Posting) → Rises all before ps → count ≤ length ps →
-            r.old.place + length (bits_after parameter before ps) ≤ 2 ^ 63 →
-            Shows ((F.feeding r.old.feed).source (F.device dev.old).files) r.old.place (bits_after parameter before ps) →
-            ReadsWithin (F.feeding r.old.feed) (F.feeding r.new.feed) (F.device dev.old) (F.device dev.new) r.old.place
-            (r.old.place + length (bits_after parameter before (take count ps)))) }
+        ensures read { OnOk result (ReadNext F.feeding F.device r.old r.new dev.old dev.new (length (bits_after parameter before self.new))) }
+        ensures pages { OnErr result (OnlyListPages F.feeding F.device r.old r.new dev.old dev.new all parameter before count) }
         ensures rises { OnOk result (Rises all before self.new) }
         ensures last { IfOk result (λ last. last ≡ last_doc before self.new) }
         ensures place { MatchResult result (λ _. r.new.place ≡ r.old.place + length (bits_after parameter before self.new)) (λ _. r.new.place ≡ r.old.place) }
-        ensures told { (ps : List Posting) → Rises all before ps → count ≤ length ps → r.old.place + length (bits_after parameter before ps) ≤ 2 ^ 63 →
-            Shows ((F.feeding r.old.feed).source (F.device dev.old).files) r.old.place (bits_after parameter before ps) →
-            OrDevice result (λ _. self.new ≡ take count ps) }
+        ensures told { ForNextList F.feeding F.device r.old dev.old all parameter before count (λ ps. OrDevice result (λ _. self.new ≡ take count ps)) }
         ensures cause { RefusalCause result (F.device dev.old).faults (F.device dev.new).faults }
     {
         match read_block(r, dev, parameter, count, before, all, &mut self.postings) {

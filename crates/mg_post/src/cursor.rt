@@ -1,19 +1,16 @@
 // A cursor over a list.
-ghost use Rattle.std.specs.Prelude.{◌≡◌, ◌≢◌, ◌+◌, ◌*◌, ◌/◌, ◌<◌, ◌≤◌, ◌^◌, ℕ, List, [], length, true, false, Option, Some, None, Ok, Err, IfOk, IfErr, IfSome, OnOk, OnErr};
+ghost use Rattle.std.specs.Prelude.{◌≡◌, ◌≢◌, ◌+◌, ◌*◌, ◌/◌, ◌<◌, ◌≤◌, ◌^◌, ℕ, List, [], true, false, Option, Some, None, Ok, Err, IfOk, IfErr, IfSome, OnOk, OnErr};
 ghost use Rattle.mg_dev.specs.Files.{Files};
-ghost use Rattle.mg_dev.specs.Names.{full_name};
 ghost use Rattle.mg_dev.specs.PartCauses.{HasPartCause};
 ghost use Rattle.mg_dev.specs.declared.part.Part.TheVariants as part;
 ghost use Rattle.mg_defs.specs.declared.Posting.{Posting};
 ghost use Rattle.mg_defs.specs.Codes.{golomb_parameter};
-ghost use Rattle.mg_defs.specs.Lists.{from_doc};
-ghost use Rattle.mg_defs.specs.PageBounds.{pages_for};
+ghost use Rattle.mg_defs.specs.Lists.{block_count, from_doc};
 ghost use Rattle.mg_defs.specs.Split.{documents};
-ghost use Rattle.mg_post.specs.Answers.{AnswersList};
 ghost use Rattle.mg_post.specs.Damages.{EntriesStand, HasPostCause, HasSkipCause, NamesPart};
 ghost use Rattle.mg_post.specs.Finding.{entries_pages};
-ghost use Rattle.mg_post.specs.Cursor.{head_of, after, next_doc, blocks_of, post_pages, entered_pages, skip_pages, CursorFits, CursorStands, SameList, SamePlace, StandsAt, IsFrom, IsOver, NamesItsPart, ReadsTwo, Enters};
-ghost use Rattle.mg_post.specs.TermLists.{AnswersAsk, CursorFor, IsInfoOf, MayAsk, PagesWithin, ReadsLists};
+ghost use Rattle.mg_post.specs.Cursor.{head_of, after, next_doc, post_pages, entered_pages, skip_pages, CursorFits, SameList, SamePlace, StandsAt, IsFrom, NamesItsPart, ReadsTwo, Enters, AnswersRest, ForList};
+ghost use Rattle.mg_post.specs.TermLists.{AnswersForTerm, ReadsLists, CursorForInfo, TermPages, IsOverInfo, ForTerm};
 
 use crate::block::Block;
 use crate::enter::enter;
@@ -61,20 +58,21 @@ pub struct Cursor<'a, S: Store> {
 impl<'a, S: Store> Model for Cursor<'a, S> {
     ghost use Rattle.std.specs.Prelude.{◌≡◌, ◌≤◌, ◌<◌, ◌-◌, ◌^◌, min, true, []};
     ghost use Rattle.mg_dev.specs.declared.part.Part.TheVariants as part;
-    ghost use Rattle.mg_post.specs.Cursor.{Cursoring, HeldRises, blocks_of};
+    ghost use Rattle.mg_defs.specs.Lists.{block_count};
+    ghost use Rattle.mg_post.specs.Cursor.{Cursoring, HeldRises};
 
     ghost Value = { Cursoring };
 
     ghost view = { λ c. record { post = c.post.feed; skip = c.skip.feed; post_at = c.post_at; skip_at = c.skip_at; docs = c.docs; all = c.all; parameter = c.parameter; reached = c.reached; last = c.last; held = c.block; ended = c.ended; entered = c.entered } };
 
-    ghost invariant = { λ c. (1 ≤ c.parameter) × (c.parameter < 2 ^ 48) × (c.last ≤ c.all) × (c.reached ≤ blocks_of c.docs) × (c.post.feed.part ≡ part.Post) ×
+    ghost invariant = { λ c. (1 ≤ c.parameter) × (c.parameter < 2 ^ 48) × (c.last ≤ c.all) × (c.reached ≤ block_count c.docs) × (c.post.feed.part ≡ part.Post) ×
         (c.skip.feed.part ≡ part.Skip) × (c.entered < 2 ^ 64) × (c.ended ≡ true → c.block ≡ []) × HeldRises c.all c.last c.block ×
         (min c.post.feed.count (2 ^ 64 - 1) ≤ c.entered) };
 }
 
 /// How many blocks so many postings have.
 fn count_blocks(docs: u32) -> u32
-    ensures { result ≡ blocks_of docs }
+    ensures { result ≡ block_count docs }
 {
     ((u64::from(docs) + 63) / 64) as u32
 }
@@ -100,12 +98,10 @@ impl<'a, S: Store> Cursor<'a, S> {
         info: &TermInfo,
         all: u32,
     ) -> Result<Self, AllocError>
-        ensures over { IfOk result (λ c. IsOver c (full_name base.entry.now part.Post)
-            (full_name base.entry.now part.Skip) info.entry.now.post_at info.entry.now.skip_at info.entry.now.docs all) }
+        ensures over { IfOk result (λ c. IsOverInfo c base.entry.now info.entry.now all) }
         ensures parameter { IfOk result (λ c. 1 ≤ info.entry.now.docs → c.parameter ≡ golomb_parameter all info.entry.now.docs) }
         ensures fits { IfOk result (λ c. (files : Option Files) → CursorFits c files) }
-        ensures term { IfOk result (λ c. (collection asked t : List ℕ) (n : ℕ) → IsInfoOf collection t info.entry.now → all ≡ length (documents collection) →
-            CursorFor base.entry.now collection asked t n c) }
+        ensures term { IfOk result (CursorForInfo base.entry.now info.entry.now all) }
         ensures at { IfOk result (λ c. (ps : List Posting) → StandsAt c ps ps) }
         ensures before { IfOk result (λ c. c.held ≡ []) }
         ensures nothing { IfOk result (λ c. (post_pages c ≡ 0) × (entered_pages c ≡ 0) × (skip_pages c ≡ 0)) }
@@ -154,12 +150,10 @@ impl<'a, S: Store> Cursor<'a, S> {
         requires some { 1 ≤ doc }
         ensures fits { OnOk result (CursorFits self.new (S.files store.new)) }
         ensures same { SameList self.old self.new }
-        ensures answer { (ps left : List Posting) → CursorStands self.old (S.files store.old) ps → StandsAt self.old ps left →
-            AnswersList result (λ found. (found ≡ head_of (from_doc doc left)) × StandsAt self.new ps (from_doc doc left)) }
-        ensures entered { (ps left : List Posting) → CursorStands self.old (S.files store.old) ps → StandsAt self.old ps left →
-            Enters result ps self.old doc self.new }
+        ensures answer { ForList self.old (S.files store.old) (λ ps left. AnswersRest result self.new ps (from_doc doc left)) }
+        ensures entered { ForList self.old (S.files store.old) (λ ps left. Enters result ps self.old doc self.new) }
         ensures first { post_pages self.new ≤ entered_pages self.new }
-        ensures third { skip_pages self.new ≤ entries_pages self.new.skip_at (blocks_of self.new.docs) }
+        ensures third { skip_pages self.new ≤ entries_pages self.new.skip_at (block_count self.new.docs) }
         ensures reads { ReadsTwo self.old self.new (S.reads store.old) (S.reads store.new) }
         ensures ended { self.old.ended ≡ true → (result ≡ Ok None) × (self.new ≡ self.old) × (store.new ≡ store.old) }
         ensures current { IfOk result (λ found. found ≡ head_of self.new.held) }
@@ -196,12 +190,10 @@ impl<'a, S: Store> Cursor<'a, S> {
         requires beyond { self.old.last < doc }
         ensures fits { OnOk result (CursorFits self.new (S.files store.new)) }
         ensures same { SameList self.old self.new }
-        ensures answer { (ps left : List Posting) → CursorStands self.old (S.files store.old) ps → StandsAt self.old ps left →
-            AnswersList result (λ found. (found ≡ head_of (from_doc doc left)) × StandsAt self.new ps (from_doc doc left)) }
-        ensures entered { (ps left : List Posting) → CursorStands self.old (S.files store.old) ps → StandsAt self.old ps left →
-            Enters result ps self.old doc self.new }
+        ensures answer { ForList self.old (S.files store.old) (λ ps left. AnswersRest result self.new ps (from_doc doc left)) }
+        ensures entered { ForList self.old (S.files store.old) (λ ps left. Enters result ps self.old doc self.new) }
         ensures first { post_pages self.new ≤ entered_pages self.new }
-        ensures third { skip_pages self.new ≤ entries_pages self.new.skip_at (blocks_of self.new.docs) }
+        ensures third { skip_pages self.new ≤ entries_pages self.new.skip_at (block_count self.new.docs) }
         ensures reads { ReadsTwo self.old self.new (S.reads store.old) (S.reads store.new) }
         ensures current { IfOk result (λ found. found ≡ head_of self.new.held) }
         ensures sound { IfOk result (λ found. IfSome found (IsFrom doc self.old.all)) }
@@ -271,12 +263,10 @@ impl<'a, S: Store> Cursor<'a, S> {
         requires fits { CursorFits self.old (S.files store.old) }
         ensures fits { OnOk result (CursorFits self.new (S.files store.new)) }
         ensures same { SameList self.old self.new }
-        ensures answer { (ps left : List Posting) → CursorStands self.old (S.files store.old) ps → StandsAt self.old ps left →
-            AnswersList result (λ found. (found ≡ head_of (after self.old.held left)) × StandsAt self.new ps (after self.old.held left)) }
-        ensures entered { (ps left : List Posting) → CursorStands self.old (S.files store.old) ps → StandsAt self.old ps left →
-            Enters result ps self.old (next_doc self.old.held) self.new }
+        ensures answer { ForList self.old (S.files store.old) (λ ps left. AnswersRest result self.new ps (after self.old.held left)) }
+        ensures entered { ForList self.old (S.files store.old) (λ ps left. Enters result ps self.old (next_doc self.old.held) self.new) }
         ensures first { post_pages self.new ≤ entered_pages self.new }
-        ensures third { skip_pages self.new ≤ entries_pages self.new.skip_at (blocks_of self.new.docs) }
+        ensures third { skip_pages self.new ≤ entries_pages self.new.skip_at (block_count self.new.docs) }
         ensures reads { ReadsTwo self.old self.new (S.reads store.old) (S.reads store.new) }
         ensures ended { self.old.ended ≡ true → (result ≡ Ok None) × (self.new ≡ self.old) × (store.new ≡ store.old) }
         ensures current { IfOk result (λ found. found ≡ head_of self.new.held) }
@@ -322,11 +312,9 @@ impl<'a, S: Store> Cursor<'a, S> {
         requires some { 1 ≤ doc }
         ensures fits { OnOk result (CursorFits self.new (S.files store.new)) }
         ensures same { SameList self.old self.new }
-        ensures answer { (base collection asked t : List ℕ) → MayAsk base collection asked t doc (S.files store.old) self.old →
-            AnswersList result (λ found. AnswersAsk base collection asked t doc found self.new) }
-        ensures pages { (base collection asked t : List ℕ) → MayAsk base collection asked t doc (S.files store.old) self.old →
-            PagesWithin (pages_for collection asked t) (post_pages self.old) (post_pages self.new) (S.reads store.old) (S.reads store.new) }
-        ensures third { skip_pages self.new ≤ entries_pages self.new.skip_at (blocks_of self.new.docs) }
+        ensures answer { ForTerm doc (S.files store.old) self.old (AnswersForTerm result doc self.new) }
+        ensures pages { ForTerm doc (S.files store.old) self.old (TermPages self.old self.new (S.reads store.old) (S.reads store.new)) }
+        ensures third { skip_pages self.new ≤ entries_pages self.new.skip_at (block_count self.new.docs) }
         ensures reads { ReadsLists (S.reads store.old) (S.reads store.new) }
         ensures sound { IfOk result (λ found. IfSome found (IsFrom doc self.old.all)) }
         ensures part { IfErr result NamesItsPart }

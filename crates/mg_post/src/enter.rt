@@ -1,13 +1,12 @@
 // Entering a block.
-ghost use Rattle.std.specs.Prelude.{◌≡◌, ◌+◌, ◌-◌, ◌*◌, ◌<◌, ◌≤◌, ◌^◌, ℕ, List, [], ◌++◌, length, min, IfOk, OnOk, OnErr, Some};
+ghost use Rattle.std.specs.Prelude.{◌≡◌, ◌+◌, ◌-◌, ◌*◌, ◌<◌, ◌≤◌, ◌^◌, ℕ, [], ◌++◌, min, IfOk, OnOk, Some};
 ghost use Rattle.mg_bits.specs.Feed.{Calm};
 ghost use Rattle.mg_defs.specs.PagesOf.{pages};
 ghost use Rattle.mg_defs.specs.declared.Posting.{Posting};
-ghost use Rattle.mg_defs.specs.Lists.{bits_after, Rises, from_doc, block_pages};
-ghost use Rattle.mg_post.specs.Stands.{BlockStands, Shows};
-ghost use Rattle.mg_post.specs.Finding.{IsFoundAt};
-ghost use Rattle.mg_post.specs.Cursor.{head_of, Entered, IsFrom, IsPlace, HeldRises};
+ghost use Rattle.mg_post.specs.Cursor.{head_of, IsFrom, IsPlace, HeldRises};
 ghost use Rattle.mg_post.specs.Answers.{OrDevice, RefusalCause};
+ghost use Rattle.mg_post.specs.Reading.{told_bytes};
+ghost use Rattle.mg_post.specs.Entering.{EntersFound, WhereBlockStands, ReadsFound};
 
 use crate::block::Block;
 use crate::find::Found;
@@ -69,18 +68,9 @@ pub fn enter<F: Feed>(
     ensures from { IfOk result (λ i. IsFrom doc all i.posting) }
     ensures count { IfOk result (λ i. (F.feeding r.new.feed).count ≤ (F.feeding r.old.feed).count + i.pages) }
     ensures current { IfOk result (λ i. head_of block.new ≡ Some i.posting) }
-    ensures told { (ps : List Posting) (blocks : ℕ) → Rises all 0 ps → docs ≡ length ps →
-        Shows ((F.feeding r.old.feed).source (F.device dev.old).files) (8 * post_at) (bits_after parameter 0 ps) →
-        8 * post_at + length (bits_after parameter 0 ps) ≤ 2 ^ 63 → IsFoundAt parameter ps blocks doc found.block found.before found.last found.at →
-        OrDevice result (λ i. Entered parameter ps (8 * post_at) found.block doc i.posting block.new i.pages) }
-    ensures block { (ps : List Posting) → found.before < doc → doc ≤ found.last →
-        BlockStands all parameter ((F.feeding r.old.feed).source (F.device dev.old).files) (8 * post_at + found.at)
-        (min (docs - 64 * found.block) 64) found.before found.last ps →
-        OrDevice result (λ _. Unit {0}) }
-    ensures most { (ps : List Posting) (blocks : ℕ) → Rises all 0 ps → docs ≡ length ps →
-        Shows ((F.feeding r.old.feed).source (F.device dev.old).files) (8 * post_at) (bits_after parameter 0 ps) →
-        8 * post_at + length (bits_after parameter 0 ps) ≤ 2 ^ 63 → IsFoundAt parameter ps blocks doc found.block found.before found.last found.at →
-        (F.feeding r.new.feed).count ≤ (F.feeding r.old.feed).count + block_pages parameter (8 * post_at) found.block ps }
+    ensures told { EntersFound F.feeding F.device r.old dev.old all parameter post_at docs doc found result block.new }
+    ensures block { WhereBlockStands (told_bytes F.feeding F.device r.old dev.old) all parameter post_at docs doc found (OrDevice result (λ _. Unit {0})) }
+    ensures most { ReadsFound F.feeding F.device r.old r.new dev.old all parameter post_at docs doc found }
     ensures cause { RefusalCause result (F.device dev.old).faults (F.device dev.new).faults }
 {
     let Some(place) = place_of(post_at, found.at) else {

@@ -3,14 +3,14 @@
 // The entries of a list rise, so a page of them is passed by a look at its last one, and within a
 // page the entry is found by halves. Each page is read at most once, and in rising order: over a
 // cursor's life the reads of Skip are at most the pages of the list's entries.
-ghost use Rattle.std.specs.Prelude.{◌≡◌, ◌+◌, ◌-◌, ◌*◌, ◌/◌, ◌%◌, ◌<◌, ◌≤◌, ◌^◌, ℕ, List, ◌++◌, length, Some, IfOk, OnOk, OnErr, IfSome};
-ghost use Rattle.mg_bits.specs.Feed.{Calm, Read, lacks};
+ghost use Rattle.std.specs.Prelude.{◌≡◌, ◌+◌, ◌-◌, ◌*◌, ◌/◌, ◌%◌, ◌<◌, ◌≤◌, ◌^◌, ℕ, ◌++◌, length, Some, IfOk, OnOk, IfSome};
+ghost use Rattle.mg_bits.specs.Feed.{Calm, lacks};
 ghost use Rattle.mg_defs.specs.Bits.{Begins, FromPlace, digits};
-ghost use Rattle.mg_defs.specs.declared.Posting.{Posting};
-ghost use Rattle.mg_defs.specs.Lists.{SkipEntry, entry_bits, doc_before};
-ghost use Rattle.mg_post.specs.Stands.{Shows, SkipStands};
-ghost use Rattle.mg_post.specs.Finding.{IsFound, IsFoundAt, IsSound, LacksAnEntry, LacksEntry, SkipReads, TellsBits, TellsBlock, TellsLast, blocks_after, entries_pages, entry_page};
-ghost use Rattle.mg_post.specs.Answers.{IfDamaged, OrDevice, RefusalCause};
+ghost use Rattle.mg_defs.specs.Lists.{SkipEntry};
+ghost use Rattle.mg_post.specs.Stands.{Shows, ShowsEntry};
+ghost use Rattle.mg_post.specs.Finding.{IsSound, LacksAnEntry, LacksEntry, SkipReads, TellsBits, TellsLast, blocks_after, entries_pages, entry_page, TellsFound, FindsBlock, FindsOnPage, TellsOnPage};
+ghost use Rattle.mg_post.specs.Answers.{IfDamaged, RefusalCause, AnswersThis};
+ghost use Rattle.mg_post.specs.Reading.{told_bytes};
 
 use crate::refusal::{Refusal, refused_bits};
 use mg_bits::{BitReader, Feed};
@@ -35,9 +35,9 @@ fn number_at<F: Feed>(r: &mut BitReader<F>, dev: &mut F::Dev, place: u64) -> Res
     ensures calm { Calm (F.feeding r.old.feed) (F.feeding r.new.feed) (F.device dev.old) (F.device dev.new) }
     ensures count { (F.feeding r.new.feed).count ≤ (F.feeding r.old.feed).count + lacks (F.feeding r.old.feed).held (place / 32768) }
     ensures held { OnOk result ((F.feeding r.new.feed).held ≡ Some (place / 32768)) }
-    ensures shows { IfOk result (λ x. FromPlace ((F.feeding r.old.feed).source (F.device dev.old).files) place (Begins (digits 64 x))) }
-    ensures ends { IfDamaged result (FromPlace ((F.feeding r.old.feed).source (F.device dev.old).files) place (λ bits. length bits < 64)) }
-    ensures told { (y : ℕ) → y < 2 ^ 64 → Shows ((F.feeding r.old.feed).source (F.device dev.old).files) place (digits 64 y) → OrDevice result (λ x. x ≡ y) }
+    ensures shows { IfOk result (λ x. FromPlace (told_bytes F.feeding F.device r.old dev.old) place (Begins (digits 64 x))) }
+    ensures ends { IfDamaged result (FromPlace (told_bytes F.feeding F.device r.old dev.old) place (λ bits. length bits < 64)) }
+    ensures told { (y : ℕ) → y < 2 ^ 64 → Shows (told_bytes F.feeding F.device r.old dev.old) place (digits 64 y) → AnswersThis result y }
     ensures cause { RefusalCause result (F.device dev.old).faults (F.device dev.new).faults }
 {
     r.seek(place);
@@ -69,10 +69,9 @@ fn last_of<F: Feed>(
     ensures count { (F.feeding r.new.feed).count ≤ (F.feeding r.old.feed).count + lacks (F.feeding r.old.feed).held (entry_page (skip_at + block)) }
     ensures held { OnOk result ((F.feeding r.new.feed).held ≡ Some (entry_page (skip_at + block))) }
     ensures within { IfOk result (λ last. last ≤ all) }
-    ensures tells { IfOk result (TellsLast ((F.feeding r.old.feed).source (F.device dev.old).files) skip_at block) }
-    ensures lacks { IfDamaged result (LacksEntry ((F.feeding r.old.feed).source (F.device dev.old).files) skip_at all block) }
-    ensures told { (e : SkipEntry) → e.last ≤ all → Shows ((F.feeding r.old.feed).source (F.device dev.old).files) (128 * (skip_at + block)) (entry_bits e) →
-        OrDevice result (λ last. last ≡ e.last) }
+    ensures tells { IfOk result (TellsLast (told_bytes F.feeding F.device r.old dev.old) skip_at block) }
+    ensures lacks { IfDamaged result (LacksEntry (told_bytes F.feeding F.device r.old dev.old) skip_at all block) }
+    ensures told { (e : SkipEntry) → e.last ≤ all → ShowsEntry (told_bytes F.feeding F.device r.old dev.old) skip_at block e → AnswersThis result e.last }
     ensures cause { RefusalCause result (F.device dev.old).faults (F.device dev.new).faults }
 {
     let place = entry_place(skip_at, block);
@@ -100,11 +99,10 @@ fn bits_of<F: Feed>(
     ensures calm { Calm (F.feeding r.old.feed) (F.feeding r.new.feed) (F.device dev.old) (F.device dev.new) }
     ensures count { (F.feeding r.new.feed).count ≤ (F.feeding r.old.feed).count + lacks (F.feeding r.old.feed).held (entry_page (skip_at + block)) }
     ensures held { OnOk result ((F.feeding r.new.feed).held ≡ Some (entry_page (skip_at + block))) }
-    ensures tells { IfOk result (TellsBits ((F.feeding r.old.feed).source (F.device dev.old).files) skip_at block) }
+    ensures tells { IfOk result (TellsBits (told_bytes F.feeding F.device r.old dev.old) skip_at block) }
     ensures lacks { IfDamaged result
-        (FromPlace ((F.feeding r.old.feed).source (F.device dev.old).files) (128 * (skip_at + block)) (λ bits. length bits < 128)) }
-    ensures told { (e : SkipEntry) → e.bits < 2 ^ 64 → Shows ((F.feeding r.old.feed).source (F.device dev.old).files) (128 * (skip_at + block)) (entry_bits e) →
-        OrDevice result (λ bits. bits ≡ e.bits) }
+        (FromPlace (told_bytes F.feeding F.device r.old dev.old) (128 * (skip_at + block)) (λ bits. length bits < 128)) }
+    ensures told { (e : SkipEntry) → e.bits < 2 ^ 64 → ShowsEntry (told_bytes F.feeding F.device r.old dev.old) skip_at block e → AnswersThis result e.bits }
     ensures cause { RefusalCause result (F.device dev.old).faults (F.device dev.new).faults }
 {
     let place = entry_place(skip_at, block) + 64;
@@ -152,13 +150,9 @@ fn search_page<F: Feed>(
     ensures count { (F.feeding r.new.feed).count ≤ (F.feeding r.old.feed).count }
     ensures held { OnOk result ((F.feeding r.new.feed).held ≡ Some (entry_page (skip_at + high))) }
     ensures found { IfOk result (IsSound low (high + 1) all doc) }
-    ensures tells { TellsLast ((F.feeding r.old.feed).source (F.device dev.old).files) skip_at high last →
-        IfOk result (λ f. TellsBlock ((F.feeding r.old.feed).source (F.device dev.old).files) skip_at low before f.block f.before f.last f.at) }
-    ensures lacks { IfDamaged result (LacksAnEntry ((F.feeding r.old.feed).source (F.device dev.old).files) skip_at all low (high + 1)) }
-    ensures told { (ps : List Posting) (b blocks : ℕ) →
-        SkipStands all b ((F.feeding r.old.feed).source (F.device dev.old).files) skip_at blocks ps → high < blocks →
-        before ≡ doc_before (64 * low) ps → last ≡ doc_before (64 * (high + 1)) ps →
-        OrDevice result (λ f. IsFoundAt b ps blocks doc f.block f.before f.last f.at) }
+    ensures tells { TellsOnPage (told_bytes F.feeding F.device r.old dev.old) skip_at low high before last result }
+    ensures lacks { IfDamaged result (LacksAnEntry (told_bytes F.feeding F.device r.old dev.old) skip_at all low (high + 1)) }
+    ensures told { FindsOnPage (told_bytes F.feeding F.device r.old dev.old) skip_at all low high before last doc result }
     ensures cause { RefusalCause result (F.device dev.old).faults (F.device dev.new).faults }
 {
     let mut from = low;
@@ -215,11 +209,9 @@ pub fn find_block<F: Feed>(
     ensures reads { IfOk result (λ found. SkipReads skip_at (blocks_after blocks found) (F.feeding r.new.feed).held (F.feeding r.new.feed).count) }
     ensures most { (F.feeding r.new.feed).count ≤ entries_pages skip_at blocks }
     ensures found { IfOk result (λ found. IfSome found (IsSound reached blocks all doc)) }
-    ensures tells { IfOk result (λ found. IfSome found (λ f.
-        TellsBlock ((F.feeding r.old.feed).source (F.device dev.old).files) skip_at reached last f.block f.before f.last f.at)) }
-    ensures lacks { IfDamaged result (LacksAnEntry ((F.feeding r.old.feed).source (F.device dev.old).files) skip_at all reached blocks) }
-    ensures told { (ps : List Posting) (b : ℕ) → SkipStands all b ((F.feeding r.old.feed).source (F.device dev.old).files) skip_at blocks ps →
-        last ≡ doc_before (64 * reached) ps → OrDevice result (IsFound b ps blocks doc) }
+    ensures tells { IfOk result (λ found. IfSome found (TellsFound (told_bytes F.feeding F.device r.old dev.old) skip_at reached last)) }
+    ensures lacks { IfDamaged result (LacksAnEntry (told_bytes F.feeding F.device r.old dev.old) skip_at all reached blocks) }
+    ensures told { FindsBlock (told_bytes F.feeding F.device r.old dev.old) skip_at all blocks reached last doc result }
     ensures cause { RefusalCause result (F.device dev.old).faults (F.device dev.new).faults }
 {
     let mut low = reached;

@@ -1,11 +1,12 @@
 // Postings from bits.
-ghost use Rattle.std.specs.Prelude.{◌≡◌, ◌+◌, ◌-◌, ◌*◌, ◌<◌, ◌≤◌, ◌^◌, ℕ, List, ◌++◌, length, take, drop, IfOk, OnOk, OnErr, MatchResult};
-ghost use Rattle.mg_bits.specs.Feed.{Calm, Read, ReadsWithin};
+ghost use Rattle.std.specs.Prelude.{◌≡◌, ◌+◌, ◌-◌, ◌*◌, ◌<◌, ◌≤◌, ◌^◌, ℕ, ◌++◌, length, take, IfOk, OnOk, OnErr, MatchResult};
+ghost use Rattle.mg_bits.specs.Feed.{Calm};
 ghost use Rattle.mg_defs.specs.declared.Posting.{Posting};
 ghost use Rattle.mg_defs.specs.Lists.{posting_bits, bits_after, last_doc, Rises, Follows};
 ghost use Rattle.mg_post.specs.Ahead.{IsAhead, IsGapCode};
-ghost use Rattle.mg_post.specs.Stands.{Shows};
-ghost use Rattle.mg_post.specs.Answers.{OrDevice, RefusalCause};
+ghost use Rattle.mg_post.specs.Answers.{OrDevice, RefusalCause, AnswersThis};
+ghost use Rattle.mg_post.specs.Reading.{OnlyListPages, ForNextPosting, OnlyPostingPages, GoesBehind, ForNextList};
+ghost use Rattle.mg_bits.specs.NextBits.{ReadNext};
 
 use crate::ahead::{Ahead, GapCode, gap_code, posting_ahead};
 use crate::refusal::{Refusal, refused_code};
@@ -32,16 +33,11 @@ fn read_posting<F: Feed>(
     requires limit { parameter < 2 ^ 48 }
     ensures fits { F.fits r.new.feed (F.device dev.new).files }
     ensures calm { Calm (F.feeding r.old.feed) (F.feeding r.new.feed) (F.device dev.old) (F.device dev.new) }
-    ensures read { IfOk result (λ p. Read (F.feeding r.old.feed) (F.feeding r.new.feed) (F.device dev.old) (F.device dev.new) r.old.place
-        (r.old.place + length (posting_bits parameter before p))) }
-    ensures pages { OnErr result ((p : Posting) → Follows all before p →
-        Shows ((F.feeding r.old.feed).source (F.device dev.old).files) r.old.place (posting_bits parameter before p) →
-        ReadsWithin (F.feeding r.old.feed) (F.feeding r.new.feed) (F.device dev.old) (F.device dev.new) r.old.place
-        (r.old.place + length (posting_bits parameter before p))) }
+    ensures read { IfOk result (λ p. ReadNext F.feeding F.device r.old r.new dev.old dev.new (length (posting_bits parameter before p))) }
+    ensures pages { OnErr result (OnlyPostingPages F.feeding F.device r.old r.new dev.old dev.new all parameter before) }
     ensures place { MatchResult result (λ p. r.new.place ≡ r.old.place + length (posting_bits parameter before p)) (λ _. r.new.place ≡ r.old.place) }
     ensures follows { IfOk result (Follows all before) }
-    ensures told { (p : Posting) → Follows all before p → r.old.place + length (posting_bits parameter before p) ≤ 2 ^ 63 →
-        Shows ((F.feeding r.old.feed).source (F.device dev.old).files) r.old.place (posting_bits parameter before p) → OrDevice result (λ q. q ≡ p) }
+    ensures told { ForNextPosting F.feeding F.device r.old dev.old all parameter before (λ p. AnswersThis result p) }
     ensures cause { RefusalCause result (F.device dev.old).faults (F.device dev.new).faults }
 {
     let start = r.place();
@@ -102,17 +98,11 @@ fn next_posting<F: Feed>(
     ensures fits { F.fits r.new.feed (F.device dev.new).files }
     ensures ahead { IsAhead (F.feeding r.new.feed) (F.fits r.new.feed) r.new.place ahead.new.bits ahead.new.count }
     ensures calm { Calm (F.feeding r.old.feed) (F.feeding r.new.feed) (F.device dev.old) (F.device dev.new) }
-    ensures read { IfOk result (λ p. Read (F.feeding r.old.feed) (F.feeding r.new.feed) (F.device dev.old) (F.device dev.new) r.old.place
-        (r.old.place + length (posting_bits parameter before p))) }
-    ensures pages { OnErr result ((p : Posting) → Follows all before p →
-        Shows ((F.feeding r.old.feed).source (F.device dev.old).files) r.old.place (posting_bits parameter before p) →
-        ReadsWithin (F.feeding r.old.feed) (F.feeding r.new.feed) (F.device dev.old) (F.device dev.new) r.old.place
-        (r.old.place + length (posting_bits parameter before p))) }
+    ensures read { IfOk result (λ p. ReadNext F.feeding F.device r.old r.new dev.old dev.new (length (posting_bits parameter before p))) }
+    ensures pages { OnErr result (OnlyPostingPages F.feeding F.device r.old r.new dev.old dev.new all parameter before) }
     ensures place { MatchResult result (λ p. r.new.place ≡ r.old.place + length (posting_bits parameter before p)) (λ _. r.new.place ≡ r.old.place) }
     ensures follows { IfOk result (Follows all before) }
-    ensures told { (p : Posting) → Follows all before p → r.old.place + length (posting_bits parameter before p) ≤ 2 ^ 63 →
-        Shows ((F.feeding r.old.feed).source (F.device dev.old).files) r.old.place (posting_bits parameter before p) →
-        OrDevice result (λ q. q ≡ p) }
+    ensures told { ForNextPosting F.feeding F.device r.old dev.old all parameter before (λ p. AnswersThis result p) }
     ensures cause { RefusalCause result (F.device dev.old).faults (F.device dev.new).faults }
 {
     let seen = look(r, *ahead);
@@ -151,20 +141,12 @@ pub fn read_block<F: Feed>(
     ensures fits { F.fits r.new.feed (F.device dev.new).files }
     ensures calm { Calm (F.feeding r.old.feed) (F.feeding r.new.feed) (F.device dev.old) (F.device dev.new) }
     ensures kept { length out.new.items ≡ length out.old.items }
-    ensures read { OnOk result (Read (F.feeding r.old.feed) (F.feeding r.new.feed) (F.device dev.old) (F.device dev.new) r.old.place
-        (r.old.place + length (bits_after parameter before (take count out.new.items)))) }
-    ensures pages { OnErr result ((ps : List Posting) → Rises all before ps → count ≤ length ps →
-        r.old.place + length (bits_after parameter before ps) ≤ 2 ^ 63 →
-        Shows ((F.feeding r.old.feed).source (F.device dev.old).files) r.old.place (bits_after parameter before ps) →
-        ReadsWithin (F.feeding r.old.feed) (F.feeding r.new.feed) (F.device dev.old) (F.device dev.new) r.old.place
-        (r.old.place + length (bits_after parameter before (take count ps)))) }
-    ensures place { MatchResult result (λ _. r.new.place
-        ≡ r.old.place + length (bits_after parameter before (take count out.new.items))) (λ _. r.new.place ≡ r.old.place) }
+    ensures read { OnOk result (ReadNext F.feeding F.device r.old r.new dev.old dev.new (length (bits_after parameter before (take count out.new.items)))) }
+    ensures pages { OnErr result (OnlyListPages F.feeding F.device r.old r.new dev.old dev.new all parameter before count) }
+    ensures place { GoesBehind result r.old.place r.new.place (length (bits_after parameter before (take count out.new.items))) }
     ensures last { IfOk result (λ last. last ≡ last_doc before (take count out.new.items)) }
     ensures rises { OnOk result (Rises all before (take count out.new.items)) }
-    ensures told { (ps : List Posting) → Rises all before ps → count ≤ length ps → r.old.place + length (bits_after parameter before ps) ≤ 2 ^ 63 →
-        Shows ((F.feeding r.old.feed).source (F.device dev.old).files) r.old.place (bits_after parameter before ps) →
-        OrDevice result (λ _. take count out.new.items ≡ take count ps) }
+    ensures told { ForNextList F.feeding F.device r.old dev.old all parameter before count (λ ps. OrDevice result (λ _. take count out.new.items ≡ take count ps)) }
     ensures cause { RefusalCause result (F.device dev.old).faults (F.device dev.new).faults }
 {
     let start = r.place();

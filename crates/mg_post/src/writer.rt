@@ -1,15 +1,14 @@
 // Lists and their skip entries into two parts.
-ghost use Rattle.std.specs.Prelude.{◌≡◌, ◌≢◌, ◌+◌, ◌*◌, ◌/◌, ◌<◌, ◌≤◌, ◌^◌, ◌++◌, ◌∷◌, [], ℕ, List, Ok, length, OnOk, IfOk, IsSome};
+ghost use Rattle.std.specs.Prelude.{◌≡◌, ◌≢◌, ◌+◌, ◌*◌, ◌/◌, ◌<◌, ◌≤◌, ◌^◌, ◌++◌, ◌∷◌, [], ℕ, List, Ok, OnOk, IfOk};
 ghost use Rattle.std.specs.Option.{is_some};
-ghost use Rattle.mg_dev.specs.Files.{file_at, bytes_at, written, SameReads};
+ghost use Rattle.mg_dev.specs.Files.{written, SameReads};
 ghost use Rattle.mg_dev.specs.Names.{full_name};
 ghost use Rattle.mg_dev.specs.Causes.{HasPutCause};
 ghost use Rattle.mg_dev.specs.declared.part.Part.TheVariants as part;
-ghost use Rattle.mg_bits.specs.Writer.{Wrote, WroteTo};
+ghost use Rattle.mg_bits.specs.Writer.{Wrote, WroteTo, KeepsOthers};
 ghost use Rattle.mg_defs.specs.declared.Posting.{Posting};
 ghost use Rattle.mg_defs.specs.Codes.{golomb_parameter};
-ghost use Rattle.mg_defs.specs.Lists.{lists_bits, lists_entries};
-ghost use Rattle.mg_post.specs.Writing.{entry_bytes, posting_of, skip_entry, Took, SameFiles, Pushed, IsBetween, Finished, InBytes};
+ghost use Rattle.mg_post.specs.Writing.{posting_of, Took, SameFiles, Pushed, IsBetween, Finished, InBytes, AreSizesOf, TookPosting, ForTook, with_empty_lists, TookList, WhereTaken, WroteEntry};
 
 use crate::put::{put_entry, put_posting};
 use mg_bits::{BitWriter, PageWriter};
@@ -70,7 +69,7 @@ fn put_last<S: Store>(
 ) -> Result<u64, PutErr>
     requires full { 64 * full ≤ pushed }
     ensures some { 64 * full < pushed →
-        IfOk result (λ blocks. (blocks ≡ full + 1) × Wrote w.old w.new (S.files store.old) (S.files store.new) (entry_bytes (skip_entry last block_at))) }
+        IfOk result (λ blocks. (blocks ≡ full + 1) × WroteEntry w.old w.new (S.files store.old) (S.files store.new) last block_at) }
     ensures none { pushed ≤ 64 * full → IfOk result (λ blocks. (blocks ≡ full) × Wrote w.old w.new (S.files store.old) (S.files store.new) []) }
     ensures name { w.new.name ≡ w.old.name }
     ensures wrote { WroteTo w.old.name (S.files store.old) (S.files store.new) (S.reads store.old) (S.reads store.new) }
@@ -98,9 +97,8 @@ impl<'a> ListWriter<'a> {
         ensures all { IfOk result (λ w. w.all ≡ all) }
         ensures nothing { IfOk result (λ w. w.total ≡ 0) }
         ensures empty { OnOk result (S.files store.new
-            ≡ written (written (S.files store.old) (full_name base.entry.now part.Post) []) (full_name base.entry.now part.Skip) []) }
-        ensures others { (n : List ℕ) → n ≢ full_name base.entry.now part.Post → n ≢ full_name base.entry.now part.Skip →
-            file_at (S.files store.new) n ≡ file_at (S.files store.old) n }
+            ≡ with_empty_lists base.entry.now (S.files store.old)) }
+        ensures others { KeepsOthers (full_name base.entry.now part.Post) (full_name base.entry.now part.Skip) (S.files store.old) (S.files store.new) }
         ensures told { is_some (S.files store.new) ≡ is_some (S.files store.old) }
         ensures reads { SameReads (S.reads store.old) (S.reads store.new) }
         ensures cause { HasPutCause (S.faults store.old) (S.faults store.new) result }
@@ -166,11 +164,10 @@ impl<'a> ListWriter<'a> {
         requires after { self.old.last < doc }
         requires within { doc ≤ self.old.all }
         requires some { 1 ≤ freq }
-        ensures took { OnOk result ((lists : List (List Posting)) (ps : List Posting) → Took self.old (S.files store.old) lists ps →
-            Took self.new (S.files store.new) lists (ps ++ posting_of doc freq ∷ [])) }
+        ensures took { OnOk result (TookPosting self.old self.new (S.files store.old) (S.files store.new) (posting_of doc freq)) }
         ensures pushed { OnOk result (Pushed self.old self.new doc) }
         ensures same { SameFiles self.old self.new }
-        ensures others { (n : List ℕ) → n ≢ self.old.post.name → n ≢ self.old.skip.name → file_at (S.files store.new) n ≡ file_at (S.files store.old) n }
+        ensures others { KeepsOthers self.old.post.name self.old.skip.name (S.files store.old) (S.files store.new) }
         ensures told { is_some (S.files store.new) ≡ is_some (S.files store.old) }
         ensures reads { SameReads (S.reads store.old) (S.reads store.new) }
         ensures cause { HasPutCause (S.faults store.old) (S.faults store.new) result }
@@ -192,13 +189,11 @@ impl<'a> ListWriter<'a> {
     pub fn end_list<S: Store>(&mut self, store: &mut S) -> Result<(u64, u32), PutErr>
         requires took { (lists : List (List Posting)) × (ps : List Posting) × Took self.old (S.files store.old) lists ps }
         requires whole { self.old.pushed ≡ self.old.docs }
-        ensures took { OnOk result ((lists : List (List Posting)) (ps : List Posting) → Took self.old (S.files store.old) lists ps →
-            Took self.new (S.files store.new) (lists ++ ps ∷ []) []) }
-        ensures answer { IfOk result (λ at. (lists : List (List Posting)) (ps : List Posting) → Took self.old (S.files store.old) lists ps →
-            (at.0 ≡ length (lists_bits self.old.all lists) / 8) × (at.1 ≡ length (lists_entries self.old.all lists))) }
+        ensures took { OnOk result (TookList self.old self.new (S.files store.old) (S.files store.new)) }
+        ensures answer { IfOk result (λ at. ForTook self.old (S.files store.old) (λ lists ps. AreSizesOf self.old.all lists at)) }
         ensures between { OnOk result (IsBetween self.old self.new self.old.docs) }
         ensures same { SameFiles self.old self.new }
-        ensures others { (n : List ℕ) → n ≢ self.old.post.name → n ≢ self.old.skip.name → file_at (S.files store.new) n ≡ file_at (S.files store.old) n }
+        ensures others { KeepsOthers self.old.post.name self.old.skip.name (S.files store.old) (S.files store.new) }
         ensures told { is_some (S.files store.new) ≡ is_some (S.files store.old) }
         ensures reads { SameReads (S.reads store.old) (S.reads store.new) }
         ensures cause { HasPutCause (S.faults store.old) (S.faults store.new) result }
@@ -226,14 +221,12 @@ impl<'a> ListWriter<'a> {
     /// of Post and the number of skip entries.
     pub fn finish<S: Store>(&mut self, store: &mut S) -> Result<(u64, u64), PutErr>
         requires took { (lists : List (List Posting)) × Took self.old (S.files store.old) lists [] }
-        ensures finished { OnOk result ((lists : List (List Posting)) → Took self.old (S.files store.old) lists [] → IsSome (S.files store.old) →
-            Finished self.old (S.files store.new) lists) }
-        ensures bytes { OnOk result ((lists : List (List Posting)) → Took self.old (S.files store.old) lists [] → IsSome (S.files store.old) →
-            InBytes self.old (S.files store.new) lists) }
+        ensures finished { OnOk result (WhereTaken self.old (S.files store.old) (Finished self.old (S.files store.new))) }
+        ensures bytes { OnOk result (WhereTaken self.old (S.files store.old) (InBytes self.old (S.files store.new))) }
         ensures answer { IfOk result (λ sizes. (lists : List (List Posting)) → Took self.old (S.files store.old) lists [] →
-            (sizes.0 ≡ length (lists_bits self.old.all lists) / 8) × (sizes.1 ≡ length (lists_entries self.old.all lists))) }
+            AreSizesOf self.old.all lists sizes) }
         ensures same { SameFiles self.old self.new }
-        ensures others { (n : List ℕ) → n ≢ self.old.post.name → n ≢ self.old.skip.name → file_at (S.files store.new) n ≡ file_at (S.files store.old) n }
+        ensures others { KeepsOthers self.old.post.name self.old.skip.name (S.files store.old) (S.files store.new) }
         ensures told { is_some (S.files store.new) ≡ is_some (S.files store.old) }
         ensures reads { SameReads (S.reads store.old) (S.reads store.new) }
         ensures cause { HasPutCause (S.faults store.old) (S.faults store.new) result }
