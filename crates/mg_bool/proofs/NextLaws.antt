@@ -10,7 +10,7 @@ use Rattle.mg_defs.specs.Terms.{document}
 use Rattle.mg_defs.specs.Lists.{postings, from_doc}
 use Rattle.mg_defs.specs.Sat.{Query, satisfies}
 use Rattle.mg_defs.specs.QueryTerms.{query_terms}
-use Rattle.mg_defs.specs.Reply.{plain, found}
+use Rattle.mg_defs.specs.ShownAnswers.{plain, found}
 use Rattle.mg_defs.proofs.ReplyLaws.{found-hit, found-miss}
 use Rattle.mg_defs.proofs.ListLaws.{list_rises}
 use Rattle.mg_defs.specs.PageBounds.{leading, leftmost_fewest, asked_of, asked_by_leader, numbers_in, all_numbers, is_met, in_range, boolean_bound, pages_for}

@@ -5,7 +5,7 @@ use Rattle.mg_dev.specs.Files.{Files, file_at}
 use Rattle.mg_dev.specs.Names.{full_name}
 use Rattle.mg_dev.specs.declared.part.Part.TheVariants.{Post, Skip}
 use Rattle.mg_query.specs.QueryOf.{query_of}
-use Rattle.mg_defs.specs.Reply.{satisfying}
+use Rattle.mg_defs.specs.ShownAnswers.{satisfying}
 use Rattle.mg_post.specs.Cursor.{Cursoring, CursorFits}
 use Rattle.mg_bool.specs.Places.{Place, PlaceFits, PlaceOn}
 use Rattle.mg_bool.specs.Matches.{MatchesFit, Matching, left_of}

@@ -4,6 +4,8 @@ use Rattle.mg_defs.specs.Sat.{Query}
 use Rattle.mg_defs.specs.QueryTerms.{query_terms}
 use Rattle.mg_defs.specs.Terms.{docs}
 use Rattle.mg_defs.specs.PageBounds.{leading, leftmost_fewest}
+use Rattle.mg_layout.specs.declared.term_info.TermInfo.{TermInfo}
+use Rattle.mg_bool.specs.Places.{TellFirst}
 use Rattle.mg_bool.specs.declared.lead.Lead.{Lead}
 
 -- the place is that of the leftmost leading term with the fewest documents; it is told by how many places there are from it on, of `size`
@@ -21,3 +23,7 @@ abbrev pub better : Option Lead → Option Lead → Option Lead
 better None second = second
 better (Some a) None = Some a
 better (Some a) (Some b) = if nat_le a.docs b.docs then Some a else Some b
+
+-- where the terms of the query are told first, this place leads it
+abbrev pub FindsLead : Query → List (Option TermInfo) → Option Lead → Type 0
+FindsLead q infos lead = (collection : List ℕ) → TellFirst collection (query_terms q) infos → IsLead collection q (length infos) lead

@@ -1,16 +1,22 @@
 -- The documents that satisfy a query, one after another: what contracts see of them.
-use Rattle.std.specs.Prelude.{◌≡◌, ℕ, ◌+◌, ◌<◌, ◌≤◌, ◌∷◌, ◌-◌, List, [], length, get_or, drop, Option, Some, None}
-use Rattle.mg_dev.specs.Files.{Files}
+use Rattle.std.specs.Prelude.{◌≡◌, ℕ, ◌+◌, ◌<◌, ◌≤◌, ◌∷◌, ◌-◌, List, [], length, get_or, drop, unwrap_or, Option, Result, Some, None}
+use Rattle.mg_dev.specs.Files.{Files, Reads}
+use Rattle.mg_dev.specs.Names.{full_name}
+use Rattle.mg_dev.specs.declared.part.Part.TheVariants as part
+use Rattle.mg_dev.specs.declared.part_err.PartErr.{PartErr}
 use Rattle.mg_defs.specs.Split.{documents}
 use Rattle.mg_defs.specs.Lists.{postings}
 use Rattle.mg_defs.specs.Sat.{Query}
 use Rattle.mg_query.specs.declared.query.Query as declared
 use Rattle.mg_query.specs.QueryOf.{query_of}
 use Rattle.mg_defs.specs.QueryTerms.{query_terms}
-use Rattle.mg_defs.specs.Reply.{Shown, found}
-use Rattle.mg_defs.specs.PageBounds.{asked_of, leading, leftmost_fewest}
-use Rattle.mg_post.specs.TermLists.{IsAmong, ListsStand}
-use Rattle.mg_bool.specs.Places.{Place, PlacesFit, PlacesFor, PlacesOn}
+use Rattle.mg_defs.specs.ShownAnswers.{Shown, found}
+use Rattle.mg_defs.specs.PageBounds.{asked_of, boolean_bound, leading, leftmost_fewest}
+use Rattle.mg_layout.specs.declared.term_info.TermInfo.{TermInfo}
+use Rattle.mg_bits.specs.Alike.{WhereSame}
+use Rattle.mg_post.specs.Answers.{AnswersList}
+use Rattle.mg_post.specs.TermLists.{IsAmong, ListsStand, PagesWithin}
+use Rattle.mg_bool.specs.Places.{AreInfos, Place, PlacesFit, PlacesFor, PlacesOn, pages_read}
 
 pub record Matching : Type 0 where
   -- the query, its places from left to right, and which of them leads
@@ -81,3 +87,41 @@ IsNext collection q decided (Some doc) = IsNextDoc collection q decided doc
 abbrev pub IsWithin : Option ℕ → ℕ → Type 0
 IsWithin None n = Unit {0}
 IsWithin (Some place) n = place < n
+
+-- ---- what a call finds and reads
+
+-- before the first document that satisfies the query, of whose terms these are told
+abbrev pub StartsMatches : List ℕ → Query → List (Option TermInfo) → ℕ → Matching → Type 0
+StartsMatches base q infos all m = (collection : List ℕ) → AreInfos collection (query_terms q) infos → all ≡ length (documents collection) → MatchesOver base collection m
+
+-- for each base and collection over whose documents it goes, and whose lists stand
+abbrev pub ForMatches : Option Files → Matching → (List ℕ → List ℕ → Type 0) → Type 0
+ForMatches files m claim = (base collection : List ℕ) → ListsStand base files collection → MatchesOver base collection m → claim base collection
+
+-- the first of what was left was answered, and it goes on over what follows it
+abbrev pub MatchesGoOn : List ℕ → List ℕ → Matching → Matching → Option ℕ → Type 0
+MatchesGoOn base collection old now found = GoesOn (left_of collection old) (left_of collection now) found × MatchesOver base collection now
+
+-- no more pages of Post are read than the query may read of the collection
+abbrev pub MatchesRead : List ℕ → Matching → Matching → Reads → Reads → Type 0
+MatchesRead collection old now before after = PagesWithin (boolean_bound collection (query_of old.asks)) (pages_read old.places) (pages_read now.places) before after
+
+-- how many documents are decided with an answer: those up to it, or all where there is none
+abbrev pub decided_by : ℕ → Option ℕ → ℕ
+decided_by all found = unwrap_or found all
+
+-- where the places go over a collection's documents, the answer is the next one that may satisfy the query
+abbrev pub FindsCandidate : Query → Option Files → Option ℕ → ℕ → List Place → List Place → ℕ → Result (Option ℕ) PartErr → Type 0
+FindsCandidate q files lead all old now decided result = (base collection : List ℕ) → GoesOver base collection q files old lead all decided → AnswersList result (λ found. IsNext collection q decided found × PlacesFor base collection (asked_of collection q) (query_terms q) (decided + 1) now)
+
+-- where they do, the answer is the next one that satisfies it; for each answer it is told how many documents are decided then
+abbrev pub FindsNext : Query → Option Files → Option ℕ → ℕ → List Place → List Place → ℕ → (Option ℕ → ℕ) → Result (Option ℕ) PartErr → Type 0
+FindsNext q files lead all old now decided decided_now result = (base collection : List ℕ) → GoesOver base collection q files old lead all decided → AnswersList result (λ found. GoesOn (left_in collection q decided) (left_in collection q (decided_now found)) found × PlacesOver base collection q now lead all (decided_now found))
+
+-- where they do, no more pages of Post are read than the query may read of the collection
+abbrev pub ReadsNext : {X : Type 0} → Query → (X → Option Files) → (X → Reads) → X → X → Option ℕ → ℕ → List Place → List Place → ℕ → Type 0
+ReadsNext q files reads before after lead all old now decided = (base collection : List ℕ) → GoesOver base collection q (files before) old lead all decided → PagesWithin (boolean_bound collection q) (pages_read old) (pages_read now) (reads before) (reads after)
+
+-- a claim for which the two parts of a base have to stay as they are
+abbrev pub WhereListsStay : List ℕ → Option Files → Option Files → Type 0 → Type 0
+WhereListsStay base files_before files_now claim = WhereSame files_before files_now (full_name base part.Post) (full_name base part.Skip) claim

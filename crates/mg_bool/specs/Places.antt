@@ -1,17 +1,20 @@
 -- The places of a query's terms: a cursor over the list of each, or none where no document has the term.
-use Rattle.std.specs.Prelude.{◌≡◌, ℕ, ◌+◌, ◌≤◌, ◌<◌, true, Bool, List, [], length, get_or, slice_index_or, sum_by, Option, Some, None}
+use Rattle.std.specs.Prelude.{◌≡◌, ℕ, ◌+◌, ◌≤◌, ◌<◌, true, Bool, List, [], length, get_or, slice_index_or, sum_by, Option, Result, Some, None}
 use Rattle.mg_dev.specs.Files.{Files, Reads}
 use Rattle.mg_dev.specs.Names.{full_name}
 use Rattle.mg_dev.specs.declared.part.Part.TheVariants as part
+use Rattle.mg_dev.specs.declared.part_err.PartErr.{PartErr}
 use Rattle.mg_defs.specs.declared.Posting.{Posting}
 use Rattle.mg_defs.specs.Split.{documents}
 use Rattle.mg_defs.specs.Terms.{document, docs}
 use Rattle.mg_defs.specs.Weights.{has_term}
 use Rattle.mg_defs.specs.Lists.{postings, from_doc}
+use Rattle.mg_defs.specs.PageBounds.{pages_for}
 use Rattle.mg_layout.specs.declared.term_info.TermInfo.{TermInfo}
 use Rattle.mg_query.specs.Holds.{AreThere}
 use Rattle.mg_post.specs.Cursor.{Cursoring, CursorFits, SameList, head_of, post_pages}
-use Rattle.mg_post.specs.TermLists.{CursorFor, IsAmong, IsInfoOf, ListsStand}
+use Rattle.mg_post.specs.Answers.{AnswersList}
+use Rattle.mg_post.specs.TermLists.{CursorFor, IsAmong, IsInfoOf, ListsStand, MayAsk, PagesWithin}
 
 -- ---- what the lexicon tells
 
@@ -79,11 +82,35 @@ pub record AnswersPlace (base collection asked t : List ℕ) (doc : ℕ) (found 
   pub found_is : found ≡ number_in (head_of (from_doc doc (postings collection t)))
   pub place : PlaceFor base collection asked t doc p
 
+-- a place for a term of which this is told, before anything was asked of it
+abbrev pub StartsPlace : List ℕ → Option TermInfo → ℕ → Place → Type 0
+StartsPlace base info all p = (collection asked t : List ℕ) (n : ℕ) → IsToldOf collection t info → all ≡ length (documents collection) → PlaceFor base collection asked t n p
+
+-- where a cursor may be asked for the document, the answer is the first document of its list from that one on
+abbrev pub CursorAnswers : ℕ → Option Files → Cursoring → Cursoring → Result (Option ℕ) PartErr → Type 0
+CursorAnswers doc files old now result = (base collection asked t : List ℕ) → MayAsk base collection asked t doc files old → AnswersList result (λ found. (found ≡ number_in (head_of (from_doc doc (postings collection t)))) × CursorFor base collection asked t doc now)
+
+-- where it may be asked, no more pages of Post are read than its list has for the documents that are asked
+abbrev pub CursorReads : ℕ → Option Files → Cursoring → Cursoring → Reads → Reads → Type 0
+CursorReads doc files old now before after = (base collection asked t : List ℕ) → MayAsk base collection asked t doc files old → PagesWithin (pages_for collection asked t) (post_pages old) (post_pages now) before after
+
+-- where a place may be asked for the document, the answer is the first document of its list from that one on
+abbrev pub PlaceAnswers : ℕ → Option Files → Place → Place → Result (Option ℕ) PartErr → Type 0
+PlaceAnswers doc files old now result = (base collection asked t : List ℕ) → AsksPlace base collection asked t doc files old → AnswersList result (λ found. AnswersPlace base collection asked t doc found now)
+
+-- where it may be asked, no more pages of Post are read than its list has for the documents that are asked
+abbrev pub PlaceReads : ℕ → Option Files → Place → Place → Reads → Reads → Type 0
+PlaceReads doc files old now before after = (base collection asked t : List ℕ) → AsksPlace base collection asked t doc files old → PagesWithin (pages_for collection asked t) (place_pages old) (place_pages now) before after
+
 -- a document from the one asked for up to the last of all
 abbrev pub IsInRange : ℕ → ℕ → ℕ → Type 0
 IsInRange doc all found = (doc ≤ found) × (found ≤ all)
 
 -- ---- all places
+
+-- the place of this number
+abbrev pub nth_place : List Place → ℕ → Place
+nth_place places i = slice_index_or places i None
 
 abbrev pub pages_read : List Place → ℕ
 pages_read places = sum_by place_pages places
@@ -114,6 +141,18 @@ pub record AsksAll (base collection asked : List ℕ) (ts : List (List ℕ)) (do
 pub record AnswersAll (base collection asked : List ℕ) (ts : List (List ℕ)) (doc : ℕ) (there : List Bool) (places : List Place) : Type 0 where
   pub places_for : PlacesFor base collection asked ts doc places
   pub are_there : AreThere (document collection doc) ts there
+
+-- places for terms of which these are told, before anything was asked of them
+abbrev pub StartPlaces : List ℕ → List (Option TermInfo) → ℕ → List Place → Type 0
+StartPlaces base infos all places = (collection asked : List ℕ) (ts : List (List ℕ)) (n : ℕ) → AreInfos collection ts infos → all ≡ length (documents collection) → PlacesFor base collection asked ts n places
+
+-- where all may be asked for the document, the answer is of which terms it has one
+abbrev pub PlacesAnswer : {T : Type 0} → ℕ → Option Files → List Place → List Place → List Bool → Result T PartErr → Type 0
+PlacesAnswer doc files old now there result = (base collection asked : List ℕ) (ts : List (List ℕ)) → AsksAll base collection asked ts doc files old → AnswersList result (λ _. AnswersAll base collection asked ts doc there now)
+
+-- where all may be asked, no more pages of Post are read than their lists have for the documents that are asked
+abbrev pub PlacesRead : ℕ → Option Files → List Place → List Place → Reads → Reads → Type 0
+PlacesRead doc files old now before after = (base collection asked : List ℕ) (ts : List (List ℕ)) → AsksAll base collection asked ts doc files old → PagesWithin (sum_by (pages_for collection asked) ts) (pages_read old) (pages_read now) before after
 
 -- ---- while a document is asked of all places
 

@@ -1,11 +1,10 @@
 // The laws of the documents that satisfy a query.
-ghost use Rattle.std.specs.Prelude.{◌≡◌, ℕ, List, Option, is_some};
-ghost use Rattle.mg_dev.specs.Files.{Files, file_at};
-ghost use Rattle.mg_dev.specs.Names.{full_name};
+ghost use Rattle.std.specs.Prelude.{◌≡◌, ℕ, List, Option};
+ghost use Rattle.mg_dev.specs.Files.{Files};
 ghost use Rattle.mg_dev.specs.declared.part.Part.TheVariants as part;
 ghost use Rattle.mg_query.specs.QueryOf.{query_of};
-ghost use Rattle.mg_defs.specs.Reply.{satisfying};
-ghost use Rattle.mg_bool.specs.Matches.{MatchesFit, Matching, left_of};
+ghost use Rattle.mg_defs.specs.ShownAnswers.{satisfying};
+ghost use Rattle.mg_bool.specs.Matches.{MatchesFit, Matching, left_of, WhereListsStay};
 
 use mg_post::cursor_still_fits;
 
@@ -16,9 +15,7 @@ pub fn all_are_to_come()
 
 /// What was kept agrees with the two parts as long as these stay as they are: other files may change.
 pub fn matches_still_fit()
-    ensures { (base : List ℕ) (f g : Option Files) (m : Matching) → is_some g ≡ is_some f →
-        file_at g (full_name base part.Post) ≡ file_at f (full_name base part.Post) →
-        file_at g (full_name base part.Skip) ≡ file_at f (full_name base part.Skip) → MatchesFit base f m → MatchesFit base g m }
+    ensures { (base : List ℕ) (f g : Option Files) (m : Matching) → WhereListsStay base f g (MatchesFit base f m → MatchesFit base g m) }
 {
     cursor_still_fits();
 }

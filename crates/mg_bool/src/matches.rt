@@ -2,15 +2,13 @@
 ghost use Rattle.std.specs.Prelude.{◌≡◌, ◌≢◌, ℕ, ◌≤◌, ◌<◌, List, Option, None, Ok, Err, IfErr, IfOk, IfSome, OnOk, length};
 ghost use Rattle.mg_dev.specs.Files.{Files};
 ghost use Rattle.mg_dev.specs.PartCauses.{HasPartCause};
-ghost use Rattle.mg_defs.specs.PageBounds.{boolean_bound};
 ghost use Rattle.mg_defs.specs.QueryTerms.{query_terms};
-ghost use Rattle.mg_defs.specs.Split.{documents};
 ghost use Rattle.mg_query.specs.QueryOf.{query_of};
 ghost use Rattle.mg_post.specs.Answers.{AnswersList};
 ghost use Rattle.mg_post.specs.Cursor.{NamesItsPart};
-ghost use Rattle.mg_post.specs.TermLists.{ListsStand, PagesWithin, ReadsLists};
-ghost use Rattle.mg_bool.specs.Places.{AreInfos, pages_read};
-ghost use Rattle.mg_bool.specs.Matches.{GoesOn, MatchesFit, MatchesOver, SameMatches, left_of};
+ghost use Rattle.mg_post.specs.TermLists.{ReadsLists};
+ghost use Rattle.mg_bool.specs.Places.{pages_read};
+ghost use Rattle.mg_bool.specs.Matches.{MatchesFit, SameMatches, StartsMatches, ForMatches, MatchesGoOn, MatchesRead};
 
 use crate::lead::lead_place;
 use crate::next::next_match;
@@ -73,9 +71,7 @@ impl<'a, S: Store> Matches<'a, S> {
         all: u32,
     ) -> Result<Self, AllocError>
         requires size { length infos.now ≡ length (query_terms (query_of query.now)) }
-        ensures over { IfOk result (λ m. (collection : List ℕ) → AreInfos collection (query_terms (query_of query.entry.now)) infos.now →
-            all ≡ length (documents collection) →
-            MatchesOver base.entry.now collection m) }
+        ensures over { IfOk result (StartsMatches base.entry.now (query_of query.entry.now) infos.now all) }
         ensures asks { IfOk result (λ m. m.asks ≡ query.entry.now) }
         ensures all { IfOk result (λ m. m.all ≡ all) }
         ensures before { IfOk result (λ m. m.decided ≡ 0) }
@@ -102,11 +98,9 @@ impl<'a, S: Store> Matches<'a, S> {
         requires fits { (base : List ℕ) × MatchesFit base (S.files store.old) self.old }
         ensures fits { OnOk result ((base : List ℕ) → MatchesFit base (S.files store.old) self.old → MatchesFit base (S.files store.new) self.new) }
         ensures same { SameMatches self.old self.new }
-        ensures answer { (base collection : List ℕ) → ListsStand base (S.files store.old) collection → MatchesOver base collection self.old →
-            AnswersList result (λ found. GoesOn (left_of collection self.old) (left_of collection self.new) found × MatchesOver base collection self.new) }
-        ensures pages { (base collection : List ℕ) → ListsStand base (S.files store.old) collection → MatchesOver base collection self.old →
-            PagesWithin (boolean_bound collection (query_of self.old.asks)) (pages_read self.old.places) (pages_read self.new.places)
-            (S.reads store.old) (S.reads store.new) }
+        ensures answer { ForMatches (S.files store.old) self.old (λ base collection. AnswersList result (MatchesGoOn base collection self.old self.new)) }
+        ensures pages { ForMatches (S.files store.old) self.old
+            (λ _ collection. MatchesRead collection self.old self.new (S.reads store.old) (S.reads store.new)) }
         ensures range { IfOk result (λ found. IfSome found (λ doc. (self.old.decided < doc) × (doc ≤ self.old.all) × (self.new.decided ≡ doc))) }
         ensures later { self.old.decided ≤ self.new.decided }
         ensures last { result ≡ Ok None → self.new.decided ≡ self.new.all }

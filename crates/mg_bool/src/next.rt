@@ -1,15 +1,12 @@
 // The next document that satisfies a query.
 ghost use Rattle.std.specs.Prelude.{◌≡◌, ◌≢◌, ℕ, ◌+◌, ◌≤◌, ◌<◌, List, None, Ok, Err, IfErr, IfOk, IfSome, OnOk, length};
 ghost use Rattle.mg_dev.specs.PartCauses.{HasPartCause};
-ghost use Rattle.mg_defs.specs.PageBounds.{asked_of, boolean_bound};
-ghost use Rattle.mg_defs.specs.QueryTerms.{query_terms};
 ghost use Rattle.mg_defs.specs.Sat.{Query as Meant};
 ghost use Rattle.mg_query.specs.QueryOf.{query_of};
-ghost use Rattle.mg_post.specs.Answers.{AnswersList};
 ghost use Rattle.mg_post.specs.Cursor.{NamesItsPart};
-ghost use Rattle.mg_post.specs.TermLists.{PagesWithin, ReadsLists};
-ghost use Rattle.mg_bool.specs.Places.{IsInRange, PlacesFit, PlacesFor, PlacesOn, SamePlaces, pages_read};
-ghost use Rattle.mg_bool.specs.Matches.{GoesOn, GoesOver, IsNext, IsWithin, PlacesOver, left_in};
+ghost use Rattle.mg_post.specs.TermLists.{ReadsLists};
+ghost use Rattle.mg_bool.specs.Places.{IsInRange, PlacesFit, PlacesOn, SamePlaces};
+ghost use Rattle.mg_bool.specs.Matches.{IsWithin, FindsCandidate, FindsNext, ReadsNext};
 
 use crate::place::Place;
 use crate::places::{ask_all, ask_at};
@@ -33,11 +30,8 @@ fn candidate<S: Store>(
     ensures range { IfOk result (λ found. IfSome found (IsInRange (decided + 1) all)) }
     ensures same { SamePlaces places.old.items places.new.items }
     ensures fits { OnOk result (PlacesFit (S.files store.new) places.new.items) }
-    ensures answer { (base collection : List ℕ) (q : Meant) → GoesOver base collection q (S.files store.old) places.old.items lead all decided →
-        AnswersList result (λ found. IsNext collection q decided found ×
-        PlacesFor base collection (asked_of collection q) (query_terms q) (decided + 1) places.new.items) }
-    ensures pages { (base collection : List ℕ) (q : Meant) → GoesOver base collection q (S.files store.old) places.old.items lead all decided →
-        PagesWithin (boolean_bound collection q) (pages_read places.old.items) (pages_read places.new.items) (S.reads store.old) (S.reads store.new) }
+    ensures answer { (q : Meant) → FindsCandidate q (S.files store.old) lead all places.old.items places.new.items decided result }
+    ensures pages { (q : Meant) → ReadsNext q S.files S.reads store.old store.new lead all places.old.items places.new.items decided }
     ensures part { IfErr result NamesItsPart }
     ensures reads { ReadsLists (S.reads store.old) (S.reads store.new) }
     ensures files { S.files store.new ≡ S.files store.old }
@@ -74,12 +68,8 @@ fn next_asked<S: Store>(
     ensures later { decided.old ≤ decided.new }
     ensures range { IfOk result (λ found. IfSome found (λ doc. (decided.old < doc) × (doc ≤ all) × (decided.new ≡ doc))) }
     ensures last { result ≡ Ok None → decided.new ≡ all }
-    ensures answer { (base collection : List ℕ) → GoesOver base collection (query_of query.now) (S.files store.old) places.old.items lead all decided.old →
-        AnswersList result (λ found. GoesOn (left_in collection (query_of query.now) decided.old) (left_in collection (query_of query.now) decided.new) found ×
-        PlacesOver base collection (query_of query.now) places.new.items lead all decided.new) }
-    ensures pages { (base collection : List ℕ) → GoesOver base collection (query_of query.now) (S.files store.old) places.old.items lead all decided.old →
-        PagesWithin (boolean_bound collection (query_of query.now)) (pages_read places.old.items) (pages_read places.new.items)
-        (S.reads store.old) (S.reads store.new) }
+    ensures answer { FindsNext (query_of query.now) (S.files store.old) lead all places.old.items places.new.items decided.old (λ _. decided.new) result }
+    ensures pages { ReadsNext (query_of query.now) S.files S.reads store.old store.new lead all places.old.items places.new.items decided.old }
     ensures part { IfErr result NamesItsPart }
     ensures reads { ReadsLists (S.reads store.old) (S.reads store.new) }
     ensures files { S.files store.new ≡ S.files store.old }
@@ -131,12 +121,8 @@ pub(crate) fn next_match<S: Store>(
     ensures later { decided.old ≤ decided.new }
     ensures range { IfOk result (λ found. IfSome found (λ doc. (decided.old < doc) × (doc ≤ all) × (decided.new ≡ doc))) }
     ensures last { result ≡ Ok None → decided.new ≡ all }
-    ensures answer { (base collection : List ℕ) → GoesOver base collection (query_of query.now) (S.files store.old) places.old.items lead all decided.old →
-        AnswersList result (λ found. GoesOn (left_in collection (query_of query.now) decided.old) (left_in collection (query_of query.now) decided.new) found ×
-        PlacesOver base collection (query_of query.now) places.new.items lead all decided.new) }
-    ensures pages { (base collection : List ℕ) → GoesOver base collection (query_of query.now) (S.files store.old) places.old.items lead all decided.old →
-        PagesWithin (boolean_bound collection (query_of query.now)) (pages_read places.old.items) (pages_read places.new.items)
-        (S.reads store.old) (S.reads store.new) }
+    ensures answer { FindsNext (query_of query.now) (S.files store.old) lead all places.old.items places.new.items decided.old (λ _. decided.new) result }
+    ensures pages { ReadsNext (query_of query.now) S.files S.reads store.old store.new lead all places.old.items places.new.items decided.old }
     ensures part { IfErr result NamesItsPart }
     ensures reads { ReadsLists (S.reads store.old) (S.reads store.new) }
     ensures files { S.files store.new ≡ S.files store.old }

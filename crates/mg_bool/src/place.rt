@@ -1,14 +1,10 @@
 // The place of a term in a query.
-ghost use Rattle.std.specs.Prelude.{◌≡◌, ◌≢◌, ℕ, ◌≤◌, List, Option, Err, IfErr, IfOk, IfSome, OnOk, length};
+ghost use Rattle.std.specs.Prelude.{◌≡◌, ◌≢◌, ℕ, ◌≤◌, List, Option, Err, IfErr, IfOk, IfSome, OnOk};
 ghost use Rattle.mg_dev.specs.Files.{Files};
 ghost use Rattle.mg_dev.specs.PartCauses.{HasPartCause};
-ghost use Rattle.mg_defs.specs.Lists.{postings, from_doc};
-ghost use Rattle.mg_defs.specs.PageBounds.{pages_for};
-ghost use Rattle.mg_defs.specs.Split.{documents};
-ghost use Rattle.mg_post.specs.Answers.{AnswersList};
-ghost use Rattle.mg_post.specs.Cursor.{CursorFits, NamesItsPart, SameList, head_of, post_pages};
-ghost use Rattle.mg_post.specs.TermLists.{CursorFor, MayAsk, PagesWithin, ReadsLists};
-ghost use Rattle.mg_bool.specs.Places.{AnswersPlace, AsksPlace, IsInRange, IsToldOf, PlaceFits, PlaceFor, PlaceOn, SamePlace, number_in, place_pages};
+ghost use Rattle.mg_post.specs.Cursor.{CursorFits, NamesItsPart, SameList};
+ghost use Rattle.mg_post.specs.TermLists.{ReadsLists};
+ghost use Rattle.mg_bool.specs.Places.{IsInRange, PlaceFits, PlaceOn, SamePlace, place_pages, StartsPlace, CursorAnswers, CursorReads, PlaceAnswers, PlaceReads};
 
 use mg_dev::{PartErr, Store};
 use mg_layout::TermInfo;
@@ -42,10 +38,8 @@ fn ask_cursor<S: Store>(
     requires some { 1 ≤ doc }
     ensures fits { OnOk result (CursorFits cursor.new (S.files store.new)) }
     ensures same { SameList cursor.old cursor.new }
-    ensures answer { (base collection asked t : List ℕ) → MayAsk base collection asked t doc (S.files store.old) cursor.old →
-        AnswersList result (λ found. (found ≡ number_in (head_of (from_doc doc (postings collection t)))) × CursorFor base collection asked t doc cursor.new) }
-    ensures pages { (base collection asked t : List ℕ) → MayAsk base collection asked t doc (S.files store.old) cursor.old →
-        PagesWithin (pages_for collection asked t) (post_pages cursor.old) (post_pages cursor.new) (S.reads store.old) (S.reads store.new) }
+    ensures answer { CursorAnswers doc (S.files store.old) cursor.old cursor.new result }
+    ensures pages { CursorReads doc (S.files store.old) cursor.old cursor.new (S.reads store.old) (S.reads store.new) }
     ensures range { IfOk result (λ found. IfSome found (IsInRange doc cursor.old.all)) }
     ensures part { IfErr result NamesItsPart }
     ensures reads { ReadsLists (S.reads store.old) (S.reads store.new) }
@@ -68,8 +62,7 @@ impl<'a, S: Store> Place<'a, S> {
         info: &Option<TermInfo>,
         all: u32,
     ) -> Result<Self, AllocError>
-        ensures place { IfOk result (λ p. (collection asked t : List ℕ) (n : ℕ) → IsToldOf collection t info.now → all ≡ length (documents collection) →
-            PlaceFor base.entry.now collection asked t n p) }
+        ensures place { IfOk result (StartsPlace base.entry.now info.now all) }
         ensures on { IfOk result (PlaceOn base.entry.now all) }
         ensures fits { IfOk result (λ p. (files : Option Files) → PlaceFits files p) }
         ensures nothing { IfOk result (λ p. place_pages p ≡ 0) }
@@ -92,10 +85,8 @@ impl<'a, S: Store> Place<'a, S> {
         requires some { 1 ≤ doc }
         ensures fits { OnOk result (PlaceFits (S.files store.new) self.new) }
         ensures same { SamePlace self.old self.new }
-        ensures answer { (base collection asked t : List ℕ) → AsksPlace base collection asked t doc (S.files store.old) self.old →
-            AnswersList result (λ found. AnswersPlace base collection asked t doc found self.new) }
-        ensures pages { (base collection asked t : List ℕ) → AsksPlace base collection asked t doc (S.files store.old) self.old →
-            PagesWithin (pages_for collection asked t) (place_pages self.old) (place_pages self.new) (S.reads store.old) (S.reads store.new) }
+        ensures answer { PlaceAnswers doc (S.files store.old) self.old self.new result }
+        ensures pages { PlaceReads doc (S.files store.old) self.old self.new (S.reads store.old) (S.reads store.new) }
         ensures range { (base : List ℕ) (all : ℕ) → PlaceOn base all self.old → IfOk result (λ found. IfSome found (IsInRange doc all)) }
         ensures part { IfErr result NamesItsPart }
         ensures reads { ReadsLists (S.reads store.old) (S.reads store.new) }

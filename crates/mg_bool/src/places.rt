@@ -1,14 +1,11 @@
 // All places of a query.
-ghost use Rattle.std.specs.Prelude.{◌≡◌, ◌≢◌, ℕ, ◌≤◌, ◌<◌, List, Option, None, Err, IfErr, IfOk, IfSome, OnOk, length, slice_index_or, slice_set, sum_by};
+ghost use Rattle.std.specs.Prelude.{◌≡◌, ◌≢◌, ℕ, ◌≤◌, ◌<◌, List, Option, None, Err, IfErr, IfOk, IfSome, OnOk, length, slice_index_or, slice_set};
 ghost use Rattle.mg_dev.specs.Files.{Files};
 ghost use Rattle.mg_dev.specs.PartCauses.{HasPartCause};
-ghost use Rattle.mg_defs.specs.PageBounds.{pages_for};
-ghost use Rattle.mg_defs.specs.Split.{documents};
 ghost use Rattle.mg_laws.proofs.LedLists.{is_number};
-ghost use Rattle.mg_post.specs.Answers.{AnswersList};
 ghost use Rattle.mg_post.specs.Cursor.{NamesItsPart};
-ghost use Rattle.mg_post.specs.TermLists.{PagesWithin, ReadsLists};
-ghost use Rattle.mg_bool.specs.Places.{AnswersAll, AnswersPlace, AreInfos, AsksAll, AsksPlace, IsInRange, PlaceOn, PlacesFit, PlacesFor, PlacesOn, SamePlaces, pages_read, place_pages};
+ghost use Rattle.mg_post.specs.TermLists.{ReadsLists};
+ghost use Rattle.mg_bool.specs.Places.{IsInRange, PlaceOn, PlacesFit, PlacesOn, SamePlaces, pages_read, PlaceAnswers, PlaceReads, nth_place, StartPlaces, PlacesAnswer, PlacesRead};
 
 use crate::place::Place;
 use mg_dev::{PartErr, Store};
@@ -40,13 +37,9 @@ pub(crate) fn ask_at<S: Store>(
     ensures places { places.new.items ≡ slice_set places.old.items i (slice_index_or places.new.items i None) }
     ensures same { SamePlaces places.old.items places.new.items }
     ensures fits { OnOk result (PlacesFit (S.files store.new) places.new.items) }
-    ensures answer { (base collection asked t : List ℕ) → AsksPlace base collection asked t doc (S.files store.old) (slice_index_or places.old.items i None) →
-        AnswersList result (λ found. AnswersPlace base collection asked t doc found (slice_index_or places.new.items i None)) }
-    ensures pages { (base collection asked t : List ℕ) → AsksPlace base collection asked t doc (S.files store.old) (slice_index_or places.old.items i None) →
-        PagesWithin (pages_for collection asked t) (place_pages (slice_index_or places.old.items i None)) (place_pages (slice_index_or places.new.items i None))
-        (S.reads store.old) (S.reads store.new) }
-    ensures range { (base : List ℕ) (all : ℕ) → PlaceOn base all (slice_index_or places.old.items i None) →
-        IfOk result (λ found. IfSome found (IsInRange doc all)) }
+    ensures answer { PlaceAnswers doc (S.files store.old) (nth_place places.old.items i) (nth_place places.new.items i) result }
+    ensures pages { PlaceReads doc (S.files store.old) (nth_place places.old.items i) (nth_place places.new.items i) (S.reads store.old) (S.reads store.new) }
+    ensures range { (base : List ℕ) (all : ℕ) → PlaceOn base all (nth_place places.old.items i) → IfOk result (λ found. IfSome found (IsInRange doc all)) }
     ensures part { IfErr result NamesItsPart }
     ensures reads { ReadsLists (S.reads store.old) (S.reads store.new) }
     ensures files { S.files store.new ≡ S.files store.old }
@@ -70,11 +63,8 @@ pub(crate) fn ask_all<S: Store>(
     ensures size { length there.new.items ≡ length there.old.items }
     ensures same { SamePlaces places.old.items places.new.items }
     ensures fits { OnOk result (PlacesFit (S.files store.new) places.new.items) }
-    ensures answer { (base collection asked : List ℕ) (ts : List (List ℕ)) → AsksAll base collection asked ts doc (S.files store.old) places.old.items →
-        AnswersList result (λ _. AnswersAll base collection asked ts doc there.new.items places.new.items) }
-    ensures pages { (base collection asked : List ℕ) (ts : List (List ℕ)) → AsksAll base collection asked ts doc (S.files store.old) places.old.items →
-        PagesWithin (sum_by (pages_for collection asked) ts) (pages_read places.old.items) (pages_read places.new.items)
-        (S.reads store.old) (S.reads store.new) }
+    ensures answer { PlacesAnswer doc (S.files store.old) places.old.items places.new.items there.new.items result }
+    ensures pages { PlacesRead doc (S.files store.old) places.old.items places.new.items (S.reads store.old) (S.reads store.new) }
     ensures part { IfErr result NamesItsPart }
     ensures reads { ReadsLists (S.reads store.old) (S.reads store.new) }
     ensures files { S.files store.new ≡ S.files store.old }
@@ -99,9 +89,7 @@ pub(crate) fn start_all<'a, S: Store>(
     all: u32,
 ) -> Result<Vec<Place<'a, S>>, AllocError>
     ensures size { IfOk result (λ places. length places.items ≡ length infos.now) }
-    ensures over { IfOk result (λ places. (collection asked : List ℕ) (ts : List (List ℕ)) (n : ℕ) → AreInfos collection ts infos.now →
-        all ≡ length (documents collection) →
-        PlacesFor base.entry.now collection asked ts n places.items) }
+    ensures over { IfOk result (λ places. StartPlaces base.entry.now infos.now all places.items) }
     ensures on { IfOk result (λ places. PlacesOn base.entry.now all places.items) }
     ensures fits { IfOk result (λ places. (files : Option Files) → PlacesFit files places.items) }
     ensures nothing { IfOk result (λ places. pages_read places.items ≡ 0) }

@@ -1,13 +1,11 @@
 // The next document of a query of one word.
-ghost use Rattle.std.specs.Prelude.{◌≡◌, ◌≢◌, ℕ, ◌+◌, ◌≤◌, ◌<◌, List, Some, Err, IfErr, IfOk, IfSome, OnOk, length, unwrap_or};
+ghost use Rattle.std.specs.Prelude.{◌≡◌, ◌≢◌, ℕ, ◌+◌, ◌<◌, List, Some, Err, IfErr, IfOk, IfSome, OnOk, length};
 ghost use Rattle.mg_dev.specs.PartCauses.{HasPartCause};
-ghost use Rattle.mg_defs.specs.PageBounds.{boolean_bound};
 ghost use Rattle.mg_defs.specs.Sat.{term};
-ghost use Rattle.mg_post.specs.Answers.{AnswersList};
 ghost use Rattle.mg_post.specs.Cursor.{NamesItsPart};
-ghost use Rattle.mg_post.specs.TermLists.{PagesWithin, ReadsLists};
-ghost use Rattle.mg_bool.specs.Places.{IsInRange, PlacesFit, PlacesOn, SamePlaces, pages_read};
-ghost use Rattle.mg_bool.specs.Matches.{GoesOn, GoesOver, PlacesOver, left_in};
+ghost use Rattle.mg_post.specs.TermLists.{ReadsLists};
+ghost use Rattle.mg_bool.specs.Places.{IsInRange, PlacesFit, PlacesOn, SamePlaces};
+ghost use Rattle.mg_bool.specs.Matches.{decided_by, FindsNext, ReadsNext};
 
 use crate::place::Place;
 use crate::places::ask_at;
@@ -31,11 +29,8 @@ pub(crate) fn next_of_word<S: Store>(
     ensures range { IfOk result (λ found. IfSome found (IsInRange (decided + 1) all)) }
     ensures same { SamePlaces places.old.items places.new.items }
     ensures fits { OnOk result (PlacesFit (S.files store.new) places.new.items) }
-    ensures answer { (base collection t : List ℕ) → GoesOver base collection (term t) (S.files store.old) places.old.items (Some place) all decided →
-        AnswersList result (λ found. GoesOn (left_in collection (term t) decided) (left_in collection (term t) (unwrap_or found all)) found ×
-        PlacesOver base collection (term t) places.new.items (Some place) all (unwrap_or found all)) }
-    ensures pages { (base collection t : List ℕ) → GoesOver base collection (term t) (S.files store.old) places.old.items (Some place) all decided →
-        PagesWithin (boolean_bound collection (term t)) (pages_read places.old.items) (pages_read places.new.items) (S.reads store.old) (S.reads store.new) }
+    ensures answer { (t : List ℕ) → FindsNext (term t) (S.files store.old) (Some place) all places.old.items places.new.items decided (decided_by all) result }
+    ensures pages { (t : List ℕ) → ReadsNext (term t) S.files S.reads store.old store.new (Some place) all places.old.items places.new.items decided }
     ensures part { IfErr result NamesItsPart }
     ensures reads { ReadsLists (S.reads store.old) (S.reads store.new) }
     ensures files { S.files store.new ≡ S.files store.old }

@@ -14,17 +14,17 @@ pub returns-in_default-clause-same : goal.returns-in_default-clause-same
 returns-in_default-clause-same g c = same_all c.args.places.now.items
 
 pub returns-in_default-clause-answer : goal.returns-in_default-clause-answer
-returns-in_default-clause-answer g c = λ base collection q goes.
+returns-in_default-clause-answer g c = λ q base collection goes.
     (any_next collection q c.args.decided (omega (arith, goes.over.all_is, c.requires.more)) (subst (Leads collection q) c.in_default.is goes.over.leads), goes.over.each)
 
 pub returns-in_default-clause-pages : goal.returns-in_default-clause-pages
-returns-in_default-clause-pages g c = λ base collection q goes. still_pages base collection q (c.args.decided + 1) c.args.places.now.items _ c.cursor_pages_are_within.ensures goes.over.each
+returns-in_default-clause-pages g c = λ q base collection goes. still_pages base collection q (c.args.decided + 1) c.args.places.now.items _ c.cursor_pages_are_within.ensures goes.over.each
 
 pub returns-clause-range : goal.returns-clause-range
 returns-clause-range g c = c.ask_at.ensures.range c.requires.on.0 c.args.all (c.requires.on.1.each c.in-Some.place)
 
 pub returns-clause-answer : goal.returns-clause-answer
-returns-clause-answer g c = λ base collection q goes.
+returns-clause-answer g c = λ q base collection goes.
     let l = lead_of base collection q _ _ c.args.lead c.in-Some.place c.args.all c.args.decided c.in-Some.is goes in
     let v = slice_index_or c.ask_at.new.places.items c.in-Some.place None in
     let one = answers_more c.ask_at.result _ (λ found. IsNext collection q c.args.decided found × PlacesFor base collection (asked_of collection q) (query_terms q) (c.args.decided + 1) (slice_set c.args.places.now.items c.in-Some.place (slice_index_or c.ask_at.new.places.items c.in-Some.place None)))
@@ -32,7 +32,7 @@ returns-clause-answer g c = λ base collection q goes.
     subst (λ (ps : List Place). AnswersList c.ask_at.result (λ found. IsNext collection q c.args.decided found × PlacesFor base collection (asked_of collection q) (query_terms q) (c.args.decided + 1) ps)) (sym c.ask_at.ensures.places) one
 
 pub returns-clause-pages : goal.returns-clause-pages
-returns-clause-pages g c = λ base collection q goes.
+returns-clause-pages g c = λ q base collection goes.
     let l = lead_of base collection q _ _ c.args.lead c.in-Some.place c.args.all c.args.decided c.in-Some.is goes in
     subst (λ (ps : List Place). PagesWithin (boolean_bound collection q) (pages_read c.args.places.now.items) (pages_read ps) (g.S.Store.reads c.args.store.now) (g.S.Store.reads c.ask_at.new.store)) (sym c.ask_at.ensures.places)
     (lead_pages base collection q _ c.args.places.now.items c.args.lead c.in-Some.place c.args.all c.args.decided (slice_index_or c.ask_at.new.places.items c.in-Some.place None) _ _ c.cursor_pages_are_within.ensures goes l (c.ask_at.ensures.pages base collection (asked_of collection q) (get_or (query_terms q) c.in-Some.place []) l.asks))

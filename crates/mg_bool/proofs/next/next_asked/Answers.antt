@@ -29,26 +29,26 @@ pub returns-in-Ok-None-clause-answer : goal.returns-in-Ok-None-clause-answer
 returns-in-Ok-None-clause-answer g c = λ base collection goes.
     let going = c.loop-decided.invariant.goes base collection goes in
     let now = goes_now base collection (query_of c.args.query.now) _ _ c.args.places.now.items c.loop-decided.places.items c.args.lead c.args.all c.args.decided.now c.loop-decided.decided _ _ c.loop-decided.invariant.files goes going in
-    let a = (rw c.in-Ok-None.field-0-is at c.in-Ok-None.ensures.answer) base collection (query_of c.args.query.now) now in
+    let a = (rw c.in-Ok-None.field-0-is at c.in-Ok-None.ensures.answer) (query_of c.args.query.now) base collection now in
     going_none base collection (query_of c.args.query.now) c.args.places.now.items c.loop-decided.places.items c.candidate.new.places.items c.args.lead c.args.all c.args.decided.now c.loop-decided.decided _ _ going a.0 a.1
 
 pub returns-in-Ok-None-clause-pages : goal.returns-in-Ok-None-clause-pages
 returns-in-Ok-None-clause-pages g c = λ base collection goes.
     let going = c.loop-decided.invariant.goes base collection goes in
     let now = goes_now base collection (query_of c.args.query.now) _ _ c.args.places.now.items c.loop-decided.places.items c.args.lead c.args.all c.args.decided.now c.loop-decided.decided _ _ c.loop-decided.invariant.files goes going in
-    pages_more _ _ _ _ _ _ _ going.post (c.candidate.ensures.pages base collection (query_of c.args.query.now) now)
+    pages_more _ _ _ _ _ _ _ going.post (c.candidate.ensures.pages (query_of c.args.query.now) base collection now)
 
 pub returns-in-Err-clause-answer : goal.returns-in-Err-clause-answer
 returns-in-Err-clause-answer g c = λ base collection goes.
     let going = c.loop-decided.invariant.goes base collection goes in
     let now = goes_now base collection (query_of c.args.query.now) _ _ c.args.places.now.items c.loop-decided.places.items c.args.lead c.args.all c.args.decided.now c.loop-decided.decided _ _ c.loop-decided.invariant.files goes going in
-    err_answer _ _ _ (c.in-Err.ensures.answer base collection (query_of c.args.query.now) now)
+    err_answer _ _ _ (c.in-Err.ensures.answer (query_of c.args.query.now) base collection now)
 
 pub returns-in-Err-clause-pages : goal.returns-in-Err-clause-pages
 returns-in-Err-clause-pages g c = λ base collection goes.
     let going = c.loop-decided.invariant.goes base collection goes in
     let now = goes_now base collection (query_of c.args.query.now) _ _ c.args.places.now.items c.loop-decided.places.items c.args.lead c.args.all c.args.decided.now c.loop-decided.decided _ _ c.loop-decided.invariant.files goes going in
-    pages_more _ _ _ _ _ _ _ going.post (c.candidate.ensures.pages base collection (query_of c.args.query.now) now)
+    pages_more _ _ _ _ _ _ _ going.post (c.candidate.ensures.pages (query_of c.args.query.now) base collection now)
 
 -- ---- the document is asked of all places
 
@@ -56,7 +56,7 @@ pub returns-in-Err-ask_all-clause-answer : goal.returns-in-Err-ask_all-clause-an
 returns-in-Err-ask_all-clause-answer g c = λ base collection goes.
     let going = c.loop-decided.invariant.goes base collection goes in
     let now = goes_now base collection (query_of c.args.query.now) _ _ c.args.places.now.items c.loop-decided.places.items c.args.lead c.args.all c.args.decided.now c.loop-decided.decided _ _ c.loop-decided.invariant.files goes going in
-    let a = (rw c.in-Ok-Some.field-0-is at c.in-Ok-Some.ensures.answer) base collection (query_of c.args.query.now) now in
+    let a = (rw c.in-Ok-Some.field-0-is at c.in-Ok-Some.ensures.answer) (query_of c.args.query.now) base collection now in
     let asks = next_asks base collection (query_of c.args.query.now) _ c.candidate.new.places.items c.loop-decided.decided c.in-Ok-Some.doc (stands_now base collection _ _ c.candidate.ensures.files now.stand) a.0 a.1 in
     err_answer _ _ _ (c.in-Err-ask_all.ensures.answer base collection (asked_of collection (query_of c.args.query.now)) (query_terms (query_of c.args.query.now)) asks)
 
@@ -64,16 +64,16 @@ pub returns-in-Err-ask_all-clause-pages : goal.returns-in-Err-ask_all-clause-pag
 returns-in-Err-ask_all-clause-pages g c = λ base collection goes.
     let going = c.loop-decided.invariant.goes base collection goes in
     let now = goes_now base collection (query_of c.args.query.now) _ _ c.args.places.now.items c.loop-decided.places.items c.args.lead c.args.all c.args.decided.now c.loop-decided.decided _ _ c.loop-decided.invariant.files goes going in
-    let a = (rw c.in-Ok-Some.field-0-is at c.in-Ok-Some.ensures.answer) base collection (query_of c.args.query.now) now in
+    let a = (rw c.in-Ok-Some.field-0-is at c.in-Ok-Some.ensures.answer) (query_of c.args.query.now) base collection now in
     let asks = next_asks base collection (query_of c.args.query.now) _ c.candidate.new.places.items c.loop-decided.decided c.in-Ok-Some.doc (stands_now base collection _ _ c.candidate.ensures.files now.stand) a.0 a.1 in
-    let one = pages_more _ _ _ _ (g.S.Store.reads c.args.store.now) (g.S.Store.reads c.loop-decided.store) (g.S.Store.reads c.candidate.new.store) going.post (c.candidate.ensures.pages base collection (query_of c.args.query.now) now) in
+    let one = pages_more _ _ _ _ (g.S.Store.reads c.args.store.now) (g.S.Store.reads c.loop-decided.store) (g.S.Store.reads c.candidate.new.store) going.post (c.candidate.ensures.pages (query_of c.args.query.now) base collection now) in
     pages_more _ _ _ _ (g.S.Store.reads c.args.store.now) (g.S.Store.reads c.candidate.new.store) (g.S.Store.reads c.ask_all.new.store) one.post (sum_pages collection (query_of c.args.query.now) _ _ _ _ (c.ask_all.ensures.pages base collection (asked_of collection (query_of c.args.query.now)) (query_terms (query_of c.args.query.now)) asks))
 
 pub returns-then-holds-clause-answer : goal.returns-then-holds-clause-answer
 returns-then-holds-clause-answer g c = λ base collection goes.
     let going = c.loop-decided.invariant.goes base collection goes in
     let now = goes_now base collection (query_of c.args.query.now) _ _ c.args.places.now.items c.loop-decided.places.items c.args.lead c.args.all c.args.decided.now c.loop-decided.decided _ _ c.loop-decided.invariant.files goes going in
-    let a = (rw c.in-Ok-Some.field-0-is at c.in-Ok-Some.ensures.answer) base collection (query_of c.args.query.now) now in
+    let a = (rw c.in-Ok-Some.field-0-is at c.in-Ok-Some.ensures.answer) (query_of c.args.query.now) base collection now in
     let asks = next_asks base collection (query_of c.args.query.now) _ c.candidate.new.places.items c.loop-decided.decided c.in-Ok-Some.doc (stands_now base collection _ _ c.candidate.ensures.files now.stand) a.0 a.1 in
     let all = c.in-Ok.ensures.answer base collection (asked_of collection (query_of c.args.query.now)) (query_terms (query_of c.args.query.now)) asks in
     going_hit base collection (query_of c.args.query.now) c.args.places.now.items c.loop-decided.places.items c.ask_all.new.places.items c.args.lead c.args.all c.args.decided.now c.loop-decided.decided c.in-Ok-Some.doc c.holds.result _ _ going a.0 all.places_for
@@ -83,9 +83,9 @@ pub returns-then-holds-clause-pages : goal.returns-then-holds-clause-pages
 returns-then-holds-clause-pages g c = λ base collection goes.
     let going = c.loop-decided.invariant.goes base collection goes in
     let now = goes_now base collection (query_of c.args.query.now) _ _ c.args.places.now.items c.loop-decided.places.items c.args.lead c.args.all c.args.decided.now c.loop-decided.decided _ _ c.loop-decided.invariant.files goes going in
-    let a = (rw c.in-Ok-Some.field-0-is at c.in-Ok-Some.ensures.answer) base collection (query_of c.args.query.now) now in
+    let a = (rw c.in-Ok-Some.field-0-is at c.in-Ok-Some.ensures.answer) (query_of c.args.query.now) base collection now in
     let asks = next_asks base collection (query_of c.args.query.now) _ c.candidate.new.places.items c.loop-decided.decided c.in-Ok-Some.doc (stands_now base collection _ _ c.candidate.ensures.files now.stand) a.0 a.1 in
-    let one = pages_more _ _ _ _ (g.S.Store.reads c.args.store.now) (g.S.Store.reads c.loop-decided.store) (g.S.Store.reads c.candidate.new.store) going.post (c.candidate.ensures.pages base collection (query_of c.args.query.now) now) in
+    let one = pages_more _ _ _ _ (g.S.Store.reads c.args.store.now) (g.S.Store.reads c.loop-decided.store) (g.S.Store.reads c.candidate.new.store) going.post (c.candidate.ensures.pages (query_of c.args.query.now) base collection now) in
     pages_more _ _ _ _ (g.S.Store.reads c.args.store.now) (g.S.Store.reads c.candidate.new.store) (g.S.Store.reads c.ask_all.new.store) one.post (sum_pages collection (query_of c.args.query.now) _ _ _ _ (c.ask_all.ensures.pages base collection (asked_of collection (query_of c.args.query.now)) (query_terms (query_of c.args.query.now)) asks))
 
 pub loop-decided-preserved : goal.loop-decided-preserved
@@ -104,10 +104,10 @@ loop-decided-preserved g c = record {
   goes = λ base collection goes.
       let going = c.loop-decided.invariant.goes base collection goes in
       let now = goes_now base collection (query_of c.args.query.now) _ _ c.args.places.now.items c.loop-decided.places.items c.args.lead c.args.all c.args.decided.now c.loop-decided.decided _ _ c.loop-decided.invariant.files goes going in
-      let a = (rw c.in-Ok-Some.field-0-is at c.in-Ok-Some.ensures.answer) base collection (query_of c.args.query.now) now in
+      let a = (rw c.in-Ok-Some.field-0-is at c.in-Ok-Some.ensures.answer) (query_of c.args.query.now) base collection now in
       let asks = next_asks base collection (query_of c.args.query.now) _ c.candidate.new.places.items c.loop-decided.decided c.in-Ok-Some.doc (stands_now base collection _ _ c.candidate.ensures.files now.stand) a.0 a.1 in
       let all = c.in-Ok.ensures.answer base collection (asked_of collection (query_of c.args.query.now)) (query_terms (query_of c.args.query.now)) asks in
-      let lead = c.candidate.ensures.pages base collection (query_of c.args.query.now) now in
+      let lead = c.candidate.ensures.pages (query_of c.args.query.now) base collection now in
       let step = c.ask_all.ensures.pages base collection (asked_of collection (query_of c.args.query.now)) (query_terms (query_of c.args.query.now)) asks in
       going_miss base collection (query_of c.args.query.now) c.args.places.now.items c.loop-decided.places.items c.ask_all.new.places.items c.args.lead c.args.all c.args.decided.now c.loop-decided.decided c.in-Ok-Some.doc c.holds.result _ _ _ going a.0 all.places_for
       (c.holds.ensures.satisfied (document collection c.in-Ok-Some.doc) (rw (← c.deref.ensures.value) at all.are_there)) c.if-holds.false (omega (arith, lead.post, step.post));
