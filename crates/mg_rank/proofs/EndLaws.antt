@@ -9,7 +9,7 @@ use Rattle.mg_dev.specs.Files.{Reads}
 use Rattle.mg_dev.specs.declared.part_err.PartErr.{PartErr}
 use Rattle.mg_dev.specs.declared.part_err.PartErr.TheVariants as part
 use Rattle.mg_defs.specs.Split.{documents}
-use Rattle.mg_defs.specs.Weights.{Hit, hits, hit_count, has_term, score}
+use Rattle.mg_defs.specs.Weights.{Hit, hits, has_term, score}
 use Rattle.mg_layout.specs.declared.term_info.TermInfo.{TermInfo}
 use Rattle.mg_defs.specs.PageBounds.{list_pages, ranked_bound}
 use Rattle.mg_post.specs.TermLists.{IsInfoOf, ReadsLists}
@@ -74,7 +74,7 @@ length_filter p (x ∷ xs) =
       | inr isnt ↦ (let e : filter p (x ∷ xs) ≡ filter p xs = rw isnt refl in omega (arith, ap length e, length_filter p xs))
     ]
 
-pub hits_few : (collection : List ℕ) (ts : List (List ℕ)) → hit_count collection ts ≤ length (documents collection)
+pub hits_few : (collection : List ℕ) (ts : List (List ℕ)) → length (hits collection ts) ≤ length (documents collection)
 hits_few collection ts = omega (arith, length_map (hit collection ts) (filter (met ts) (enumerate_from 1 (documents collection))), length_filter (met ts) (enumerate_from 1 (documents collection)), length_numbers 1 (documents collection))
   where
     met : List (List ℕ) → ℕ × List ℕ → Bool
@@ -83,7 +83,7 @@ hits_few collection ts = omega (arith, length_map (hit collection ts) (filter (m
     hit : List ℕ → List (List ℕ) → ℕ × List ℕ → Hit
     hit collection ts d = record { number = d.0; score = score collection ts d.1 }
 
-pub counted : (collection : List ℕ) (ts : List (List ℕ)) (all : ℕ) (sums : List (ℕ × ℕ)) → SumsFor collection ts sums → AreWithin all sums → length sums ≡ hit_count collection ts
+pub counted : (collection : List ℕ) (ts : List (List ℕ)) (all : ℕ) (sums : List (ℕ × ℕ)) → SumsFor collection ts sums → AreWithin all sums → length sums ≡ length (hits collection ts)
 counted collection ts all sums s within = sym (length_same (hits collection ts) (map (row_of collection) sums) (same_hits collection ts all sums s within) ∙ length_map (row_of collection) sums)
 
 -- ---- refusals and reads

@@ -29,7 +29,7 @@ use Rattle.mg_rank.specs.Ranked.{AnswersOr, ListFor, ReadsWeights}
 
 pub for_within : (collection asked t : List ℕ) → pages_for collection asked t ≤ list_pages collection t
 unfolding pages_for list_pages
-for_within collection asked t = met_whole asked (parameter_of collection t) (list_bit collection t) (block_count (postings collection t)) (postings collection t)
+for_within collection asked t = met_whole asked (parameter_of collection t) (list_bit collection t) (block_count (length (postings collection t))) (postings collection t)
 
 pub list_later : (base collection t : List ℕ) (m n : ℕ) (c : Cursoring) → ListFor base collection t m c → m ≤ n → ListFor base collection t n c
 list_later base collection t m n c f le = record { number = f.number; term = f.term; over = f.over; parameter = f.parameter; reached_doc = f.reached_doc; early = omega (arith, f.early, le); at = f.at; first = f.first; within = f.within }

@@ -1,5 +1,5 @@
 -- The first rows of a ranked answer: what is handed in, and what is answered.
-use Rattle.std.specs.Prelude.{◌≡◌, ◌≢◌, ℕ, ◌*◌, ◌≤◌, ◌<◌, List, [], length, get_or, slice_index_or, Ok, Err, Some, None, sum_by, filter, nat_eq, if◌then◌else◌}
+use Rattle.std.specs.Prelude.{◌≡◌, ◌≢◌, ℕ, ◌+◌, ◌-◌, ◌*◌, ◌^◌, ◌≤◌, ◌<◌, List, [], ◌∷◌, ◌++◌, length, take, drop, get_or, slice_index_or, Ok, Err, Some, None, sum_by, filter, nat_eq, if◌then◌else◌}
 use Rattle.std.specs.List.{list_any, IsDistinct}
 use Rattle.std.specs.Str.{bytes_eq}
 use Rattle.std.specs.declared.option.Option.{Option}
@@ -10,15 +10,19 @@ use Rattle.mg_dev.specs.declared.part.Part.{Part}
 use Rattle.mg_dev.specs.declared.part.Part.TheVariants as part
 use Rattle.mg_dev.specs.declared.part_err.PartErr.{PartErr}
 use Rattle.mg_dev.specs.declared.part_err.PartErr.TheVariants.{Device, Memory, Bad}
+use Rattle.mg_bits.specs.Pages.{Paging}
+use Rattle.mg_defs.specs.declared.Posting.{Posting}
+use Rattle.mg_defs.specs.Numbers.{four}
+use Rattle.mg_defs.specs.Split.{documents}
 use Rattle.mg_defs.specs.Terms.{document}
-use Rattle.mg_defs.specs.Weights.{Hit, top, hit_count, has_term, wd, wt}
+use Rattle.mg_defs.specs.Weights.{Hit, has_term, wd, wt, hits, by_score}
 use Rattle.mg_layout.specs.declared.term_info.TermInfo.{TermInfo}
 use Rattle.mg_defs.specs.Stands.{weights_part}
 use Rattle.std.specs.Map.{lookup}
 use Rattle.mg_defs.specs.Lists.{postings}
-use Rattle.mg_post.specs.Cursor.{Cursoring}
+use Rattle.mg_post.specs.Cursor.{Cursoring, post_pages}
 use Rattle.mg_defs.specs.PageBounds.{numbers_in}
-use Rattle.mg_post.specs.TermLists.{CursorFor, IsInfoOf, ListsStand}
+use Rattle.mg_post.specs.TermLists.{AnswersAsk, CursorFor, IsInfoOf, ListsStand}
 use Rattle.mg_rank.specs.Sums.{AreApart}
 
 -- what is told of these distinct terms, each of them of the collection
@@ -42,7 +46,7 @@ IsNumbered all h = (1 ≤ h.number) × (h.number ≤ all)
 
 -- where the parts stand: the first of the documents with a term, by score and number, and how many there are; or want of memory or a device's failure
 abbrev pub AnswersTop : Result Ranking PartErr → List ℕ → List (List ℕ) → ℕ → Type 0
-AnswersTop (Ok r) collection ts most = (r.rows ≡ top collection ts (Some most)) × (r.total ≡ hit_count collection ts)
+AnswersTop (Ok r) collection ts most = (r.rows ≡ take most (by_score (hits collection ts))) × (r.total ≡ length (hits collection ts))
 AnswersTop (Err Device) collection ts most = Unit {0}
 AnswersTop (Err Memory) collection ts most = Unit {0}
 AnswersTop (Err (Bad bad)) collection ts most = ⊥
@@ -82,3 +86,51 @@ pub record SumsFor (collection : List ℕ) (done : List (List ℕ)) (sums : List
 pub record ReadsWeights (before now : Reads) : Type 0 where
   pub later : (p : Part) → before p ≤ now p
   pub others : (p : Part) → p ≢ part.Weights → now p ≡ before p
+
+-- ---- what calls promise of the lists, where these stand
+
+-- no more pages of Post are read than so many
+abbrev pub PostWithin : {X : Type 0} → (X → Reads) → X → X → ℕ → Type 0
+PostWithin reads before now pages = reads now part.Post ≤ reads before part.Post + pages
+
+-- no more pages of Post are read than the cursor has read since
+abbrev pub PostRoseWith : {X : Type 0} → (X → Reads) → X → X → Cursoring → Cursoring → Type 0
+PostRoseWith reads before now old new = reads now part.Post + post_pages old ≤ reads before part.Post + post_pages new
+
+-- for each list that a cursor may go over behind this document
+abbrev pub ForList : Option Files → ℕ → Cursoring → (List ℕ → List ℕ → List ℕ → Type 0) → Type 0
+ForList files last c claim = (base collection t : List ℕ) → ListsStand base files collection → ListFor base collection t last c → claim base collection t
+
+-- the answer: the first posting of the list behind this document
+abbrev pub AnswersBehind : List ℕ → List ℕ → List ℕ → ℕ → Cursoring → Option Posting → Type 0
+AnswersBehind base collection t last c found = AnswersAsk base collection (numbers_in (postings collection t)) t (last + 1) found c
+
+-- for each term of which this is told
+abbrev pub ForTerm : List ℕ → Option Files → TermInfo → ℕ → (List ℕ → List ℕ → Type 0) → Type 0
+ForTerm base files info all claim = (collection t : List ℕ) → ListsStand base files collection → IsInfoOf collection t info → all ≡ length (documents collection) → claim collection t
+
+-- to the sums of some terms, what the term adds of which this is told
+abbrev pub AddsTerm : {T : Type 0} → List ℕ → Option Files → TermInfo → ℕ → List (ℕ × ℕ) → List (ℕ × ℕ) → Result T PartErr → Type 0
+AddsTerm base files info all old new result = (collection t : List ℕ) (done : List (List ℕ)) → ListsStand base files collection → IsInfoOf collection t info → all ≡ length (documents collection) → SumsFor collection done old → AnswersOr result (λ _. SumsFor collection (done ++ t ∷ []) new)
+
+-- for all terms of which these are told
+abbrev pub ForTerms : List ℕ → Option Files → List TermInfo → ℕ → (List ℕ → List (List ℕ) → Type 0) → Type 0
+ForTerms base files infos all claim = (collection : List ℕ) (ts : List (List ℕ)) → ListsStand base files collection → AreTold collection ts infos → all ≡ length (documents collection) → claim collection ts
+
+-- the same, where the weights stand too
+abbrev pub ForRanked : List ℕ → Option Files → List TermInfo → ℕ → (List ℕ → List (List ℕ) → Type 0) → Type 0
+ForRanked base files infos all claim = (collection : List ℕ) (ts : List (List ℕ)) → WeightsStand base files collection → AreTold collection ts infos → all ≡ length (documents collection) → claim collection ts
+
+-- for all terms whose sums these are
+abbrev pub ForSums : List ℕ → Option Files → ℕ → List (ℕ × ℕ) → (List ℕ → List (List ℕ) → Type 0) → Type 0
+ForSums base files all sums claim = (collection : List ℕ) (ts : List (List ℕ)) → WeightsStand base files collection → all ≡ length (documents collection) → SumsFor collection ts sums → claim collection ts
+
+-- ---- weights in four bytes each
+
+-- for each number that the file may have from this byte on
+abbrev pub ForFour : Paging → Option Files → ℕ → (ℕ → Type 0) → Type 0
+ForFour weights files at claim = (w : ℕ) → w < 2 ^ 32 → take 4 (drop at (bytes_at files weights.name)) ≡ four w → claim w
+
+-- for each weight that it may have for a document
+abbrev pub ForWeight : Paging → Option Files → ℕ → (ℕ → Type 0) → Type 0
+ForWeight weights files doc claim = (w : ℕ) → 1 ≤ w → w < 2 ^ 32 → take 4 (drop (4 * (doc - 1)) (bytes_at files weights.name)) ≡ four w → claim w

@@ -1,16 +1,14 @@
 //! What the list of a term adds to the sums.
-ghost use Rattle.std.specs.Prelude.{◌≡◌, ◌≢◌, ℕ, ◌+◌, ◌-◌, ◌*◌, ◌≤◌, ◌<◌, ◌^◌, List, [], ◌∷◌, ◌++◌, Ok, Err, IfOk, IfSome, OnOk, OnErr, length};
+ghost use Rattle.std.specs.Prelude.{◌≡◌, ◌≢◌, ℕ, ◌+◌, ◌-◌, ◌*◌, ◌≤◌, ◌<◌, ◌^◌, Ok, Err, IfOk, IfSome, OnOk, OnErr};
 ghost use Rattle.mg_dev.specs.PartCauses.{HasPartCause};
 ghost use Rattle.mg_dev.specs.declared.part.Part.TheVariants as part;
-ghost use Rattle.mg_defs.specs.Lists.{postings};
-ghost use Rattle.mg_defs.specs.Split.{documents};
 ghost use Rattle.mg_defs.specs.Weights.{weight_of_term, weight_in_doc};
 ghost use Rattle.mg_post.specs.Answers.{AnswersList};
 ghost use Rattle.mg_post.specs.Cursor.{CursorFits, IsFrom, SameList, post_pages};
-ghost use Rattle.mg_defs.specs.PageBounds.{list_pages, numbers_in};
-ghost use Rattle.mg_post.specs.TermLists.{AnswersAsk, IsInfoOf, ListsStand, ReadsLists};
-ghost use Rattle.mg_rank.specs.Ranked.{AnswersOr, ListFor, SumsFor};
+ghost use Rattle.mg_defs.specs.PageBounds.{list_pages};
+ghost use Rattle.mg_post.specs.TermLists.{ReadsLists};
 ghost use Rattle.mg_rank.specs.Sums.{AreApart, AreWithin, sum_of, with_more};
+ghost use Rattle.mg_rank.specs.Ranked.{PostWithin, PostRoseWith, ForList, AnswersBehind, ForTerm, AddsTerm};
 
 use crate::sums::Sums;
 use mg_defs::Posting;
@@ -31,12 +29,9 @@ fn next_posting<S: Store>(
     requires few { last < 2 ^ 32 - 1 }
     ensures fits { OnOk result (CursorFits cursor.new (S.files store.new)) }
     ensures same { SameList cursor.old cursor.new }
-    ensures answer { (base collection t : List ℕ) → ListsStand base (S.files store.old) collection → ListFor base collection t last cursor.old →
-        AnswersList result (λ found. AnswersAsk base collection (numbers_in (postings collection t)) t (last + 1) found cursor.new) }
-    ensures within { (base collection t : List ℕ) → ListsStand base (S.files store.old) collection → ListFor base collection t last cursor.old →
-        post_pages cursor.new ≤ list_pages collection t }
-    ensures post { (base collection t : List ℕ) → ListsStand base (S.files store.old) collection → ListFor base collection t last cursor.old →
-        S.reads store.new part.Post + post_pages cursor.old ≤ S.reads store.old part.Post + post_pages cursor.new }
+    ensures answer { ForList (S.files store.old) last cursor.old (λ base collection t. AnswersList result (AnswersBehind base collection t last cursor.new)) }
+    ensures within { ForList (S.files store.old) last cursor.old (λ _ collection t. post_pages cursor.new ≤ list_pages collection t) }
+    ensures post { ForList (S.files store.old) last cursor.old (λ _ _ _. PostRoseWith S.reads store.old store.new cursor.old cursor.new) }
     ensures sound { IfOk result (λ found. IfSome found (IsFrom (last + 1) cursor.old.all)) }
     ensures reads { ReadsLists (S.reads store.old) (S.reads store.new) }
     ensures files { S.files store.new ≡ S.files store.old }
@@ -108,11 +103,8 @@ pub(crate) fn add_list<S: Store>(
     ensures small { (n : ℕ) → ((d : ℕ) → sum_of d sums.old ≤ n) → (d : ℕ) → sum_of d sums.new ≤ n + 2 ^ 29 }
     ensures within { AreWithin all sums.old → AreWithin all sums.new }
     ensures apart { AreApart sums.old → AreApart sums.new }
-    ensures answer { (collection t : List ℕ) (done : List (List ℕ)) → ListsStand base.now (S.files store.old) collection → IsInfoOf collection t info.now →
-        all ≡ length (documents collection) → SumsFor collection done sums.old →
-        AnswersOr result (λ _. SumsFor collection (done ++ t ∷ []) sums.new) }
-    ensures pages { (collection t : List ℕ) → ListsStand base.now (S.files store.old) collection → IsInfoOf collection t info.now →
-        all ≡ length (documents collection) → S.reads store.new part.Post ≤ S.reads store.old part.Post + list_pages collection t }
+    ensures answer { AddsTerm base.now (S.files store.old) info.now all sums.old sums.new result }
+    ensures pages { ForTerm base.now (S.files store.old) info.now all (λ collection t. PostWithin S.reads store.old store.new (list_pages collection t)) }
     ensures reads { ReadsLists (S.reads store.old) (S.reads store.new) }
     ensures files { S.files store.new ≡ S.files store.old }
     ensures cause { HasPartCause (S.faults store.old) (S.faults store.new) result }

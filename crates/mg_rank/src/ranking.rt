@@ -1,15 +1,14 @@
 //! A ranked answer.
-ghost use Rattle.std.specs.Prelude.{◌≡◌, ◌≢◌, ℕ, ◌+◌, ◌*◌, ◌<◌, ◌≤◌, ◌^◌, List, IfOk, OnOk, IsSome, length, slice_index_or};
+ghost use Rattle.std.specs.Prelude.{◌≡◌, ◌≢◌, ℕ, ◌*◌, ◌<◌, ◌≤◌, ◌^◌, List, IfOk, OnOk, IsSome, length, slice_index_or};
 ghost use Rattle.std.specs.List.{All};
 ghost use Rattle.mg_dev.specs.Files.{bytes_at};
 ghost use Rattle.mg_dev.specs.Names.{full_name};
 ghost use Rattle.mg_dev.specs.PartCauses.{HasPartCause};
 ghost use Rattle.mg_dev.specs.declared.part.Part.TheVariants as part;
-ghost use Rattle.mg_defs.specs.Split.{documents};
 ghost use Rattle.mg_defs.specs.Weights.{Hit};
 ghost use Rattle.mg_defs.specs.PageBounds.{ranked_bound};
-ghost use Rattle.mg_post.specs.TermLists.{ListsStand, ReadsLists};
-ghost use Rattle.mg_rank.specs.Ranked.{AnswersOr, AnswersTop, AreTold, IsNumbered, ReadsRanked, SumsFor, WeightsStand};
+ghost use Rattle.mg_post.specs.TermLists.{ReadsLists};
+ghost use Rattle.mg_rank.specs.Ranked.{AnswersOr, AnswersTop, IsNumbered, ReadsRanked, SumsFor, PostWithin, ForTerms, ForRanked};
 ghost use Rattle.mg_rank.specs.Sums.{AreApart, AreWithin, sum_of};
 
 use crate::best::Kept;
@@ -106,13 +105,11 @@ fn sum_lists<S: Store>(
     all: u32,
 ) -> Result<Sums, PartErr>
     requires few { length terms.now ≤ 64 }
-    ensures answer { (collection : List ℕ) (ts : List (List ℕ)) → ListsStand base.now (S.files store.old) collection → AreTold collection ts terms.now →
-        all ≡ length (documents collection) → AnswersOr result (λ sums. SumsFor collection ts sums) }
+    ensures answer { ForTerms base.now (S.files store.old) terms.now all (λ collection ts. AnswersOr result (λ sums. SumsFor collection ts sums)) }
     ensures small { IfOk result (λ sums. (d : ℕ) → sum_of d sums < 2 ^ 56) }
     ensures within { IfOk result (λ sums. AreWithin all sums) }
     ensures apart { IfOk result (λ sums. AreApart sums) }
-    ensures pages { (collection : List ℕ) (ts : List (List ℕ)) → ListsStand base.now (S.files store.old) collection → AreTold collection ts terms.now →
-        all ≡ length (documents collection) → S.reads store.new part.Post ≤ S.reads store.old part.Post + ranked_bound collection ts }
+    ensures pages { ForTerms base.now (S.files store.old) terms.now all (λ collection ts. PostWithin S.reads store.old store.new (ranked_bound collection ts)) }
     ensures reads { ReadsLists (S.reads store.old) (S.reads store.new) }
     ensures files { S.files store.new ≡ S.files store.old }
     ensures cause { HasPartCause (S.faults store.old) (S.faults store.new) result }
@@ -155,11 +152,9 @@ fn rank_sized<S: Store>(
     most: u32,
 ) -> Result<Ranked, PartErr>
     requires few { length terms.now ≤ 64 }
-    ensures answer { (collection : List ℕ) (ts : List (List ℕ)) → WeightsStand base.now (S.files store.old) collection → AreTold collection ts terms.now →
-        all ≡ length (documents collection) → AnswersTop result collection ts most }
+    ensures answer { ForRanked base.now (S.files store.old) terms.now all (λ collection ts. AnswersTop result collection ts most) }
     ensures range { IfOk result (λ r. All (IsNumbered all) r.rows) }
-    ensures pages { (collection : List ℕ) (ts : List (List ℕ)) → ListsStand base.now (S.files store.old) collection → AreTold collection ts terms.now →
-        all ≡ length (documents collection) → S.reads store.new part.Post ≤ S.reads store.old part.Post + ranked_bound collection ts }
+    ensures pages { ForTerms base.now (S.files store.old) terms.now all (λ collection ts. PostWithin S.reads store.old store.new (ranked_bound collection ts)) }
     ensures reads { ReadsRanked (S.reads store.old) (S.reads store.new) }
     ensures none { most ≡ 0 → S.reads store.new part.Weights ≡ S.reads store.old part.Weights }
     ensures files { S.files store.new ≡ S.files store.old }
@@ -203,12 +198,10 @@ pub fn rank<S: Store>(
     most: u32,
 ) -> Result<Ranked, PartErr>
     requires few { length terms.now ≤ 64 }
-    ensures answer { (collection : List ℕ) (ts : List (List ℕ)) → WeightsStand base.now (S.files store.old) collection → AreTold collection ts terms.now →
-        all ≡ length (documents collection) → AnswersTop result collection ts most }
+    ensures answer { ForRanked base.now (S.files store.old) terms.now all (λ collection ts. AnswersTop result collection ts most) }
     ensures sized { IsSome (S.files store.old) → OnOk result (length (bytes_at (S.files store.old) (full_name base.now part.Weights)) ≡ 4 * all) }
     ensures range { IfOk result (λ r. All (IsNumbered all) r.rows) }
-    ensures pages { (collection : List ℕ) (ts : List (List ℕ)) → ListsStand base.now (S.files store.old) collection → AreTold collection ts terms.now →
-        all ≡ length (documents collection) → S.reads store.new part.Post ≤ S.reads store.old part.Post + ranked_bound collection ts }
+    ensures pages { ForTerms base.now (S.files store.old) terms.now all (λ collection ts. PostWithin S.reads store.old store.new (ranked_bound collection ts)) }
     ensures reads { ReadsRanked (S.reads store.old) (S.reads store.new) }
     ensures none { most ≡ 0 → S.reads store.new part.Weights ≡ S.reads store.old part.Weights }
     ensures files { S.files store.new ≡ S.files store.old }
