@@ -2,7 +2,7 @@ mod Lists
 mod Counting
 mod Order
 mod Sorting
-mod Cutting
+mod Blocks
 mod Seeking
 mod Entries
 mod Damages

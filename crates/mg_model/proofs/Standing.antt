@@ -10,7 +10,7 @@ use Rattle.mg_dev.specs.Files.{Files, bytes_at}
 use Rattle.mg_dev.specs.Names.{full_name}
 use Rattle.mg_dev.specs.Laws.{same_part_of_name}
 use Rattle.mg_canon.specs.Refusals.{IsFirstBad, IsUnfilled, IsLength, most_bits}
-use Rattle.mg_defs.specs.Canon.{AreGood, AreWithin}
+use Rattle.mg_defs.specs.Canon.{AreGood, AreCodeLengths}
 use Rattle.mg_defs.specs.CodedText.{StreamCode, TextCode, piece_entries, pieces_part}
 use Rattle.mg_defs.specs.Front.{Entry, IsEntry, AreEntries, entry_bytes, front, front_from, last_string, shared}
 use Rattle.mg_defs.proofs.FrontParts.{one_front, prefix_of}
@@ -89,7 +89,7 @@ module _ (count : ℕ) (bytes : List ℕ) (it : StreamCode) (is : IsPart count b
       by [] e f = let none : length (drop (length (front d.es)) bytes) ≡ 0 = ap length f in omega (arith, d.more, none)
       by (x ∷ rest) e f = omega (arith, ap length e, length-append d.es (x ∷ rest), all-long, d.all)
 
-within-at : (ls : List ℕ) (s : ℕ) → AreWithin ls → s < length ls → (1 ≤ slice_index ls s) × (slice_index ls s ≤ 48)
+within-at : (ls : List ℕ) (s : ℕ) → AreCodeLengths ls → s < length ls → (1 ≤ slice_index ls s) × (slice_index ls s ≤ 48)
 within-at [] s h l = absurd (omega arith)
 within-at (b ∷ ls) zero h l = h.0
 within-at (b ∷ ls) (suc s) h l = within-at ls s h.1 (omega arith)

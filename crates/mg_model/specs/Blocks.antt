@@ -1,21 +1,27 @@
--- Pieces one after another in one list of bytes.
-use Rattle.std.specs.Prelude.{◌≡◌, ℕ, ◌-◌, ◌^◌, ◌≤◌, ◌==◌, if◌then◌else◌, List, [], ◌∷◌, length, take, drop, slice_index}
+-- Pieces by entries of sixteen bytes, and the bytes of the longer ones.
+use Rattle.std.specs.Prelude.{◌≡◌, ℕ, ◌+◌, ◌*◌, ◌^◌, ◌<◌, ◌≤◌, nat_le, if◌then◌else◌, List, length, take, drop, slice_index}
+use Rattle.std.specs.List.{AllByRecursion}
+use Rattle.mg_defs.specs.Numbers.{four_at}
 
--- the pieces that end at these places, the first from a place on
-abbrev pub cut : ℕ → List ℕ → List ℕ → List (List ℕ)
-cut from [] bytes = []
-cut from (end ∷ ends) bytes = take (end - from) (drop from bytes) ∷ cut end ends bytes
+-- the piece that an entry holds: its length, and then its bytes
+abbrev pub short_piece : List ℕ → List ℕ
+short_piece entry = take (slice_index entry 0) (drop 1 entry)
 
--- the places rise from one to another, by at most 255 each
-abbrev pub AreEnds : ℕ → List ℕ → ℕ → Type 0
-AreEnds from [] to = from ≡ to
-AreEnds from (end ∷ ends) to = (from ≤ end) × (end - from ≤ 255) × AreEnds end ends to
+-- the piece of which an entry tells the length, and the place where it begins
+abbrev pub long_piece : List ℕ → List ℕ → List ℕ
+long_piece long entry = take (slice_index entry 0) (drop (four_at entry 1) long)
 
--- the bytes are those of the pieces that end at these places
-pub record IsBlock (ends bytes : List ℕ) : Type 0 where
-  pub few : length ends ≤ 2 ^ 22
-  pub ends_are : AreEnds 0 ends (length bytes)
+-- the piece of an entry, which holds one of at most fifteen bytes
+abbrev pub piece_of : List ℕ → List ℕ → List ℕ
+piece_of long entry = if nat_le (slice_index entry 0) 15 then short_piece entry else long_piece long entry
 
--- where the piece at a place begins
-abbrev pub start_of : List ℕ → ℕ → ℕ
-start_of ends place = if place == 0 then 0 else slice_index ends (place - 1)
+-- an entry's length is a byte, and a longer piece lies within so many bytes
+pub record IsPieceEntry (size : ℕ) (entry : List ℕ) : Type 0 where
+  pub byte : slice_index entry 0 ≤ 255
+  pub within : 15 < slice_index entry 0 → four_at entry 1 + slice_index entry 0 ≤ size
+
+-- each entry is one over the bytes of the longer pieces
+pub record IsBlock (entries : List (List ℕ)) (long : List ℕ) : Type 0 where
+  pub few : length entries ≤ 2 ^ 22
+  pub long_few : length long ≤ 255 * length entries
+  pub entries_are : AllByRecursion (IsPieceEntry (length long)) entries

@@ -5,4 +5,5 @@ pub mod Models
 pub mod Sizes
 pub mod Damage
 pub mod Read
+pub mod Loading
 pub mod Terms

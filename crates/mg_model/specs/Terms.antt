@@ -22,6 +22,18 @@ pub record HasTerm (terms : List (List ℕ)) (word : List ℕ) : Type 0 where
 abbrev pub terms_and_numbers : List (List ℕ) → TermNumbers
 terms_and_numbers words = record { terms = sorted_distinct (terms_of_words words); numbers = map (term_in (sorted_distinct (terms_of_words words))) words }
 
+-- this piece stands at this place
+abbrev pub IsPieceAt : List (List ℕ) → ℕ → List ℕ → Type 0
+IsPieceAt pieces place piece = slice_get pieces place ≡ Some piece
+
+-- the symbol of a piece is its place
+abbrev pub HasSymbol : List (List ℕ) → List ℕ → ℕ → Type 0
+HasSymbol pieces piece symbol = position (bytes_eq piece) pieces ≡ Some symbol
+
+-- at this symbol stands the number of the term of this word
+abbrev pub HasNumberAt : TermNumbers → ℕ → List ℕ → Type 0
+HasNumberAt it symbol word = slice_get it.numbers symbol ≡ Some (term_in it.terms word)
+
 -- the place of the term of a word; the empty word has none
 abbrev pub place_in : List (List ℕ) → List ℕ → Option ℕ
 place_in terms word = if is_empty word then None else position (bytes_eq (folded word)) terms

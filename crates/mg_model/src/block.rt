@@ -1,59 +1,102 @@
-//! Pieces one after another in one block of bytes.
-ghost use Rattle.std.specs.Prelude.{◌≡◌, ℕ, List, ◌+◌, ◌<◌, ◌≤◌, ◌^◌, ◌++◌, ◌∷◌, ◌-◌, [], length, take, drop, position, slice_get, slice_index, Some, IfOk, OnOk, OnErr};
+//! Pieces in entries of sixteen bytes, and the bytes of the longer ones in one block.
+ghost use Rattle.std.specs.Prelude.{◌≡◌, ℕ, List, ◌+◌, ◌<◌, ◌≤◌, ◌^◌, ◌++◌, ◌∷◌, [], length, position, slice_get, slice_index, slice_index_or, Some, IfOk, IfSome, OnOk, OnErr};
 ghost use Rattle.std.specs.List.{AllByRecursion};
 ghost use Rattle.std.specs.List.Sorted.{IsStrictlySortedBy};
 ghost use Rattle.std.specs.Ordering.{nat_cmp};
 ghost use Rattle.std.specs.Cmp.Lexicographic.{slice_cmp};
 ghost use Rattle.std.specs.Str.{bytes_eq};
-ghost use Rattle.mg_model.specs.Blocks.{start_of};
+ghost use Rattle.mg_defs.specs.Numbers.{four_at};
+ghost use Rattle.mg_model.specs.Blocks.{short_piece, long_piece, piece_of, IsPieceEntry};
 
 use crate::room::{make_room, make_room_for};
+use mg_fields::{four_at, four_bytes};
 use std::alloc::{AllocError, Global};
 use std::cmp::Ordering;
 use std::marker::Model;
 
-/// Pieces one after another in one block of bytes, with the place where each ends: four bytes a
-/// piece beside its own, and no block of memory for each.
+/// The most bytes of a piece that its entry holds.
+const SHORT: usize = 15;
+
+/// Pieces in entries of sixteen bytes.
+///
+/// The first byte of an entry is the piece's length. A piece of at most fifteen bytes stands behind
+/// it, so that one read of memory finds it; of a longer piece the entry tells in four bytes where it
+/// begins among the bytes of the longer pieces, which stand one after another.
 #[derive(Drop)]
 pub struct PieceBlock {
-    bytes: Vec<u8>,
-    ends: Vec<u32>,
+    entries: Vec<[u8; 16]>,
+    long: Vec<u8>,
 }
 
 impl Model for PieceBlock {
-    ghost use Rattle.std.specs.Prelude.{ℕ, List};
-    ghost use Rattle.mg_model.specs.Blocks.{cut, IsBlock};
+    ghost use Rattle.std.specs.Prelude.{ℕ, List, map};
+    ghost use Rattle.mg_model.specs.Blocks.{piece_of, IsBlock};
 
     ghost Value = { List (List ℕ) };
 
-    ghost view = { λ b. cut 0 b.ends.items b.bytes.items };
+    ghost view = { λ b. map (piece_of b.long.items) b.entries.items };
 
-    ghost invariant = { λ b. IsBlock b.ends.items b.bytes.items };
+    ghost invariant = { λ b. IsBlock b.entries.items b.long.items };
 }
 
-/// Where the piece at a place begins.
-fn start_of(ends: &[u32], place: usize) -> u32
-    requires { place < length ends.now }
-    ensures { result ≡ start_of ends.now place }
+/// The entry of a piece that it holds.
+fn short_entry(piece: &[u8]) -> [u8; 16]
+    requires { length piece.now ≤ 15 }
+    ensures length { slice_index result 0 ≡ length piece.now }
+    ensures piece { short_piece result ≡ piece.now }
 {
-    if place == 0 { 0 } else { ends[place - 1] }
+    let mut entry = [0u8; 16];
+    entry[0] = piece.len() as u8;
+    entry[1..piece.len() + 1].copy_from_slice(piece);
+    entry
 }
 
-/// Where the piece at a place ends.
-fn end_of(ends: &[u32], place: usize) -> u32
-    requires { place < length ends.now }
-    ensures { result ≡ slice_index ends.now place }
+/// The entry of a piece of so many bytes that begins at a place.
+fn long_entry(length: u8, place: u32) -> [u8; 16]
+    ensures length { slice_index result 0 ≡ length }
+    ensures place { four_at result 1 ≡ place }
 {
-    ends[place]
+    let [a, b, c, d] = four_bytes(place);
+    [length, a, b, c, d, 0, 0, 0, 0, 0, 0, 0, 0, 0, 0, 0]
 }
 
-/// The bytes from one place to another.
-fn part(bytes: &[u8], start: u32, end: u32) -> &[u8]
-    requires order { start ≤ end }
-    requires within { end ≤ length bytes.now }
-    ensures { result.now ≡ take (end - start) (drop start bytes.now) }
+/// The entry at a place.
+#[inline]
+fn entry_at(entries: &[[u8; 16]], place: usize) -> &[u8; 16]
+    requires { place < length entries.now }
+    ensures { result.now ≡ slice_index_or entries.now place [] }
 {
-    &bytes[start as usize..end as usize]
+    &entries[place]
+}
+
+/// The piece that an entry holds.
+fn short_piece(entry: &[u8; 16]) -> &[u8]
+    requires { slice_index entry.now 0 ≤ 15 }
+    ensures { result.now ≡ short_piece entry.now }
+{
+    &entry[1..usize::from(entry[0]) + 1]
+}
+
+/// The piece of which an entry tells, among the bytes of the longer pieces.
+fn long_piece<'a>(entry: &[u8; 16], long: &'a [u8]) -> &'a [u8]
+    requires { four_at entry.now 1 + slice_index entry.now 0 ≤ length long.now }
+    ensures { result.now ≡ long_piece long.now entry.now }
+{
+    let start = four_at(entry, 1) as usize;
+    &long[start..start + usize::from(entry[0])]
+}
+
+/// The piece of an entry.
+fn piece_of<'a>(entry: &'a [u8; 16], long: &'a [u8]) -> &'a [u8]
+    requires { IsPieceEntry (length long.now) entry.now }
+    ensures piece { result.now ≡ piece_of long.now entry.now }
+    ensures short { length result.now ≤ 255 }
+{
+    if usize::from(entry[0]) <= SHORT {
+        short_piece(entry)
+    } else {
+        long_piece(entry, long)
+    }
 }
 
 impl PieceBlock {
@@ -62,19 +105,19 @@ impl PieceBlock {
         ensures { result ≡ [] }
     {
         PieceBlock {
-            bytes: Vec::new(alloc),
-            ends: Vec::new(alloc),
+            entries: Vec::new(alloc),
+            long: Vec::new(alloc),
         }
     }
 
-    /// A block of no piece, with room for the places of so many.
+    /// A block of no piece, with room for the entries of so many.
     pub fn with_capacity(alloc: Global, pieces: u32) -> Result<Self, AllocError>
         ensures { IfOk result (λ block. block ≡ []) }
     {
-        let ends = Vec::with_capacity(alloc, pieces as usize)?;
+        let entries = Vec::with_capacity(alloc, pieces as usize)?;
         Ok(PieceBlock {
-            bytes: Vec::new(alloc),
-            ends,
+            entries,
+            long: Vec::new(alloc),
         })
     }
 
@@ -84,7 +127,7 @@ impl PieceBlock {
         ensures few { length self.now ≤ 2 ^ 22 }
         ensures short { AllByRecursion (λ (p : List ℕ). length p ≤ 255) self.now }
     {
-        self.ends.len() as u32
+        self.entries.len() as u32
     }
 
     /// Adds a piece of at most 255 bytes. After a refusal nothing changed.
@@ -94,19 +137,23 @@ impl PieceBlock {
         ensures ok { OnOk result (self.new ≡ self.old ++ piece.now ∷ []) }
         ensures err { OnErr result (self.new ≡ self.old) }
     {
-        make_room_for(&mut self.bytes, piece.len())?;
-        make_room(&mut self.ends)?;
-        let end = self.bytes.len() + piece.len();
-        self.bytes.extend_from_slice(piece)?;
-        self.ends.push_reserved(end as u32);
+        make_room(&mut self.entries)?;
+        if piece.len() <= SHORT {
+            self.entries.push_reserved(short_entry(piece));
+            return Ok(());
+        }
+        make_room_for(&mut self.long, piece.len())?;
+        let entry = long_entry(piece.len() as u8, self.long.len() as u32);
+        self.long.extend_from_slice(piece)?;
+        self.entries.push_reserved(entry);
         Ok(())
     }
 
-    /// Gives back the memory that the bytes do not need.
+    /// Gives back the memory that the longer pieces do not need.
     pub fn shrink(&mut self)
         ensures { self.new ≡ self.old }
     {
-        self.bytes.shrink_to_fit();
+        self.long.shrink_to_fit();
     }
 
     /// The piece at a place.
@@ -115,10 +162,22 @@ impl PieceBlock {
         ensures piece { slice_get self.now place ≡ Some result.now }
         ensures short { length result.now ≤ 255 }
     {
-        let place = place as usize;
-        let start = start_of(&self.ends, place);
-        let end = end_of(&self.ends, place);
-        part(&self.bytes, start, end)
+        piece_of(entry_at(&self.entries, place as usize), &self.long)
+    }
+
+    /// The entry of the piece at a place, where it holds the piece.
+    #[inline]
+    pub fn short_piece(&self, place: u32) -> Option<&[u8; 16]>
+        requires { place < length self.now }
+        ensures piece { IfSome result (λ entry. slice_get self.now place ≡ Some (short_piece entry.now)) }
+        ensures length { IfSome result (λ entry. slice_index entry.now 0 ≤ 15) }
+    {
+        let entry = entry_at(&self.entries, place as usize);
+        if usize::from(entry[0]) <= SHORT {
+            Some(entry)
+        } else {
+            None
+        }
     }
 
     /// The place of a piece, where the pieces rise. It is sought by halving.

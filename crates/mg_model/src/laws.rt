@@ -1,6 +1,5 @@
 // Laws of symbols, of models of a collection and of its terms.
-ghost use Rattle.std.specs.Prelude.{◌≡◌, ◌≢◌, ◌<◌, ◌≤◌, Contains, ◌↔◌, ◌^◌, ℕ, List, [], length, position, slice_get, None, Some};
-ghost use Rattle.std.specs.Str.{bytes_eq};
+ghost use Rattle.std.specs.Prelude.{◌≡◌, ◌≢◌, ◌≤◌, Contains, ◌↔◌, ◌^◌, ℕ, List, [], length, None};
 ghost use Rattle.mg_defs.specs.CodedText.{IsCodeOf, StreamCode};
 ghost use Rattle.mg_defs.specs.Sorted.{number_of, sorted_distinct};
 ghost use Rattle.mg_defs.specs.Terms.{dictionary, terms_of_words};
@@ -9,17 +8,14 @@ ghost use Rattle.mg_defs.specs.declared.Stream.{Stream};
 ghost use Rattle.mg_defs.specs.declared.Stream.TheVariants.{Words};
 ghost use Rattle.mg_defs.specs.Means.{IsStreamCode};
 ghost use Rattle.mg_defs.specs.Marks.{term_in};
-ghost use Rattle.mg_model.specs.Terms.{HasTerm, terms_and_numbers};
+ghost use Rattle.mg_model.specs.Terms.{HasNumberAt, HasSymbol, HasTerm, IsPieceAt, terms_and_numbers};
 ghost use Rattle.mg_model.specs.Vocabularies.{IsVocabulary};
 
 /// The piece of a symbol has that symbol, and the symbol of a piece has that piece.
 pub fn symbol_and_piece()
-    ensures symbol { (it : StreamCode) (symbol : ℕ) (piece : List ℕ) → IsStreamCode it → slice_get it.pieces symbol ≡ Some piece →
-        position (bytes_eq piece) it.pieces ≡ Some symbol }
-    ensures piece { (it : StreamCode) (symbol : ℕ) (piece : List ℕ) → position (bytes_eq piece) it.pieces ≡ Some symbol →
-        slice_get it.pieces symbol ≡ Some piece }
-    ensures number { (it : StreamCode) (symbol : ℕ) (piece : List ℕ) → position (bytes_eq piece) it.pieces ≡ Some symbol →
-        number_of it.pieces piece ≡ symbol }
+    ensures symbol { (it : StreamCode) (symbol : ℕ) (piece : List ℕ) → IsStreamCode it → IsPieceAt it.pieces symbol piece → HasSymbol it.pieces piece symbol }
+    ensures piece { (it : StreamCode) (symbol : ℕ) (piece : List ℕ) → HasSymbol it.pieces piece symbol → IsPieceAt it.pieces symbol piece }
+    ensures number { (it : StreamCode) (symbol : ℕ) (piece : List ℕ) → HasSymbol it.pieces piece symbol → number_of it.pieces piece ≡ symbol }
 {}
 
 /// The code of a collection's stream is that of a model where it has at most 2^22 pieces.
@@ -44,8 +40,7 @@ pub fn terms_are_the_dictionary()
 /// stands at its symbol.
 pub fn words_have_terms()
     ensures word { (words : List (List ℕ)) (word : List ℕ) → Contains words word → word ≢ [] → HasTerm (sorted_distinct (terms_of_words words)) word }
-    ensures symbol { (words : List (List ℕ)) (symbol : ℕ) (word : List ℕ) → slice_get words symbol ≡ Some word → word ≢ [] →
+    ensures symbol { (words : List (List ℕ)) (symbol : ℕ) (word : List ℕ) → IsPieceAt words symbol word → word ≢ [] →
         HasTerm (terms_and_numbers words).terms word }
-    ensures number { (words : List (List ℕ)) (symbol : ℕ) (word : List ℕ) → slice_get words symbol ≡ Some word →
-        slice_get (terms_and_numbers words).numbers symbol ≡ Some (term_in (terms_and_numbers words).terms word) }
+    ensures number { (words : List (List ℕ)) (symbol : ℕ) (word : List ℕ) → IsPieceAt words symbol word → HasNumberAt (terms_and_numbers words) symbol word }
 {}

@@ -4,9 +4,9 @@
 //! [`Vocab`]; then each stream's pieces are numbered by the order of their bytes and given the
 //! lengths of a Huffman code, and are a [`TextModel`]. It keeps the map of each vocabulary, sorted:
 //! the place of a piece in the map is its symbol, and the second pass looks a symbol up with one
-//! hash. A model that is loaded from its two parts has no map: it keeps the pieces of each stream in
-//! one block of bytes, and where a symbol is asked for it seeks the piece by halving. A [`TermTable`]
-//! numbers the words once they are folded.
+//! hash. A model that is loaded from its two parts has no map: it keeps an entry of sixteen bytes for
+//! each piece, with the piece in it where it has at most fifteen bytes, and where a symbol is asked
+//! for it seeks the piece by halving. A [`TermTable`] numbers the words once they are folded.
 //!
 //! The models are the semi-static ones of Witten, Moffat and Bell, *Managing Gigabytes*, chapter 2;
 //! the parts are described in docs/FORMAT.md.

@@ -1,9 +1,10 @@
 //! The pieces of a stream in the order of their bytes.
-ghost use Rattle.std.specs.Prelude.{◌≡◌, ◌<◌, length, position, slice_get, Some};
+ghost use Rattle.std.specs.Prelude.{◌≡◌, ◌<◌, ◌≤◌, length, position, slice_get, slice_index, Some, IfSome};
 ghost use Rattle.std.specs.List.Sorted.{IsStrictlySortedBy};
 ghost use Rattle.std.specs.Ordering.{nat_cmp};
 ghost use Rattle.std.specs.Cmp.Lexicographic.{slice_cmp};
 ghost use Rattle.std.specs.Str.{bytes_eq};
+ghost use Rattle.mg_model.specs.Blocks.{short_piece};
 ghost use Rattle.mg_model.specs.Pieces.{pieces_in};
 
 use crate::Vocab;
@@ -38,6 +39,19 @@ impl Pieces {
         match self {
             Pieces::Counted(vocab) => vocab.piece(symbol),
             Pieces::Loaded(block) => block.piece(symbol),
+        }
+    }
+    /// The entry of the piece of a symbol, where the entry holds the piece: its length, at most 15,
+    /// and the piece behind it. Counted pieces have none.
+    #[inline]
+    pub fn short_piece(&self, symbol: u32) -> Option<&[u8; 16]>
+        requires { symbol < length (pieces_in self.now) }
+        ensures piece { IfSome result (λ entry. slice_get (pieces_in self.now) symbol ≡ Some (short_piece entry.now)) }
+        ensures length { IfSome result (λ entry. slice_index entry.now 0 ≤ 15) }
+    {
+        match self {
+            Pieces::Counted(_) => None,
+            Pieces::Loaded(block) => block.short_piece(symbol),
         }
     }
 }

@@ -1,8 +1,8 @@
 //! The pieces of a part, and the damages that they may have.
 ghost use Rattle.std.specs.Bool.{OnTrue, OnFalse};
-ghost use Rattle.std.specs.Prelude.{◌≡◌, ◌≢◌, ◌+◌, ◌-◌, ◌*◌, ◌^◌, ◌≤◌, ◌<◌, ◌++◌, ◌∷◌, [], ℕ, List, IsSome, length, min, take, get_or, Err, IfOk, OnOk};
-ghost use Rattle.mg_dev.specs.Files.{SameReads, bytes_at};
-ghost use Rattle.mg_dev.specs.Names.{full_name};
+ghost use Rattle.std.specs.Prelude.{◌≡◌, ◌≢◌, ◌+◌, ◌-◌, ◌*◌, ◌^◌, ◌≤◌, ◌<◌, ◌++◌, ◌∷◌, [], ℕ, List, IsSome, length, min, take, Err, IfOk, OnOk};
+ghost use Rattle.mg_dev.specs.Files.{SameReads};
+ghost use Rattle.mg_dev.specs.Moments.{Between};
 ghost use Rattle.mg_dev.specs.PartCauses.{HasPartCause};
 ghost use Rattle.mg_bits.specs.Pages.{Looked};
 ghost use Rattle.mg_canon.specs.Refusals.{most_bits};
@@ -16,7 +16,8 @@ ghost use Rattle.mg_front.specs.Entries.{entry_of, string_of};
 ghost use Rattle.mg_defs.specs.Canon.{AreGood};
 ghost use Rattle.mg_model.specs.Damage.{AnswersRoom, IsPart};
 ghost use Rattle.mg_model.specs.Sizes.{entry_size, first_sizes};
-ghost use Rattle.mg_model.specs.Read.{AnswersEntries, AnswersCode, ReadOnce, code_read};
+ghost use Rattle.mg_model.specs.Loading.{ReadsOnce, file_bytes};
+ghost use Rattle.mg_model.specs.Read.{AnswersEntries, AnswersCode, code_read};
 
 use crate::block::PieceBlock;
 use mg_canon::{Canon, CanonErr};
@@ -35,7 +36,7 @@ pub struct ReadPieces {
 /// bytes.
 pub fn expect_room<S: Store>(store: &mut S, file: &FileRef<'_>, count: u32) -> Result<(), PartErr>
     ensures answer { IsSome (S.files store.old) →
-        AnswersRoom file.now.part count (bytes_at (S.files store.old) (full_name file.now.base.now file.now.part)) result }
+        AnswersRoom file.now.part count (file_bytes file.now (S.files store.old)) result }
     ensures files { S.files store.new ≡ S.files store.old }
     ensures reads { SameReads (S.reads store.old) (S.reads store.new) }
     ensures cause { HasPartCause (S.faults store.old) (S.faults store.new) result }
@@ -122,12 +123,10 @@ pub fn read_pieces<S: Store>(
 ) -> Result<ReadPieces, PartErr>
     requires { count ≤ 2 ^ 22 }
     ensures answer { IsSome (S.files store.old) →
-        AnswersEntries file.entry.part count (bytes_at (S.files store.old) (full_name file.entry.base.now file.entry.part)) result }
+        AnswersEntries file.entry.part count (file_bytes file.entry (S.files store.old)) result }
     ensures each { IfOk result (λ read. length read.lengths.items ≡ length read.pieces) }
-    ensures looked { Looked file.entry.part (S.files store.old) (S.files store.new) (S.reads store.old) (S.reads store.new)
-        (S.faults store.old) (S.faults store.new) }
-    ensures once { IsSome (S.files store.old) → ReadOnce file.entry.part count (bytes_at (S.files store.old) (full_name file.entry.base.now file.entry.part))
-        (S.reads store.old) (S.reads store.new) result }
+    ensures looked { Between S.files S.reads S.faults store.old store.new (Looked file.entry.part) }
+    ensures once { Between S.files S.reads S.faults store.old store.new (ReadsOnce file.entry.base.now file.entry.part count result) }
     ensures cause { HasPartCause (S.faults store.old) (S.faults store.new) result }
 {
     let mut read = room_for(alloc, count)?;

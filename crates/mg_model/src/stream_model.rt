@@ -1,18 +1,19 @@
 //! The pieces of one stream and their code.
-ghost use Rattle.std.specs.Prelude.{◌≡◌, ◌+◌, ◌<◌, ◌≤◌, ◌^◌, ◌∷◌, [], IsSome, length, map, position, slice_get, Some, IfOk, OnOk};
+ghost use Rattle.std.specs.Prelude.{◌≡◌, ◌<◌, ◌≤◌, ◌^◌, IsSome, length, position, slice_get, slice_index, Some, IfOk, IfSome, OnOk};
 ghost use Rattle.std.specs.Str.{bytes_eq};
 ghost use Rattle.mg_dev.specs.Causes.{HasPutCause};
-ghost use Rattle.mg_dev.specs.Files.{bytes_at};
+ghost use Rattle.mg_dev.specs.Moments.{Between};
 ghost use Rattle.mg_dev.specs.Names.{full_name};
 ghost use Rattle.mg_dev.specs.PartCauses.{HasPartCause};
 ghost use Rattle.mg_bits.specs.Pages.{Looked};
 ghost use Rattle.mg_bits.specs.Writer.{WroteTo};
 ghost use Rattle.mg_defs.specs.Canon.{AreGood};
-ghost use Rattle.mg_defs.specs.CodedText.{IsHuffman, pieces_part, piece_entries};
+ghost use Rattle.mg_defs.specs.CodedText.{IsHuffman, pieces_part};
 ghost use Rattle.mg_defs.specs.Vocabulary.{sorted_of, counts_of};
+ghost use Rattle.mg_model.specs.Blocks.{short_piece};
 ghost use Rattle.mg_model.specs.Damage.{AnswersStream};
 ghost use Rattle.mg_defs.specs.Means.{IsStreamCode};
-ghost use Rattle.mg_model.specs.Read.{ReadOnce, UnreadIfShort};
+ghost use Rattle.mg_model.specs.Loading.{ReadsOnce, SkipsIfShort, file_bytes};
 
 use crate::Vocab;
 use crate::pieces::Pieces;
@@ -83,7 +84,7 @@ impl StreamModel {
         file: FileRef<'_>,
     ) -> Result<(), PutErr>
         ensures bytes { OnOk result (IsSome (S.files store.old) →
-            bytes_at (S.files store.new) (full_name file.entry.base.now file.entry.part) ≡ pieces_part self.now) }
+            file_bytes file.entry (S.files store.new) ≡ pieces_part self.now) }
         ensures wrote { WroteTo (full_name file.entry.base.now file.entry.part) (S.files store.old) (S.files store.new)
             (S.reads store.old) (S.reads store.new) }
         ensures cause { HasPutCause (S.faults store.old) (S.faults store.new) result }
@@ -108,13 +109,10 @@ impl StreamModel {
     ) -> Result<Self, PartErr>
         requires { count ≤ 2 ^ 22 }
         ensures answer { IsSome (S.files store.old) →
-            AnswersStream file.entry.part count (bytes_at (S.files store.old) (full_name file.entry.base.now file.entry.part)) result }
-        ensures looked { Looked file.entry.part (S.files store.old) (S.files store.new) (S.reads store.old) (S.reads store.new)
-            (S.faults store.old) (S.faults store.new) }
-        ensures once { IsSome (S.files store.old) → ReadOnce file.entry.part count
-            (bytes_at (S.files store.old) (full_name file.entry.base.now file.entry.part)) (S.reads store.old) (S.reads store.new) result }
-        ensures unread { IsSome (S.files store.old) → UnreadIfShort file.entry.part count
-            (bytes_at (S.files store.old) (full_name file.entry.base.now file.entry.part)) (S.reads store.old) (S.reads store.new) }
+            AnswersStream file.entry.part count (file_bytes file.entry (S.files store.old)) result }
+        ensures looked { Between S.files S.reads S.faults store.old store.new (Looked file.entry.part) }
+        ensures once { Between S.files S.reads S.faults store.old store.new (ReadsOnce file.entry.base.now file.entry.part count result) }
+        ensures unread { Between S.files S.reads S.faults store.old store.new (SkipsIfShort file.entry.base.now file.entry.part count) }
         ensures cause { HasPartCause (S.faults store.old) (S.faults store.new) result }
     {
         match expect_room(store, &file, count) {
@@ -159,6 +157,17 @@ impl StreamModel {
         ensures short { length result.now ≤ 255 }
     {
         self.pieces.piece(symbol)
+    }
+
+    /// The entry of the piece of a symbol, where the entry holds the piece: its length, at most 15,
+    /// and the piece behind it.
+    #[inline]
+    pub fn short_piece(&self, symbol: u32) -> Option<&[u8; 16]>
+        requires { symbol < length self.now.pieces }
+        ensures piece { IfSome result (λ entry. slice_get self.now.pieces symbol ≡ Some (short_piece entry.now)) }
+        ensures length { IfSome result (λ entry. slice_index entry.now 0 ≤ 15) }
+    {
+        self.pieces.short_piece(symbol)
     }
 
     /// The code of the symbols.

@@ -1,18 +1,20 @@
 //! The codes of both streams.
-ghost use Rattle.std.specs.Prelude.{◌≡◌, ◌≢◌, ◌<◌, ◌≤◌, ◌^◌, ℕ, List, IsSome, is_some, length, position, slice_get, Some, IfOk, OnOk};
+ghost use Rattle.std.specs.Prelude.{◌≡◌, ◌<◌, ◌≤◌, ◌^◌, IsSome, is_some, length, position, slice_get, slice_index, Some, IfOk, IfSome, OnOk};
 ghost use Rattle.std.specs.Str.{bytes_eq};
 ghost use Rattle.mg_dev.specs.Causes.{HasPutCause};
-ghost use Rattle.mg_dev.specs.Files.{SameReads, bytes_at, file_at};
-ghost use Rattle.mg_dev.specs.Names.{full_name};
+ghost use Rattle.mg_dev.specs.Files.{SameReads};
+ghost use Rattle.mg_dev.specs.Moments.{Between};
 ghost use Rattle.mg_dev.specs.PartCauses.{HasPartCause};
 ghost use Rattle.mg_defs.specs.CodedText.{IsHuffman, TextCode};
 ghost use Rattle.mg_defs.specs.Vocabulary.{sorted_of, counts_of};
 ghost use Rattle.mg_front.specs.Reading.{LookedAt};
-ghost use Rattle.mg_model.specs.Damage.{AnswersLoad, AnswersStanding};
+ghost use Rattle.mg_model.specs.Blocks.{short_piece};
+ghost use Rattle.mg_model.specs.Damage.{AnswersStanding};
 ghost use Rattle.mg_defs.specs.Marks.{code_of};
 ghost use Rattle.mg_defs.specs.Means.{IsStreamCode};
 ghost use Rattle.mg_model.specs.Models.{PartsHold, PartsStand};
-ghost use Rattle.mg_model.specs.Read.{ReadBehindWhole, ReadOnce, ToldUnread, UnreadIfShort};
+ghost use Rattle.mg_model.specs.Loading.{AnswersModel, OnlyModelChanges, ReadsOnce, ReadsWordsFirst, SkipsIfShort};
+ghost use Rattle.mg_model.specs.Read.{ToldUnread};
 
 use crate::stream_model::StreamModel;
 use crate::{Stream, Vocab};
@@ -24,8 +26,9 @@ use std::marker::Model;
 /// The distinct pieces of each stream in the order of their bytes, and the codes of their numbers:
 /// a piece's symbol is its number, from 0.
 ///
-/// A model that was made of vocabularies keeps their maps, sorted; one that was loaded keeps its
-/// pieces in two blocks of bytes, with 14 bytes a piece beside them.
+/// A model that was made of vocabularies keeps their maps, sorted. One that was loaded keeps 26 bytes
+/// a piece, sixteen of them an entry with the piece's own where these are at most fifteen, and beside
+/// them the bytes of the longer pieces.
 #[derive(Drop)]
 pub struct TextModel {
     words: StreamModel,
@@ -57,8 +60,7 @@ impl TextModel {
     /// Writes the parts Words and Nonwords (docs/FORMAT.md).
     pub fn write<S: Store>(&self, alloc: Global, store: &mut S, base: &str) -> Result<(), PutErr>
         ensures hold { OnOk result (IsSome (S.files store.old) → PartsHold (S.files store.new) base.now self.now) }
-        ensures others { (n : List ℕ) → n ≢ full_name base.now Part.Words → n ≢ full_name base.now Part.Nonwords →
-            file_at (S.files store.new) n ≡ file_at (S.files store.old) n }
+        ensures others { OnlyModelChanges base.now (S.files store.old) (S.files store.new) }
         ensures told { is_some (S.files store.new) ≡ is_some (S.files store.old) }
         ensures reads { SameReads (S.reads store.old) (S.reads store.new) }
         ensures cause { HasPutCause (S.faults store.old) (S.faults store.new) result }
@@ -93,21 +95,14 @@ impl TextModel {
     ) -> Result<Self, PartErr>
         requires words { words ≤ 2 ^ 22 }
         requires others { others ≤ 2 ^ 22 }
-        ensures answer { IsSome (S.files store.old) → AnswersLoad words others (bytes_at (S.files store.old) (full_name base.now Part.Words))
-            (bytes_at (S.files store.old) (full_name base.now Part.Nonwords)) result }
+        ensures answer { IsSome (S.files store.old) → AnswersModel base.now words others (S.files store.old) result }
         ensures standing { (code : TextCode) → PartsStand (S.files store.old) base.now code words others → AnswersStanding result code }
-        ensures looked { LookedAt Part.Words Part.Nonwords (S.files store.old) (S.files store.new) (S.reads store.old) (S.reads store.new)
-            (S.faults store.old) (S.faults store.new) }
-        ensures words_once { IsSome (S.files store.old) →
-            ReadOnce Part.Words words (bytes_at (S.files store.old) (full_name base.now Part.Words)) (S.reads store.old) (S.reads store.new) result }
-        ensures others_once { IsSome (S.files store.old) →
-            ReadOnce Part.Nonwords others (bytes_at (S.files store.old) (full_name base.now Part.Nonwords)) (S.reads store.old) (S.reads store.new) result }
-        ensures words_unread { IsSome (S.files store.old) →
-            UnreadIfShort Part.Words words (bytes_at (S.files store.old) (full_name base.now Part.Words)) (S.reads store.old) (S.reads store.new) }
-        ensures others_unread { IsSome (S.files store.old) →
-            UnreadIfShort Part.Nonwords others (bytes_at (S.files store.old) (full_name base.now Part.Nonwords)) (S.reads store.old) (S.reads store.new) }
-        ensures words_first { IsSome (S.files store.old) →
-            ReadBehindWhole words (bytes_at (S.files store.old) (full_name base.now Part.Words)) (S.reads store.old) (S.reads store.new) }
+        ensures looked { Between S.files S.reads S.faults store.old store.new (LookedAt Part.Words Part.Nonwords) }
+        ensures words_once { Between S.files S.reads S.faults store.old store.new (ReadsOnce base.now Part.Words words result) }
+        ensures others_once { Between S.files S.reads S.faults store.old store.new (ReadsOnce base.now Part.Nonwords others result) }
+        ensures words_unread { Between S.files S.reads S.faults store.old store.new (SkipsIfShort base.now Part.Words words) }
+        ensures others_unread { Between S.files S.reads S.faults store.old store.new (SkipsIfShort base.now Part.Nonwords others) }
+        ensures words_first { Between S.files S.reads S.faults store.old store.new (ReadsWordsFirst base.now words) }
         ensures words_told { IsSome (S.files store.old) → ToldUnread (S.reads store.old) (S.reads store.new) result }
         ensures cause { HasPartCause (S.faults store.old) (S.faults store.new) result }
     {
@@ -124,20 +119,13 @@ impl TextModel {
     ) -> Result<Self, PartErr>
         requires words { words ≤ 2 ^ 22 }
         requires others { others ≤ 2 ^ 22 }
-        ensures answer { IsSome (S.files store.old) → AnswersLoad words others (bytes_at (S.files store.old) (full_name base.now Part.Words))
-            (bytes_at (S.files store.old) (full_name base.now Part.Nonwords)) result }
-        ensures looked { LookedAt Part.Words Part.Nonwords (S.files store.old) (S.files store.new) (S.reads store.old) (S.reads store.new)
-            (S.faults store.old) (S.faults store.new) }
-        ensures words_once { IsSome (S.files store.old) →
-            ReadOnce Part.Words words (bytes_at (S.files store.old) (full_name base.now Part.Words)) (S.reads store.old) (S.reads store.new) result }
-        ensures others_once { IsSome (S.files store.old) →
-            ReadOnce Part.Nonwords others (bytes_at (S.files store.old) (full_name base.now Part.Nonwords)) (S.reads store.old) (S.reads store.new) result }
-        ensures words_unread { IsSome (S.files store.old) →
-            UnreadIfShort Part.Words words (bytes_at (S.files store.old) (full_name base.now Part.Words)) (S.reads store.old) (S.reads store.new) }
-        ensures others_unread { IsSome (S.files store.old) →
-            UnreadIfShort Part.Nonwords others (bytes_at (S.files store.old) (full_name base.now Part.Nonwords)) (S.reads store.old) (S.reads store.new) }
-        ensures words_first { IsSome (S.files store.old) →
-            ReadBehindWhole words (bytes_at (S.files store.old) (full_name base.now Part.Words)) (S.reads store.old) (S.reads store.new) }
+        ensures answer { IsSome (S.files store.old) → AnswersModel base.now words others (S.files store.old) result }
+        ensures looked { Between S.files S.reads S.faults store.old store.new (LookedAt Part.Words Part.Nonwords) }
+        ensures words_once { Between S.files S.reads S.faults store.old store.new (ReadsOnce base.now Part.Words words result) }
+        ensures others_once { Between S.files S.reads S.faults store.old store.new (ReadsOnce base.now Part.Nonwords others result) }
+        ensures words_unread { Between S.files S.reads S.faults store.old store.new (SkipsIfShort base.now Part.Words words) }
+        ensures others_unread { Between S.files S.reads S.faults store.old store.new (SkipsIfShort base.now Part.Nonwords others) }
+        ensures words_first { Between S.files S.reads S.faults store.old store.new (ReadsWordsFirst base.now words) }
         ensures words_told { IsSome (S.files store.old) → ToldUnread (S.reads store.old) (S.reads store.new) result }
         ensures cause { HasPartCause (S.faults store.old) (S.faults store.new) result }
     {
@@ -184,6 +172,18 @@ impl TextModel {
         ensures short { length result.now ≤ 255 }
     {
         self.stream(stream).piece(symbol)
+    }
+
+    /// The entry of the piece of a symbol, where the model has one that holds it: the piece's length,
+    /// at most 15, and the piece behind it. A loaded model has such an entry for each piece of at most
+    /// fifteen bytes, and one that was made has none.
+    #[inline]
+    pub fn short_piece(&self, stream: Stream, symbol: u32) -> Option<&[u8; 16]>
+        requires { symbol < length (code_of stream self.now).pieces }
+        ensures piece { IfSome result (λ entry. slice_get (code_of stream self.now).pieces symbol ≡ Some (short_piece entry.now)) }
+        ensures length { IfSome result (λ entry. slice_index entry.now 0 ≤ 15) }
+    {
+        self.stream(stream).short_piece(symbol)
     }
 
     /// The code of the stream's symbols.
