@@ -8,9 +8,9 @@ use Rattle.mg_dev.specs.Names.{full_name}
 use Rattle.mg_dev.specs.declared.part.Part.TheVariants.{Text}
 use Rattle.mg_defs.specs.declared.Stream.{Stream}
 use Rattle.mg_defs.specs.declared.Stream.TheVariants.{Words, Others}
-use Rattle.mg_defs.specs.Bits.{Bits, bits_of}
+use Rattle.mg_defs.specs.Bits.{Bits, bits_of, as_bytes}
 use Rattle.mg_defs.specs.Codes.{gamma}
-use Rattle.mg_defs.specs.CodedText.{TextCode, IsTextCode, as_bytes, coded_pair, coded_doc, coded_size, running, places_of, text_of}
+use Rattle.mg_defs.specs.CodedText.{TextCode, IsTextCode, coded_pair, coded_doc, coded_size, running, places_part, text_part}
 use Rattle.mg_defs.specs.Numbers.{eight}
 use Rattle.mg_defs.specs.Marks.{piece_bits}
 use Rattle.mg_defs.specs.Parse.{Pair, parse}
@@ -73,14 +73,14 @@ next_piece code before piece = one_more code Words before piece ∙ ap (λ k. pi
 
 -- ---- the parts
 
-pub text_is : (code : TextCode) (collection : List ℕ) → text_bytes (coded_docs code collection) ≡ text_of code collection
+pub text_is : (code : TextCode) (collection : List ℕ) → text_bytes (coded_docs code collection) ≡ text_part code collection
 text_is code collection = flat_map-map as_bytes (coded_doc code) (documents collection)
 
 sizes_are : (code : TextCode) (docs : List (List ℕ)) → sizes (map (coded_doc code) docs) ≡ map (coded_size code) docs
 sizes_are code [] = refl
 sizes_are code (doc ∷ docs) = ap (λ l. coded_size code doc ∷ l) (sizes_are code docs)
 
-places_are : (code : TextCode) (collection : List ℕ) → flat_map eight (running 0 (sizes (coded_docs code collection))) ≡ places_of 2 code collection
+places_are : (code : TextCode) (collection : List ℕ) → flat_map eight (running 0 (sizes (coded_docs code collection))) ≡ places_part 2 code collection
 places_are code collection = ap (λ l. flat_map eight (running 0 l)) (sizes_are code (documents collection))
 
 -- bytes of the same bits are as many
@@ -89,10 +89,10 @@ same_long a b same = omega (arith, length_bits_of a, length_bits_of b, ap length
 
 pub text_holds : (base : List ℕ) (files : Option Files) (code : TextCode) (collection : List ℕ) → DocumentsStand base files (coded_docs code collection) → TextHolds base files code collection
 text_holds base files code collection stands =
-    let same : bits_of (bytes_at files (full_name base Text)) ≡ bits_of (text_of code collection) = stands.text ∙ ap bits_of (text_is code collection) in
+    let same : bits_of (bytes_at files (full_name base Text)) ≡ bits_of (text_part code collection) = stands.text ∙ ap bits_of (text_is code collection) in
     record {
       text = same;
-      size = same_long (bytes_at files (full_name base Text)) (text_of code collection) same;
+      size = same_long (bytes_at files (full_name base Text)) (text_part code collection) same;
       places = stands.places ∙ places_are code collection;
     }
 

@@ -12,9 +12,9 @@ use Rattle.mg_dev.specs.declared.show_err.ShowErr.{ShowErr}
 use Rattle.mg_dev.specs.declared.show_err.ShowErr.TheVariants as show
 use Rattle.mg_bits.specs.Feed.{Feeding, Device as Seen, ReadsWithin, to_read}
 use Rattle.mg_defs.specs.Bits.{bits_of}
-use Rattle.mg_defs.specs.Limits.{IsWithinLimits}
+use Rattle.mg_defs.specs.WithinLimits.{IsWithinLimits}
 use Rattle.mg_defs.proofs.BitLaws.{length_bits_of}
-use Rattle.mg_defs.specs.CodedText.{IsTextCode, TextCode, place_bytes, places, places_of, text_of}
+use Rattle.mg_defs.specs.CodedText.{IsTextCode, TextCode, place_bytes, places, places_part, text_part}
 use Rattle.mg_defs.specs.PagesOf.{pages}
 use Rattle.mg_defs.specs.Split.{documents}
 use Rattle.mg_defs.proofs.CodedTextLaws.{places-long}
@@ -44,7 +44,7 @@ use Rattle.std.proofs.Common.{get_or}
 use Rattle.mg_bits.proofs.CallerLemmas.{held_page_stays}
 
 -- every version but 1 has places of one width
-wide_places : (version : ℕ) (code : TextCode) (collection : List ℕ) → version ≢ 1 → places_of 2 code collection ≡ places_of version code collection
+wide_places : (version : ℕ) (code : TextCode) (collection : List ℕ) → version ≢ 1 → places_part 2 code collection ≡ places_part version code collection
 wide_places version code collection other = one_width (version == 1) (places code collection) (narrow_is version other)
   where
     narrow_is : (v : ℕ) → v ≢ 1 → (v == 1) ≡ false
@@ -61,7 +61,7 @@ width_of_all f w [] long = omega arith
 width_of_all f w (x ∷ xs) long = omega (arith, length-append (f x) (flat_map f xs), long x, width_of_all f w xs long)
 
 -- the places have the size that follows from the head
-pub places_long : (head : Head) (code : TextCode) (collection : List ℕ) → head.documents ≡ length (documents collection) → length (places_of head.version code collection) ≡ places_size head
+pub places_long : (head : Head) (code : TextCode) (collection : List ℕ) → head.documents ≡ length (documents collection) → length (places_part head.version code collection) ≡ places_size head
 places_long head code collection is =
     width_of_all (place_bytes head.version) (place_width head.version) (places code collection) (place_long head.version)
     ∙ ap (λ n. place_width head.version * n) (places-long code collection ∙ ap (λ n. n + 1) (sym is))
@@ -74,7 +74,7 @@ same_length a b same = omega (arith, ap length same, length_bits_of a, length_bi
 pub sizes_stand : (base : List ℕ) (files : Option Files) (head : Head) (code : TextCode) (collection : List ℕ) (refusal : PartErr) → IsText base files head code collection → AnswersTextSizes (stored_at files base head) (Err refusal) → IsNotBad refusal
 sizes_stand base files head code collection Device it answers = tt
 sizes_stand base files head code collection Memory it answers = tt
-sizes_stand base files head code collection (Bad bad) it (inl text) = text.0 (same_length (bytes_at files (full_name base part.Text)) (text_of code collection) it.text_is ∙ sym it.size_is)
+sizes_stand base files head code collection (Bad bad) it (inl text) = text.0 (same_length (bytes_at files (full_name base part.Text)) (text_part code collection) it.text_is ∙ sym it.size_is)
 sizes_stand base files head code collection (Bad bad) it (inr places) = places.1 (ap length it.places_are ∙ places_long head code collection it.documents_are)
 
 -- ---- showing a document
@@ -200,9 +200,9 @@ text_stays r now files files_now collection same told text places stands = recor
   told = told ∙ stands.told;
   model = subst IsModel (sym same.code) stands.model;
   code = subst (IsTextCode collection) (sym same.code) stands.code;
-  text = ap (λ n. bits_of (bytes_at files_now n)) same.text ∙ ap (λ bytes. bits_of (unwrap_or bytes [])) text ∙ stands.text ∙ ap (λ c. bits_of (text_of c collection)) (sym same.code);
-  places = ap (bytes_at files_now) same.places ∙ ap (λ bytes. unwrap_or bytes []) places ∙ stands.places ∙ ap (λ c. places_of r.version c collection) (sym same.code) ∙ ap (λ v. places_of v now.code collection) (sym same.version);
-  size = same.size ∙ stands.size ∙ ap (λ c. length (text_of c collection)) (sym same.code);
+  text = ap (λ n. bits_of (bytes_at files_now n)) same.text ∙ ap (λ bytes. bits_of (unwrap_or bytes [])) text ∙ stands.text ∙ ap (λ c. bits_of (text_part c collection)) (sym same.code);
+  places = ap (bytes_at files_now) same.places ∙ ap (λ bytes. unwrap_or bytes []) places ∙ stands.places ∙ ap (λ c. places_part r.version c collection) (sym same.code) ∙ ap (λ v. places_part v now.code collection) (sym same.version);
+  size = same.size ∙ stands.size ∙ ap (λ c. length (text_part c collection)) (sym same.code);
   documents = same.documents ∙ stands.documents;
   few = stands.few;
   small = rw (same.size, same.version) stands.small;
@@ -217,7 +217,7 @@ text_fits r files files_now told text places fits = record {
 
 -- the parts that a writer wrote for a collection, and a head of its numbers
 pub text_written : (base : List ℕ) (files : Option Files) (head : Head) (code : TextCode) (collection : List ℕ) → TextHolds base files code collection → PartsStand files base code head.words head.others → IsTextCode collection code →
-    head.version ≢ 1 → head.text_bytes ≡ length (text_of code collection) → head.documents ≡ length (documents collection) → IsWithinLimits head.version collection → IsText base files head code collection
+    head.version ≢ 1 → head.text_bytes ≡ length (text_part code collection) → head.documents ≡ length (documents collection) → IsWithinLimits head.version collection → IsText base files head code collection
 text_written base files head code collection holds models coded version size count limits = record {
   models = models;
   code_is = coded;

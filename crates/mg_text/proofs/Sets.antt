@@ -2,7 +2,7 @@
 use Rattle.std.proofs.Common.{◌≡◌, ℕ, List, [], ◌++◌, Option, sym, ◌∙◌, ap, length, is_some, unwrap_or}
 use Rattle.mg_dev.specs.Files.{Files, file_at}
 use Rattle.mg_defs.specs.Bits.{bits_of, Bits}
-use Rattle.mg_defs.specs.CodedText.{TextCode, text_of}
+use Rattle.mg_defs.specs.CodedText.{TextCode, text_part}
 use Rattle.mg_defs.specs.Heads as defs
 use Rattle.mg_defs.proofs.StandDocs.{code-model, most}
 use Rattle.mg_layout.specs.Stands.{StandsBy}
@@ -17,7 +17,7 @@ use Rattle.mg_text.specs.Writing.{IsOnText, TextWriting}
 pub set_is_text : (base : List ℕ) (files : Option Files) (head : Head) (code : TextCode) (collection : List ℕ) → StandsBy head code files base collection → IsText base files head code collection
 set_is_text base files head code collection is =
     let are = is.are in
-    let size : head.text_bytes ≡ length (text_of code collection) = ap (λ (h : defs.Head). h.text_bytes) is.head_is in
+    let size : head.text_bytes ≡ length (text_part code collection) = ap (λ (h : defs.Head). h.text_bytes) is.head_is in
     record {
       models = record {
         told = is.told;

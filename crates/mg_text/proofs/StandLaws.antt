@@ -11,8 +11,8 @@ use Rattle.mg_bits.specs.Feed.{told_at}
 use Rattle.mg_bits.proofs.CallerLemmas.{drop_bits}
 use Rattle.mg_defs.specs.declared.Stream.{Stream}
 use Rattle.mg_defs.specs.declared.Stream.TheVariants.{Words, Others}
-use Rattle.mg_defs.specs.Bits.{Bits, Begins, bits_of, digits, filled, to_byte}
-use Rattle.mg_defs.specs.CodedText.{IsTextCode, StreamCode, TextCode, as_bytes, coded_doc, coded_size, place_after, place_bytes, places, text_of}
+use Rattle.mg_defs.specs.Bits.{Bits, Begins, bits_of, digits, filled, to_byte, as_bytes}
+use Rattle.mg_defs.specs.CodedText.{IsTextCode, StreamCode, TextCode, coded_doc, coded_size, place_after, place_bytes, places, text_part}
 use Rattle.mg_defs.specs.Numbers.{eight, four}
 use Rattle.mg_defs.specs.Parse.{Pair, parse}
 use Rattle.mg_defs.specs.Sorted.{number_of}
@@ -63,10 +63,10 @@ most_place true p h = omega arith
 most_place false p h = omega arith
 
 -- a document begins within the text
-pub place_within : (code : TextCode) (collection : List ℕ) (i : ℕ) → place_after code collection i ≤ length (text_of code collection)
+pub place_within : (code : TextCode) (collection : List ℕ) (i : ℕ) → place_after code collection i ≤ length (text_part code collection)
 place_within code collection i =
     let most = sum_by-take-le (coded_size code) (documents collection) i in
-    let all : length (text_of code collection) ≡ sum_by (coded_size code) (documents collection) = text-long code collection ∙ ap (sum_by (coded_size code)) (take-length (documents collection)) in
+    let all : length (text_part code collection) ≡ sum_by (coded_size code) (documents collection) = text-long code collection ∙ ap (sum_by (coded_size code)) (take-length (documents collection)) in
     omega (arith, most, all)
 
 pub place_next : (code : TextCode) (collection : List ℕ) (i : ℕ) → i < length (documents collection) → place_after code collection (i + 1) ≡ place_after code collection i + coded_size code (get_or (documents collection) i [])
@@ -105,7 +105,7 @@ doc_shown r files collection i stands lt =
     let doc = get_or (documents collection) i [] in
     shown_here files r.text.name (8 * place_after r.code collection i) (coded_doc r.code doc) stands.told
     (subst (λ b. Begins (coded_doc r.code doc) (drop (8 * place_after r.code collection i) b)) (sym stands.text)
-    (bits_here (coded_doc r.code doc) (text_of r.code collection) (place_after r.code collection i) (coded_size r.code doc) (text-at r.code collection i lt)))
+    (bits_here (coded_doc r.code doc) (text_part r.code collection) (place_after r.code collection i) (coded_size r.code doc) (text-at r.code collection i lt)))
 
 -- the bits of a document end before the next place
 pub doc_ends : (r : TextReading) (collection : List ℕ) (i : ℕ) → i < length (documents collection) → 8 * place_after r.code collection i + length (coded_doc r.code (get_or (documents collection) i [])) ≤ 8 * place_after r.code collection (i + 1)

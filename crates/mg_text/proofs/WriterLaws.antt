@@ -11,10 +11,10 @@ use Rattle.mg_bits.specs.Writer.{Writing, AreBytes, put_to, Wrote, WroteTo}
 use Rattle.mg_bits.specs.BitWriting.{BitWriting, Holds, WroteBits, bits_put}
 use Rattle.mg_bits.proofs.CallerLemmas.{bits_stay, holds_stay}
 use Rattle.mg_text.proofs.ByteLaws.{written_bytes}
-use Rattle.mg_defs.specs.Bits.{Bits, bits_of, digits, filled, to_byte}
+use Rattle.mg_defs.specs.Bits.{Bits, bits_of, digits, filled, to_byte, as_bytes}
 use Rattle.mg_defs.specs.Canon.{AreGood, codeword}
 use Rattle.mg_defs.specs.Codes.{gamma, log2}
-use Rattle.mg_defs.specs.CodedText.{StreamCode, as_bytes, running}
+use Rattle.mg_defs.specs.CodedText.{StreamCode, running}
 use Rattle.mg_defs.specs.Numbers.{eight}
 use Rattle.mg_defs.proofs.BitLaws.{length_digits, bits_of_append}
 use Rattle.mg_defs.proofs.CodedTextLaws.{bits-of_as_bytes, length-as_bytes}

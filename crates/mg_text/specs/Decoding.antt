@@ -1,5 +1,5 @@
 -- What decoding the bits of a document does to the reader of bits, and to where the document's bytes go.
-use Rattle.std.specs.Prelude.{◌≡◌, ℕ, ◌+◌, ◌^◌, ◌≤◌, ◌++◌, List, drop, length, Some, None, Ok, Err, MatchResult}
+use Rattle.std.specs.Prelude.{◌≡◌, ℕ, ◌+◌, ◌^◌, ◌≤◌, ◌<◌, ◌++◌, List, drop, length, Some, None, Ok, Err, MatchResult}
 use Rattle.std.specs.List.{AllByRecursion, flat_map}
 use Rattle.std.specs.declared.option.Option.{Option}
 use Rattle.std.specs.declared.result.Result.{Result}
@@ -13,8 +13,8 @@ use Rattle.mg_dev.specs.declared.show_err.ShowErr.TheVariants as show
 use Rattle.mg_bits.specs.Feed.{Feeding, Device as Seen, Read, ReadsWithin}
 use Rattle.mg_bits.specs.Reading.{Reading}
 use Rattle.mg_defs.specs.Bits.{Bits, Begins, bits_of}
-use Rattle.mg_defs.specs.CodedText.{StreamCode, TextCode, coded_pair}
-use Rattle.mg_defs.specs.Parse.{Pair}
+use Rattle.mg_defs.specs.CodedText.{StreamCode, TextCode, codeword_of, coded_doc, coded_pair}
+use Rattle.mg_defs.specs.Parse.{Pair, parse, text}
 use Rattle.mg_defs.specs.Sorted.{number_of}
 
 -- these bits stand at this place of bytes that are told
@@ -45,6 +45,10 @@ pub record Shown (before now : Option (List ℕ)) (held bytes : List ℕ) : Type
   pub sent : List ℕ
   pub told : now ≡ appended before sent
   pub whole : sent ++ held ≡ bytes
+
+-- a fact on the bytes that were shown behind what a sink told once, or are held
+abbrev pub ForShown : Option (List ℕ) → List ℕ → (Option (List ℕ) → List ℕ → Type 0) → Type 0
+ForShown now held fact = (before : Option (List ℕ)) (bytes : List ℕ) → Shown before now held bytes → fact before bytes
 
 -- at `Ok` the bytes were shown or are held, else a prefix of them was shown
 abbrev pub Gathers : {T E : Type 0} → Result T E → Option (List ℕ) → Option (List ℕ) → List ℕ → List ℕ → Type 0
@@ -107,6 +111,37 @@ Decodes feeding device r r_now d d_now bits before sent sent_now held held_now b
     (Decoded (feeding r.feed) (feeding r_now.feed) (device d) (device d_now) r.place (r.place + length bits) r_now.place before sent_now held_now bytes_now)
     (Stopped (feeding r.feed) (feeding r_now.feed) (device d) (device d_now) r.place (r.place + length bits) before sent_now bytes_now)
 
+-- ---- pieces, pairs and documents, behind whatever bytes were shown or are held
+
+-- the piece of a code whose codeword stands at the reader's place
+abbrev pub ShowsPiece : {Fed Dev Out : Type 0} → (Fed → Feeding) → (Dev → Seen) → (Out → Option (List ℕ)) → Reading Fed → Reading Fed → Dev → Dev → Out → Out → List ℕ → List ℕ → StreamCode → Result (Unit {0}) ShowErr → Type 0
+ShowsPiece feeding device written r r_now d d_now out out_now held held_now code result = (before : Option (List ℕ)) (bytes piece : List ℕ) → IsIn code piece →
+    Decodes feeding device r r_now d d_now (codeword_of code piece) before (written out) (written out_now) held held_now bytes (bytes ++ piece) result
+
+-- the pair whose codewords stand there
+abbrev pub ShowsPair : {Fed Dev Out : Type 0} → (Fed → Feeding) → (Dev → Seen) → (Out → Option (List ℕ)) → Reading Fed → Reading Fed → Dev → Dev → Out → Out → List ℕ → List ℕ → TextCode → Result (Unit {0}) ShowErr → Type 0
+ShowsPair feeding device written r r_now d d_now out out_now held held_now code result = (before : Option (List ℕ)) (bytes : List ℕ) (p : Pair) → PairIn code p →
+    Decodes feeding device r r_now d d_now (coded_pair code p) before (written out) (written out_now) held held_now bytes (bytes ++ (p.word ++ p.other)) result
+
+-- the pairs, so many, whose codewords stand there
+abbrev pub ShowsPairs : {Fed Dev Out : Type 0} → (Fed → Feeding) → (Dev → Seen) → (Out → Option (List ℕ)) → Reading Fed → Reading Fed → Dev → Dev → Out → Out → List ℕ → List ℕ → TextCode → ℕ → Result (Unit {0}) ShowErr → Type 0
+ShowsPairs feeding device written r r_now d d_now out out_now held held_now code count result =
+    (before : Option (List ℕ)) (bytes : List ℕ) (ps : List Pair) → PairsIn code ps → count ≡ length ps →
+    Decodes feeding device r r_now d d_now (coded_pairs code ps) before (written out) (written out_now) held held_now bytes (bytes ++ text ps) result
+
+-- the document whose bits stand there
+abbrev pub ShowsDoc : {Fed Dev Out : Type 0} → (Fed → Feeding) → (Dev → Seen) → (Out → Option (List ℕ)) → Reading Fed → Reading Fed → Dev → Dev → Out → Out → List ℕ → List ℕ → TextCode → Result (Unit {0}) ShowErr → Type 0
+ShowsDoc feeding device written r r_now d d_now out out_now held held_now code result =
+    (before : Option (List ℕ)) (bytes doc : List ℕ) → PairsIn code (parse doc) → length (parse doc) < 2 ^ 32 →
+    Decodes feeding device r r_now d d_now (coded_doc code doc) before (written out) (written out_now) held held_now bytes (bytes ++ doc) result
+
+-- that document, whole and nothing else, or the first of its bytes
+abbrev pub ShowsWhole : {Fed Dev Out : Type 0} → (Fed → Feeding) → (Dev → Seen) → (Out → Option (List ℕ)) → Reading Fed → Reading Fed → Dev → Dev → Out → Out → TextCode → Result (Unit {0}) ShowErr → Type 0
+ShowsWhole feeding device written r r_now d d_now out out_now code result = (doc : List ℕ) → PairsIn code (parse doc) → length (parse doc) < 2 ^ 32 →
+    r.place + length (coded_doc code doc) ≤ 2 ^ 63 → Shows ((feeding r.feed).source (device d).files) r.place (coded_doc code doc) → Ends result
+    (WholeDoc (feeding r.feed) (feeding r_now.feed) (device d) (device d_now) r.place (r.place + length (coded_doc code doc)) (written out) (written out_now) doc)
+    (Stopped (feeding r.feed) (feeding r_now.feed) (device d) (device d_now) r.place (r.place + length (coded_doc code doc)) (written out) (written out_now) doc)
+
 -- ---- causes
 
 -- the store's failure, the sink's failure and the sink's want of memory each have a cause, and no other memory is wanted
@@ -117,6 +152,10 @@ IsShowCaused (Err (show.Part Memory)) s t f g l m = ⊥
 IsShowCaused (Err (show.Part (Bad bad))) s t f g l m = Unit {0}
 IsShowCaused (Err show.Write) s t f g l m = Rose f g
 IsShowCaused (Err show.Memory) s t f g l m = Rose l m
+
+-- the same by the functions that tell a sink's faults and lacks
+abbrev pub ShowCaused : {Out : Type 0} → (Out → ℕ) → (Out → ℕ) → Out → Out → ℕ → ℕ → Result (Unit {0}) ShowErr → Type 0
+ShowCaused faults lacks out out_now before now result = IsShowCaused result before now (faults out) (faults out_now) (lacks out) (lacks out_now)
 
 -- the store's failure has a cause, and no memory is wanted
 abbrev pub IsReadCaused : {T : Type 0} → Result T PartErr → ℕ → ℕ → Type 0

@@ -1,6 +1,11 @@
 -- A place in the part of places.
-use Rattle.std.specs.Prelude.{◌≡◌, ℕ, ◌*◌, ◌^◌, ◌-◌, ◌<◌, ◌==◌, if◌then◌else◌, List, take, drop}
-use Rattle.mg_defs.specs.CodedText.{place_bytes}
+use Rattle.std.specs.Prelude.{◌≡◌, ℕ, ◌*◌, ◌^◌, ◌-◌, ◌<◌, ◌≤◌, ◌==◌, if◌then◌else◌, List, length, take, drop, Some, IfOk}
+use Rattle.std.specs.Option.{IsSome}
+use Rattle.std.specs.declared.option.Option.{Option}
+use Rattle.std.specs.declared.result.Result.{Result}
+use Rattle.mg_dev.specs.Files.{Files, bytes_at}
+use Rattle.mg_bits.specs.Pages.{Paging}
+use Rattle.mg_defs.specs.CodedText.{TextCode, place_bytes, text_part}
 
 -- the bytes of a place
 abbrev pub place_width : ℕ → ℕ
@@ -15,6 +20,19 @@ pub record IsPlaceAt (version index place : ℕ) (bytes : List ℕ) : Type 0 whe
   pub fits : place < place_limit version
   pub bytes_are : take (place_width version) (drop (place_width version * index) bytes) ≡ place_bytes version place
 
+-- where the files are told: the number of so many bytes at an index of a feed's file is answered, where it is below a limit
+abbrev pub AnswersNumber : {E : Type 0} → Paging → Option Files → ℕ → ℕ → (ℕ → List ℕ) → ℕ → Result (Option ℕ) E → Type 0
+AnswersNumber feed files width index coded limit result = IsSome files → (p : ℕ) → p < limit →
+    take width (drop (width * index) (bytes_at files feed.name)) ≡ coded p → IfOk result (λ place. place ≡ Some p)
+
+-- a fact on the place of an index in a feed's file, where the files are told
+abbrev pub ForPlace : Paging → Option Files → ℕ → ℕ → (ℕ → Type 0) → Type 0
+ForPlace feed files version index fact = IsSome files → (p : ℕ) → IsPlaceAt version index p (bytes_at files feed.name) → fact p
+
 -- the most bytes of a text whose places fit
 abbrev pub most_text : ℕ → ℕ
 most_text version = if version == 1 then 2 ^ 32 - 1 else 2 ^ 60
+
+-- the text's places fit in a version of the files
+abbrev pub FitsVersion : ℕ → TextCode → List ℕ → Type 0
+FitsVersion version code collection = length (text_part code collection) ≤ most_text version

@@ -1,9 +1,9 @@
 -- A reader of the text: what contracts see of it, when its parts stand, and what its calls answer.
-use Rattle.std.specs.Prelude.{◌≡◌, ◌≢◌, ℕ, ◌*◌, ◌+◌, ◌^◌, ◌≤◌, ◌<◌, ◌⊎◌, List, length, Ok, Err}
+use Rattle.std.specs.Prelude.{◌≡◌, ◌≢◌, ℕ, ◌*◌, ◌+◌, ◌^◌, ◌≤◌, ◌<◌, ◌⊎◌, ◌++◌, List, length, Ok, Err}
 use Rattle.std.specs.Option.{IsSome}
 use Rattle.std.specs.declared.option.Option.{Option}
 use Rattle.std.specs.declared.result.Result.{Result}
-use Rattle.mg_dev.specs.Files.{Files, bytes_at}
+use Rattle.mg_dev.specs.Files.{Files, Reads, bytes_at}
 use Rattle.mg_dev.specs.Names.{full_name}
 use Rattle.mg_dev.specs.declared.part.Part.TheVariants as part
 use Rattle.mg_dev.specs.declared.part_err.PartErr.{PartErr}
@@ -11,16 +11,24 @@ use Rattle.mg_dev.specs.declared.part_err.PartErr.TheVariants.{Device, Memory, B
 use Rattle.mg_dev.specs.declared.show_err.ShowErr.{ShowErr}
 use Rattle.mg_dev.specs.declared.show_err.ShowErr.TheVariants as show
 use Rattle.mg_dev.specs.Streams.{GrewByPrefix, appended}
+use Rattle.mg_bits.specs.Alike.{WhereSame}
 use Rattle.mg_bits.specs.Pages.{Fits, Paging}
 use Rattle.mg_defs.specs.Bits.{bits_of}
-use Rattle.mg_defs.specs.CodedText.{IsTextCode, TextCode, places_of, text_of}
+use Rattle.mg_defs.specs.CodedText.{IsTextCode, TextCode, doc_range, places_part, text_part}
+use Rattle.mg_defs.specs.WithinLimits.{IsWithinLimits}
+use Rattle.mg_defs.specs.PagesOf.{pages}
+use Rattle.mg_defs.specs.Terms.{document}
+use Rattle.mg_defs.specs.Stands.{Stand}
 use Rattle.mg_defs.specs.Split.{documents}
+use Rattle.mg_layout.specs.HeadAnswers.{fields_of}
+use Rattle.mg_layout.specs.Stands.{parts_at}
 use Rattle.mg_layout.specs.Sizes.{TellsSize}
 use Rattle.mg_layout.specs.declared.head.Head.{Head}
 use Rattle.mg_model.specs.Damage.{AnswersLoad}
-use Rattle.mg_defs.specs.Means.{IsModel}
+use Rattle.mg_defs.specs.Means.{IsModel, Tell}
 use Rattle.mg_model.specs.Models.{PartsStand}
-use Rattle.mg_text.specs.Decoding.{Ends, Shown}
+use Rattle.mg_text.specs.Decoding.{Ends, Gathers, Shown}
+use Rattle.mg_text.specs.Documents.{TextHolds}
 use Rattle.mg_text.specs.Places.{most_text, place_width}
 
 -- the feeds of Text and Places, the codes of both streams, the version of the places, how many documents there are, and the size of Text
@@ -36,6 +44,10 @@ pub record TextReading : Type 0 where
 pub record TextFits (r : TextReading) (files : Option Files) : Type 0 where
   pub text : Fits r.text files
   pub places : Fits r.places files
+
+-- a fact where both stores tell alike and hold the same parts of a reader
+abbrev pub WhereSameTexts : TextReading → Option Files → Option Files → Type 0 → Type 0
+WhereSameTexts r one other fact = WhereSame one other r.text.name r.places.name fact
 
 -- it reads the same files, by the same codes
 pub record SameText (old new : TextReading) : Type 0 where
@@ -60,9 +72,9 @@ pub record IsTextReader (r : TextReading) (base : List ℕ) (head : Head) : Type
 pub record IsText (base : List ℕ) (files : Option Files) (head : Head) (code : TextCode) (collection : List ℕ) : Type 0 where
   pub models : PartsStand files base code head.words head.others
   pub code_is : IsTextCode collection code
-  pub text_is : bits_of (bytes_at files (full_name base part.Text)) ≡ bits_of (text_of code collection)
-  pub places_are : bytes_at files (full_name base part.Places) ≡ places_of head.version code collection
-  pub size_is : head.text_bytes ≡ length (text_of code collection)
+  pub text_is : bits_of (bytes_at files (full_name base part.Text)) ≡ bits_of (text_part code collection)
+  pub places_are : bytes_at files (full_name base part.Places) ≡ places_part head.version code collection
+  pub size_is : head.text_bytes ≡ length (text_part code collection)
   pub documents_are : head.documents ≡ length (documents collection)
   pub few : length collection < 2 ^ 32
   pub small : head.text_bytes ≤ most_text head.version
@@ -72,12 +84,31 @@ pub record TextStands (r : TextReading) (files : Option Files) (collection : Lis
   pub told : IsSome files
   pub model : IsModel r.code
   pub code : IsTextCode collection r.code
-  pub text : bits_of (bytes_at files r.text.name) ≡ bits_of (text_of r.code collection)
-  pub places : bytes_at files r.places.name ≡ places_of r.version r.code collection
-  pub size : r.size ≡ length (text_of r.code collection)
+  pub text : bits_of (bytes_at files r.text.name) ≡ bits_of (text_part r.code collection)
+  pub places : bytes_at files r.places.name ≡ places_part r.version r.code collection
+  pub size : r.size ≡ length (text_part r.code collection)
   pub documents : r.documents ≡ length (documents collection)
   pub few : length collection < 2 ^ 32
   pub small : r.size ≤ most_text r.version
+
+-- a fact on the code and the collection whose parts those of a base are, by a head
+abbrev pub WhereIsText : List ℕ → Option Files → Head → (TextCode → List ℕ → Type 0) → Type 0
+WhereIsText base files head fact = (code : TextCode) (collection : List ℕ) → IsText base files head code collection → fact code collection
+
+-- a fact on a base, the files, a head, a code and a collection
+abbrev pub ForHeads : (List ℕ → Option Files → Head → TextCode → List ℕ → Type 0) → Type 0
+ForHeads fact = (base : List ℕ) (files : Option Files) (head : Head) (code : TextCode) (collection : List ℕ) → fact base files head code collection
+
+-- a fact where the parts were written for a collection within the limits, and a head of any version but 1 has its numbers
+abbrev pub WhereWritten : List ℕ → Option Files → Head → TextCode → List ℕ → Type 0 → Type 0
+WhereWritten base files head code collection fact = TextHolds base files code collection → PartsStand files base code head.words head.others →
+    IsTextCode collection code → head.version ≢ 1 → head.text_bytes ≡ length (text_part code collection) → head.documents ≡ length (documents collection) →
+    IsWithinLimits head.version collection → fact
+
+-- a fact where the files are told, the parts of a base stand for a collection, and a head and a code are what they tell
+abbrev pub WhereTold : List ℕ → Option Files → Head → TextCode → List ℕ → Type 0 → Type 0
+WhereTold base files head code collection fact =
+    IsSome files → Tell (parts_at files base) (fields_of head) code → Stand (parts_at files base) collection → fact
 
 -- ---- loading
 
@@ -126,6 +157,10 @@ stored_at files base head = record {
   places = bytes_at files (full_name base part.Places);
 }
 
+-- one of the two sizes is not that of the head
+abbrev pub DiffersInSize : Option Files → List ℕ → Head → Type 0
+DiffersInSize files base head = ¬ HasSizes (stored_at files base head)
+
 -- ---- showing a document
 
 -- the document was written, or a prefix of it; and so many reads of the text at most were added
@@ -137,6 +172,34 @@ AnswersDoc result before now doc reads_before reads_now most =
 abbrev pub AnswersGathered : Result (Unit {0}) ShowErr → Option (List ℕ) → Option (List ℕ) → List ℕ → List ℕ → ℕ → ℕ → ℕ → Type 0
 AnswersGathered result before now held bytes reads_before reads_now most =
     Ends result (Shown before now held bytes × (reads_now ≤ reads_before + most)) (GrewByPrefix before now bytes × (reads_now ≤ reads_before + most))
+
+-- a fact on the collection whose text and places the parts of a reader are
+abbrev pub WhereTextStands : TextReading → Option Files → (List ℕ → Type 0) → Type 0
+WhereTextStands r files fact = (collection : List ℕ) → TextStands r files collection → fact collection
+
+-- the number of pages on which the bits of a document lie
+abbrev pub document_pages : TextCode → List ℕ → ℕ → ℕ
+document_pages code collection number = pages (doc_range code collection number).from (doc_range code collection number).to
+
+-- no more pages of the text are read than a document's bits lie on
+abbrev pub PagesOfDocument : TextReading → ℕ → Reads → Reads → List ℕ → Type 0
+PagesOfDocument r number reads reads_now collection = reads_now part.Text ≤ reads part.Text + document_pages r.code collection number
+
+-- where the parts stand: a document is shown or is held behind what was so before, or a prefix is shown
+abbrev pub GathersDoc : TextReading → Option Files → Option (List ℕ) → Option (List ℕ) → List ℕ → List ℕ → ℕ → Result (Unit {0}) ShowErr → Type 0
+GathersDoc r files sent sent_now held held_now number result = (collection : List ℕ) (before : Option (List ℕ)) (bytes : List ℕ) →
+    TextStands r files collection → Shown before sent held bytes → Gathers result before sent_now held_now (bytes ++ document collection number)
+
+-- that, and no more pages of the text are read than its bits lie on
+abbrev pub GathersWithin : TextReading → Option Files → Option (List ℕ) → Option (List ℕ) → List ℕ → List ℕ → ℕ → Result (Unit {0}) ShowErr → Reads → Reads → Type 0
+GathersWithin r files sent sent_now held held_now number result reads reads_now = (collection : List ℕ) (before : Option (List ℕ)) (bytes : List ℕ) →
+    TextStands r files collection → Shown before sent held bytes →
+    AnswersGathered result before sent_now held_now (bytes ++ document collection number) (reads part.Text) (reads_now part.Text) (document_pages r.code collection number)
+
+-- where the parts stand: a document is written, or a prefix of it, and no more pages of the text are read than its bits lie on
+abbrev pub ShowsWithin : TextReading → Option Files → Option (List ℕ) → Option (List ℕ) → ℕ → Result (Unit {0}) ShowErr → Reads → Reads → Type 0
+ShowsWithin r files sent sent_now number result reads reads_now = WhereTextStands r files
+    (λ collection. AnswersDoc result sent sent_now (document collection number) (reads part.Text) (reads_now part.Text) (document_pages r.code collection number))
 
 -- no part is bad
 abbrev pub ShowIsNotBad : Result (Unit {0}) ShowErr → Type 0

@@ -6,12 +6,13 @@ use Rattle.std.specs.declared.option.Option.{Option}
 use Rattle.mg_dev.specs.Files.{Files, bytes_at, written}
 use Rattle.mg_dev.specs.Names.{full_name}
 use Rattle.mg_dev.specs.declared.part.Part.TheVariants.{Text, Places}
+use Rattle.mg_bits.specs.Alike.{WhereSame}
 use Rattle.mg_bits.specs.Writer.{Writing, put_to}
 use Rattle.mg_bits.specs.BitWriting.{BitWriting, Holds, bits_put}
 use Rattle.mg_defs.specs.declared.Stream.{Stream}
 use Rattle.mg_defs.specs.declared.Stream.TheVariants.{Words, Others}
-use Rattle.mg_defs.specs.Bits.{Bits, bits_of}
-use Rattle.mg_defs.specs.CodedText.{as_bytes, running}
+use Rattle.mg_defs.specs.Bits.{Bits, bits_of, as_bytes}
+use Rattle.mg_defs.specs.CodedText.{running}
 use Rattle.mg_defs.specs.Numbers.{eight}
 
 pub record TextWriting : Type 0 where
@@ -30,6 +31,14 @@ pub record TextWriting : Type 0 where
 -- the files with both parts of a text there and empty
 abbrev pub with_empty_text : Option Files → List ℕ → Option Files
 with_empty_text files base = written (written files (full_name base Text) []) (full_name base Places) []
+
+-- the bytes of the text of a base
+abbrev pub text_at : List ℕ → Option Files → List ℕ
+text_at base files = bytes_at files (full_name base Text)
+
+-- a fact where both stores tell alike and hold the same text and places of a base
+abbrev pub WhereSameBase : List ℕ → Option Files → Option Files → Type 0 → Type 0
+WhereSameBase base one other fact = WhereSame one other (full_name base Text) (full_name base Places) fact
 
 -- the stream of the next piece where so many are still to come: a document has as many words as others, and they alternate
 abbrev pub turn : ℕ → Stream
@@ -72,6 +81,22 @@ pub record IsOnText (w : TextWriting) (files : Option Files) (docs : List Bits) 
   pub few_docs : w.docs ≤ 2 ^ 24
   pub few_pairs : w.pairs ≤ 2 ^ 32 - 1
   pub bound : w.text.place + 48 * w.left ≤ 96 * w.pairs + 96 * w.docs + 7 * length docs
+
+-- whatever documents the writer took, it took these bits of one more, the first of them
+abbrev pub TookFirst : TextWriting → TextWriting → Option Files → Option Files → Bits → Type 0
+TookFirst old new before now bits = (docs : List Bits) → IsOnText old before docs [] → IsOnText new now docs bits
+
+-- whatever bits of the open document the writer took, it took these too
+abbrev pub TookBits : TextWriting → TextWriting → Option Files → Option Files → Bits → Type 0
+TookBits old new before now more = (docs : List Bits) (bits : Bits) → IsOnText old before docs bits → IsOnText new now docs (bits ++ more)
+
+-- whatever bits of the open document the writer took, they are a document now
+abbrev pub TookDoc : TextWriting → TextWriting → Option Files → Option Files → Type 0
+TookDoc old new before now = (docs : List Bits) (bits : Bits) → IsOnText old before docs bits → IsOnText new now (docs ++ bits ∷ []) []
+
+-- a fact on the documents that a writer took, where the files are told and none is open
+abbrev pub WhereClosed : TextWriting → Option Files → (List Bits → Type 0) → Type 0
+WhereClosed w files fact = (docs : List Bits) → IsOnText w files docs [] → IsSome files → fact docs
 
 -- a document more was begun, of so many pairs
 pub record Began (old new : TextWriting) (count : ℕ) : Type 0 where

@@ -1,11 +1,11 @@
 //! Where documents begin in the text.
-ghost use Rattle.std.specs.Prelude.{◌≡◌, ◌+◌, ◌*◌, ◌≤◌, ◌<◌, ◌^◌, ℕ, IfOk, IsSome, Some, length, take, drop};
-ghost use Rattle.mg_dev.specs.Files.{bytes_at};
+ghost use Rattle.std.specs.Prelude.{◌≡◌, ◌+◌, ◌*◌, ◌≤◌, ◌<◌, ◌^◌, ℕ, IfOk, Some};
 ghost use Rattle.mg_dev.specs.Causes.{HasCause};
 ghost use Rattle.mg_bits.specs.Pages.{Fits, Looked, SameFile};
 ghost use Rattle.mg_defs.specs.Numbers.{eight, four};
 ghost use Rattle.mg_text.specs.Decoding.{IsReadCaused, Takes};
-ghost use Rattle.mg_text.specs.Places.{IsPlaceAt, place_width};
+ghost use Rattle.mg_text.specs.Places.{place_width, ForPlace, AnswersNumber};
+ghost use Rattle.mg_dev.specs.Moments.{Between};
 
 use mg_bits::PageFeed;
 use mg_dev::{Bad, Failed, Part, PartErr, Store};
@@ -30,10 +30,8 @@ fn narrow_place<S: Store>(
     requires fits { Fits places.old (S.files store.old) }
     ensures fits { Fits places.new (S.files store.new) }
     ensures file { SameFile places.old places.new }
-    ensures looked { Looked places.old.part (S.files store.old) (S.files store.new) (S.reads store.old) (S.reads store.new)
-        (S.faults store.old) (S.faults store.new) }
-    ensures told { IsSome (S.files store.old) → (p : ℕ) → p < 2 ^ 32 → take 4 (drop (4 * index) (bytes_at (S.files store.old) places.old.name)) ≡ four p →
-        IfOk result (λ place. place ≡ Some p) }
+    ensures looked { Between S.files S.reads S.faults store.old store.new (Looked places.old.part) }
+    ensures told { AnswersNumber places.old (S.files store.old) 4 index four (2 ^ 32) result }
     ensures page { S.reads store.new places.old.part ≤ S.reads store.old places.old.part + 1 }
     ensures cause { HasCause (S.faults store.old) (S.faults store.new) result }
 {
@@ -54,10 +52,8 @@ fn wide_place<S: Store>(
     requires fits { Fits places.old (S.files store.old) }
     ensures fits { Fits places.new (S.files store.new) }
     ensures file { SameFile places.old places.new }
-    ensures looked { Looked places.old.part (S.files store.old) (S.files store.new) (S.reads store.old) (S.reads store.new)
-        (S.faults store.old) (S.faults store.new) }
-    ensures told { IsSome (S.files store.old) → (p : ℕ) → p < 2 ^ 64 → take 8 (drop (8 * index) (bytes_at (S.files store.old) places.old.name)) ≡ eight p →
-        IfOk result (λ place. place ≡ Some p) }
+    ensures looked { Between S.files S.reads S.faults store.old store.new (Looked places.old.part) }
+    ensures told { AnswersNumber places.old (S.files store.old) 8 index eight (2 ^ 64) result }
     ensures page { S.reads store.new places.old.part ≤ S.reads store.old places.old.part + 1 }
     ensures cause { HasCause (S.faults store.old) (S.faults store.new) result }
 {
@@ -79,10 +75,8 @@ fn read_place<S: Store>(
     requires fits { Fits places.old (S.files store.old) }
     ensures fits { Fits places.new (S.files store.new) }
     ensures file { SameFile places.old places.new }
-    ensures looked { Looked places.old.part (S.files store.old) (S.files store.new) (S.reads store.old) (S.reads store.new)
-        (S.faults store.old) (S.faults store.new) }
-    ensures told { IsSome (S.files store.old) → (p : ℕ) → IsPlaceAt version index p (bytes_at (S.files store.old) places.old.name) →
-        IfOk result (λ place. place ≡ Some p) }
+    ensures looked { Between S.files S.reads S.faults store.old store.new (Looked places.old.part) }
+    ensures told { ForPlace places.old (S.files store.old) version index (λ p. IfOk result (λ place. place ≡ Some p)) }
     ensures page { S.reads store.new places.old.part ≤ S.reads store.old places.old.part + 1 }
     ensures cause { HasCause (S.faults store.old) (S.faults store.new) result }
 {
@@ -103,11 +97,9 @@ pub fn first_byte<S: Store>(
     requires fits { Fits places.old (S.files store.old) }
     ensures fits { Fits places.new (S.files store.new) }
     ensures file { SameFile places.old places.new }
-    ensures looked { Looked places.old.part (S.files store.old) (S.files store.new) (S.reads store.old) (S.reads store.new)
-        (S.faults store.old) (S.faults store.new) }
+    ensures looked { Between S.files S.reads S.faults store.old store.new (Looked places.old.part) }
     ensures small { IfOk result (λ from. from ≤ 2 ^ 60) }
-    ensures told { IsSome (S.files store.old) → (p : ℕ) → IsPlaceAt version index p (bytes_at (S.files store.old) places.old.name) → p ≤ size → p ≤ 2 ^ 60 →
-        Takes result (λ from. from ≡ p) (Unit {0}) }
+    ensures told { ForPlace places.old (S.files store.old) version index (λ p. p ≤ size → p ≤ 2 ^ 60 → Takes result (λ from. from ≡ p) (Unit {0})) }
     ensures page { S.reads store.new places.old.part ≤ S.reads store.old places.old.part + 1 }
     ensures cause { IsReadCaused result (S.faults store.old) (S.faults store.new) }
 {

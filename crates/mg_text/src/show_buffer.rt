@@ -1,14 +1,26 @@
 //! Bytes on their way to a sink.
-ghost use Rattle.std.specs.Prelude.{◌≡◌, ◌≤◌, ◌+◌, ◌++◌, ℕ, List, [], Option, IfOk, OnOk, length};
+ghost use Rattle.std.specs.Prelude.{◌≡◌, ◌≤◌, ◌+◌, ◌++◌, ℕ, List, [], IfOk, OnOk, length, slice_index};
 ghost use Rattle.mg_dev.specs.Causes.{HasLack, HasPutCause};
 ghost use Rattle.mg_dev.specs.Streams.{AfterPut};
-ghost use Rattle.mg_text.specs.Decoding.{Added, Gathers, Shown};
+ghost use Rattle.mg_model.specs.Blocks.{short_piece};
+ghost use Rattle.mg_text.specs.Decoding.{Added, Gathers, ForShown};
 
 use mg_dev::{PutErr, Sink};
 use std::alloc::{AllocError, Global};
 use std::marker::Model;
 
 const SIZE: usize = 16384;
+
+// The most bytes of a piece in an entry.
+const MOST: usize = 15;
+
+// The piece of an entry: its length, and then the piece.
+fn piece_in(entry: &[u8; 16]) -> &[u8]
+    requires { slice_index entry.now 0 ≤ 15 }
+    ensures { result.now ≡ short_piece entry.now }
+{
+    &entry[1..usize::from(entry[0]) + 1]
+}
 
 /// Holds bytes until there are enough of them for one put of a sink, 16,384.
 ///
@@ -61,8 +73,7 @@ impl ShowBuffer {
     #[inline]
     pub fn put<O: Sink>(&mut self, out: &mut O, piece: &[u8]) -> Result<(), PutErr>
         requires short { length piece.now ≤ 255 }
-        ensures shown { (before : Option (List ℕ)) (bytes : List ℕ) → Shown before (O.written out.old) self.old bytes →
-            Gathers result before (O.written out.new) self.new (bytes ++ piece.now) }
+        ensures shown { ForShown (O.written out.old) self.old (λ before bytes. Gathers result before (O.written out.new) self.new (bytes ++ piece.now)) }
         ensures added { Added (O.written out.old) (O.written out.new) (O.faults out.old) (O.faults out.new) (O.lacks out.old) (O.lacks out.new) }
         ensures cause { HasPutCause (O.faults out.old) (O.faults out.new) result }
         ensures lack { HasLack (O.lacks out.old) (O.lacks out.new) result }
@@ -78,6 +89,43 @@ impl ShowBuffer {
             }
             Err(refusal) => Err(refusal),
         }
+    }
+
+    /// Adds the piece of an entry: its length, at most 15, and then the piece. It does what `put` does
+    /// for that piece. Where there is room for fifteen bytes, it copies fifteen, however short the
+    /// piece is, since so many are copied with no call.
+    ///
+    /// # Errors
+    ///
+    /// The sink's: `Failed` where it failed, `Memory` where it lacked memory.
+    #[inline]
+    pub fn put_short<O: Sink>(&mut self, out: &mut O, entry: &[u8; 16]) -> Result<(), PutErr>
+        requires short { slice_index entry.now 0 ≤ 15 }
+        ensures shown { ForShown (O.written out.old) self.old (λ before bytes. Gathers result before (O.written out.new) self.new (bytes ++ short_piece entry.now)) }
+        ensures added { Added (O.written out.old) (O.written out.new) (O.faults out.old) (O.faults out.new) (O.lacks out.old) (O.lacks out.new) }
+        ensures cause { HasPutCause (O.faults out.old) (O.faults out.new) result }
+        ensures lack { HasLack (O.lacks out.old) (O.lacks out.new) result }
+    {
+        if MOST <= SIZE - self.used {
+            self.keep_short(entry);
+            return Ok(());
+        }
+        match self.put(out, piece_in(entry)) {
+            Ok(()) => Ok(()),
+            Err(refusal) => Err(refusal),
+        }
+    }
+
+    /// Holds the piece of an entry, where there is room for fifteen bytes.
+    #[inline]
+    fn keep_short(&mut self, entry: &[u8; 16])
+        requires room { length self.old + 15 ≤ 16384 }
+        requires short { slice_index entry.now 0 ≤ 15 }
+        ensures { self.new ≡ self.old ++ short_piece entry.now }
+    {
+        let used = self.used;
+        self.bytes[used..used + MOST].copy_from_slice(&entry[1..]);
+        self.used = used + usize::from(entry[0]);
     }
 
     /// Holds bytes for which there is room.
@@ -98,8 +146,7 @@ impl ShowBuffer {
     /// The sink's: `Failed` where it failed, `Memory` where it lacked memory.
     pub fn flush<O: Sink>(&mut self, out: &mut O) -> Result<(), PutErr>
         ensures content { AfterPut (O.written out.old) (O.written out.new) self.old result }
-        ensures shown { (before : Option (List ℕ)) (bytes : List ℕ) → Shown before (O.written out.old) self.old bytes →
-            AfterPut before (O.written out.new) bytes result }
+        ensures shown { ForShown (O.written out.old) self.old (λ before bytes. AfterPut before (O.written out.new) bytes result) }
         ensures empty { OnOk result (self.new ≡ []) }
         ensures added { Added (O.written out.old) (O.written out.new) (O.faults out.old) (O.faults out.new) (O.lacks out.old) (O.lacks out.new) }
         ensures cause { HasPutCause (O.faults out.old) (O.faults out.new) result }

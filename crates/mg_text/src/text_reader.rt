@@ -1,16 +1,16 @@
 //! A reader of coded documents.
-ghost use Rattle.std.specs.Prelude.{◌≡◌, ◌≢◌, ◌-◌, ◌+◌, ◌*◌, ◌≤◌, ◌<◌, ◌^◌, ◌++◌, ℕ, List, [], get_or, Option, IsSome, IfErr, IfOk, Err, length};
-ghost use Rattle.mg_dev.specs.Files.{Files, SameReads, bytes_at};
-ghost use Rattle.mg_dev.specs.Names.{full_name};
+ghost use Rattle.std.specs.Prelude.{◌≡◌, ◌≢◌, ◌-◌, ◌+◌, ◌*◌, ◌≤◌, ◌<◌, ◌^◌, ◌++◌, ℕ, [], Option, IsSome, IfErr, IfOk, Err};
+ghost use Rattle.mg_dev.specs.Files.{Files, SameReads};
 ghost use Rattle.mg_dev.specs.PartCauses.{HasPartCause};
 ghost use Rattle.mg_dev.specs.Streams.{AfterPut};
 ghost use Rattle.mg_dev.specs.declared.part.Part.TheVariants as part;
-ghost use Rattle.mg_defs.specs.CodedText.{TextCode, doc_range};
 ghost use Rattle.mg_defs.specs.PagesOf.{pages};
 ghost use Rattle.mg_defs.specs.Split.{documents};
 ghost use Rattle.mg_front.specs.Reading.{IsNotBad, LookedAt};
-ghost use Rattle.mg_text.specs.Decoding.{Added, Gathers, IsShowCaused, Shown};
-ghost use Rattle.mg_text.specs.Reading.{AnswersDoc, AnswersGathered, AnswersReader, AnswersTextSizes, HasSizes, IsText, IsTextReader, SameText, ShowIsNotBad, TextFits, TextStands, stored_at};
+ghost use Rattle.mg_text.specs.Decoding.{Added, Gathers, IsShowCaused};
+ghost use Rattle.mg_text.specs.Reading.{AnswersReader, AnswersTextSizes, IsTextReader, SameText, ShowIsNotBad, TextFits, TextStands, stored_at, WhereIsText, GathersDoc, DiffersInSize, GathersWithin, WhereTextStands, PagesOfDocument, ShowsWithin};
+ghost use Rattle.mg_dev.specs.Moments.{Between};
+ghost use Rattle.mg_defs.specs.Terms.{document};
 
 use crate::decoder::{gather_doc, show_doc};
 use crate::places::{first_byte, width_of};
@@ -94,16 +94,12 @@ impl<'a, S: Store> TextReader<'a, S> {
         ensures fits { IfOk result (λ r. TextFits r (S.files store.new)) }
         ensures reader { IfOk result (λ r. IsTextReader r base.entry.now head.now) }
         ensures answer { IsSome (S.files store.old) → AnswersReader (stored_at (S.files store.old) base.entry.now head.now) result }
-        ensures unread { IsSome (S.files store.old) → ¬ HasSizes (stored_at (S.files store.old) base.entry.now head.now) →
+        ensures unread { IsSome (S.files store.old) → DiffersInSize (S.files store.old) base.entry.now head.now →
             SameReads (S.reads store.old) (S.reads store.new) }
-        ensures stands { (code : TextCode) (collection : List ℕ) → IsText base.entry.now (S.files store.old) head.now code collection →
-            IfOk result (λ r. TextStands r (S.files store.new) collection) }
-        ensures code { (code : TextCode) (collection : List ℕ) → IsText base.entry.now (S.files store.old) head.now code collection →
-            IfOk result (λ r. r.code ≡ code) }
-        ensures never_bad { (code : TextCode) (collection : List ℕ) → IsText base.entry.now (S.files store.old) head.now code collection →
-            IfErr result (λ refusal. IsNotBad refusal) }
-        ensures looked { LookedAt part.Words part.Nonwords (S.files store.old) (S.files store.new) (S.reads store.old) (S.reads store.new)
-            (S.faults store.old) (S.faults store.new) }
+        ensures stands { WhereIsText base.entry.now (S.files store.old) head.now (λ code collection. IfOk result (λ r. TextStands r (S.files store.new) collection)) }
+        ensures code { WhereIsText base.entry.now (S.files store.old) head.now (λ code collection. IfOk result (λ r. r.code ≡ code)) }
+        ensures never_bad { WhereIsText base.entry.now (S.files store.old) head.now (λ code collection. IfErr result (λ refusal. IsNotBad refusal)) }
+        ensures looked { Between S.files S.reads S.faults store.old store.new (LookedAt part.Words part.Nonwords) }
         ensures cause { HasPartCause (S.faults store.old) (S.faults store.new) result }
     {
         match expect_sizes(store, base, head) {
@@ -163,13 +159,10 @@ impl<'a, S: Store> TextReader<'a, S> {
         requires within { number ≤ self.old.documents }
         ensures fits { TextFits self.new (S.files store.new) }
         ensures same { SameText self.old self.new }
-        ensures looked { LookedAt part.Text part.Places (S.files store.old) (S.files store.new) (S.reads store.old) (S.reads store.new)
-            (S.faults store.old) (S.faults store.new) }
-        ensures content { (collection : List ℕ) → TextStands self.old (S.files store.old) collection →
-            AfterPut (O.written out.old) (O.written out.new) (get_or (documents collection) (number - 1) []) result }
-        ensures never_bad { (collection : List ℕ) → TextStands self.old (S.files store.old) collection → ShowIsNotBad result }
-        ensures pages { (collection : List ℕ) → TextStands self.old (S.files store.old) collection → S.reads store.new part.Text
-            ≤ S.reads store.old part.Text + pages (doc_range self.old.code collection number).from (doc_range self.old.code collection number).to }
+        ensures looked { Between S.files S.reads S.faults store.old store.new (LookedAt part.Text part.Places) }
+        ensures content { WhereTextStands self.old (S.files store.old) (λ collection. AfterPut (O.written out.old) (O.written out.new) (document collection number) result) }
+        ensures never_bad { WhereTextStands self.old (S.files store.old) (λ _. ShowIsNotBad result) }
+        ensures pages { WhereTextStands self.old (S.files store.old) (PagesOfDocument self.old number (S.reads store.old) (S.reads store.new)) }
         ensures places { S.reads store.new part.Places ≤ S.reads store.old part.Places + 1 }
         ensures added { Added (O.written out.old) (O.written out.new) (O.faults out.old) (O.faults out.new) (O.lacks out.old) (O.lacks out.new) }
         ensures cause { IsShowCaused result (S.faults store.old) (S.faults store.new) (O.faults out.old) (O.faults out.new)
@@ -199,14 +192,10 @@ impl<'a, S: Store> TextReader<'a, S> {
         requires within { number ≤ self.old.documents }
         ensures fits { TextFits self.new (S.files store.new) }
         ensures same { SameText self.old self.new }
-        ensures looked { LookedAt part.Text part.Places (S.files store.old) (S.files store.new) (S.reads store.old) (S.reads store.new)
-            (S.faults store.old) (S.faults store.new) }
-        ensures content { (collection : List ℕ) (before : Option (List ℕ)) (bytes : List ℕ) → TextStands self.old (S.files store.old) collection →
-            Shown before (O.written out.old) buffer.old bytes →
-            Gathers result before (O.written out.new) buffer.new (bytes ++ get_or (documents collection) (number - 1) []) }
-        ensures never_bad { (collection : List ℕ) → TextStands self.old (S.files store.old) collection → ShowIsNotBad result }
-        ensures pages { (collection : List ℕ) → TextStands self.old (S.files store.old) collection → S.reads store.new part.Text
-            ≤ S.reads store.old part.Text + pages (doc_range self.old.code collection number).from (doc_range self.old.code collection number).to }
+        ensures looked { Between S.files S.reads S.faults store.old store.new (LookedAt part.Text part.Places) }
+        ensures content { GathersDoc self.old (S.files store.old) (O.written out.old) (O.written out.new) buffer.old buffer.new number result }
+        ensures never_bad { WhereTextStands self.old (S.files store.old) (λ _. ShowIsNotBad result) }
+        ensures pages { WhereTextStands self.old (S.files store.old) (PagesOfDocument self.old number (S.reads store.old) (S.reads store.new)) }
         ensures places { S.reads store.new part.Places ≤ S.reads store.old part.Places + 1 }
         ensures added { Added (O.written out.old) (O.written out.new) (O.faults out.old) (O.faults out.new) (O.lacks out.old) (O.lacks out.new) }
         ensures cause { IsShowCaused result (S.faults store.old) (S.faults store.new) (O.faults out.old) (O.faults out.new)
@@ -235,12 +224,9 @@ impl<'a, S: Store> TextReader<'a, S> {
         requires within { number ≤ self.old.documents }
         ensures fits { TextFits self.new (S.files store.new) }
         ensures same { SameText self.old self.new }
-        ensures looked { LookedAt part.Text part.Places (S.files store.old) (S.files store.new) (S.reads store.old) (S.reads store.new)
-            (S.faults store.old) (S.faults store.new) }
-        ensures answer { (collection : List ℕ) (before : Option (List ℕ)) (bytes : List ℕ) → TextStands self.old (S.files store.old) collection →
-            Shown before (O.written out.old) buffer.old bytes →
-            AnswersGathered result before (O.written out.new) buffer.new (bytes ++ get_or (documents collection) (number - 1) []) (S.reads store.old part.Text)
-            (S.reads store.new part.Text) (pages (doc_range self.old.code collection number).from (doc_range self.old.code collection number).to) }
+        ensures looked { Between S.files S.reads S.faults store.old store.new (LookedAt part.Text part.Places) }
+        ensures answer { GathersWithin self.old (S.files store.old) (O.written out.old) (O.written out.new) buffer.old buffer.new number result
+            (S.reads store.old) (S.reads store.new) }
         ensures places { S.reads store.new part.Places ≤ S.reads store.old part.Places + 1 }
         ensures added { Added (O.written out.old) (O.written out.new) (O.faults out.old) (O.faults out.new) (O.lacks out.old) (O.lacks out.new) }
         ensures cause { IsShowCaused result (S.faults store.old) (S.faults store.new) (O.faults out.old) (O.faults out.new)
@@ -264,11 +250,8 @@ impl<'a, S: Store> TextReader<'a, S> {
         requires within { number ≤ self.old.documents }
         ensures fits { TextFits self.new (S.files store.new) }
         ensures same { SameText self.old self.new }
-        ensures looked { LookedAt part.Text part.Places (S.files store.old) (S.files store.new) (S.reads store.old) (S.reads store.new)
-            (S.faults store.old) (S.faults store.new) }
-        ensures answer { (collection : List ℕ) → TextStands self.old (S.files store.old) collection →
-            AnswersDoc result (O.written out.old) (O.written out.new) (get_or (documents collection) (number - 1) []) (S.reads store.old part.Text)
-            (S.reads store.new part.Text) (pages (doc_range self.old.code collection number).from (doc_range self.old.code collection number).to) }
+        ensures looked { Between S.files S.reads S.faults store.old store.new (LookedAt part.Text part.Places) }
+        ensures answer { ShowsWithin self.old (S.files store.old) (O.written out.old) (O.written out.new) number result (S.reads store.old) (S.reads store.new) }
         ensures places { S.reads store.new part.Places ≤ S.reads store.old part.Places + 1 }
         ensures added { Added (O.written out.old) (O.written out.new) (O.faults out.old) (O.faults out.new) (O.lacks out.old) (O.lacks out.new) }
         ensures cause { IsShowCaused result (S.faults store.old) (S.faults store.new) (O.faults out.old) (O.faults out.new)

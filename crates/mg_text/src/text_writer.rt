@@ -1,17 +1,17 @@
 // Coded documents into two parts.
-ghost use Rattle.std.specs.Prelude.{◌≡◌, ◌≢◌, ◌≤◌, ◌<◌, ◌+◌, ◌-◌, ◌^◌, ◌++◌, [], ◌∷◌, ℕ, List, true, false, length, IfOk, OnOk, IsSome};
+ghost use Rattle.std.specs.Prelude.{◌≡◌, ◌≢◌, ◌≤◌, ◌<◌, ◌+◌, ◌-◌, ◌^◌, ◌++◌, [], ◌∷◌, ℕ, List, true, false, length, IfOk, OnOk};
 ghost use Rattle.std.specs.Option.{is_some};
 ghost use Rattle.mg_dev.specs.Causes.{HasPutCause};
-ghost use Rattle.mg_dev.specs.Files.{SameReads, bytes_at, file_at};
+ghost use Rattle.mg_dev.specs.Files.{SameReads, file_at};
 ghost use Rattle.mg_dev.specs.Names.{full_name};
 ghost use Rattle.mg_dev.specs.declared.part.Part.TheVariants as part;
-ghost use Rattle.mg_bits.specs.Writer.{WroteTo, Wrote};
+ghost use Rattle.mg_bits.specs.Writer.{WroteTo, Wrote, KeepsOthers};
 ghost use Rattle.mg_defs.specs.Bits.{Bits};
 ghost use Rattle.mg_defs.specs.Canon.{codeword};
 ghost use Rattle.mg_defs.specs.Codes.{gamma};
 ghost use Rattle.mg_defs.specs.Numbers.{eight};
 ghost use Rattle.mg_defs.specs.Marks.{code_of};
-ghost use Rattle.mg_text.specs.Writing.{Began, Ended, IsOnText, PutOne, DocumentsStand, text_bytes, turn, with_empty_text};
+ghost use Rattle.mg_text.specs.Writing.{Began, Ended, IsOnText, PutOne, DocumentsStand, text_bytes, turn, with_empty_text, TookBits, TookFirst, TookDoc, WhereClosed, text_at};
 
 use mg_bits::{BitWriter, PageWriter};
 use mg_codes::put_gamma;
@@ -72,8 +72,7 @@ impl<'a> TextWriter<'a> {
         ensures docs { IfOk result (λ writer. writer.docs ≡ 0) }
         ensures pairs { IfOk result (λ writer. writer.pairs ≡ 0) }
         ensures closed { IfOk result (λ writer. writer.is_open ≡ false) }
-        ensures others { (n : List ℕ) → n ≢ full_name base.entry.now part.Text → n ≢ full_name base.entry.now part.Places →
-            file_at (S.files store.new) n ≡ file_at (S.files store.old) n }
+        ensures others { KeepsOthers (full_name base.entry.now part.Text) (full_name base.entry.now part.Places) (S.files store.old) (S.files store.new) }
         ensures told { is_some (S.files store.new) ≡ is_some (S.files store.old) }
         ensures reads { SameReads (S.reads store.old) (S.reads store.new) }
         ensures cause { HasPutCause (S.faults store.old) (S.faults store.new) result }
@@ -116,12 +115,10 @@ impl<'a> TextWriter<'a> {
         requires closed { self.old.is_open ≡ false }
         requires docs { self.old.docs < 2 ^ 24 }
         requires pairs { self.old.pairs + pairs ≤ 2 ^ 32 - 1 }
-        ensures took { OnOk result ((docs : List Bits) → IsOnText self.old (S.files store.old) docs [] →
-            IsOnText self.new (S.files store.new) docs (gamma (pairs + 1))) }
+        ensures took { OnOk result (TookFirst self.old self.new (S.files store.old) (S.files store.new) (gamma (pairs + 1))) }
         ensures began { OnOk result (Began self.old self.new pairs) }
         ensures base { self.new.base ≡ self.old.base }
-        ensures others { (n : List ℕ) → n ≢ full_name self.old.base part.Text → n ≢ full_name self.old.base part.Places →
-            file_at (S.files store.new) n ≡ file_at (S.files store.old) n }
+        ensures others { KeepsOthers (full_name self.old.base part.Text) (full_name self.old.base part.Places) (S.files store.old) (S.files store.new) }
         ensures told { is_some (S.files store.new) ≡ is_some (S.files store.old) }
         ensures reads { SameReads (S.reads store.old) (S.reads store.new) }
         ensures cause { HasPutCause (S.faults store.old) (S.faults store.new) result }
@@ -155,8 +152,7 @@ impl<'a> TextWriter<'a> {
         requires more { 0 < self.old.left }
         requires turn { stream ≡ turn self.old.left }
         requires symbol { symbol < length (code_of stream model.now).pieces }
-        ensures took { OnOk result ((docs : List Bits) (bits : Bits) → IsOnText self.old (S.files store.old) docs bits →
-            IsOnText self.new (S.files store.new) docs (bits ++ codeword (code_of stream model.now).lengths symbol)) }
+        ensures took { OnOk result (TookBits self.old self.new (S.files store.old) (S.files store.new) (codeword (code_of stream model.now).lengths symbol)) }
         ensures put { OnOk result (PutOne self.old self.new) }
         ensures base { self.new.base ≡ self.old.base }
         ensures others { (n : List ℕ) → n ≢ full_name self.old.base part.Text → file_at (S.files store.new) n ≡ file_at (S.files store.old) n }
@@ -178,8 +174,7 @@ impl<'a> TextWriter<'a> {
         requires took { (docs : List Bits) × (bits : Bits) × IsOnText self.old (S.files store.old) docs bits }
         requires begun { self.old.is_open ≡ true }
         requires whole { self.old.left ≡ 0 }
-        ensures took { OnOk result ((docs : List Bits) (bits : Bits) → IsOnText self.old (S.files store.old) docs bits →
-            IsOnText self.new (S.files store.new) (docs ++ bits ∷ []) []) }
+        ensures took { OnOk result (TookDoc self.old self.new (S.files store.old) (S.files store.new)) }
         ensures ended { OnOk result (Ended self.old self.new) }
         ensures base { self.new.base ≡ self.old.base }
         ensures others { (n : List ℕ) → n ≢ full_name self.old.base part.Text → file_at (S.files store.new) n ≡ file_at (S.files store.old) n }
@@ -201,14 +196,11 @@ impl<'a> TextWriter<'a> {
     pub fn finish<S: Store>(&mut self, store: &mut S) -> Result<u64, PutErr>
         requires took { (docs : List Bits) × IsOnText self.old (S.files store.old) docs [] }
         requires closed { self.old.is_open ≡ false }
-        ensures finished { OnOk result ((docs : List Bits) → IsOnText self.old (S.files store.old) docs [] → IsSome (S.files store.old) →
-            DocumentsStand self.old.base (S.files store.new) docs) }
-        ensures bytes { OnOk result ((docs : List Bits) → IsOnText self.old (S.files store.old) docs [] → IsSome (S.files store.old) →
-            bytes_at (S.files store.new) (full_name self.old.base part.Text) ≡ text_bytes docs) }
+        ensures finished { OnOk result (WhereClosed self.old (S.files store.old) (λ docs. DocumentsStand self.old.base (S.files store.new) docs)) }
+        ensures bytes { OnOk result (WhereClosed self.old (S.files store.old) (λ docs. text_at self.old.base (S.files store.new) ≡ text_bytes docs)) }
         ensures answer { IfOk result (λ size. (docs : List Bits) → IsOnText self.old (S.files store.old) docs [] → size ≡ length (text_bytes docs)) }
         ensures base { self.new.base ≡ self.old.base }
-        ensures others { (n : List ℕ) → n ≢ full_name self.old.base part.Text → n ≢ full_name self.old.base part.Places →
-            file_at (S.files store.new) n ≡ file_at (S.files store.old) n }
+        ensures others { KeepsOthers (full_name self.old.base part.Text) (full_name self.old.base part.Places) (S.files store.old) (S.files store.new) }
         ensures told { is_some (S.files store.new) ≡ is_some (S.files store.old) }
         ensures reads { SameReads (S.reads store.old) (S.reads store.new) }
         ensures cause { HasPutCause (S.faults store.old) (S.faults store.new) result }
