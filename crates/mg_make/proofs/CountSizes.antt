@@ -7,7 +7,7 @@ use Rattle.std.proofs.lemmas.List.Sums.{count_by-le-length, sum_by-cons, sum_by_
 use Rattle.mg_defs.proofs.Gathering.{added-cases}
 use Rattle.mg_defs.specs.declared.TermPosting.{TermPosting}
 use Rattle.mg_defs.specs.DocCounts.{NeverFall, docs_with, last_with}
-use Rattle.mg_defs.specs.Postings.{added, once, postings}
+use Rattle.mg_defs.specs.Postings.{added, once, term_postings}
 use Rattle.mg_make.specs.DocCounting.{AreDocCounts, DocCounting}
 use Rattle.mg_make.specs.Listing.{AreListSizes}
 
@@ -15,9 +15,9 @@ length_added : (e : TermPosting) (xs : List TermPosting) → length (added e xs)
 length_added e [] = omega arith
 length_added e (x ∷ xs) = added-cases e x xs (λ l. length l ≤ length (x ∷ xs) + 1) (λ first. omega arith) (λ later. omega (arith, length_added e xs)) (λ term doc. omega arith)
 
-length_postings : (fed : List (ℕ × ℕ)) → length (postings fed) ≤ length fed
+length_postings : (fed : List (ℕ × ℕ)) → length (term_postings fed) ≤ length fed
 length_postings [] = omega arith
-length_postings (o ∷ fed) = omega (arith, length_added (once o) (postings fed), length_postings fed)
+length_postings (o ∷ fed) = omega (arith, length_added (once o) (term_postings fed), length_postings fed)
 
 abbrev is_of : ℕ → TermPosting → Bool
 is_of term x = x.term == term
@@ -47,17 +47,17 @@ under_none (x ∷ xs) = omega (arith, sum_by-cons (λ y. cond (is_under 0 y) 1 0
     none : (term : ℕ) → cond (nat_lt term 0) 1 0 ≡ zero
     none term = grind (arith, nat_tests)
 
-sum_first : (docs : List ℕ) (fed : List (ℕ × ℕ)) (n : ℕ) → n ≤ length docs → ((k : ℕ) → k < length docs → get_or docs k 0 ≡ docs_with k fed) → sum (take n docs) ≡ count_by (is_under n) (postings fed)
-sum_first docs fed zero le each = sym (under_none (postings fed))
+sum_first : (docs : List ℕ) (fed : List (ℕ × ℕ)) (n : ℕ) → n ≤ length docs → ((k : ℕ) → k < length docs → get_or docs k 0 ≡ docs_with k fed) → sum (take n docs) ≡ count_by (is_under n) (term_postings fed)
+sum_first docs fed zero le each = sym (under_none (term_postings fed))
 sum_first docs fed (suc n) le each =
     omega (
       arith,
       sum_by_more (λ x. x) docs n 0 (omega (arith, le)),
       sum_first docs fed n (omega (arith, le)) each,
       each n (omega (arith, le)),
-      under_more n (postings fed),
+      under_more n (term_postings fed),
       ap (λ m. sum (take m docs)) (add-one n),
-      ap (λ m. count_by (is_under m) (postings fed)) (add-one n),
+      ap (λ m. count_by (is_under m) (term_postings fed)) (add-one n),
     )
 
 -- together the terms have no more documents than occurrences
@@ -67,7 +67,7 @@ together c terms fed are =
       arith,
       ap (λ xs. sum xs) (take_all (length c.docs) c.docs (omega arith)),
       sum_first c.docs fed (length c.docs) (omega arith) (λ k lt. are.docs k (omega (arith, lt, are.doc_size))),
-      count_by-le-length (is_under (length c.docs)) (postings fed),
+      count_by-le-length (is_under (length c.docs)) (term_postings fed),
       length_postings fed,
     )
 

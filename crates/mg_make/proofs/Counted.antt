@@ -10,7 +10,7 @@ use Rattle.mg_dev.specs.declared.fault.Fault.TheVariants.{Memory, TooManyDocumen
 use Rattle.mg_defs.specs.declared.Stream.{Stream}
 use Rattle.mg_defs.specs.declared.Stream.TheVariants.{Words, Others}
 use Rattle.mg_defs.specs.Limits.{version_2}
-use Rattle.mg_defs.specs.Marks.{AreWithin, Mark, start, piece, stop, pairs_from, pieces_among, pieces_from, starts}
+use Rattle.mg_defs.specs.Marks.{AreWithinLimits, Mark, start, piece, stop, pairs_from, pieces_among, piece_count_from, starts}
 use Rattle.mg_defs.specs.Pieces.{other_kind}
 use Rattle.mg_defs.specs.Sorted.{sorted_distinct}
 use Rattle.mg_defs.specs.Vocabulary.{counted, has_piece, total, vocabulary}
@@ -22,8 +22,8 @@ use Rattle.mg_make.specs.Meeting.{Meeting, marks_of, only_if}
 pub record AddUp : Type 0 where
   pub documents : (a b : List Mark) → starts (a ++ b) ≡ starts a + starts b
   pub pieces : (kind : Stream) (a b : List Mark) → pieces_among kind (a ++ b) ≡ pieces_among kind a ++ pieces_among kind b
-  pub pairs : (n : ℕ) (a b : List Mark) → pairs_from n (a ++ b) ≡ pairs_from n a ++ pairs_from (pieces_from n a) b
-  pub last : (n : ℕ) (a b : List Mark) → pieces_from n (a ++ b) ≡ pieces_from (pieces_from n a) b
+  pub pairs : (n : ℕ) (a b : List Mark) → pairs_from n (a ++ b) ≡ pairs_from n a ++ pairs_from (piece_count_from n a) b
+  pub last : (n : ℕ) (a b : List Mark) → piece_count_from n (a ++ b) ≡ piece_count_from (piece_count_from n a) b
 
 -- ---- marks that are no pieces
 
@@ -123,7 +123,7 @@ start-passes laws c met full h = record {
   before = [];
   after = [];
   whole = refl;
-  within = subst (AreWithin version_2) (sym (append-nil met)) h.within;
+  within = subst (AreWithinLimits version_2) (sym (append-nil met)) h.within;
   beyond = λ w. omega (arith, full, h.documents, laws.documents met (start ∷ []), w.documents);
 }
 
@@ -145,7 +145,7 @@ word-passes laws c met bytes new full h = record {
   before = [];
   after = [];
   whole = refl;
-  within = subst (AreWithin version_2) (sym (append-nil met)) h.within;
+  within = subst (AreWithinLimits version_2) (sym (append-nil met)) h.within;
   beyond = λ w. omega (arith, past-entries laws Words c.words met bytes refl new full h.words, w.words);
 }
 
@@ -154,13 +154,13 @@ other-passes laws c met bytes new full h = record {
   before = [];
   after = [];
   whole = refl;
-  within = subst (AreWithin version_2) (sym (append-nil met)) h.within;
+  within = subst (AreWithinLimits version_2) (sym (append-nil met)) h.within;
   beyond = λ w. omega (arith, past-entries laws Others c.others met bytes refl new full h.others, w.others);
 }
 
 -- ---- numbers fit
 
-pub few-pieces : (n : ℕ) (met : List Mark) → pieces_from n met ≤ n + length (pieces_among Words met) + length (pieces_among Others met)
+pub few-pieces : (n : ℕ) (met : List Mark) → piece_count_from n met ≤ n + length (pieces_among Words met) + length (pieces_among Others met)
 few-pieces n [] = omega arith
 few-pieces n (start ∷ met) = omega (arith, few-pieces 0 met)
 few-pieces n (stop ∷ met) = omega (arith, few-pieces 0 met)
@@ -193,8 +193,8 @@ passes-later met a b mark p = record {
   before = a ++ p.before;
   after = p.after;
   whole = ap (λ (x : List Mark). a ++ x) p.whole ∙ sym (append_assoc a p.before (mark ∷ p.after));
-  within = subst (AreWithin version_2) (append_assoc met a p.before) p.within;
-  beyond = λ w. p.beyond (subst (AreWithin version_2) (sym (append_assoc met a (p.before ++ mark ∷ []) ∙ ap (λ (x : List Mark). met ++ x) (sym (append_assoc a p.before (mark ∷ []))))) w);
+  within = subst (AreWithinLimits version_2) (append_assoc met a p.before) p.within;
+  beyond = λ w. p.beyond (subst (AreWithinLimits version_2) (sym (append_assoc met a (p.before ++ mark ∷ []) ∙ ap (λ (x : List Mark). met ++ x) (sym (append_assoc a p.before (mark ∷ []))))) w);
 }
 
 passes-sooner : (met a b : List Mark) (mark : Mark) → PassesAfter met a mark → PassesAfter met (a ++ b) mark

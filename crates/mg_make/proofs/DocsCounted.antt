@@ -6,7 +6,7 @@ use Rattle.std.proofs.lemmas.List.{get_or-set_other, get_or-set_same, map-append
 use Rattle.std.proofs.lemmas.List.Sums.{sum_by-cons}
 use Rattle.mg_defs.specs.declared.TermPosting.{TermPosting}
 use Rattle.mg_defs.specs.DocCounts.{docs_with, last_with}
-use Rattle.mg_defs.specs.Postings.{AllCount, ArePostings, IsBefore, Rising, added, once, part_at, postings, times, with_count}
+use Rattle.mg_defs.specs.Postings.{AllCount, ArePostings, IsBefore, RisingByTerm, added, once, part_at, term_postings, times, with_count}
 use Rattle.mg_defs.proofs.Gathering.{AllAfter-earlier, added-cases, gathered-are, gathered-only, times-gathered, times-none}
 use Rattle.mg_defs.proofs.Joining.{AllCount-once, times-append}
 use Rattle.mg_make.specs.DocCounting.{AreDocCounts, DocCounting}
@@ -20,10 +20,10 @@ count-cons term x xs = sum_by-cons (λ y. cond (is_of term y) 1 0) x xs
 times-one : (term doc : ℕ) (fed : List (ℕ × ℕ)) (o : ℕ × ℕ) → times term doc (map once (fed ++ o ∷ [])) ≡ times term doc (map once fed) + part_at term doc (once o)
 times-one term doc fed o = omega (arith, ap (times term doc) (map-append once fed (o ∷ [])), times-append term doc (map once fed) (once o ∷ []))
 
-one-added : (fed : List (ℕ × ℕ)) (o : ℕ × ℕ) → postings (fed ++ o ∷ []) ≡ added (once o) (postings fed)
+one-added : (fed : List (ℕ × ℕ)) (o : ℕ × ℕ) → term_postings (fed ++ o ∷ []) ≡ added (once o) (term_postings fed)
 one-added fed o =
-    let front : ArePostings (map once (o ∷ fed)) (added (once o) (postings fed)) = gathered-are (map once (o ∷ fed)) (AllCount-once (o ∷ fed)) in
-    sym (gathered-only (map once (fed ++ o ∷ [])) (added (once o) (postings fed)) (AllCount-once (fed ++ o ∷ []))
+    let front : ArePostings (map once (o ∷ fed)) (added (once o) (term_postings fed)) = gathered-are (map once (o ∷ fed)) (AllCount-once (o ∷ fed)) in
+    sym (gathered-only (map once (fed ++ o ∷ [])) (added (once o) (term_postings fed)) (AllCount-once (fed ++ o ∷ []))
     (record {
       rising = front.rising;
       some = front.some;
@@ -56,7 +56,7 @@ apart x e h =
       | inr other ↦ ap (λ b. cond b (cond (x.doc == e.doc) x.count 0) 0) other
     ]
 
-count-added : (term : ℕ) (e : TermPosting) (xs : List TermPosting) → Rising xs → AllCount xs → count_by (is_of term) (added e xs) ≡ count_by (is_of term) xs + new_at term e xs
+count-added : (term : ℕ) (e : TermPosting) (xs : List TermPosting) → RisingByTerm xs → AllCount xs → count_by (is_of term) (added e xs) ≡ count_by (is_of term) xs + new_at term e xs
 count-added term e [] rising some = count-cons term e [] ∙ omega (arith, new-one term e 0 refl)
 count-added term e (x ∷ xs) rising some =
     added-cases e x xs (λ l. count_by (is_of term) l ≡ count_by (is_of term) (x ∷ xs) + new_at term e (x ∷ xs))
@@ -75,7 +75,7 @@ count-added term e (x ∷ xs) rising some =
 docs-more : (term : ℕ) (fed : List (ℕ × ℕ)) (o : ℕ × ℕ) → docs_with term (fed ++ o ∷ []) ≡ docs_with term fed + fresh (o.0 == term) (nat_lt 0 (times o.0 o.1 (map once fed)))
 docs-more term fed o =
     let are = gathered-are (map once fed) (AllCount-once fed) in
-    ap (λ l. count_by (is_of term) l) (one-added fed o) ∙ count-added term (once o) (postings fed) are.rising are.some
+    ap (λ l. count_by (is_of term) l) (one-added fed o) ∙ count-added term (once o) (term_postings fed) are.rising are.some
     ∙ ap (λ n. docs_with term fed + n) (ap (λ n. fresh (o.0 == term) (nat_lt 0 n)) (times-gathered o.0 o.1 (map once fed)))
 
 -- ---- the last document

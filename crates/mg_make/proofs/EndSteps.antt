@@ -8,10 +8,10 @@ use Rattle.mg_dev.specs.declared.fault.Fault.TheVariants as cause
 use Rattle.mg_dev.specs.declared.part.Part.TheVariants.{Run}
 use Rattle.mg_dev.specs.Files.{Files, bytes_at}
 use Rattle.mg_dev.specs.Names.{full_name}
-use Rattle.mg_defs.specs.CodedText.{as_bytes}
+use Rattle.mg_defs.specs.Bits.{as_bytes}
 use Rattle.mg_defs.specs.Heads.{run_count}
 use Rattle.mg_defs.specs.Marks.{Mark, marks}
-use Rattle.mg_defs.specs.Postings.{postings}
+use Rattle.mg_defs.specs.Postings.{term_postings}
 use Rattle.mg_defs.specs.RunBits.{run_part_bits}
 use Rattle.mg_defs.specs.Summaries.{pool_peak, run_cap}
 use Rattle.mg_runs.specs.Left.{IsMerging}

@@ -9,7 +9,7 @@ use Rattle.mg_dev.specs.declared.fault.Fault.TheVariants.{Memory, TooManyDocumen
 use Rattle.mg_defs.specs.declared.Stream.{Stream}
 use Rattle.mg_defs.specs.declared.Stream.TheVariants.{Words, Others}
 use Rattle.mg_defs.specs.Limits.{version_2}
-use Rattle.mg_defs.specs.Marks.{AreWithin, Mark, PassesFirst, marks, pair_counts, piece, pieces_among, start}
+use Rattle.mg_defs.specs.Marks.{AreWithinLimits, Mark, PassesFirst, marks, pair_counts, piece, pieces_among, start}
 use Rattle.mg_defs.specs.Parse.{parse}
 use Rattle.mg_defs.specs.Split.{documents}
 use Rattle.mg_defs.specs.Vocabulary.{all_pieces, piece_of_pair, pieces_in}
@@ -62,7 +62,7 @@ passes-first collection met next rest mark all p = record {
       all ∙ ap (λ (n : List Mark). (met ++ n) ++ rest) p.whole ∙ ap (λ (x : List Mark). x ++ rest) (sym (append_assoc met p.before (mark ∷ p.after)))
       ∙ append_assoc (met ++ p.before) (mark ∷ p.after) rest;
   within = p.within;
-  beyond = λ w. p.beyond (subst (AreWithin version_2) (append_assoc met p.before (mark ∷ [])) w);
+  beyond = λ w. p.beyond (subst (AreWithinLimits version_2) (append_assoc met p.before (mark ∷ [])) w);
 }
 
 pass-with : (s : Scanning) (fed : List ℕ) (met next : List Mark) (mark : Mark) → HasMet s fed (met ++ next) → PassesAfter met next mark → PassWith fed mark

@@ -4,12 +4,11 @@ use Rattle.std.specs.declared.option.Option.{Option}
 use Rattle.mg_dev.specs.Files.{Files, bytes_at}
 use Rattle.mg_dev.specs.Names.{full_name}
 use Rattle.mg_dev.specs.declared.part.Part.TheVariants.{Places, Run, Text}
-use Rattle.mg_defs.specs.Bits.{Bits, bits_of}
-use Rattle.mg_defs.specs.CodedText.{as_bytes}
+use Rattle.mg_defs.specs.Bits.{Bits, bits_of, as_bytes}
 use Rattle.mg_defs.specs.Heads.{run_count}
 use Rattle.mg_defs.specs.Marks.{Mark, coded_from, marks, terms_from}
 use Rattle.mg_defs.specs.Occurrences.{occurrences}
-use Rattle.mg_defs.specs.Postings.{postings}
+use Rattle.mg_defs.specs.Postings.{term_postings}
 use Rattle.mg_defs.specs.RunBits.{run_part_bits}
 use Rattle.mg_defs.specs.Summaries.{pool_peak}
 use Rattle.mg_laws.proofs.MarkLaws.{marks_are_closed, marks_have_occurrences, marks_have_text}
@@ -40,7 +39,7 @@ documents_kept base own g h docs same wrote stand =
 
 -- what the merge of the runs says of itself
 pub record IsMergeOf (runs_in : Inverting) (g h : Option Files) (merge : Merging) (fed : List (ℕ × ℕ)) : Type 0 where
-  pub left : IsMerging merge h (postings fed)
+  pub left : IsMerging merge h (term_postings fed)
   pub run : IsSome g → bytes_at h (full_name runs_in.base Run) ≡ as_bytes (run_part_bits (cap_of runs_in.pool) fed)
   pub runs : merge.runs ≡ run_count (length fed) (cap_of runs_in.pool)
   pub peak : merge.peak ≡ pool_peak (length fed) runs_in.pool.limit

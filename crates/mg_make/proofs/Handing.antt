@@ -5,7 +5,7 @@ use Rattle.mg_dev.specs.Files.{Files}
 use Rattle.mg_defs.specs.DocCounts.{NeverFall, last_with}
 use Rattle.mg_defs.specs.Marks.{Mark, marks, starts, terms_from}
 use Rattle.mg_defs.specs.Occurrences.{occurrences}
-use Rattle.mg_defs.specs.Postings.{postings}
+use Rattle.mg_defs.specs.Postings.{term_postings}
 use Rattle.mg_defs.specs.Terms.{dictionary}
 use Rattle.mg_runs.specs.Left.{IsMerging}
 use Rattle.mg_make.specs.DocCounting.{AreDocCounts}
@@ -40,5 +40,5 @@ inverted_by_pass all s files files_now collection r told plan few ends =
       plan_is = plan;
       few = few;
       counts_are = subst (λ xs. AreDocCounts r.counts (length s.plan.terms.terms) xs) fed ends.counts;
-      merging = subst (λ xs. IsMerging r.merge files_now (postings xs)) fed ends.merge;
+      merging = subst (λ xs. IsMerging r.merge files_now (term_postings xs)) fed ends.merge;
     }

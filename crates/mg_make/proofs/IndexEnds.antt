@@ -9,7 +9,7 @@ use Rattle.mg_dev.specs.Files.{Files, bytes_at, file_at}
 use Rattle.mg_dev.specs.Names.{full_name}
 use Rattle.mg_defs.proofs.ListLaws.{list_rises}
 use Rattle.mg_defs.specs.declared.TermPosting.{TermPosting}
-use Rattle.mg_defs.specs.CodedText.{as_bytes}
+use Rattle.mg_defs.specs.Bits.{as_bytes}
 use Rattle.mg_defs.specs.Front.{front, whole_at}
 use Rattle.mg_defs.specs.Lexicon.{lexicon}
 use Rattle.mg_defs.specs.Lists.{Rises, entry_bits, inverted, last_doc, lists_bits, lists_entries, postings}

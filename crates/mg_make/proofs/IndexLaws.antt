@@ -9,8 +9,7 @@ use Rattle.mg_dev.specs.Files.{Files, Reads, bytes_at, file_at}
 use Rattle.mg_dev.specs.Laws.{same_part_of_name}
 use Rattle.mg_dev.specs.Names.{full_name}
 use Rattle.mg_bits.specs.Writer.{WroteTo}
-use Rattle.mg_defs.specs.Bits.{Bits, filled}
-use Rattle.mg_defs.specs.CodedText.{as_bytes}
+use Rattle.mg_defs.specs.Bits.{Bits, filled, as_bytes}
 use Rattle.mg_defs.specs.declared.Posting.{Posting}
 use Rattle.mg_defs.specs.DocCounts.{docs_with}
 use Rattle.mg_defs.specs.Lists.{inverted, lists_bits, post_bits}
@@ -18,7 +17,7 @@ use Rattle.mg_defs.specs.Marks.{pair_counts}
 use Rattle.mg_defs.specs.Occurrences.{occurrences}
 use Rattle.mg_defs.specs.Parse.{parse}
 use Rattle.mg_defs.specs.PostingLists.{by_terms}
-use Rattle.mg_defs.specs.Postings.{postings}
+use Rattle.mg_defs.specs.Postings.{term_postings}
 use Rattle.mg_defs.specs.Split.{documents}
 use Rattle.mg_defs.specs.Stands.{post_part, weights_part}
 use Rattle.mg_defs.specs.Terms.{dictionary}
@@ -96,7 +95,7 @@ pub zeros_own : (sums : List ℕ) (n : ℕ) → sums ≡ replicate n 0 → sums 
 zeros_own sums n is = is ∙ ap (λ m. replicate m 0) (sym (zeros sums n is))
 
 pub lists_of_inverted :
-    ((collection : List ℕ) → postings (occurrences collection) ≡ by_terms 0 (inverted collection)) → ((collection : List ℕ) (term : ℕ) → docs_with term (occurrences collection) ≡ length (get_or (inverted collection) term [])) →
+    ((collection : List ℕ) → term_postings (occurrences collection) ≡ by_terms 0 (inverted collection)) → ((collection : List ℕ) (term : ℕ) → docs_with term (occurrences collection) ≡ length (get_or (inverted collection) term [])) →
     (p : Plan) (counts : DocCounting) (collection : List ℕ) (merge : Merging) (files : Option Files) (all : ℕ) → all ≡ length p.pairs → IsInverted p counts collection merge files →
     HasLists p.terms.terms counts.docs all collection merge files
 lists_of_inverted in_lists counted p counts collection merge files all all_is is = record {

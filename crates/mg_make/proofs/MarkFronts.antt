@@ -9,7 +9,7 @@ use Rattle.std.proofs.lemmas.List.Elements.{Contains-append_right}
 use Rattle.std.specs.declared.option.Option.{Option}
 use Rattle.mg_defs.specs.declared.Stream.{Stream}
 use Rattle.mg_defs.specs.declared.Stream.TheVariants.{Words, Others}
-use Rattle.mg_defs.specs.Marks.{Mark, start, piece, stop, marks, marks_of_document, marks_of_pairs, pieces_among, starts, pairs_from, pieces_from, pair_counts, open_at, is_open_after, with_doc, terms_from}
+use Rattle.mg_defs.specs.Marks.{Mark, start, piece, stop, marks, marks_of_document, marks_of_pairs, pieces_among, starts, pairs_from, piece_count_from, pair_counts, open_at, is_open_after, with_doc, terms_from}
 use Rattle.mg_defs.specs.Parse.{Pair, parse}
 use Rattle.mg_defs.specs.Sorted.{number_of}
 use Rattle.mg_defs.specs.Split.{documents}
@@ -29,7 +29,7 @@ Follow now n (start ∷ rest) = (now ≡ false) × Follow true 0 rest
 Follow now n (piece kind bytes ∷ rest) = (now ≡ true) × (kind ≡ turn n) × Follow now (n + 1) rest
 Follow now n (stop ∷ rest) = (now ≡ true) × (n % 2 ≡ 0) × Follow false 0 rest
 
-follow_behind : (now : Bool) (n : ℕ) (a b : List Mark) → Follow now n (a ++ b) → Follow (open_at now a) (pieces_from n a) b
+follow_behind : (now : Bool) (n : ℕ) (a b : List Mark) → Follow now n (a ++ b) → Follow (open_at now a) (piece_count_from n a) b
 follow_behind now n [] b h = h
 follow_behind now n (start ∷ a) b h = follow_behind true 0 a b h.1
 follow_behind now n (piece kind x ∷ a) b h = follow_behind now (n + 1) a b h.2
@@ -83,7 +83,7 @@ whole_is met m collection f = f.whole ∙ append_assoc met (m ∷ []) f.after
 follows : (met : List Mark) (m : Mark) (collection : List ℕ) (f : IsFrontOf (met ++ m ∷ []) collection) → Follow false 0 (met ++ (m ∷ f.after))
 follows met m collection f = subst (λ (ms : List Mark). Follow false 0 ms) (whole_is met m collection f) (marks_follow collection)
 
-next : (met : List Mark) (m : Mark) (collection : List ℕ) (f : IsFrontOf (met ++ m ∷ []) collection) → Follow (is_open_after met) (pieces_from 0 met) (m ∷ f.after)
+next : (met : List Mark) (m : Mark) (collection : List ℕ) (f : IsFrontOf (met ++ m ∷ []) collection) → Follow (is_open_after met) (piece_count_from 0 met) (m ∷ f.after)
 next met m collection f = follow_behind false 0 met (m ∷ f.after) (follows met m collection f)
 
 pub closed_at_start : (met : List Mark) (collection : List ℕ) → IsFrontOf (met ++ start ∷ []) collection → is_open_after met ≡ false
@@ -92,7 +92,7 @@ closed_at_start met collection f = (next met start collection f).0
 pub open_at_piece : (met : List Mark) (kind : Stream) (x collection : List ℕ) → IsFrontOf (met ++ piece kind x ∷ []) collection → is_open_after met ≡ true
 open_at_piece met kind x collection f = (next met (piece kind x) collection f).0
 
-pub turn_at_piece : (met : List Mark) (kind : Stream) (x collection : List ℕ) → IsFrontOf (met ++ piece kind x ∷ []) collection → kind ≡ turn (pieces_from 0 met)
+pub turn_at_piece : (met : List Mark) (kind : Stream) (x collection : List ℕ) → IsFrontOf (met ++ piece kind x ∷ []) collection → kind ≡ turn (piece_count_from 0 met)
 turn_at_piece met kind x collection f = (next met (piece kind x) collection f).1
 
 pub open_at_stop : (met : List Mark) (collection : List ℕ) → IsFrontOf (met ++ stop ∷ []) collection → is_open_after met ≡ true
@@ -116,26 +116,26 @@ first_behind : (a b : List ℕ) → get_or (a ++ b) (length a) 0 ≡ get_or b 0 
 first_behind [] b = refl
 first_behind (x ∷ a) b = first_behind a b
 
-pairs_of_open : (met : List Mark) (m : Mark) (collection : List ℕ) (f : IsFrontOf (met ++ m ∷ []) collection) → is_open_after met ≡ true → get_or (pair_counts collection) (starts met - 1) 0 ≡ get_or (pairs_from (pieces_from 0 met) (m ∷ f.after)) 0 0
+pairs_of_open : (met : List Mark) (m : Mark) (collection : List ℕ) (f : IsFrontOf (met ++ m ∷ []) collection) → is_open_after met ≡ true → get_or (pair_counts collection) (starts met - 1) 0 ≡ get_or (pairs_from (piece_count_from 0 met) (m ∷ f.after)) 0 0
 pairs_of_open met m collection f is_open =
-    let whole : pair_counts collection ≡ pairs_from 0 met ++ pairs_from (pieces_from 0 met) (m ∷ f.after) = sym (marks_have_pairs collection) ∙ ap (pairs_from 0) (whole_is met m collection f) ∙ pairs_append 0 met (m ∷ f.after) in
-    ap (λ ns. get_or ns (starts met - 1) 0) whole ∙ ap (λ k. get_or (pairs_from 0 met ++ pairs_from (pieces_from 0 met) (m ∷ f.after)) k 0) (sym (number_ended met m collection f is_open))
-    ∙ first_behind (pairs_from 0 met) (pairs_from (pieces_from 0 met) (m ∷ f.after))
+    let whole : pair_counts collection ≡ pairs_from 0 met ++ pairs_from (piece_count_from 0 met) (m ∷ f.after) = sym (marks_have_pairs collection) ∙ ap (pairs_from 0) (whole_is met m collection f) ∙ pairs_append 0 met (m ∷ f.after) in
+    ap (λ ns. get_or ns (starts met - 1) 0) whole ∙ ap (λ k. get_or (pairs_from 0 met ++ pairs_from (piece_count_from 0 met) (m ∷ f.after)) k 0) (sym (number_ended met m collection f is_open))
+    ∙ first_behind (pairs_from 0 met) (pairs_from (piece_count_from 0 met) (m ∷ f.after))
 
 -- the open document has a piece more than came
-pub more_pieces : (met : List Mark) (kind : Stream) (x collection : List ℕ) → IsFrontOf (met ++ piece kind x ∷ []) collection → pieces_from 0 met < 2 * get_or (pair_counts collection) (starts met - 1) 0
+pub more_pieces : (met : List Mark) (kind : Stream) (x collection : List ℕ) → IsFrontOf (met ++ piece kind x ∷ []) collection → piece_count_from 0 met < 2 * get_or (pair_counts collection) (starts met - 1) 0
 more_pieces met kind x collection f =
     let is_open = open_at_piece met kind x collection f in
     let there = pairs_of_open met (piece kind x) collection f is_open in
     let behind = next met (piece kind x) collection f in
-    let most = enough (is_open_after met) (pieces_from 0 met + 1) f.after is_open behind.2 in
+    let most = enough (is_open_after met) (piece_count_from 0 met + 1) f.after is_open behind.2 in
     omega (arith, there, most)
 
 -- all pieces of the open document came
-pub no_more_pieces : (met : List Mark) (collection : List ℕ) → IsFrontOf (met ++ stop ∷ []) collection → 2 * get_or (pair_counts collection) (starts met - 1) 0 ≤ pieces_from 0 met
+pub no_more_pieces : (met : List Mark) (collection : List ℕ) → IsFrontOf (met ++ stop ∷ []) collection → 2 * get_or (pair_counts collection) (starts met - 1) 0 ≤ piece_count_from 0 met
 no_more_pieces met collection f =
     let there = pairs_of_open met stop collection f (open_at_stop met collection f) in
-    let here : get_or (pairs_from (pieces_from 0 met) (stop ∷ f.after)) 0 0 ≡ pieces_from 0 met / 2 = refl in
+    let here : get_or (pairs_from (piece_count_from 0 met) (stop ∷ f.after)) 0 0 ≡ piece_count_from 0 met / 2 = refl in
     omega (arith, there, here)
 
 counts_long : (collection : List ℕ) → length (pair_counts collection) ≡ starts (marks collection)

@@ -5,9 +5,9 @@ use Rattle.std.proofs.lemmas.List.{length-map}
 use Rattle.mg_defs.specs.declared.Stream.{Stream}
 use Rattle.mg_defs.specs.declared.Stream.TheVariants.{Words, Others}
 use Rattle.mg_defs.specs.CodedText.{IsCodeOf, IsHuffman, StreamCode}
-use Rattle.mg_defs.specs.Heads.{limits}
-use Rattle.mg_defs.specs.Limits.{IsWithinLimits}
-use Rattle.mg_defs.specs.Marks.{AreWithin, marks, pair_counts, pairs_from, pieces_among}
+use Rattle.mg_defs.specs.Limits.{limits}
+use Rattle.mg_defs.specs.WithinLimits.{IsWithinLimits}
+use Rattle.mg_defs.specs.Marks.{AreWithinLimits, marks, pair_counts, pairs_from, pieces_among}
 use Rattle.mg_defs.specs.Means.{IsStreamCode}
 use Rattle.mg_defs.specs.Parse.{parse}
 use Rattle.mg_defs.specs.Split.{documents}
@@ -20,7 +20,7 @@ use Rattle.mg_make.specs.Plans.{IsPlan, IsPlanOf, Plan}
 
 -- the laws of lower crates that a plan stands on
 pub record PlanLaws : Type 0 where
-  pub limits : (version : ℕ) (collection : List ℕ) → length collection ≤ (limits version).collection → AreWithin (limits version) (marks collection) → IsWithinLimits version collection
+  pub limits : (version : ℕ) (collection : List ℕ) → length collection ≤ (limits version).collection → AreWithinLimits (limits version) (marks collection) → IsWithinLimits version collection
   pub pieces : (kind : Stream) (collection : List ℕ) → pieces_among kind (marks collection) ≡ all_pieces kind collection
   pub pairs : (collection : List ℕ) → pairs_from 0 (marks collection) ≡ pair_counts collection
   pub few_pairs : (collection : List ℕ) → sum (pair_counts collection) ≤ length collection

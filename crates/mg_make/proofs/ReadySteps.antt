@@ -8,8 +8,8 @@ use Rattle.mg_dev.specs.declared.fault.Fault.TheVariants as cause
 use Rattle.mg_dev.specs.declared.part.Part.TheVariants.{Head, Nonwords, Places, Run, Text, Words}
 use Rattle.mg_dev.specs.Files.{Files, bytes_at, file_at}
 use Rattle.mg_dev.specs.Names.{full_name, number}
-use Rattle.mg_defs.specs.Bits.{Bits}
-use Rattle.mg_defs.specs.CodedText.{TextCode, as_bytes, places_of, text_of}
+use Rattle.mg_defs.specs.Bits.{Bits, as_bytes}
+use Rattle.mg_defs.specs.CodedText.{TextCode, places_part, text_part}
 use Rattle.mg_defs.specs.Marks.{marks}
 use Rattle.mg_defs.specs.Occurrences.{occurrences}
 use Rattle.mg_defs.specs.RunBits.{run_part_bits}
@@ -29,7 +29,7 @@ use Rattle.mg_make.proofs.SetFrames.{bytes_kept, index_from, kept, models_of_sec
 
 -- the laws of text that a caller takes from mg_text
 pub record TextLaws : Type 0 where
-  pub text : (code : TextCode) (collection : List ℕ) → text_bytes (coded_docs code collection) ≡ text_of code collection
+  pub text : (code : TextCode) (collection : List ℕ) → text_bytes (coded_docs code collection) ≡ text_part code collection
   pub holds : (base : List ℕ) (files : Option Files) (code : TextCode) (collection : List ℕ) → DocumentsStand base files (coded_docs code collection) → TextHolds base files code collection
   pub bytes : (base : List ℕ) (files : Option Files) (docs : List Bits) → DocumentsStand base files docs → bytes_at files (full_name base Text) ≡ text_bytes docs
 

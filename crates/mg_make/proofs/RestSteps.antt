@@ -6,7 +6,7 @@ use Rattle.mg_dev.specs.declared.fault.Fault.{Fault}
 use Rattle.mg_dev.specs.declared.fault.Fault.TheVariants as cause
 use Rattle.mg_dev.specs.Files.{Files}
 use Rattle.mg_defs.specs.declared.Stream.TheVariants.{Others, Words}
-use Rattle.mg_defs.specs.CodedText.{TextCode, text_of}
+use Rattle.mg_defs.specs.CodedText.{TextCode, text_part}
 use Rattle.mg_defs.specs.Heads.{Head, IsWithin, run_count}
 use Rattle.mg_defs.specs.Marks.{marks, pair_counts}
 use Rattle.mg_defs.specs.Means.{IsStreamCode}
@@ -77,7 +77,7 @@ module _ (plan : Plan) (limit : ℕ) (base fed : List ℕ) (before now : Option 
   handed_peak plan_of = handed.ends.peak ∙ ap (λ n. pool_peak (length (occurring_by handed.pass.plan (marks fed))) n) handed.limit_is
       ∙ ap (λ (p : Plan). pool_peak (length (occurring_by p (marks fed))) limit) handed.plan_is ∙ ap (λ os. pool_peak (length os) limit) (planned_occurrences plan fed plan_of)
 
-  pub handed_text : ((code : TextCode) (collection : List ℕ) → text_bytes (coded_docs code collection) ≡ text_of code collection) → IsPlanOf plan fed → r.text_bytes ≡ length (text_of plan.code fed)
+  pub handed_text : ((code : TextCode) (collection : List ℕ) → text_bytes (coded_docs code collection) ≡ text_part code collection) → IsPlanOf plan fed → r.text_bytes ≡ length (text_part plan.code fed)
   handed_text law plan_of = handed.ends.size ∙ ap (λ (p : Plan). length (text_bytes (coded_by p (marks fed)))) handed.plan_is ∙ ap (λ docs. length (text_bytes docs)) (planned_text plan fed plan_of) ∙ ap length (law plan.code fed)
 
   pub handed_docs : sum r.counts.docs ≤ r.occurrences

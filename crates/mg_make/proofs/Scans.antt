@@ -6,7 +6,7 @@ use Rattle.mg_defs.specs.declared.Stream.{Stream}
 use Rattle.mg_defs.specs.declared.Stream.TheVariants.{Words, Others}
 use Rattle.mg_defs.specs.Marks.{Mark, start, piece, stop, marks, marks_of_document, marks_of_pairs}
 use Rattle.mg_defs.specs.Parse.{Pair, parse, is_of_kind}
-use Rattle.mg_defs.specs.Pieces.{Reading, Reads, left_at_end, other_kind, pieces, pieces_from}
+use Rattle.mg_defs.specs.Pieces.{OpenPiece, Reads, left_at_end, other_kind, pieces, pieces_from}
 use Rattle.mg_defs.specs.Split.{closed_documents, documents, has_open_end, open_part}
 use Rattle.mg_defs.proofs.ClosedLaws.{closed-byte, closed-close, documents-are, open-byte, open-close}
 use Rattle.mg_defs.proofs.PieceLaws.{reads_end, reads_new, reads_next, reads_taken, reads_turned}
@@ -44,26 +44,26 @@ marks-of_document doc told rest h =
 
 -- ---- a byte of a document
 
-read-taken : (old new : Reading) (byte : ℕ) (told : List (List ℕ)) (doc : List ℕ) → Fits old byte → new ≡ record { kind = old.kind; piece = old.piece ++ byte ∷ [] } → Reads old told doc (byte ∷ []) → Reads new told (doc ++ byte ∷ []) []
-read-taken old new byte told doc fits is h = subst (λ (r : Reading). Reads r told (doc ++ byte ∷ []) []) (sym is) (reads_taken old told doc byte fits.kind fits.room h)
+read-taken : (old new : OpenPiece) (byte : ℕ) (told : List (List ℕ)) (doc : List ℕ) → Fits old byte → new ≡ record { kind = old.kind; piece = old.piece ++ byte ∷ [] } → Reads old told doc (byte ∷ []) → Reads new told (doc ++ byte ∷ []) []
+read-taken old new byte told doc fits is h = subst (λ (r : OpenPiece). Reads r told (doc ++ byte ∷ []) []) (sym is) (reads_taken old told doc byte fits.kind fits.room h)
 
-abbrev pub turned : Reading → Reading
+abbrev pub turned : OpenPiece → OpenPiece
 turned r = record { kind = other_kind r.kind; piece = [] }
 
 -- no piece ends before it
-pub read-at_once : (old new : Reading) (byte : ℕ) → Offered old byte Taken new → HasRead old new byte []
+pub read-at_once : (old new : OpenPiece) (byte : ℕ) → Offered old byte Taken new → HasRead old new byte []
 read-at_once old new byte o = record {
-  kind = ap (λ (r : Reading). r.kind) o.1;
+  kind = ap (λ (r : OpenPiece). r.kind) o.1;
   reads = λ told doc h. rw (append-nil told) (read-taken old new byte told doc o.0 o.1 (reads_next old told doc byte h));
 }
 
-reads-turned : (old next : Reading) (byte : ℕ) (told : List (List ℕ)) (doc : List ℕ) → Ends old byte → next ≡ turned old → Reads old told doc (byte ∷ []) → Reads next (told ++ old.piece ∷ []) doc (byte ∷ [])
-reads-turned old next byte told doc ends is h = subst (λ (r : Reading). Reads r (told ++ old.piece ∷ []) doc (byte ∷ [])) (sym is) (reads_turned old told doc byte ends h)
+reads-turned : (old next : OpenPiece) (byte : ℕ) (told : List (List ℕ)) (doc : List ℕ) → Ends old byte → next ≡ turned old → Reads old told doc (byte ∷ []) → Reads next (told ++ old.piece ∷ []) doc (byte ∷ [])
+reads-turned old next byte told doc ends is h = subst (λ (r : OpenPiece). Reads r (told ++ old.piece ∷ []) doc (byte ∷ [])) (sym is) (reads_turned old told doc byte ends h)
 
 -- one piece ends before it
-pub read-one_ended : (old next new : Reading) (byte : ℕ) → Ends old byte → next ≡ turned old → Offered next byte Taken new → HasRead old new byte (old.piece ∷ [])
+pub read-one_ended : (old next new : OpenPiece) (byte : ℕ) → Ends old byte → next ≡ turned old → Offered next byte Taken new → HasRead old new byte (old.piece ∷ [])
 read-one_ended old next new byte ends is o = record {
-  kind = ap (λ (r : Reading). r.kind) o.1 ∙ ap (λ (r : Reading). r.kind) is;
+  kind = ap (λ (r : OpenPiece). r.kind) o.1 ∙ ap (λ (r : OpenPiece). r.kind) is;
   reads = λ told doc h. read-taken next new byte (told ++ old.piece ∷ []) doc o.0 o.1 (reads-turned old next byte told doc ends is (reads_next old told doc byte h));
 }
 
@@ -74,20 +74,20 @@ of-no_kind Others byte a b = let e : not (is_of_kind Words byte) ≡ true = ap n
 ends-empty : (kind : Stream) (byte : ℕ) → Ends (record { kind = kind; piece = [] }) byte → is_of_kind kind byte ≡ false
 ends-empty kind byte h = elim h [ inl is ↦ is | inr full ↦ absurd (omega (arith, full)) ]
 
-ends-once : (old next last : Reading) (byte : ℕ) → next ≡ turned old → last ≡ turned next → Ends next byte → Ends last byte → ⊥
+ends-once : (old next last : OpenPiece) (byte : ℕ) → next ≡ turned old → last ≡ turned next → Ends next byte → Ends last byte → ⊥
 ends-once old next last byte is then a b =
     let last_is : last ≡ turned (turned old) = then ∙ ap turned is in
-    of-no_kind old.kind byte (ends-empty (other_kind old.kind) byte (subst (λ (r : Reading). Ends r byte) is a)) (ends-empty (other_kind (other_kind old.kind)) byte (subst (λ (r : Reading). Ends r byte) last_is b))
+    of-no_kind old.kind byte (ends-empty (other_kind old.kind) byte (subst (λ (r : OpenPiece). Ends r byte) is a)) (ends-empty (other_kind (other_kind old.kind)) byte (subst (λ (r : OpenPiece). Ends r byte) last_is b))
 
 -- two pieces end before it, the second of which is empty
-pub read-two_ended : (old next last new : Reading) (byte : ℕ) (answer : Offer) → Ends old byte → next ≡ turned old → Ends next byte → last ≡ turned next → Offered last byte answer new → HasRead old new byte (old.piece ∷ [] ∷ [])
+pub read-two_ended : (old next last new : OpenPiece) (byte : ℕ) (answer : Offer) → Ends old byte → next ≡ turned old → Ends next byte → last ≡ turned next → Offered last byte answer new → HasRead old new byte (old.piece ∷ [] ∷ [])
 read-two_ended old next last new byte Ended ends is again then o = absurd (ends-once old next last byte is then again o.0)
 read-two_ended old next last new byte Taken ends is again then o = record {
-  kind = ap (λ (r : Reading). r.kind) o.1 ∙ (ap (λ (r : Reading). r.kind) then ∙ ap (λ (r : Reading). other_kind r.kind) is);
+  kind = ap (λ (r : OpenPiece). r.kind) o.1 ∙ (ap (λ (r : OpenPiece). r.kind) then ∙ ap (λ (r : OpenPiece). other_kind r.kind) is);
   reads = λ told doc h.
       let one = reads-turned old next byte told doc ends is (reads_next old told doc byte h) in
       let two = reads-turned next last byte (told ++ old.piece ∷ []) doc again then one in
-      let empty : next.piece ≡ [] = ap (λ (r : Reading). r.piece) is in
+      let empty : next.piece ≡ [] = ap (λ (r : OpenPiece). r.piece) is in
       let joined : (told ++ old.piece ∷ []) ++ next.piece ∷ [] ≡ told ++ (old.piece ∷ [] ∷ []) = append_assoc told (old.piece ∷ []) (next.piece ∷ []) ∙ ap (λ (p : List ℕ). told ++ (old.piece ∷ p ∷ [])) empty in
       subst (λ (t : List (List ℕ)). Reads new t (doc ++ byte ∷ []) []) joined (read-taken last new byte ((told ++ old.piece ∷ []) ++ next.piece ∷ []) doc o.0 o.1 two);
 }
@@ -95,15 +95,15 @@ read-two_ended old next last new byte Taken ends is again then o = record {
 -- ---- what is met
 
 -- a piece of a reader was told, and maybe an empty one
-pub met-one : (m0 m1 m2 : Meeting) (begins : Bool) (kind : Stream) (bytes : List ℕ) (old now : Reading) → m1 ≡ restarted begins m0 → m2 ≡ with_piece kind bytes m1 → kind ≡ now.kind → bytes ≡ now.piece → now ≡ old → marks_of m2 ≡ joined_marks begins old.kind (old.piece ∷ [])
+pub met-one : (m0 m1 m2 : Meeting) (begins : Bool) (kind : Stream) (bytes : List ℕ) (old now : OpenPiece) → m1 ≡ restarted begins m0 → m2 ≡ with_piece kind bytes m1 → kind ≡ now.kind → bytes ≡ now.piece → now ≡ old → marks_of m2 ≡ joined_marks begins old.kind (old.piece ∷ [])
 met-one m0 m1 m2 begins kind bytes old now is one k p same =
     ap (λ (m : Meeting). marks_of m) one ∙ ap (λ (m : Meeting). marks_of (with_piece kind bytes m)) is
-    ∙ ap (λ (x : Stream). joined_marks begins x (bytes ∷ [])) k ∙ ap (λ (x : List ℕ). joined_marks begins now.kind (x ∷ [])) p ∙ ap (λ (r : Reading). joined_marks begins r.kind (r.piece ∷ [])) same
+    ∙ ap (λ (x : Stream). joined_marks begins x (bytes ∷ [])) k ∙ ap (λ (x : List ℕ). joined_marks begins now.kind (x ∷ [])) p ∙ ap (λ (r : OpenPiece). joined_marks begins r.kind (r.piece ∷ [])) same
 
-pub met-two : (m0 m1 m2 m3 : Meeting) (begins : Bool) (kind : Stream) (bytes : List ℕ) (old now : Reading) → m1 ≡ restarted begins m0 → m2 ≡ with_piece kind bytes m1 → m3 ≡ with_other m2 → kind ≡ now.kind → bytes ≡ now.piece → now ≡ old → marks_of m3 ≡ joined_marks begins old.kind (old.piece ∷ [] ∷ [])
+pub met-two : (m0 m1 m2 m3 : Meeting) (begins : Bool) (kind : Stream) (bytes : List ℕ) (old now : OpenPiece) → m1 ≡ restarted begins m0 → m2 ≡ with_piece kind bytes m1 → m3 ≡ with_other m2 → kind ≡ now.kind → bytes ≡ now.piece → now ≡ old → marks_of m3 ≡ joined_marks begins old.kind (old.piece ∷ [] ∷ [])
 met-two m0 m1 m2 m3 begins kind bytes old now is one two k p same =
     ap (λ (m : Meeting). marks_of m) two ∙ ap (λ (m : Meeting). marks_of (with_other m)) one ∙ ap (λ (m : Meeting). marks_of (with_other (with_piece kind bytes m))) is
-    ∙ ap (λ (x : Stream). joined_marks begins x (bytes ∷ [] ∷ [])) k ∙ ap (λ (x : List ℕ). joined_marks begins now.kind (x ∷ [] ∷ [])) p ∙ ap (λ (r : Reading). joined_marks begins r.kind (r.piece ∷ [] ∷ [])) same
+    ∙ ap (λ (x : Stream). joined_marks begins x (bytes ∷ [] ∷ [])) k ∙ ap (λ (x : List ℕ). joined_marks begins now.kind (x ∷ [] ∷ [])) p ∙ ap (λ (r : OpenPiece). joined_marks begins r.kind (r.piece ∷ [] ∷ [])) same
 
 pub met-end : (m0 m1 : Meeting) → m0.ends ≡ false → m1 ≡ with_end m0 → marks_of m1 ≡ marks_of m0 ++ stop ∷ []
 met-end m0 m1 none is =
@@ -150,7 +150,7 @@ met-more s fed met new h xs is =
     ∙ append_assoc before (marks_of_open s.is_open h.told) (only_if (not s.is_open) start ++ xs) ∙ ap (λ (r : List Mark). before ++ r) (opened s.is_open h.told xs h.none)
 
 -- after a byte of a document
-pub met-byte : (s : Scanning) (seen : Seen) (reading : Reading) (m : Meeting) (fed : List ℕ) (met : List Mark) (byte : ℕ) (ended : List (List ℕ)) → byte ≢ 2 → StandsFor seen (fed ++ byte ∷ []) → HasRead s.reading reading byte ended → marks_of m ≡ joined_marks (not s.is_open) s.reading.kind ended → HasMet s fed met
+pub met-byte : (s : Scanning) (seen : Seen) (reading : OpenPiece) (m : Meeting) (fed : List ℕ) (met : List Mark) (byte : ℕ) (ended : List (List ℕ)) → byte ≢ 2 → StandsFor seen (fed ++ byte ∷ []) → HasRead s.reading reading byte ended → marks_of m ≡ joined_marks (not s.is_open) s.reading.kind ended → HasMet s fed met
     → HasMet (record { seen = seen; reading = reading; is_open = true; met = m }) (fed ++ byte ∷ []) (met ++ marks_of m)
 met-byte s seen reading m fed met byte ended ne stands read is h =
     let kinds : marks_of_pieces Words h.told ++ marks_of_pieces s.reading.kind ended ≡ marks_of_pieces Words (h.told ++ ended) = ap (λ k. marks_of_pieces Words h.told ++ marks_of_pieces k ended) h.kind ∙ sym (marks-append Words h.told ended) in
@@ -165,7 +165,7 @@ met-byte s seen reading m fed met byte ended ne stands read is h =
     }
 
 -- it goes on the piece that is read, and nothing is met with it
-pub met-went_on : (s : Scanning) (seen : Seen) (reading : Reading) (fed : List ℕ) (met : List Mark) (byte : ℕ) → s.is_open ≡ true → byte ≢ 2 → StandsFor seen (fed ++ byte ∷ []) → HasRead s.reading reading byte [] → HasMet s fed met
+pub met-went_on : (s : Scanning) (seen : Seen) (reading : OpenPiece) (fed : List ℕ) (met : List Mark) (byte : ℕ) → s.is_open ≡ true → byte ≢ 2 → StandsFor seen (fed ++ byte ∷ []) → HasRead s.reading reading byte [] → HasMet s fed met
     → HasMet (record { seen = seen; reading = reading; is_open = s.is_open; met = s.met }) (fed ++ byte ∷ []) met
 met-went_on s seen reading fed met byte is_open ne stands read h =
     let m : Meeting = restarted false s.met in
@@ -208,11 +208,11 @@ met-close s seen m fed met stands is h = record {
       ∙ sym (ap docs_marks (closed-close fed)) ∙ sym (append-nil (docs_marks (closed_documents (fed ++ 2 ∷ []))));
 }
 
-pub met-closed : (s : Scanning) (seen : Seen) (reading : Reading) (m : Meeting) (fed : List ℕ) (met : List Mark) (byte : ℕ) → byte ≡ 2 → reading ≡ record { kind = Words; piece = [] } → StandsFor seen (fed ++ byte ∷ []) → marks_of m ≡ closing_marks (not s.is_open) s.reading → HasMet s fed met
+pub met-closed : (s : Scanning) (seen : Seen) (reading : OpenPiece) (m : Meeting) (fed : List ℕ) (met : List Mark) (byte : ℕ) → byte ≡ 2 → reading ≡ record { kind = Words; piece = [] } → StandsFor seen (fed ++ byte ∷ []) → marks_of m ≡ closing_marks (not s.is_open) s.reading → HasMet s fed met
     → HasMet (record { seen = seen; reading = reading; is_open = false; met = m }) (fed ++ byte ∷ []) (met ++ marks_of m)
 met-closed s seen reading m fed met byte is empty stands closes h =
     let two = met-close s seen m fed met (subst (λ b. StandsFor seen (fed ++ b ∷ [])) is stands) closes h in
-    subst (λ (r : Reading). HasMet (record { seen = seen; reading = r; is_open = false; met = m }) (fed ++ byte ∷ []) (met ++ marks_of m)) (sym empty)
+    subst (λ (r : OpenPiece). HasMet (record { seen = seen; reading = r; is_open = false; met = m }) (fed ++ byte ∷ []) (met ++ marks_of m)) (sym empty)
     (subst (λ b. HasMet (record { seen = seen; reading = record { kind = Words; piece = [] }; is_open = false; met = m }) (fed ++ b ∷ []) (met ++ marks_of m)) (sym is) two)
 
 -- nothing was taken
@@ -222,8 +222,8 @@ met-nothing s stands reading closed = record {
   same = closed;
   told = [];
   none = λ e. refl;
-  kind = ap (λ (r : Reading). r.kind) reading;
-  reads = subst (λ (r : Reading). Reads r [] [] []) (sym reading) reads_new;
+  kind = ap (λ (r : OpenPiece). r.kind) reading;
+  reads = subst (λ (r : OpenPiece). Reads r [] [] []) (sym reading) reads_new;
   marks_are = sym (ap (λ b. marks_of_open b []) closed);
 }
 

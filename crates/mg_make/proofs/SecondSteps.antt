@@ -10,7 +10,7 @@ use Rattle.mg_defs.specs.Canon.{codeword}
 use Rattle.mg_defs.specs.CodedText.{TextCode}
 use Rattle.mg_defs.specs.Codes.{gamma}
 use Rattle.mg_defs.specs.DocCounts.{NeverFall}
-use Rattle.mg_defs.specs.Marks.{Mark, code_of, start, piece, stop, starts, pieces_from, piece_bits, with_doc}
+use Rattle.mg_defs.specs.Marks.{Mark, code_of, start, piece, stop, starts, piece_count_from, piece_bits, with_doc}
 use Rattle.mg_defs.specs.Sorted.{number_of}
 use Rattle.mg_laws.proofs.DocCountLaws.{met_in_order}
 use Rattle.mg_laws.proofs.MarkLaws.{coded_append, open_append, open_at_append, pieces_from_append, starts_append, terms_append}
@@ -77,8 +77,8 @@ pairs_room s files met is low =
     omega (arith, is.pairs, more, most, small)
 
 -- the stream whose turn it is
-pub turn_now : (s : Inversion) (files : Option Files) (met : List Mark) (kind : Stream) → ((left put pairs : ℕ) → left + put ≡ 2 * pairs → turn left ≡ turn put) → HasWritten s files met → s.text.is_open ≡ true → kind ≡ turn (pieces_from 0 met) → kind ≡ turn s.text.left
-turn_now s files met kind law is is_open at = at ∙ sym (law s.left (pieces_from 0 met) (get_or s.plan.pairs (s.doc - 1) 0) (is.put is_open)) ∙ ap turn is.left
+pub turn_now : (s : Inversion) (files : Option Files) (met : List Mark) (kind : Stream) → ((left put pairs : ℕ) → left + put ≡ 2 * pairs → turn left ≡ turn put) → HasWritten s files met → s.text.is_open ≡ true → kind ≡ turn (piece_count_from 0 met) → kind ≡ turn s.text.left
+turn_now s files met kind law is is_open at = at ∙ sym (law s.left (piece_count_from 0 met) (get_or s.plan.pairs (s.doc - 1) 0) (is.put is_open)) ∙ ap turn is.left
 
 -- the codeword of a symbol is that of its piece
 pub put_bits : (kind : Stream) (code model : TextCode) (symbol : ℕ) (x : List ℕ) (old w : TextWriting) (f g : Option Files) → model ≡ code → number_of (code_of kind model).pieces x ≡ symbol → ((docs : List Bits) (bits : Bits) → IsOnText old f docs bits → IsOnText w g docs (bits ++ codeword (code_of kind model).lengths symbol))
@@ -124,7 +124,7 @@ wrote_start old w f g met pairs closed here room took began base kept is =
     let text : IsOnText w g (coded_by old.plan met) (gamma (pairs + 1)) = took (coded_by old.plan met) none in
     let text : IsOnText w g (coded_by old.plan (met ++ start ∷ [])) (gamma (pairs + 1)) = subst (λ (docs : List Bits). IsOnText w g docs (gamma (pairs + 1))) (sym (coded_start old.plan met)) text in
     let parts = starts_append met (start ∷ []) in
-    let pieces : pieces_from 0 (met ++ start ∷ []) ≡ 0 = pieces_from_append 0 met (start ∷ []) in
+    let pieces : piece_count_from 0 (met ++ start ∷ []) ≡ 0 = pieces_from_append 0 met (start ∷ []) in
     let back : old.doc + 1 - 1 ≡ old.doc = omega arith in
     let place : get_or old.plan.pairs (old.doc + 1 - 1) 0 ≡ get_or old.plan.pairs old.doc 0 = ap (λ k. get_or old.plan.pairs k 0) back in
     record {
@@ -149,7 +149,7 @@ wrote_piece old w index f h met kind x term more term_is took put base runs_base
     let text : IsOnText w h (coded_by old.plan met) bits = took (coded_by old.plan met) (open_by old.plan met) is.text in
     let text : IsOnText w h (coded_by old.plan (met ++ piece kind x ∷ [])) bits = subst (λ (docs : List Bits). IsOnText w h docs bits) (sym (coded_piece old.plan met kind x)) text in
     let parts = starts_append met (piece kind x ∷ []) in
-    let pieces : pieces_from 0 (met ++ piece kind x ∷ []) ≡ pieces_from 0 met + 1 = pieces_from_append 0 met (piece kind x ∷ []) in
+    let pieces : piece_count_from 0 (met ++ piece kind x ∷ []) ≡ piece_count_from 0 met + 1 = pieces_from_append 0 met (piece kind x ∷ []) in
     record {
       text_base = base ∙ is.text_base;
       runs_base = runs_base ∙ is.runs_base;

@@ -5,7 +5,7 @@ use Rattle.mg_dev.specs.declared.fault.Fault.TheVariants.{Memory, TooManyDocumen
 use Rattle.mg_defs.specs.declared.Stream.{Stream}
 use Rattle.mg_defs.specs.declared.Stream.TheVariants.{Words, Others}
 use Rattle.mg_defs.specs.Limits.{version_2}
-use Rattle.mg_defs.specs.Marks.{AreWithin, Mark, PassesFirst, marks, pairs_from, piece, pieces_among, pieces_from, start, starts}
+use Rattle.mg_defs.specs.Marks.{AreWithinLimits, Mark, PassesFirst, marks, pairs_from, piece, pieces_among, piece_count_from, start, starts}
 use Rattle.mg_defs.specs.Split.{has_open_end}
 use Rattle.mg_defs.specs.Vocabulary.{has_piece, vocabulary}
 use Rattle.mg_make.specs.Scanning.{HasMet, Scanning}
@@ -25,9 +25,9 @@ pub record IsCounted (c : Counting) (met : List Mark) : Type 0 where
   pub words : c.words ≡ vocabulary (pieces_among Words met)
   pub others : c.others ≡ vocabulary (pieces_among Others met)
   pub pairs : c.pairs ≡ pairs_from 0 met
-  pub pieces : c.pieces ≡ pieces_from 0 met
+  pub pieces : c.pieces ≡ piece_count_from 0 met
   pub documents : c.documents ≡ starts met
-  pub within : AreWithin version_2 met
+  pub within : AreWithinLimits version_2 met
 
 -- so few pieces of each stream that their number fits in four bytes
 pub record AreFew (met : List Mark) : Type 0 where
@@ -39,8 +39,8 @@ pub record PassesAfter (met next : List Mark) (mark : Mark) : Type 0 where
   pub before : List Mark
   pub after : List Mark
   pub whole : next ≡ before ++ mark ∷ after
-  pub within : AreWithin version_2 (met ++ before)
-  pub beyond : ¬ AreWithin version_2 (met ++ (before ++ mark ∷ []))
+  pub within : AreWithinLimits version_2 (met ++ before)
+  pub beyond : ¬ AreWithinLimits version_2 (met ++ (before ++ mark ∷ []))
 
 -- why counting the next marks stops
 abbrev pub StopsAt : List Mark → List Mark → Fault → Type 0
@@ -51,7 +51,7 @@ StopsAt met next _ = ⊥
 
 -- why a piece is not counted
 abbrev pub PieceStops : Stream → List (List ℕ × ℕ) → List ℕ → Fault → Type 0
-PieceStops kind entries bytes (TooManyPieces stream) = (stream ≡ kind) × (has_piece entries bytes ≡ false) × (length entries ≡ 2 ^ 22)
+PieceStops kind entries bytes (TooManyPieces stream) = (stream ≡ kind) × (has_piece entries bytes ≡ false) × (length entries ≡ version_2.pieces)
 PieceStops kind entries bytes Memory = Unit {0}
 PieceStops kind entries bytes _ = ⊥
 

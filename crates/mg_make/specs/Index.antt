@@ -1,20 +1,24 @@
 -- Lists, lexicon and weights of a collection as they stand, and from what they are written.
-use Rattle.std.specs.Prelude.{◌≡◌, ◌<◌, ◌^◌, ℕ, List, [], length, Some}
+use Rattle.std.specs.Prelude.{◌≡◌, ◌<◌, ◌^◌, ℕ, List, [], flat_map, length, IfOk, OnOk, Some}
 use Rattle.std.specs.Option.{IsSome}
 use Rattle.std.specs.declared.option.Option.{Option}
+use Rattle.std.specs.declared.result.Result.{Result}
 use Rattle.mg_dev.specs.declared.part.Part.{Part as AnyPart}
 use Rattle.mg_dev.specs.declared.part.Part.TheVariants.{Lex, LexAt, MergeA, MergeB, Post, Skip, Weights}
 use Rattle.mg_dev.specs.Files.{Files, bytes_at, file_at}
 use Rattle.mg_dev.specs.Names.{full_name}
-use Rattle.mg_defs.specs.CodedText.{as_bytes}
-use Rattle.mg_defs.specs.Lexicon.{lex_at_bytes, lex_bytes}
+use Rattle.mg_defs.specs.Bits.{as_bytes}
+use Rattle.mg_defs.specs.Fixed.{isqrt}
+use Rattle.mg_defs.specs.Lexicon.{lex_at_part, lex_part}
 use Rattle.mg_defs.specs.Lists.{skip_bits}
+use Rattle.mg_defs.specs.Numbers.{four}
 use Rattle.mg_defs.specs.Occurrences.{occurrences}
-use Rattle.mg_defs.specs.Postings.{postings}
-use Rattle.mg_defs.specs.Stands.{post_part, weights_part}
+use Rattle.mg_defs.specs.Postings.{term_postings}
+use Rattle.mg_defs.specs.Stands.{post_part, skip_count, weights_part}
 use Rattle.mg_runs.specs.Left.{IsMerging, Merging}
 use Rattle.mg_make.specs.DocCounting.{AreDocCounts, DocCounting}
 use Rattle.mg_make.specs.Plans.{IsPlanOf, Plan}
+use Rattle.mg_make.specs.declared.lists.Sizes.{Sizes}
 
 -- The store tells its files, plan and counts are those of a collection, and the merge has the postings of all its occurrences left.
 pub record IsInverted (p : Plan) (counts : DocCounting) (collection : List ℕ) (merge : Merging) (files : Option Files) : Type 0 where
@@ -22,14 +26,14 @@ pub record IsInverted (p : Plan) (counts : DocCounting) (collection : List ℕ) 
   pub plan_is : IsPlanOf p collection
   pub few : length collection < 2 ^ 32
   pub counts_are : AreDocCounts counts (length p.terms.terms) (occurrences collection)
-  pub merging : IsMerging merge files (postings (occurrences collection))
+  pub merging : IsMerging merge files (term_postings (occurrences collection))
 
 -- the parts of lists, lexicon and weights are those of a collection, and the working parts are there and empty
 pub record IndexStands (files : Option Files) (base collection : List ℕ) : Type 0 where
   pub post : bytes_at files (full_name base Post) ≡ post_part collection
   pub skip : bytes_at files (full_name base Skip) ≡ as_bytes (skip_bits collection)
-  pub lex : bytes_at files (full_name base Lex) ≡ lex_bytes collection
-  pub lex_at : bytes_at files (full_name base LexAt) ≡ lex_at_bytes collection
+  pub lex : bytes_at files (full_name base Lex) ≡ lex_part collection
+  pub lex_at : bytes_at files (full_name base LexAt) ≡ lex_at_part collection
   pub weights : bytes_at files (full_name base Weights) ≡ weights_part collection
   pub merge_a : file_at files (full_name base MergeA) ≡ Some []
   pub merge_b : file_at files (full_name base MergeB) ≡ Some []
@@ -48,3 +52,23 @@ OfIndex LexAt = Unit {0}
 OfIndex Post = Unit {0}
 OfIndex Skip = Unit {0}
 OfIndex p = OfWeights p
+
+-- the part of weights is the roots of these sums
+abbrev pub WeightsAreRoots : Option Files → List ℕ → List ℕ → Type 0
+WeightsAreRoots files base sums = bytes_at files (full_name base Weights) ≡ flat_map (λ sum. four (isqrt sum)) sums
+
+-- what was inverted is of a collection
+abbrev pub InvertedOf : Plan → DocCounting → Merging → Option Files → List ℕ → Type 0
+InvertedOf p counts merge files collection = IsInverted p counts collection merge files
+
+-- lists, lexicon and weights are those of a collection
+abbrev pub WroteIndex : {T E : Type 0} → Option Files → List ℕ → Result T E → List ℕ → Type 0
+WroteIndex files base result collection = OnOk result (IndexStands files base collection)
+
+-- Post has as many bytes as it has where it is that of a collection
+abbrev pub HasPostPart : {E : Type 0} → Result Sizes E → List ℕ → Type 0
+HasPostPart result collection = IfOk result (λ (sizes : Sizes). sizes.post_bytes ≡ length (post_part collection))
+
+-- there are as many skip entries as in the part of a collection
+abbrev pub HasSkipPart : {E : Type 0} → Result Sizes E → List ℕ → Type 0
+HasSkipPart result collection = IfOk result (λ (sizes : Sizes). sizes.skip_count ≡ skip_count collection)

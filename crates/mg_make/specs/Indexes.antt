@@ -1,5 +1,5 @@
 -- Occurrences as they are taken: runs of them, and how many documents have each term.
-use Rattle.std.specs.Prelude.{◌≡◌, ◌<◌, ◌≤◌, ◌-◌, ◌^◌, ℕ, List, length}
+use Rattle.std.specs.Prelude.{◌≡◌, ◌<◌, ◌≤◌, ◌-◌, ◌^◌, ◌++◌, ◌∷◌, ℕ, List, [], length}
 use Rattle.std.specs.declared.option.Option.{Option}
 use Rattle.mg_dev.specs.Files.{Files}
 use Rattle.mg_dev.specs.declared.part.Part.{Part as AnyPart}
@@ -33,3 +33,8 @@ OfRuns Run = Unit {0}
 OfRuns MergeA = Unit {0}
 OfRuns MergeB = Unit {0}
 OfRuns p = ⊥
+
+-- whatever occurrences were taken, one more is taken behind them, where it may follow
+abbrev pub TakesOneMore : Indexing → Indexing → Option Files → Option Files → ℕ → ℕ → Type 0
+TakesOneMore old new files files_now term doc =
+    (terms : ℕ) (fed : List (ℕ × ℕ)) → HasTaken old files terms fed → MayFollow terms fed term doc → HasTaken new files_now terms (fed ++ (term, doc) ∷ [])

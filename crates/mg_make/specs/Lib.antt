@@ -4,9 +4,11 @@ pub mod Outcomes
 pub mod Plans
 pub mod Written
 pub mod Listing
+pub mod Each
 pub mod Index
 pub mod Fronts
 pub mod Indexes
+pub mod Listed
 pub mod Second
 pub mod Finishing
 pub mod Scanning

@@ -11,8 +11,8 @@ use Rattle.mg_dev.specs.Files.{Files, bytes_at}
 use Rattle.mg_dev.specs.Names.{full_name}
 use Rattle.mg_defs.specs.declared.Posting.{Posting}
 use Rattle.mg_defs.specs.declared.TermPosting.{TermPosting}
-use Rattle.mg_defs.specs.CodedText.{as_bytes}
-use Rattle.mg_defs.specs.Lexicon.{lex_at_bytes, lex_bytes}
+use Rattle.mg_defs.specs.Bits.{as_bytes}
+use Rattle.mg_defs.specs.Lexicon.{lex_at_part, lex_part}
 use Rattle.mg_defs.specs.Lists.{Follows, Rises, inverted, post_bits, skip_bits}
 use Rattle.mg_defs.specs.PostingLists.{by_terms, term_list}
 use Rattle.mg_defs.specs.Split.{documents}
@@ -165,8 +165,8 @@ pub record HasLists (terms : List (List ℕ)) (docs : List ℕ) (all : ℕ) (col
 pub record ListsStand (files : Option Files) (base collection : List ℕ) : Type 0 where
   pub post : bytes_at files (full_name base Post) ≡ as_bytes (post_bits collection)
   pub skip : bytes_at files (full_name base Skip) ≡ as_bytes (skip_bits collection)
-  pub lex : bytes_at files (full_name base Lex) ≡ lex_bytes collection
-  pub lex_at : bytes_at files (full_name base LexAt) ≡ lex_at_bytes collection
+  pub lex : bytes_at files (full_name base Lex) ≡ lex_part collection
+  pub lex_at : bytes_at files (full_name base LexAt) ≡ lex_at_part collection
 
 -- why lists are not written; where the postings of a collection are left, only for the store or for want of memory
 abbrev pub ListStops : Type 0 → Type 0 → Fault → Type 0

@@ -39,3 +39,7 @@ with_other m = record { begins = m.begins; has_piece = m.has_piece; has_other = 
 -- and the end of the document
 abbrev pub with_end : Meeting → Meeting
 with_end m = record { begins = m.begins; has_piece = m.has_piece; has_other = m.has_other; ends = true; kind = m.kind; bytes = m.bytes }
+
+-- a piece, where there is one
+abbrev pub piece_if : Bool → Stream → List ℕ → List Mark
+piece_if ends stream bytes = only_if ends (piece stream bytes)

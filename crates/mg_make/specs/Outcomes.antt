@@ -1,13 +1,25 @@
 -- What a call that makes a set leaves.
-use Rattle.std.specs.Prelude.{◌≡◌, ◌⊎◌, ℕ, List, [], Some}
+use Rattle.std.specs.Prelude.{◌≡◌, ◌⊎◌, ◌<◌, ◌≤◌, ℕ, List, [], length, IfOk, OnOk, Some}
 use Rattle.std.specs.declared.option.Option.{Option}
-use Rattle.mg_dev.specs.Files.{Files, file_at}
+use Rattle.std.specs.declared.result.Result.{Result}
+use Rattle.mg_dev.specs.Causes.{Rose}
+use Rattle.mg_dev.specs.Files.{Files, Reads, file_at}
+use Rattle.mg_dev.specs.Moments.{StoreAt, store_at}
 use Rattle.mg_dev.specs.Names.{full_name}
+use Rattle.mg_dev.specs.Runs.{IsDone, RefusedFor}
 use Rattle.mg_dev.specs.declared.part.Part.TheVariants.{MergeA, MergeB}
 use Rattle.mg_dev.specs.declared.fault.Fault.{Fault}
 use Rattle.mg_dev.specs.declared.fault.Fault.TheVariants.{NoCollection, NotBuilt, TooLarge, TooManyDocuments, TooManyPieces, NameClash, SameName}
+use Rattle.mg_defs.specs.declared.Stream.{Stream}
+use Rattle.mg_defs.specs.CodedText.{TextCode}
 use Rattle.mg_defs.specs.Limits.{version_2}
-use Rattle.mg_layout.specs.Stands.{Stands, StandsForNone, StandsIn}
+use Rattle.mg_defs.specs.WithinLimits.{IsWithinLimits}
+use Rattle.mg_defs.specs.Marks.{PassesFirst, piece, start}
+use Rattle.mg_defs.specs.Summaries.{run_cap}
+use Rattle.mg_layout.specs.Stands.{Stands, StandsBy, StandsForNone, StandsIn}
+use Rattle.mg_layout.specs.declared.head.Head.{Head}
+use Rattle.mg_make.specs.Summaries.{summary_of}
+use Rattle.mg_make.specs.declared.summary.Summary.{Summary}
 
 -- the most bytes of a collection of which a set is made
 abbrev pub most_bytes : ℕ
@@ -33,3 +45,41 @@ pub record AreMadeAnew (files : Option Files) (base collection : List ℕ) (cap 
   pub stands : StandsIn 2 cap files base collection
   pub merge_a : file_at files (full_name base MergeA) ≡ Some []
   pub merge_b : file_at files (full_name base MergeB) ≡ Some []
+
+-- ---- words for contracts of calls that make a set
+
+-- this is so of a store before a call and after it
+abbrev pub BetweenMoments : {X : Type 0} → (X → Option Files) → (X → Reads) → (X → ℕ) → X → X → (StoreAt → StoreAt → Type 0) → Type 0
+BetweenMoments files reads faults before now holds = holds (store_at files reads faults before) (store_at files reads faults now)
+
+-- a device failed between a call's begin and its end
+abbrev pub Fails : {X : Type 0} → (X → ℕ) → X → X → Type 0
+Fails faults before now = Rose (faults before) (faults now)
+
+-- when it is done, the set of a base stands for a collection, as a pool of so many bytes makes it
+abbrev pub MakesSet : {T E : Type 0} → ℕ → Option Files → List ℕ → Result T E → List ℕ → Type 0
+MakesSet budget files base result collection = OnOk result (StandsIn 2 (run_cap budget) files base collection)
+
+-- the summary has the numbers of a collection, with a pool of so many bytes
+abbrev pub HasSummaryOf : {E : Type 0} → ℕ → Result Summary E → List ℕ → Type 0
+HasSummaryOf budget result collection = IfOk result (λ (summary : Summary). summary ≡ summary_of budget collection)
+
+-- this is so of each collection that the files of a base stand for by this head, and of its code
+abbrev pub ForSetBy : Head → Option Files → List ℕ → (TextCode → List ℕ → Type 0) → Type 0
+ForSetBy head files base holds = (code : TextCode) (collection : List ℕ) → StandsBy head code files base collection → holds code collection
+
+-- too many bytes are refused
+abbrev pub RefusesSize : {T : Type 0} → Result T Fault → ℕ → Type 0
+RefusesSize result size = most_bytes < size → RefusedFor result (TooLarge size most_bytes)
+
+-- bytes that are not too many are refused where it is a document that passes the limits first
+abbrev pub RefusesDocuments : {T : Type 0} → Result T Fault → List ℕ → Type 0
+RefusesDocuments result bytes = length bytes ≤ most_bytes → PassesFirst version_2 bytes start → RefusedFor result TooManyDocuments
+
+-- and where it is this piece
+abbrev pub RefusesPieces : {T : Type 0} → Result T Fault → List ℕ → Stream → List ℕ → Type 0
+RefusesPieces result bytes stream word = length bytes ≤ most_bytes → PassesFirst version_2 bytes (piece stream word) → RefusedFor result (TooManyPieces stream)
+
+-- with bytes within the limits it is done or memory lacks, unless the store fails
+abbrev pub Completes : {X T : Type 0} → (X → ℕ) → X → X → Result T Fault → List ℕ → Type 0
+Completes faults before now result bytes = IsWithinLimits 2 bytes → ¬ Fails faults before now → IsDone result

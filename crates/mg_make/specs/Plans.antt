@@ -1,7 +1,7 @@
 -- What the first pass hands on to the second.
 use Rattle.std.specs.Prelude.{◌≡◌, ◌≤◌, ◌-◌, ◌^◌, ℕ, Bool, List, [], length, replicate, sum}
 use Rattle.mg_defs.specs.CodedText.{IsTextCode, TextCode}
-use Rattle.mg_defs.specs.Limits.{IsWithinLimits}
+use Rattle.mg_defs.specs.WithinLimits.{IsWithinLimits}
 use Rattle.mg_defs.specs.Marks.{pair_counts}
 use Rattle.mg_defs.specs.Means.{IsModel}
 use Rattle.mg_defs.specs.Split.{has_open_end}

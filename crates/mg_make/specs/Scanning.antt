@@ -3,7 +3,7 @@ use Rattle.std.specs.Prelude.{◌≡◌, ℕ, Bool, true, false, List, [], ◌�
 use Rattle.mg_defs.specs.declared.Stream.{Stream}
 use Rattle.mg_defs.specs.declared.Stream.TheVariants.{Words}
 use Rattle.mg_defs.specs.Marks.{Mark, marks_of_document, piece, start, stop}
-use Rattle.mg_defs.specs.Pieces.{Reading, Reads, left_at_end, other_kind}
+use Rattle.mg_defs.specs.Pieces.{OpenPiece, Reads, left_at_end, other_kind}
 use Rattle.mg_defs.specs.Split.{closed_documents, has_open_end, open_part}
 use Rattle.mg_parse.specs.Seen.{Seen, StandsFor}
 use Rattle.mg_make.specs.Meeting.{Meeting, only_if}
@@ -21,7 +21,7 @@ kind_after kind (p ∷ pieces) = kind_after (other_kind kind) pieces
 -- the splitter and the piece that is read, whether a document is open, and what the last byte gave
 pub record Scanning : Type 0 where
   pub seen : Seen
-  pub reading : Reading
+  pub reading : OpenPiece
   pub is_open : Bool
   pub met : Meeting
 
@@ -41,7 +41,7 @@ pub record HasMet (s : Scanning) (fed : List ℕ) (met : List Mark) : Type 0 whe
   pub marks_are : met ≡ flat_map marks_of_document (closed_documents fed) ++ marks_of_open s.is_open told
 
 -- A byte was read into a document: these pieces ended before it.
-pub record HasRead (old new : Reading) (byte : ℕ) (ended : List (List ℕ)) : Type 0 where
+pub record HasRead (old new : OpenPiece) (byte : ℕ) (ended : List (List ℕ)) : Type 0 where
   pub kind : new.kind ≡ kind_after old.kind ended
   pub reads : (told : List (List ℕ)) (doc : List ℕ) → Reads old told doc [] → Reads new (told ++ ended) (doc ++ byte ∷ []) []
 
@@ -50,5 +50,5 @@ abbrev pub joined_marks : Bool → Stream → List (List ℕ) → List Mark
 joined_marks begins kind ended = only_if begins start ++ marks_of_pieces kind ended
 
 -- what is met with the end of a document, of which this piece is read
-abbrev pub closing_marks : Bool → Reading → List Mark
+abbrev pub closing_marks : Bool → OpenPiece → List Mark
 closing_marks begins reading = only_if begins start ++ (marks_of_pieces reading.kind (left_at_end reading.kind reading.piece) ++ stop ∷ [])

@@ -1,14 +1,16 @@
 -- The second pass: text and runs from the marks of a collection, by the plan of the first pass.
 use Rattle.std.specs.Prelude.{◌≡◌, ◌≢◌, ◌≤◌, ◌+◌, ◌*◌, ◌-◌, ℕ, true, List, [], ◌++◌, length, get_or, sum, take, None, IfErr}
+use Rattle.std.specs.Option.{IsSome}
 use Rattle.std.specs.declared.option.Option.{Option}
 use Rattle.std.specs.declared.result.Result.{Result}
+use Rattle.mg_dev.specs.Causes.{Rose}
 use Rattle.mg_dev.specs.Files.{Files}
 use Rattle.mg_dev.specs.declared.fault.Fault.{Fault}
 use Rattle.mg_dev.specs.declared.fault.Fault.TheVariants.{Changed, Damaged, Memory, StoreFault}
 use Rattle.mg_defs.specs.declared.Stream.{Stream}
 use Rattle.mg_defs.specs.declared.Stream.TheVariants.{Others, Words}
 use Rattle.mg_defs.specs.Bits.{Bits}
-use Rattle.mg_defs.specs.Marks.{Mark, coded_from, is_open_after, marks, open_from, pieces_from, starts, term_in, terms_from}
+use Rattle.mg_defs.specs.Marks.{Mark, coded_from, is_open_after, marks, open_from, piece_count_from, starts, term_in, terms_from}
 use Rattle.mg_text.specs.Writing.{IsOnText, TextWriting}
 use Rattle.mg_make.specs.Fronts.{IsFrontOf}
 use Rattle.mg_make.specs.Indexes.{HasTaken, Indexing}
@@ -58,7 +60,7 @@ pub record HasWritten (s : Inversion) (files : Option Files) (met : List Mark) :
   pub is_open : s.text.is_open ≡ is_open_after met
   pub pairs : s.text.pairs ≡ sum (take s.doc s.plan.pairs)
   pub within : s.doc ≤ length s.plan.pairs
-  pub put : s.text.is_open ≡ true → s.left + pieces_from 0 met ≡ 2 * get_or s.plan.pairs (s.doc - 1) 0
+  pub put : s.text.is_open ≡ true → s.left + piece_count_from 0 met ≡ 2 * get_or s.plan.pairs (s.doc - 1) 0
 
 -- Marks were written with which a collection begins, and in it these follow.
 pub record IsNext (s : Inversion) (files : Option Files) (next : List Mark) : Type 0 where
@@ -105,3 +107,9 @@ FinishStops store_rose same told Memory = Unit {0}
 FinishStops store_rose same told (Changed what first second) = (first ≢ second) × ¬ same
 FinishStops store_rose same told (Damaged bad) = ¬ told
 FinishStops store_rose same told _ = ⊥
+
+-- the pass can't be ended for such a reason, whatever collection's marks were written
+abbrev pub EndRefused : {X T : Type 0} → Inversion → (X → Option Files) → (X → ℕ) → X → X → Result T Fault → Type 0
+EndRefused s files faults before now result =
+    IfErr result (λ fault. (collection : List ℕ) → HasWritten s (files before) (marks collection)
+    → FinishStops (Rose (faults before) (faults now)) (IsPlanOf s.plan collection) (IsSome (files before)) fault)

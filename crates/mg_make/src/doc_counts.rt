@@ -2,9 +2,9 @@
 //!
 //! A list is begun with the number of its documents, so they are counted while the occurrences go by:
 //! eight bytes a term, and no posting is held outside the pool.
-ghost use Rattle.std.specs.Prelude.{◌≡◌, ◌≤◌, ◌<◌, ◌++◌, ◌∷◌, ℕ, List, [], length, slice_index, IfOk};
+ghost use Rattle.std.specs.Prelude.{◌≡◌, ◌≤◌, ◌<◌, ℕ, List, [], length, slice_index, IfOk};
 ghost use Rattle.mg_defs.specs.DocCounts.{last_with};
-ghost use Rattle.mg_make.specs.DocCounting.{AreDocCounts};
+ghost use Rattle.mg_make.specs.DocCounting.{AreDocCounts, CountsOneMore};
 
 use mg_laws::documents_are_counted;
 use std::alloc::{AllocError, Global};
@@ -40,8 +40,7 @@ impl DocCounts {
         requires term { term < length self.old.docs }
         requires counts { (fed : List (ℕ × ℕ)) × AreDocCounts self.old (length self.old.docs) fed × (last_with term 0 fed ≤ doc) }
         requires some { 1 ≤ doc }
-        ensures counts { (fed : List (ℕ × ℕ)) → AreDocCounts self.old (length self.old.docs) fed → last_with term 0 fed ≤ doc →
-            AreDocCounts self.new (length self.old.docs) (fed ++ (term, doc) ∷ []) }
+        ensures counts { CountsOneMore self.old self.new term doc }
         ensures size { length self.new.docs ≡ length self.old.docs }
     {
         documents_are_counted();

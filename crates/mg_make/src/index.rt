@@ -1,16 +1,14 @@
 //! Lists, lexicon and weights, from what was inverted.
-ghost use Rattle.std.specs.Prelude.{◌≡◌, ◌≤◌, ℕ, List, [], flat_map, length, replicate, IfOk, IfErr, OnOk, IsSome, Some, sum};
-ghost use Rattle.mg_dev.specs.Causes.{HasPutCause, Rose};
-ghost use Rattle.mg_dev.specs.Files.{bytes_at, file_at};
+ghost use Rattle.std.specs.Prelude.{◌≡◌, ◌≤◌, List, [], length, replicate, IfOk, OnOk, IsSome, Some, sum};
+ghost use Rattle.mg_dev.specs.Causes.{HasPutCause};
+ghost use Rattle.mg_dev.specs.Files.{file_at};
 ghost use Rattle.mg_dev.specs.Names.{full_name};
 ghost use Rattle.mg_dev.specs.declared.part.Part.TheVariants as part;
-ghost use Rattle.mg_defs.specs.Fixed.{isqrt as root};
-ghost use Rattle.mg_defs.specs.Numbers.{four};
-ghost use Rattle.mg_defs.specs.Stands.{post_part, skip_count};
 ghost use Rattle.mg_defs.specs.declared.TermPosting.{TermPosting};
 ghost use Rattle.mg_runs.specs.Left.{IsMerging};
-ghost use Rattle.mg_make.specs.Index.{IndexStands, IsInverted, OfIndex, OfWeights};
-ghost use Rattle.mg_make.specs.Listing.{AreListSizes, ListStops, SameMerge};
+ghost use Rattle.mg_make.specs.Each.{ForEach, RefusedIfNone};
+ghost use Rattle.mg_make.specs.Index.{HasPostPart, HasSkipPart, InvertedOf, OfIndex, OfWeights, WeightsAreRoots, WroteIndex};
+ghost use Rattle.mg_make.specs.Listing.{AreListSizes, SameMerge};
 ghost use Rattle.mg_make.specs.Written.{WroteParts};
 
 use crate::Plan;
@@ -30,8 +28,7 @@ fn write_weights_part<S: Store>(
     base: &str,
     sums: &[u64],
 ) -> Result<(), PutErr>
-    ensures bytes { IsSome (S.files store.old) →
-        OnOk result (bytes_at (S.files store.new) (full_name base.now part.Weights) ≡ flat_map (λ sum. four (root sum)) sums.now) }
+    ensures bytes { IsSome (S.files store.old) → OnOk result (WeightsAreRoots (S.files store.new) base.now sums.now) }
     ensures first { IsSome (S.files store.old) → OnOk result (file_at (S.files store.new) (full_name base.now part.MergeA) ≡ Some []) }
     ensures second { IsSome (S.files store.old) → OnOk result (file_at (S.files store.new) (full_name base.now part.MergeB) ≡ Some []) }
     ensures wrote { WroteParts OfWeights base.now (S.files store.old) (S.files store.new) }
@@ -60,15 +57,11 @@ pub(crate) fn write_all<S: Store>(
     requires sizes { AreListSizes counts.now.docs (length plan.now.terms.terms) (length plan.now.pairs) }
     requires left { (left : List TermPosting) × IsMerging merge.old (S.files store.old) left }
     requires zero { sums.old.items ≡ replicate (length plan.now.pairs) 0 }
-    ensures stand { (collection : List ℕ) → IsInverted plan.now counts.now collection merge.old (S.files store.old) →
-        OnOk result (IndexStands (S.files store.new) base.now collection) }
-    ensures post_bytes { (collection : List ℕ) → IsInverted plan.now counts.now collection merge.old (S.files store.old) →
-        IfOk result (λ sizes. sizes.post_bytes ≡ length (post_part collection)) }
-    ensures skip_count { (collection : List ℕ) → IsInverted plan.now counts.now collection merge.old (S.files store.old) →
-        IfOk result (λ sizes. sizes.skip_count ≡ skip_count collection) }
+    ensures stand { ForEach (InvertedOf plan.now counts.now merge.old (S.files store.old)) (WroteIndex (S.files store.new) base.now result) }
+    ensures post_bytes { ForEach (InvertedOf plan.now counts.now merge.old (S.files store.old)) (HasPostPart result) }
+    ensures skip_count { ForEach (InvertedOf plan.now counts.now merge.old (S.files store.old)) (HasSkipPart result) }
     ensures few { IfOk result (λ sizes. sizes.skip_count ≤ sum counts.now.docs) }
-    ensures refused { IfErr result (λ fault. (collection : List ℕ) →
-        ListStops (Rose (S.faults store.old) (S.faults store.new)) (IsInverted plan.now counts.now collection merge.old (S.files store.old)) fault) }
+    ensures refused { RefusedIfNone S.faults store.old store.new (InvertedOf plan.now counts.now merge.old (S.files store.old)) result }
     ensures same { SameMerge merge.old merge.new }
     ensures wrote { WroteParts OfIndex base.now (S.files store.old) (S.files store.new) }
     ensures later { S.faults store.old ≤ S.faults store.new }

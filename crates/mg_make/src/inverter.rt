@@ -2,11 +2,11 @@
 //!
 //! Runs know nothing of how many documents a term has, and a list begins with that number. So both are
 //! fed together, one occurrence at a time.
-ghost use Rattle.std.specs.Prelude.{◌≡◌, ◌≤◌, ◌++◌, ◌∷◌, ℕ, List, [], IfOk, OnOk};
+ghost use Rattle.std.specs.Prelude.{◌≡◌, ℕ, List, [], IfOk, OnOk};
 ghost use Rattle.mg_dev.specs.Causes.{HasPutCause};
 ghost use Rattle.mg_dev.specs.Files.{SameReads};
 ghost use Rattle.mg_make.specs.DocCounting.{AreDocCounts};
-ghost use Rattle.mg_make.specs.Indexes.{HasTaken, MayFollow, OfRuns};
+ghost use Rattle.mg_make.specs.Indexes.{HasTaken, MayFollow, OfRuns, TakesOneMore};
 ghost use Rattle.mg_make.specs.Written.{WroteParts};
 
 use crate::doc_counts::DocCounts;
@@ -61,8 +61,7 @@ impl<'a> Inverter<'a> {
     /// Takes an occurrence of a term in a document, which is not before those of the other occurrences.
     pub(crate) fn add<S: Store>(&mut self, store: &mut S, term: u32, doc: u32) -> Result<(), PutErr>
         requires taken { (terms : ℕ) × (fed : List (ℕ × ℕ)) × HasTaken self.old (S.files store.old) terms fed × MayFollow terms fed term doc }
-        ensures taken { OnOk result ((terms : ℕ) (fed : List (ℕ × ℕ)) → HasTaken self.old (S.files store.old) terms fed → MayFollow terms fed term doc →
-            HasTaken self.new (S.files store.new) terms (fed ++ (term, doc) ∷ [])) }
+        ensures taken { OnOk result (TakesOneMore self.old self.new (S.files store.old) (S.files store.new) term doc) }
         ensures base { self.new.runs.base ≡ self.old.runs.base }
         ensures limit { self.new.runs.pool.limit ≡ self.old.runs.pool.limit }
         ensures wrote { WroteParts OfRuns self.old.runs.base (S.files store.old) (S.files store.new) }

@@ -3,24 +3,23 @@
 //! Postings come by term and then by document. So list by list is written as they come, and beside it
 //! what the lexicon tells of its term. What a posting adds to the weight of its document goes into the
 //! document's sum at once: no list is kept.
-ghost use Rattle.std.specs.Prelude.{◌≡◌, ◌≢◌, ◌<◌, ◌≤◌, ◌+◌, ◌*◌, ◌/◌, ◌^◌, ◌++◌, ◌∷◌, ℕ, List, [], length, replicate, IfOk, IfErr, OnOk, IsSome, is_some, sum};
+ghost use Rattle.std.specs.Prelude.{◌≡◌, ◌<◌, ◌≤◌, ◌+◌, ◌^◌, List, [], length, replicate, IfOk, OnOk, sum};
 ghost use Rattle.std.specs.Cmp.Lexicographic.{slice_cmp};
 ghost use Rattle.std.specs.List.Sorted.{IsStrictlySortedBy};
 ghost use Rattle.std.specs.Ordering.{nat_cmp};
-ghost use Rattle.mg_dev.specs.Causes.{HasPutCause, Rose};
-ghost use Rattle.mg_dev.specs.Files.{file_at};
+ghost use Rattle.mg_dev.specs.Causes.{HasPutCause};
 ghost use Rattle.mg_dev.specs.Names.{full_name};
 ghost use Rattle.mg_dev.specs.declared.part.Part.TheVariants as part;
 ghost use Rattle.mg_defs.specs.declared.Posting.{Posting};
 ghost use Rattle.mg_defs.specs.declared.TermPosting.{TermPosting};
-ghost use Rattle.mg_defs.specs.Lists.{inverted, lists_entries, post_bits};
-ghost use Rattle.mg_defs.specs.Split.{documents};
-ghost use Rattle.mg_defs.specs.Squares.{squares_to};
-ghost use Rattle.mg_lex.specs.Terms.{Term, terms_of};
+ghost use Rattle.mg_lex.specs.Terms.{Term};
 ghost use Rattle.mg_lex.specs.Writing.{TookTerms};
 ghost use Rattle.mg_post.specs.Writing.{Took};
 ghost use Rattle.mg_runs.specs.Left.{IsMerging};
-ghost use Rattle.mg_make.specs.Listing.{AreListSizes, CanIndex, HasIndexed, HasLists, ListStops, ListsStand, SameMerge};
+ghost use Rattle.mg_make.specs.Each.{ForEach, RefusedUnless, RefusedIfNone};
+ghost use Rattle.mg_make.specs.Listed.{EndsIndex, HasAllTerms, HasPostBytes, HasSkipCount, IndexedTo, IndexesAll, IndexesTerm, ListsAreLeft};
+ghost use Rattle.mg_make.specs.Listed.{NothingLeft, SumsAreSquares, ToIndex, WhereAllTaken, WroteLists};
+ghost use Rattle.mg_make.specs.Listing.{AreListSizes, CanIndex, SameMerge};
 ghost use Rattle.mg_make.specs.Written.{OfLists, WroteParts};
 
 use crate::doc_counts::DocCounts;
@@ -94,12 +93,8 @@ fn write_term<S: Store>(
     requires rising { IsStrictlySortedBy (slice_cmp nat_cmp) table.now.terms }
     ensures can { OnOk result
         (CanIndex table.now.terms counts.now.docs (number + 1) merge.new writer.new.lists writer.new.lex sums.new.items (S.files store.new)) }
-    ensures indexed { (collection : List ℕ) →
-        HasIndexed table.now.terms counts.now.docs collection number merge.old writer.old.lists writer.old.lex sums.old.items (S.files store.old) →
-        OnOk result
-        (HasIndexed table.now.terms counts.now.docs collection (number + 1) merge.new writer.new.lists writer.new.lex sums.new.items (S.files store.new)) }
-    ensures refused { IfErr result (λ fault. (collection : List ℕ) → ListStops (Rose (S.faults store.old) (S.faults store.new))
-        (HasIndexed table.now.terms counts.now.docs collection number merge.old writer.old.lists writer.old.lex sums.old.items (S.files store.old)) fault) }
+    ensures indexed { IndexesTerm number table.now counts.now merge.old merge.new writer.old writer.new sums.old sums.new S.files store.old store.new result }
+    ensures refused { RefusedIfNone S.faults store.old store.new (IndexedTo number table.now counts.now merge.old writer.old sums.old (S.files store.old)) result }
     ensures all { writer.new.lists.all ≡ writer.old.lists.all }
     ensures same { SameMerge merge.old merge.new }
     ensures wrote { WroteParts OfLists merge.old.base (S.files store.old) (S.files store.new) }
@@ -133,15 +128,9 @@ fn write_terms<S: Store>(
 ) -> Result<(), Fault>
     requires can { CanIndex table.now.terms counts.now.docs 0 merge.old writer.old.lists writer.old.lex sums.old.items (S.files store.old) }
     requires sizes { AreListSizes counts.now.docs (length table.now.terms) writer.old.lists.all }
-    ensures can { OnOk result
-        (CanIndex table.now.terms counts.now.docs (length table.now.terms) merge.new writer.new.lists writer.new.lex sums.new.items (S.files store.new)) }
-    ensures indexed { (collection : List ℕ) →
-        HasIndexed table.now.terms counts.now.docs collection 0 merge.old writer.old.lists writer.old.lex sums.old.items (S.files store.old) →
-        OnOk result
-        (HasIndexed table.now.terms counts.now.docs collection (length table.now.terms)
-        merge.new writer.new.lists writer.new.lex sums.new.items (S.files store.new)) }
-    ensures refused { IfErr result (λ fault. (collection : List ℕ) → ListStops (Rose (S.faults store.old) (S.faults store.new))
-        (HasIndexed table.now.terms counts.now.docs collection 0 merge.old writer.old.lists writer.old.lex sums.old.items (S.files store.old)) fault) }
+    ensures can { OnOk result (HasAllTerms table.now counts.now merge.new writer.new sums.new (S.files store.new)) }
+    ensures indexed { IndexesAll table.now counts.now merge.old merge.new writer.old writer.new sums.old sums.new S.files store.old store.new result }
+    ensures refused { RefusedIfNone S.faults store.old store.new (ToIndex table.now counts.now merge.old writer.old sums.old (S.files store.old)) result }
     ensures all { writer.new.lists.all ≡ writer.old.lists.all }
     ensures same { SameMerge merge.old merge.new }
     ensures wrote { WroteParts OfLists merge.old.base (S.files store.old) (S.files store.new) }
@@ -156,8 +145,7 @@ fn write_terms<S: Store>(
 /// Sees that no posting is left.
 fn expect_end<S: Store>(store: &mut S, merge: &mut Merge<'_>) -> Result<(), Fault>
     requires left { (left : List TermPosting) × IsMerging merge.old (S.files store.old) left }
-    ensures refused { IfErr result (ListStops (Rose (S.faults store.old) (S.faults store.new))
-        (IsSome (S.files store.old) × IsMerging merge.old (S.files store.old) [])) }
+    ensures refused { RefusedUnless S.faults store.old store.new (NothingLeft merge.old (S.files store.old)) result }
     ensures same { SameMerge merge.old merge.new }
     ensures files { S.files store.new ≡ S.files store.old }
     ensures later { S.faults store.old ≤ S.faults store.new }
@@ -175,15 +163,9 @@ fn finish<S: Store>(store: &mut S, writer: &mut IndexWriter<'_>) -> Result<Sizes
     requires lex { (terms : List Term) × TookTerms writer.old.lex (S.files store.old) terms }
     requires post { writer.old.lists.post.name ≡ full_name writer.old.lex.base part.Post }
     requires skip { writer.old.lists.skip.name ≡ full_name writer.old.lex.base part.Skip }
-    ensures stand { (collection : List ℕ) → IsSome (S.files store.old) → writer.old.lists.all ≡ length (documents collection) →
-        Took writer.old.lists (S.files store.old) (inverted collection) [] →
-        TookTerms writer.old.lex (S.files store.old) (terms_of collection) → OnOk result (ListsStand (S.files store.new) writer.old.lex.base collection) }
-    ensures post_bytes { (collection : List ℕ) → writer.old.lists.all ≡ length (documents collection) →
-        Took writer.old.lists (S.files store.old) (inverted collection) [] →
-        IfOk result (λ sizes. sizes.post_bytes ≡ length (post_bits collection) / 8) }
-    ensures skip_count { (collection : List ℕ) → writer.old.lists.all ≡ length (documents collection) →
-        Took writer.old.lists (S.files store.old) (inverted collection) [] →
-        IfOk result (λ sizes. sizes.skip_count ≡ length (lists_entries (length (documents collection)) (inverted collection))) }
+    ensures stand { EndsIndex writer.old S.files store.old store.new result }
+    ensures post_bytes { WhereAllTaken writer.old.lists (S.files store.old) (HasPostBytes result) }
+    ensures skip_count { WhereAllTaken writer.old.lists (S.files store.old) (HasSkipCount result) }
     ensures few { IfOk result (λ sizes. sizes.skip_count ≤ writer.old.lists.total) }
     ensures wrote { WroteParts OfLists writer.old.lex.base (S.files store.old) (S.files store.new) }
     ensures cause { HasPutCause (S.faults store.old) (S.faults store.new) result }
@@ -209,21 +191,13 @@ fn write_index<S: Store>(
 ) -> Result<Sizes, Fault>
     requires can { CanIndex table.now.terms counts.now.docs 0 merge.old writer.old.lists writer.old.lex sums.old.items (S.files store.old) }
     requires sizes { AreListSizes counts.now.docs (length table.now.terms) writer.old.lists.all }
-    ensures stand { (collection : List ℕ) →
-        HasIndexed table.now.terms counts.now.docs collection 0 merge.old writer.old.lists writer.old.lex sums.old.items (S.files store.old) →
-        OnOk result (ListsStand (S.files store.new) merge.old.base collection) }
-    ensures sums { (collection : List ℕ) →
-        HasIndexed table.now.terms counts.now.docs collection 0 merge.old writer.old.lists writer.old.lex sums.old.items (S.files store.old) →
-        OnOk result (sums.new.items ≡ squares_to (length (documents collection)) (inverted collection)) }
-    ensures post_bytes { (collection : List ℕ) →
-        HasIndexed table.now.terms counts.now.docs collection 0 merge.old writer.old.lists writer.old.lex sums.old.items (S.files store.old) →
-        IfOk result (λ sizes. sizes.post_bytes ≡ length (post_bits collection) / 8) }
-    ensures skip_count { (collection : List ℕ) →
-        HasIndexed table.now.terms counts.now.docs collection 0 merge.old writer.old.lists writer.old.lex sums.old.items (S.files store.old) →
-        IfOk result (λ sizes. sizes.skip_count ≡ length (lists_entries (length (documents collection)) (inverted collection))) }
+    ensures stand { ForEach (ToIndex table.now counts.now merge.old writer.old sums.old (S.files store.old))
+        (WroteLists S.files store.new merge.old.base result) }
+    ensures sums { ForEach (ToIndex table.now counts.now merge.old writer.old sums.old (S.files store.old)) (SumsAreSquares sums.new result) }
+    ensures post_bytes { ForEach (ToIndex table.now counts.now merge.old writer.old sums.old (S.files store.old)) (HasPostBytes result) }
+    ensures skip_count { ForEach (ToIndex table.now counts.now merge.old writer.old sums.old (S.files store.old)) (HasSkipCount result) }
     ensures few { IfOk result (λ sizes. sizes.skip_count ≤ sum counts.now.docs) }
-    ensures refused { IfErr result (λ fault. (collection : List ℕ) → ListStops (Rose (S.faults store.old) (S.faults store.new))
-        (HasIndexed table.now.terms counts.now.docs collection 0 merge.old writer.old.lists writer.old.lex sums.old.items (S.files store.old)) fault) }
+    ensures refused { RefusedIfNone S.faults store.old store.new (ToIndex table.now counts.now merge.old writer.old sums.old (S.files store.old)) result }
     ensures same { SameMerge merge.old merge.new }
     ensures wrote { WroteParts OfLists merge.old.base (S.files store.old) (S.files store.new) }
     ensures later { S.faults store.old ≤ S.faults store.new }
@@ -251,17 +225,12 @@ pub(crate) fn write_lists<S: Store>(
     requires sizes { AreListSizes counts.now.docs (length table.now.terms) (length sums.old.items) }
     requires left { (left : List TermPosting) × IsMerging merge.old (S.files store.old) left }
     requires zero { sums.old.items ≡ replicate (length sums.old.items) 0 }
-    ensures stand { (collection : List ℕ) → HasLists table.now.terms counts.now.docs (length sums.old.items) collection merge.old (S.files store.old) →
-        OnOk result (ListsStand (S.files store.new) base.now collection) }
-    ensures sums { (collection : List ℕ) → HasLists table.now.terms counts.now.docs (length sums.old.items) collection merge.old (S.files store.old) →
-        OnOk result (sums.new.items ≡ squares_to (length (documents collection)) (inverted collection)) }
-    ensures post_bytes { (collection : List ℕ) → HasLists table.now.terms counts.now.docs (length sums.old.items) collection merge.old (S.files store.old) →
-        IfOk result (λ sizes. sizes.post_bytes ≡ length (post_bits collection) / 8) }
-    ensures skip_count { (collection : List ℕ) → HasLists table.now.terms counts.now.docs (length sums.old.items) collection merge.old (S.files store.old) →
-        IfOk result (λ sizes. sizes.skip_count ≡ length (lists_entries (length (documents collection)) (inverted collection))) }
+    ensures stand { ForEach (ListsAreLeft table.now counts.now sums.old merge.old (S.files store.old)) (WroteLists S.files store.new base.now result) }
+    ensures sums { ForEach (ListsAreLeft table.now counts.now sums.old merge.old (S.files store.old)) (SumsAreSquares sums.new result) }
+    ensures post_bytes { ForEach (ListsAreLeft table.now counts.now sums.old merge.old (S.files store.old)) (HasPostBytes result) }
+    ensures skip_count { ForEach (ListsAreLeft table.now counts.now sums.old merge.old (S.files store.old)) (HasSkipCount result) }
     ensures few { IfOk result (λ sizes. sizes.skip_count ≤ sum counts.now.docs) }
-    ensures refused { IfErr result (λ fault. (collection : List ℕ) → ListStops (Rose (S.faults store.old) (S.faults store.new))
-        (HasLists table.now.terms counts.now.docs (length sums.old.items) collection merge.old (S.files store.old)) fault) }
+    ensures refused { RefusedIfNone S.faults store.old store.new (ListsAreLeft table.now counts.now sums.old merge.old (S.files store.old)) result }
     ensures same { SameMerge merge.old merge.new }
     ensures wrote { WroteParts OfLists base.now (S.files store.old) (S.files store.new) }
     ensures later { S.faults store.old ≤ S.faults store.new }

@@ -1,9 +1,10 @@
 //! The working parts of merging.
-ghost use Rattle.std.specs.Prelude.{◌≡◌, ◌≢◌, ℕ, List, [], OnOk, IsSome, Some, is_some};
+ghost use Rattle.std.specs.Prelude.{◌≡◌, [], OnOk, IsSome, Some, is_some};
 ghost use Rattle.mg_dev.specs.Causes.{HasPutCause};
 ghost use Rattle.mg_dev.specs.Files.{file_at};
 ghost use Rattle.mg_dev.specs.Names.{full_name};
 ghost use Rattle.mg_dev.specs.declared.part.Part.TheVariants as part;
+ghost use Rattle.mg_make.specs.Listed.{OnlyMergesChange};
 
 use mg_dev::{FileRef, Part, PutErr, Store};
 
@@ -12,8 +13,7 @@ use mg_dev::{FileRef, Part, PutErr, Store};
 pub(crate) fn reset_merge_parts<S: Store>(store: &mut S, base: &str) -> Result<(), PutErr>
     ensures first { IsSome (S.files store.old) → OnOk result (file_at (S.files store.new) (full_name base.now part.MergeA) ≡ Some []) }
     ensures second { IsSome (S.files store.old) → OnOk result (file_at (S.files store.new) (full_name base.now part.MergeB) ≡ Some []) }
-    ensures others { (n : List ℕ) → n ≢ full_name base.now part.MergeA → n ≢ full_name base.now part.MergeB →
-        file_at (S.files store.new) n ≡ file_at (S.files store.old) n }
+    ensures others { OnlyMergesChange base.now (S.files store.old) (S.files store.new) }
     ensures told { is_some (S.files store.new) ≡ is_some (S.files store.old) }
     ensures cause { HasPutCause (S.faults store.old) (S.faults store.new) result }
 {

@@ -3,18 +3,17 @@
 //! A store that tells nothing may give back any bytes. So each posting that is read is tested: it is
 //! one of the term, of a later document than the one before, and counts at least 1. Over runs that
 //! are those that were written no test fails.
-ghost use Rattle.std.specs.Prelude.{◌≡◌, ◌≢◌, ◌<◌, ◌≤◌, ◌+◌, ◌-◌, ◌*◌, ◌/◌, ◌^◌, ◌++◌, ◌∷◌, ℕ, List, [], length, take, drop, slice_index, min, IfOk, IfErr, OnOk, IsSome, is_some};
-ghost use Rattle.mg_dev.specs.Causes.{HasPutCause, Rose};
+ghost use Rattle.std.specs.Prelude.{◌≡◌, ◌≢◌, ◌<◌, ◌≤◌, ◌+◌, ◌-◌, ◌*◌, ◌^◌, ℕ, List, length, drop, IfOk, OnOk, is_some};
+ghost use Rattle.mg_dev.specs.Causes.{HasPutCause};
 ghost use Rattle.mg_dev.specs.Files.{file_at};
-ghost use Rattle.mg_dev.specs.Names.{full_name};
-ghost use Rattle.mg_dev.specs.declared.part.Part.TheVariants as part;
 ghost use Rattle.mg_defs.specs.declared.Posting.{Posting};
 ghost use Rattle.mg_defs.specs.declared.TermPosting.{TermPosting};
-ghost use Rattle.mg_defs.specs.Lists.{Follows, lists_bits, lists_entries};
-ghost use Rattle.mg_defs.specs.PostingLists.{term_list};
+ghost use Rattle.mg_defs.specs.Lists.{Follows};
 ghost use Rattle.mg_post.specs.Writing.{Pushed, SameFiles, Took, posting_of};
 ghost use Rattle.mg_runs.specs.Left.{IsMerging};
-ghost use Rattle.mg_make.specs.Listing.{AreSquares, CanList, HasList, HasNext, HasRest, IsAtList, IsDamage, IsInList, ListStops, ListedMore, OfPostings, PushedMore, SameMerge, SquaresFit};
+ghost use Rattle.mg_make.specs.Each.{RefusedUnless};
+ghost use Rattle.mg_make.specs.Listed.{BeginsInPost, BeginsInSkip, EndsList, ForListLeft, ForFirstLeft, ListTakes, SumsTake, TakesPosting, TakesPostings};
+ghost use Rattle.mg_make.specs.Listing.{CanList, HasList, HasNext, HasRest, IsDamage, ListedMore, OfPostings, PushedMore, SameMerge};
 ghost use Rattle.mg_make.specs.Written.{WroteParts};
 
 use mg_defs::TermPosting;
@@ -49,11 +48,10 @@ fn next_posting<S: Store>(
     requires last { last ≤ 2 ^ 24 }
     ensures left { (left : List TermPosting) → IsMerging merge.old (S.files store.old) left →
         OnOk result (IsMerging merge.new (S.files store.new) (drop 1 left)) }
-    ensures told { IsSome (S.files store.old) → (p : TermPosting) (left : List TermPosting) → IsMerging merge.old (S.files store.old) (p ∷ left) →
-        IfOk result (λ posting. posting ≡ p) }
+    ensures told { ForFirstLeft merge.old (S.files store.old) (λ p. IfOk result (λ posting. posting ≡ p)) }
     ensures term { IfOk result (λ posting. posting.term ≡ number) }
     ensures follows { IfOk result (λ posting. Follows all last (posting_of posting.doc posting.count)) }
-    ensures refused { IfErr result (ListStops (Rose (S.faults store.old) (S.faults store.new)) (HasNext number all last merge.old (S.files store.old))) }
+    ensures refused { RefusedUnless S.faults store.old store.new (HasNext number all last merge.old (S.files store.old)) result }
     ensures same { SameMerge merge.old merge.new }
     ensures files { S.files store.new ≡ S.files store.old }
     ensures later { S.faults store.old ≤ S.faults store.new }
@@ -80,9 +78,7 @@ fn add_square(sums: &mut Vec<u64>, doc: u32, count: u32)
     requires first { 1 ≤ doc }
     requires within { doc ≤ length sums.old.items }
     requires some { 1 ≤ count }
-    ensures summed { (lists : List (List Posting)) (ps : List Posting) → SquaresFit (lists ++ (ps ++ posting_of doc count ∷ []) ∷ []) →
-        AreSquares sums.old.items (lists ++ ps ∷ []) →
-        AreSquares sums.new.items (lists ++ (ps ++ posting_of doc count ∷ []) ∷ []) }
+    ensures summed { SumsTake sums.old sums.new (posting_of doc count) }
     ensures each { length sums.new.items ≡ length sums.old.items }
 {
     let weight = u64::from(doc_term_weight(count));
@@ -102,11 +98,8 @@ fn write_posting<S: Store>(
     requires more { lists.old.pushed < lists.old.docs }
     requires total { lists.old.total < 2 ^ 32 }
     requires follows { Follows lists.old.all lists.old.last (posting_of posting.doc posting.count) }
-    ensures took { OnOk result ((done : List (List Posting)) (ps : List Posting) → Took lists.old (S.files store.old) done ps →
-        Took lists.new (S.files store.new) done (ps ++ posting_of posting.doc posting.count ∷ [])) }
-    ensures summed { OnOk result ((done : List (List Posting)) (ps : List Posting) →
-        SquaresFit (done ++ (ps ++ posting_of posting.doc posting.count ∷ []) ∷ []) → AreSquares sums.old.items (done ++ ps ∷ []) →
-        AreSquares sums.new.items (done ++ (ps ++ posting_of posting.doc posting.count ∷ []) ∷ [])) }
+    ensures took { OnOk result (ListTakes lists.old lists.new (S.files store.old) (S.files store.new) (posting_of posting.doc posting.count)) }
+    ensures summed { OnOk result (SumsTake sums.old sums.new (posting_of posting.doc posting.count)) }
     ensures pushed { OnOk result (Pushed lists.old lists.new posting.doc) }
     ensures each { length sums.new.items ≡ length sums.old.items }
     ensures same { SameFiles lists.old lists.new }
@@ -133,14 +126,10 @@ fn take_posting<S: Store>(
     requires more { lists.old.pushed < lists.old.docs }
     requires total { lists.old.total < 2 ^ 32 }
     ensures can { OnOk result (CanList merge.new lists.new sums.new.items (S.files store.new)) }
-    ensures told { IsSome (S.files store.old) →
-        (done : List (List Posting)) (ps : List Posting) (p : Posting) (left : List Posting) (later : List TermPosting) →
-        IsInList number merge.old lists.old sums.old.items (S.files store.old) done ps (p ∷ left) later →
-        OnOk result (IsInList number merge.new lists.new sums.new.items (S.files store.new) done (ps ++ p ∷ []) left later) }
+    ensures told { TakesPosting number merge.old merge.new lists.old lists.new sums.old sums.new S.files store.old store.new result }
     ensures pushed { OnOk result (PushedMore lists.old lists.new 1) }
     ensures last { IfOk result (λ doc. lists.new.last ≡ doc) }
-    ensures refused { IfErr result (ListStops (Rose (S.faults store.old) (S.faults store.new))
-        (HasRest number 1 merge.old lists.old sums.old.items (S.files store.old))) }
+    ensures refused { RefusedUnless S.faults store.old store.new (HasRest number 1 merge.old lists.old sums.old.items (S.files store.old)) result }
     ensures same { SameMerge merge.old merge.new }
     ensures files { SameFiles lists.old lists.new }
     ensures wrote { WroteParts OfPostings merge.old.base (S.files store.old) (S.files store.new) }
@@ -170,12 +159,9 @@ fn take_postings<S: Store>(
     requires last { lists.old.last ≡ 0 }
     requires total { lists.old.total + docs ≤ 2 ^ 32 }
     ensures can { OnOk result (CanList merge.new lists.new sums.new.items (S.files store.new)) }
-    ensures told { IsSome (S.files store.old) → (done : List (List Posting)) (ps left : List Posting) (later : List TermPosting) → docs ≤ length left →
-        IsInList number merge.old lists.old sums.old.items (S.files store.old) done ps left later →
-        OnOk result (IsInList number merge.new lists.new sums.new.items (S.files store.new) done (ps ++ take docs left) (drop docs left) later) }
+    ensures told { TakesPostings docs number merge.old merge.new lists.old lists.new sums.old sums.new S.files store.old store.new result }
     ensures pushed { OnOk result (PushedMore lists.old lists.new docs) }
-    ensures refused { IfErr result (ListStops (Rose (S.faults store.old) (S.faults store.new))
-        (HasRest number docs merge.old lists.old sums.old.items (S.files store.old))) }
+    ensures refused { RefusedUnless S.faults store.old store.new (HasRest number docs merge.old lists.old sums.old.items (S.files store.old)) result }
     ensures same { SameMerge merge.old merge.new }
     ensures files { SameFiles lists.old lists.new }
     ensures wrote { WroteParts OfPostings merge.old.base (S.files store.old) (S.files store.new) }
@@ -203,18 +189,11 @@ pub(crate) fn write_list<S: Store>(
     requires within { docs ≤ lists.old.all }
     requires total { lists.old.total + docs ≤ 2 ^ 32 }
     ensures can { OnOk result (CanList merge.new lists.new sums.new.items (S.files store.new)) }
-    ensures told { IsSome (S.files store.old) → (done : List (List Posting)) (ps : List Posting) (more : List (List Posting)) → length ps ≡ docs →
-        IsAtList number merge.old lists.old sums.old.items (S.files store.old) done (ps ∷ more) →
-        OnOk result (IsAtList (number + 1) merge.new lists.new sums.new.items (S.files store.new) (done ++ ps ∷ []) more) }
-    ensures post_at { IsSome (S.files store.old) → (done : List (List Posting)) (ps : List Posting) (more : List (List Posting)) → length ps ≡ docs →
-        IsAtList number merge.old lists.old sums.old.items (S.files store.old) done (ps ∷ more) →
-        IfOk result (λ at. at.0 ≡ length (lists_bits lists.old.all done) / 8) }
-    ensures skip_at { IsSome (S.files store.old) → (done : List (List Posting)) (ps : List Posting) (more : List (List Posting)) → length ps ≡ docs →
-        IsAtList number merge.old lists.old sums.old.items (S.files store.old) done (ps ∷ more) →
-        IfOk result (λ at. at.1 ≡ length (lists_entries lists.old.all done)) }
+    ensures told { EndsList docs number merge.old merge.new lists.old lists.new sums.old sums.new S.files store.old store.new result }
+    ensures post_at { ForListLeft docs number merge.old lists.old sums.old (S.files store.old) (BeginsInPost lists.old.all result) }
+    ensures skip_at { ForListLeft docs number merge.old lists.old sums.old (S.files store.old) (BeginsInSkip lists.old.all result) }
     ensures listed { OnOk result (ListedMore lists.old lists.new docs) }
-    ensures refused { IfErr result (ListStops (Rose (S.faults store.old) (S.faults store.new))
-        (HasList number docs merge.old lists.old sums.old.items (S.files store.old))) }
+    ensures refused { RefusedUnless S.faults store.old store.new (HasList number docs merge.old lists.old sums.old.items (S.files store.old)) result }
     ensures same { SameMerge merge.old merge.new }
     ensures files { SameFiles lists.old lists.new }
     ensures wrote { WroteParts OfPostings merge.old.base (S.files store.old) (S.files store.new) }

@@ -4,15 +4,15 @@
 //! this in nothing: each document, pair and piece is compared with the plan, and a difference is
 //! refused with both numbers. So whatever a store does between the passes, no writer below is handed
 //! what it can't take.
-ghost use Rattle.std.specs.Prelude.{◌≡◌, ◌≤◌, ◌<◌, ◌*◌, ◌-◌, ◌∷◌, ℕ, List, [], length, get_or, IfOk, IfErr, OnOk, IsSome, Some, slice_get};
+ghost use Rattle.std.specs.Prelude.{◌≡◌, ◌≤◌, ◌<◌, ◌*◌, ◌-◌, ◌∷◌, ℕ, List, [], length, get_or, IfOk, OnOk, Some, slice_get};
 ghost use Rattle.mg_dev.specs.Causes.{HasPutCause, Rose};
 ghost use Rattle.mg_dev.specs.Files.{SameReads};
-ghost use Rattle.mg_defs.specs.Marks.{Mark, code_of, marks, start as start_mark, piece as piece_mark, stop as stop_mark};
+ghost use Rattle.mg_defs.specs.Marks.{code_of, start as start_mark, piece as piece_mark, stop as stop_mark};
 ghost use Rattle.mg_make.specs.DocCounting.{AreDocCounts};
-ghost use Rattle.mg_make.specs.Finishing.{EndsWith, ReadRuns};
-ghost use Rattle.mg_make.specs.Meeting.{marks_of, only_if};
-ghost use Rattle.mg_make.specs.Plans.{IsPlan, IsPlanOf};
-ghost use Rattle.mg_make.specs.Second.{FinishStops, HasStopCause, HasWritten, IsChange, IsNext, IsWhole, SamePass, WroteMarks, term_at};
+ghost use Rattle.mg_make.specs.Finishing.{HandsOn, ReadRuns};
+ghost use Rattle.mg_make.specs.Meeting.{piece_if, marks_of, only_if};
+ghost use Rattle.mg_make.specs.Plans.{IsPlan};
+ghost use Rattle.mg_make.specs.Second.{EndRefused, HasStopCause, HasWritten, IsChange, IsNext, IsWhole, SamePass, WroteMarks, term_at};
 ghost use Rattle.mg_make.specs.Written.{WroteSecond};
 
 use crate::doc_counts::DocCounts;
@@ -211,14 +211,13 @@ impl<'a> SecondPass<'a> {
         stream: Stream,
         piece: &[u8],
     ) -> Result<(), Fault>
-        requires next { IsNext self.old (S.files store.old) (only_if ends (piece_mark stream piece.now)) }
-        ensures written { OnOk result (WroteMarks self.old self.new (S.files store.old) (S.files store.new) (only_if ends (piece_mark stream piece.now))) }
+        requires next { IsNext self.old (S.files store.old) (piece_if ends stream piece.now) }
+        ensures written { OnOk result (WroteMarks self.old self.new (S.files store.old) (S.files store.new) (piece_if ends stream piece.now)) }
         ensures same { SamePass self.old self.new }
         ensures wrote { WroteSecond self.old.base (S.files store.old) (S.files store.new) }
         ensures reads { SameReads (S.reads store.old) (S.reads store.new) }
         ensures faults { S.faults store.old ≤ S.faults store.new }
-        ensures refused { HasStopCause self.old (S.files store.old) (only_if ends (piece_mark stream piece.now))
-            (Rose (S.faults store.old) (S.faults store.new)) result }
+        ensures refused { HasStopCause self.old (S.files store.old) (piece_if ends stream piece.now) (Rose (S.faults store.old) (S.faults store.new)) result }
     {
         if ends {
             self.piece(store, stream, piece)
@@ -278,13 +277,11 @@ impl<'a> SecondPass<'a> {
     /// the store does not tell its files.
     pub(crate) fn finish<S: Store>(self, store: &mut S) -> Result<Inverted<'a>, Fault>
         requires whole { IsWhole self (S.files store.old) }
-        ensures ends { (met : List Mark) → HasWritten self.entry (S.files store.old) met →
-            IfOk result (λ inverted. EndsWith self.entry met (S.files store.old) (S.files store.new) inverted) }
+        ensures ends { HandsOn self.entry (S.files store.old) (S.files store.new) result }
         ensures wrote { WroteSecond self.entry.base (S.files store.old) (S.files store.new) }
         ensures reads { ReadRuns (S.reads store.old) (S.reads store.new) }
         ensures faults { S.faults store.old ≤ S.faults store.new }
-        ensures refused { IfErr result (λ fault. (collection : List ℕ) → HasWritten self.entry (S.files store.old) (marks collection) →
-            FinishStops (Rose (S.faults store.old) (S.faults store.new)) (IsPlanOf self.entry.plan collection) (IsSome (S.files store.old)) fault) }
+        ensures refused { EndRefused self.entry S.files S.faults store.old store.new result }
     {
         // A law: what the runs took stays while the text is written.
         runs_stay();

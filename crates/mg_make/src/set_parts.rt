@@ -4,27 +4,24 @@
 //! What is written here may be parts of no collection, where the bytes are not those that were counted or
 //! where a store gives back other bytes than it got. So each step says what it wrote for the bytes that
 //! came, and which numbers it hands on whatever comes.
-ghost use Rattle.std.specs.Prelude.{◌≡◌, ◌≤◌, ◌<◌, ◌^◌, ℕ, List, [], Option, length, replicate, IfErr, IfOk, OnOk, Some};
+ghost use Rattle.std.specs.Prelude.{◌≡◌, ◌≤◌, ◌<◌, ◌^◌, ℕ, List, [], Option, length, replicate, IfOk, OnOk, Some};
 ghost use Rattle.std.specs.Option.{IsSome};
-ghost use Rattle.mg_dev.specs.Causes.{HasPutCause, Rose};
+ghost use Rattle.mg_dev.specs.Causes.{HasPutCause};
 ghost use Rattle.mg_dev.specs.Files.{Files, file_at};
 ghost use Rattle.mg_dev.specs.Names.{full_name};
 ghost use Rattle.mg_dev.specs.declared.part.Part.TheVariants as part;
 ghost use Rattle.mg_defs.specs.Heads.{IsWithin};
 ghost use Rattle.mg_defs.specs.Marks.{Mark};
 ghost use Rattle.mg_defs.specs.Occurrences.{occurrences};
-ghost use Rattle.mg_defs.specs.Stands.{head_of};
-ghost use Rattle.mg_defs.specs.Summaries.{pool_peak, run_cap};
 ghost use Rattle.mg_layout.specs.HeadAnswers.{fields_of};
 ghost use Rattle.mg_model.specs.Models.{PartsHold};
 ghost use Rattle.mg_make.specs.DocCounting.{AreDocCounts};
 ghost use Rattle.mg_make.specs.Finishing.{budget_of};
-ghost use Rattle.mg_make.specs.Listing.{ListStops};
 ghost use Rattle.mg_make.specs.Plans.{IsPlan, IsPlanOf};
-ghost use Rattle.mg_make.specs.Putting.{IsHanded, IsUnbuilt, OfPass};
+ghost use Rattle.mg_make.specs.Putting.{ForHanded, ForScanned, HandedRefused, HandsFor, HasPeakOf, IsHanded, IsUnbuilt, MakesHead, MakesIndex, OfPass, ScannedRefused};
 ghost use Rattle.mg_make.specs.Scanning.{HasMet};
 ghost use Rattle.mg_make.specs.Second.{HasWritten};
-ghost use Rattle.mg_make.specs.Index.{IndexStands, OfIndex};
+ghost use Rattle.mg_make.specs.Index.{OfIndex};
 ghost use Rattle.mg_make.specs.Written.{WroteParts, WroteSecond};
 
 use crate::doc_counts::DocCounts;
@@ -85,13 +82,11 @@ pub(crate) fn end_pass<'a, S: Store>(
     pass: SecondPass<'a>,
 ) -> Result<Inverted<'a>, Fault>
     requires put { (fed : List ℕ) × (met : List Mark) × HasMet scanner.old fed met × HasWritten pass (S.files store.old) met × (length fed < 2 ^ 32) }
-    ensures handed { (fed : List ℕ) (met : List Mark) → HasMet scanner.old fed met → HasWritten pass.entry (S.files store.old) met → length fed < 2 ^ 32 →
-        IfOk result (λ inverted. IsHanded pass.entry.plan (budget_of pass.entry) pass.entry.base fed (S.files store.old) (S.files store.new) inverted) }
+    ensures handed { ForScanned scanner.old pass.entry (S.files store.old)
+        (HandsFor pass.entry (S.files store.old) (S.files store.new) result) }
     ensures wrote { WroteSecond pass.entry.base (S.files store.old) (S.files store.new) }
     ensures later { S.faults store.old ≤ S.faults store.new }
-    ensures refused { IfErr result (λ fault. (fed : List ℕ) (met : List Mark) → HasMet scanner.old fed met →
-        HasWritten pass.entry (S.files store.old) met → length fed < 2 ^ 32 →
-        ListStops (Rose (S.faults store.old) (S.faults store.new)) (IsSome (S.files store.old) × IsPlanOf pass.entry.plan fed) fault) }
+    ensures refused { ScannedRefused scanner.old pass.entry S.files S.faults store.old store.new result }
 {
     let mut pass = pass;
     scanner.finish();
@@ -119,20 +114,14 @@ pub(crate) fn write_rest<S: Store>(
     requires plan { IsPlan plan.now }
     requires zero { sums.old.items ≡ replicate (length plan.now.pairs) 0 }
     ensures within { IfOk result (λ made. IsWithin (fields_of made.0)) }
-    ensures head { (fed : List ℕ) (before : Option Files) → IsHanded plan.now limit base.now fed before (S.files store.old) inverted.entry →
-        size ≡ length fed → IsSome (S.files store.old) →
-        IsPlanOf plan.now fed → IfOk result (λ made. fields_of made.0 ≡ head_of 2 (run_cap limit) plan.now.code fed) }
-    ensures peak { (fed : List ℕ) (before : Option Files) →
-        IsHanded plan.now limit base.now fed before (S.files store.old) inverted.entry → IsPlanOf plan.now fed →
-        IfOk result (λ made. made.1 ≡ pool_peak (length (occurrences fed)) limit) }
-    ensures stand { (fed : List ℕ) (before : Option Files) → IsHanded plan.now limit base.now fed before (S.files store.old) inverted.entry →
-        IsSome (S.files store.old) → IsPlanOf plan.now fed →
-        OnOk result (IndexStands (S.files store.new) base.now fed) }
+    ensures head { ForHanded plan.now limit base.now (S.files store.old) inverted.entry
+        (MakesHead size plan.now limit (S.files store.old) result) }
+    ensures peak { ForHanded plan.now limit base.now (S.files store.old) inverted.entry (λ fed. IsPlanOf plan.now fed → HasPeakOf limit result fed) }
+    ensures stand { ForHanded plan.now limit base.now (S.files store.old) inverted.entry
+        (MakesIndex plan.now base.now S.files store.old store.new result) }
     ensures wrote { WroteParts OfIndex base.now (S.files store.old) (S.files store.new) }
     ensures later { S.faults store.old ≤ S.faults store.new }
-    ensures refused { IfErr result (λ fault. (fed : List ℕ) (before : Option Files) →
-        IsHanded plan.now limit base.now fed before (S.files store.old) inverted.entry →
-        ListStops (Rose (S.faults store.old) (S.faults store.new)) (IsSome (S.files store.old) × IsPlanOf plan.now fed) fault) }
+    ensures refused { HandedRefused plan.now limit base.now inverted.entry S.files S.faults store.old store.new result }
 {
     let Inverted {
         text_bytes,

@@ -1,12 +1,12 @@
 //! The weights of documents, from the sums of their squared weights.
-ghost use Rattle.std.specs.Prelude.{◌≡◌, ◌++◌, ℕ, List, flat_map, OnOk, IsSome};
+ghost use Rattle.std.specs.Prelude.{◌≡◌, ◌++◌, OnOk, IsSome};
 ghost use Rattle.mg_dev.specs.Causes.{HasPutCause};
-ghost use Rattle.mg_dev.specs.Files.{bytes_at};
 ghost use Rattle.mg_dev.specs.Names.{full_name};
 ghost use Rattle.mg_dev.specs.declared.part.Part.TheVariants as part;
 ghost use Rattle.mg_bits.specs.Writer.{WroteTo, put_to};
 ghost use Rattle.mg_defs.specs.Fixed.{isqrt as root};
 ghost use Rattle.mg_defs.specs.Numbers.{four};
+ghost use Rattle.mg_make.specs.Index.{WeightsAreRoots};
 
 use mg_bits::PageWriter;
 use mg_dev::{FileRef, Part, PutErr, Store};
@@ -31,8 +31,7 @@ pub(crate) fn write_weights<S: Store>(
     base: &str,
     sums: &[u64],
 ) -> Result<(), PutErr>
-    ensures bytes { IsSome (S.files store.old) →
-        OnOk result (bytes_at (S.files store.new) (full_name base.now part.Weights) ≡ flat_map (λ sum. four (root sum)) sums.now) }
+    ensures bytes { IsSome (S.files store.old) → OnOk result (WeightsAreRoots (S.files store.new) base.now sums.now) }
     ensures wrote { WroteTo (full_name base.now part.Weights) (S.files store.old) (S.files store.new) (S.reads store.old) (S.reads store.new) }
     ensures cause { HasPutCause (S.faults store.old) (S.faults store.new) result }
 {

@@ -3,24 +3,19 @@
 //! The head is emptied first and appended last, so that whatever stops in between, the files stand for no
 //! collection. The other parts are written as the bytes come: the models at once, text and runs byte by
 //! byte, lists, lexicon and weights behind the last.
-ghost use Rattle.std.specs.Prelude.{◌≡◌, ◌⊎◌, ◌<◌, ◌≤◌, ◌-◌, ◌^◌, ◌++◌, ◌∷◌, ℕ, List, [], length, IfOk, IfErr, OnOk, Option, Some};
+ghost use Rattle.std.specs.Prelude.{◌≡◌, ◌<◌, ◌≤◌, ◌-◌, ◌^◌, ◌++◌, ◌∷◌, ℕ, List, [], length, IfOk, OnOk, Option, Some};
 ghost use Rattle.std.specs.Option.{IsSome};
-ghost use Rattle.mg_dev.specs.Causes.{HasPutCause, Rose};
-ghost use Rattle.mg_dev.specs.Files.{Files, GrewInPart, file_at, grown};
+ghost use Rattle.mg_dev.specs.Causes.{HasPutCause};
+ghost use Rattle.mg_dev.specs.Files.{Files, file_at};
 ghost use Rattle.mg_dev.specs.Names.{full_name};
 ghost use Rattle.mg_dev.specs.declared.part.Part.TheVariants as part;
-ghost use Rattle.mg_defs.specs.CodedText.{TextCode};
-ghost use Rattle.mg_defs.specs.Heads.{IsWithin, head_bytes};
-ghost use Rattle.mg_defs.specs.Occurrences.{occurrences};
-ghost use Rattle.mg_defs.specs.Stands.{head_of};
-ghost use Rattle.mg_defs.specs.Summaries.{pool_peak, run_cap};
+ghost use Rattle.mg_defs.specs.Heads.{IsWithin};
 ghost use Rattle.mg_layout.specs.HeadAnswers.{fields_of};
-ghost use Rattle.mg_layout.specs.Stands.{Stands, StandsForNone, StandsIn};
-ghost use Rattle.mg_make.specs.Listing.{ListStops};
+ghost use Rattle.mg_layout.specs.Stands.{StandsForNone, StandsIn};
 ghost use Rattle.mg_make.specs.Plans.{IsPlan, IsPlanOf, IsRoomFor};
-ghost use Rattle.mg_make.specs.Putting.{HasPut, LacksOnlyHead, IsReady, IsUnbuilt, OthersSame};
-ghost use Rattle.mg_make.specs.Summaries.{summary_of};
-ghost use Rattle.mg_make.specs.Written.{SecondStops};
+ghost use Rattle.mg_make.specs.Putting.{ForPut, GrewByHead, HasHeadOf, HasPeakOf, HasPut, IsEmptied, IsUnbuilt, MakesReady, NextRefused, OthersSame, PutRefused};
+ghost use Rattle.mg_make.specs.Putting.{StandsForNoOther, WhereHeadLacks, with_head};
+ghost use Rattle.mg_make.specs.Outcomes.{HasSummaryOf, MakesSet};
 
 use crate::plan::{Plan, Room};
 use crate::scanner::Scanner;
@@ -99,8 +94,7 @@ impl<'a> SetWriter<'a> {
         ensures head { IsSome (S.files store.old) → file_at (S.files store.new) (full_name self.old.base part.Head) ≡ Some [] }
         ensures others { OthersSame self.old.base (S.files store.old) (S.files store.new) }
         ensures later { S.faults store.old ≤ S.faults store.new }
-        ensures refused { IfErr result (λ fault. (fed more : List ℕ) → HasPut self.old (S.files store.old) fed → length (fed ++ byte ∷ more) < 2 ^ 32 →
-            SecondStops (Rose (S.faults store.old) (S.faults store.new)) (IsPlanOf self.old.plan (fed ++ byte ∷ more)) fault) }
+        ensures refused { NextRefused self.old (λ more. byte ∷ more) S.files S.faults store.old store.new result }
     {
         if self.scanner.goes_on(byte) {
             self.size += 1;
@@ -119,8 +113,7 @@ impl<'a> SetWriter<'a> {
         ensures head { IsSome (S.files store.old) → file_at (S.files store.new) (full_name self.old.base part.Head) ≡ Some [] }
         ensures others { OthersSame self.old.base (S.files store.old) (S.files store.new) }
         ensures later { S.faults store.old ≤ S.faults store.new }
-        ensures refused { IfErr result (λ fault. (fed more : List ℕ) → HasPut self.old (S.files store.old) fed → length (fed ++ byte ∷ more) < 2 ^ 32 →
-            SecondStops (Rose (S.faults store.old) (S.faults store.new)) (IsPlanOf self.old.plan (fed ++ byte ∷ more)) fault) }
+        ensures refused { NextRefused self.old (λ more. byte ∷ more) S.files S.faults store.old store.new result }
     {
         self.scanner.take(byte);
         match self.pass.take(store, self.scanner.met()) {
@@ -135,18 +128,14 @@ impl<'a> SetWriter<'a> {
     // pool.
     fn write_parts<S: Store>(self, alloc: Global, store: &mut S) -> Result<(Head, u64), Fault>
         requires put { (fed : List ℕ) × HasPut self (S.files store.old) fed × (length fed < 2 ^ 32) }
-        ensures ready { (fed : List ℕ) → IsSome (S.files store.old) → HasPut self.entry (S.files store.old) fed → IsPlanOf self.entry.plan fed →
-            OnOk result (IsReady (run_cap self.entry.limit) (S.files store.new) self.entry.base self.entry.plan.code fed) }
+        ensures ready { ForPut self.entry (S.files store.old) (MakesReady self.entry (S.files store.new) result) }
         ensures within { IfOk result (λ made. IsWithin (fields_of made.0)) }
-        ensures head { (fed : List ℕ) → IsSome (S.files store.old) → HasPut self.entry (S.files store.old) fed → IsPlanOf self.entry.plan fed →
-            IfOk result (λ made. fields_of made.0 ≡ head_of 2 (run_cap self.entry.limit) self.entry.plan.code fed) }
-        ensures peak { (fed : List ℕ) → HasPut self.entry (S.files store.old) fed → IsPlanOf self.entry.plan fed →
-            IfOk result (λ made. made.1 ≡ pool_peak (length (occurrences fed)) self.entry.limit) }
+        ensures head { ForPut self.entry (S.files store.old) (HasHeadOf self.entry.plan self.entry.limit result) }
+        ensures peak { (fed : List ℕ) → HasPut self.entry (S.files store.old) fed → IsPlanOf self.entry.plan fed → HasPeakOf self.entry.limit result fed }
         ensures gone { IsSome (S.files store.old) → file_at (S.files store.new) (full_name self.entry.base part.Head) ≡ Some [] }
         ensures others { OthersSame self.entry.base (S.files store.old) (S.files store.new) }
         ensures later { S.faults store.old ≤ S.faults store.new }
-        ensures refused { IfErr result (λ fault. (fed : List ℕ) → HasPut self.entry (S.files store.old) fed →
-            ListStops (Rose (S.faults store.old) (S.faults store.new)) (IsSome (S.files store.old) × IsPlanOf self.entry.plan fed) fault) }
+        ensures refused { PutRefused self.entry S.files S.faults store.old store.new result }
     {
         let SetWriter {
             base,
@@ -174,20 +163,14 @@ impl<'a> SetWriter<'a> {
     /// of the plan or the store does not tell its files.
     pub fn finish<S: Store>(self, alloc: Global, store: &mut S) -> Result<Summary, Fault>
         requires put { (fed : List ℕ) × HasPut self (S.files store.old) fed × (length fed < 2 ^ 32) }
-        ensures stands { (fed : List ℕ) → IsSome (S.files store.old) → HasPut self.entry (S.files store.old) fed → IsPlanOf self.entry.plan fed →
-            OnOk result (StandsIn 2 (run_cap self.entry.limit) (S.files store.new) self.entry.base fed) }
-        ensures summary { (fed : List ℕ) → IsSome (S.files store.old) → HasPut self.entry (S.files store.old) fed → IsPlanOf self.entry.plan fed →
-            IfOk result (λ summary. summary ≡ summary_of self.entry.limit fed) }
-        ensures merge_a { (fed : List ℕ) → IsSome (S.files store.old) → HasPut self.entry (S.files store.old) fed → IsPlanOf self.entry.plan fed →
-            OnOk result (file_at (S.files store.new) (full_name self.entry.base part.MergeA) ≡ Some []) }
-        ensures merge_b { (fed : List ℕ) → IsSome (S.files store.old) → HasPut self.entry (S.files store.old) fed → IsPlanOf self.entry.plan fed →
-            OnOk result (file_at (S.files store.new) (full_name self.entry.base part.MergeB) ≡ Some []) }
-        ensures left { (fed : List ℕ) → IsSome (S.files store.old) → HasPut self.entry (S.files store.old) fed → IsPlanOf self.entry.plan fed →
-            StandsForNone (S.files store.new) self.entry.base ⊎ Stands (S.files store.new) self.entry.base fed }
+        ensures stands { ForPut self.entry (S.files store.old) (MakesSet self.entry.limit (S.files store.new) self.entry.base result) }
+        ensures summary { ForPut self.entry (S.files store.old) (HasSummaryOf self.entry.limit result) }
+        ensures merge_a { ForPut self.entry (S.files store.old) (λ fed. OnOk result (IsEmptied (S.files store.new) self.entry.base part.MergeA)) }
+        ensures merge_b { ForPut self.entry (S.files store.old) (λ fed. OnOk result (IsEmptied (S.files store.new) self.entry.base part.MergeB)) }
+        ensures left { ForPut self.entry (S.files store.old) (StandsForNoOther (S.files store.new) self.entry.base) }
         ensures others { OthersSame self.entry.base (S.files store.old) (S.files store.new) }
         ensures later { S.faults store.old ≤ S.faults store.new }
-        ensures refused { IfErr result (λ fault. (fed : List ℕ) → HasPut self.entry (S.files store.old) fed →
-            ListStops (Rose (S.faults store.old) (S.faults store.new)) (IsSome (S.files store.old) × IsPlanOf self.entry.plan fed) fault) }
+        ensures refused { PutRefused self.entry S.files S.faults store.old store.new result }
     {
         let base = self.base;
         let limit = self.limit;
@@ -210,8 +193,8 @@ pub fn empty_heads_stand_for_none()
 /// Parts that are ready stand for their collection once their head is appended; with no more than a part of it
 /// they stand for none, or for this one.
 pub fn heads_make_sets()
-    ensures whole { (base collection : List ℕ) (cap : ℕ) (code : TextCode) (before now : Option Files) → LacksOnlyHead base collection cap code before →
-        now ≡ grown before (full_name base part.Head) (head_bytes (head_of 2 cap code collection)) → StandsIn 2 cap now base collection }
-    ensures left { (base collection : List ℕ) (cap : ℕ) (code : TextCode) (before now : Option Files) → LacksOnlyHead base collection cap code before →
-        GrewInPart before now (full_name base part.Head) (head_bytes (head_of 2 cap code collection)) → StandsForNone now base ⊎ Stands now base collection }
+    ensures whole { WhereHeadLacks (λ base collection cap code before now. now ≡ with_head before base cap code collection →
+        StandsIn 2 cap now base collection) }
+    ensures left { WhereHeadLacks (λ base collection cap code before now. GrewByHead before now base cap code collection →
+        StandsForNoOther now base collection) }
 {}

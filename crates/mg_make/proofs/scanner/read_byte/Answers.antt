@@ -1,5 +1,5 @@
 use Rattle.std.proofs.Common.{ap, [], ◌∷◌, ◌∙◌}
-use Rattle.mg_defs.specs.Pieces.{Reading}
+use Rattle.mg_defs.specs.Pieces.{OpenPiece}
 use Rattle.mg_make.specs.Meeting.{Meeting, marks_of}
 use Rattle.mg_make.proofs.Scans.{met-one, met-two, read-at_once, read-one_ended, read-two_ended, turned}
 use Rattle.mg_make.proofs.scanner.read_byte.Goals as goal
@@ -9,7 +9,7 @@ returns-in-Taken c = record { met = ([], read-at_once _ _ _ c.in-Taken.ensures.o
 
 pub returns-in-Taken-offer : goal.returns-in-Taken-offer
 returns-in-Taken-offer c =
-    let old : Reading = c.args.reader.now in
+    let old : OpenPiece = c.args.reader.now in
     let ended = c.in-Ended.ensures.offered in
     record {
       met = (
@@ -21,7 +21,7 @@ returns-in-Taken-offer c =
 
 pub returns : goal.returns
 returns c =
-    let old : Reading = c.args.reader.now in
+    let old : OpenPiece = c.args.reader.now in
     let ended = c.in-Ended.ensures.offered in
     let again = c.in-Ended-offer.ensures.offered in
     record {

@@ -1,7 +1,7 @@
 use Rattle.std.proofs.Common.{arith, ◌≡◌, ◌∙◌, ◌≤◌, ℕ, List, IsSome, ap, length, refl, rules, subst, sym, ◌^◌, ◌<◌}
 use Rattle.std.proofs.lemmas.List.{length-map}
 use Rattle.mg_defs.specs.declared.Stream.TheVariants.{Others, Words}
-use Rattle.mg_defs.specs.CodedText.{text_of}
+use Rattle.mg_defs.specs.CodedText.{text_part}
 use Rattle.mg_defs.specs.Heads.{run_count}
 use Rattle.mg_defs.specs.Occurrences.{occurrences}
 use Rattle.mg_defs.specs.Parse.{parse}
@@ -61,7 +61,7 @@ returns-clause-head g c = λ fed before handed size told plan_of.
     let count : c.args.inverted.occurrences ≡ length (occurrences fed) = handed_count plan c.args.limit c.args.base.now fed before _ c.args.inverted handed ∙ ap length (planned_occurrences plan fed plan_of) in
     let runs : c.runs.result ≡ run_count (length (occurrences fed)) (run_cap c.args.limit)
     = c.runs.ensures ∙ c.in-Ok.ensures.same.runs ∙ handed_runs plan c.args.limit c.args.base.now fed before _ c.args.inverted handed ∙ ap (λ n. run_count n (run_cap c.args.limit)) count in
-    let text : c.args.inverted.text_bytes ≡ length (text_of plan.code fed) = handed_text plan c.args.limit c.args.base.now fed before _ c.args.inverted handed c.text_has_its_documents.ensures.text plan_of in
+    let text : c.args.inverted.text_bytes ≡ length (text_part plan.code fed) = handed_text plan c.args.limit c.args.base.now fed before _ c.args.inverted handed c.text_has_its_documents.ensures.text plan_of in
     let post : c.in-Ok.sizes.post_bytes ≡ length (post_part fed) = c.in-Ok.ensures.post_bytes fed lists in
     let skip : c.in-Ok.sizes.skip_count ≡ skip_count fed = c.in-Ok.ensures.skip_count fed lists in
     same_heads _ _ refl documents words others terms refl end size count runs text post skip
