@@ -9,7 +9,8 @@ use Rattle.mg_dev.specs.declared.fault.Fault.{Fault}
 use Rattle.mg_dev.specs.declared.fault.Fault.TheVariants as cause
 use Rattle.mg_dev.specs.declared.part.Part.TheVariants as part
 use Rattle.mg_defs.specs.declared.Stream.{Stream}
-use Rattle.mg_defs.specs.Limits.{IsWithinLimits, version_2}
+use Rattle.mg_defs.specs.Limits.{version_2}
+use Rattle.mg_defs.specs.WithinLimits.{IsWithinLimits}
 use Rattle.mg_defs.specs.Marks.{Mark, PassesFirst, piece, start}
 use Rattle.mg_defs.specs.Split.{documents}
 use Rattle.mg_defs.specs.TextBits.{text_bits}

@@ -10,7 +10,8 @@ use Rattle.mg_dev.specs.declared.part.Part.TheVariants as part
 use Rattle.mg_dev.specs.declared.fault.Fault.{Fault}
 use Rattle.mg_dev.specs.declared.fault.Fault.TheVariants.{NoCollection, TooLarge, TooManyDocuments, TooManyPieces, NameClash}
 use Rattle.mg_defs.specs.declared.Stream.{Stream}
-use Rattle.mg_defs.specs.Limits.{IsWithinLimits, version_2}
+use Rattle.mg_defs.specs.Limits.{version_2}
+use Rattle.mg_defs.specs.WithinLimits.{IsWithinLimits}
 use Rattle.mg_defs.specs.Marks.{PassesFirst, start, piece}
 use Rattle.mg_defs.specs.Split as split
 use Rattle.mg_defs.specs.Summaries.{run_cap}

@@ -7,8 +7,8 @@ use Rattle.mg_dev.specs.Laws.{same_part_of_name}
 use Rattle.mg_dev.specs.Names.{full_name, number}
 use Rattle.mg_dev.specs.declared.part.Part.{Part}
 use Rattle.mg_dev.specs.declared.part.Part.TheVariants.{Head, Lex, LexAt, MergeA, MergeB, Nonwords, Places, Plain, Post, Run, Skip, Text, Weights, Words}
-use Rattle.mg_defs.specs.CodedText.{TextCode, places_of}
-use Rattle.mg_defs.specs.Limits.{IsWithinLimits}
+use Rattle.mg_defs.specs.CodedText.{TextCode, places_part}
+use Rattle.mg_defs.specs.WithinLimits.{IsWithinLimits}
 use Rattle.mg_defs.specs.Stands.{AreParts, Parts}
 use Rattle.mg_layout.specs.Stands.{SameSet, StandsBy, parts_at}
 use Rattle.mg_layout.specs.declared.head.Head as layout
@@ -118,7 +118,7 @@ wider_limits version collection (inr is) within = subst (λ v. IsWithinLimits v 
 -- ---- all parts but the head
 
 module _ (name new : List ℕ) (head : layout.Head) (code : TextCode) (collection : List ℕ) (emptied placed now : Option Files) (stands : StandsBy head code placed name collection) (told : IsSome now) (empty : AreEmptied emptied new)
-    (alone : ChangedAlone (full_name new Places) emptied placed) (places_are : bytes_at placed (full_name new Places) ≡ places_of 2 code collection) (copied : AreCopied name new placed now)
+    (alone : ChangedAlone (full_name new Places) emptied placed) (places_are : bytes_at placed (full_name new Places) ≡ places_part 2 code collection) (copied : AreCopied name new placed now)
     (kept : (p : Part) → IsMadeAnew p → file_at now (full_name new p) ≡ file_at placed (full_name new p)) where
   still : (p : Part) → IsMadeAnew p → p ≢ Places → file_at now (full_name new p) ≡ file_at emptied (full_name new p)
   still p is apart = kept p is ∙ part_stays new Places p emptied placed apart alone

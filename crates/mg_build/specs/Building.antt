@@ -1,16 +1,24 @@
 -- Why a build stops, and what it leaves.
-use Rattle.std.specs.Prelude.{◌≡◌, ◌≢◌, ◌<◌, ℕ, List, length, None}
+use Rattle.std.specs.Prelude.{◌≡◌, ◌≢◌, ◌<◌, ◌≤◌, ◌+◌, ◌/◌, ℕ, List, length, None, Some}
 use Rattle.std.specs.Option.{IsSome}
 use Rattle.std.specs.declared.option.Option.{Option}
+use Rattle.std.specs.declared.result.Result.{Result}
 use Rattle.mg_dev.specs.declared.part.Part.TheVariants.{Plain}
+use Rattle.mg_dev.specs.declared.part.Part.TheVariants as part
 use Rattle.mg_dev.specs.Files.{Files, bytes_at, file_at}
 use Rattle.mg_dev.specs.Names.{full_name}
+use Rattle.mg_dev.specs.Runs.{RefusedFor}
 use Rattle.mg_dev.specs.declared.fault.Fault.{Fault}
 use Rattle.mg_dev.specs.declared.fault.Fault.TheVariants.{Changed, Damaged, Memory, NameClash, NoCollection, StoreFault, TooLarge, TooManyDocuments, TooManyPieces}
+use Rattle.mg_defs.specs.declared.Stream.{Stream}
 use Rattle.mg_defs.specs.Limits.{version_2}
 use Rattle.mg_defs.specs.Marks.{PassesFirst, piece, start}
+use Rattle.mg_defs.specs.Split.{documents}
+use Rattle.mg_defs.specs.TextBits.{text_bits}
 use Rattle.mg_make.specs.Plans.{IsPlanOf, Plan}
+use Rattle.mg_make.specs.Putting.{IsApart}
 use Rattle.mg_make.specs.Outcomes.{most_bytes}
+use Rattle.mg_build.specs.Sources.{Sourcing}
 
 -- the store tells its files, this one has so many bytes, and the plan is that of these
 pub record IsPlanFor (plan : Plan) (files : Option Files) (name : List ℕ) (size : ℕ) : Type 0 where
@@ -45,5 +53,35 @@ BuildStops store_rose files name base TooManyDocuments = IsSome files → Passes
 BuildStops store_rose files name base (TooManyPieces stream) = IsSome files → (bytes : List ℕ) × PassesFirst version_2 (bytes_at files name) (piece stream bytes)
 BuildStops store_rose files name base (Changed what first second) = (first ≢ second) × (IsSome files → ⊥)
 BuildStops store_rose files name base Memory = Unit {0}
-BuildStops store_rose files name base (NameClash part) = (part ≢ Plain) × (name ≡ full_name base part)
+BuildStops store_rose files name base (NameClash p) = (p ≢ Plain) × (name ≡ full_name base p)
 BuildStops store_rose files name base _ = ⊥
+
+-- ---- words for its contracts
+
+-- refused where there is no file of this name
+abbrev pub RefusesNoFile : {T : Type 0} → Option Files → List ℕ → Result T Fault → Type 0
+RefusesNoFile files name result = file_at files name ≡ None → RefusedFor result NoCollection
+
+-- the part of the text of a base has no more bytes than the bits of a collection and one for each document
+abbrev pub TextIsShort : Option Files → List ℕ → List ℕ → Type 0
+TextIsShort files base collection = length (bytes_at files (full_name base part.Text)) ≤ text_bits collection / 8 + length (documents collection)
+
+-- this is so of the bytes of the file of this name, if that is no part of a set of this base
+abbrev pub ForFile : Option Files → List ℕ → List ℕ → (List ℕ → Type 0) → Type 0
+ForFile files name base holds = (bytes : List ℕ) → file_at files name ≡ Some bytes → IsApart base name → holds bytes
+
+-- and it is so with each piece
+abbrev pub ForFileAndPiece : Option Files → List ℕ → List ℕ → (List ℕ → Stream → List ℕ → Type 0) → Type 0
+ForFileAndPiece files name base holds = (bytes : List ℕ) (stream : Stream) (word : List ℕ) → file_at files name ≡ Some bytes → IsApart base name → holds bytes stream word
+
+-- the plan is that of the bytes of a source, of which there are as many as when it was opened
+abbrev pub IsPlanAt : Plan → Option Files → Sourcing → Type 0
+IsPlanAt plan files source = IsPlanFor plan files source.feed.name source.size
+
+-- if the plan is that of the bytes of a source, this is so of them
+abbrev pub IfPlanned : Plan → Option Files → Sourcing → (List ℕ → Type 0) → Type 0
+IfPlanned plan files source holds = IsPlanAt plan files source → holds (bytes_at files source.feed.name)
+
+-- the file of a source has as many bytes as when it was opened
+abbrev pub HasItsSize : Option Files → Sourcing → Type 0
+HasItsSize files source = length (bytes_at files source.feed.name) ≡ source.size

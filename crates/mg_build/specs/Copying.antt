@@ -1,12 +1,18 @@
 -- Parts of one base that are made from those of another.
-use Rattle.std.specs.Prelude.{◌≡◌, ◌≢◌, ◌<◌, ◌*◌, ◌^◌, ℕ, List, length, take, drop}
+use Rattle.std.specs.Prelude.{◌≡◌, ◌≢◌, ◌<◌, ◌*◌, ◌^◌, ◌++◌, ℕ, List, length, take, drop, OnOk, Some}
 use Rattle.std.specs.List.{All, flat_map}
-use Rattle.std.specs.Option.{is_some}
+use Rattle.std.specs.Option.{IsSome, is_some}
 use Rattle.std.specs.declared.option.Option.{Option}
-use Rattle.mg_dev.specs.Files.{Files, file_at}
+use Rattle.std.specs.declared.result.Result.{Result}
+use Rattle.mg_dev.specs.Files.{Files, bytes_at, file_at}
+use Rattle.mg_dev.specs.Names.{full_name}
+use Rattle.mg_dev.specs.declared.file_ref.FileRef.{FileRef}
+use Rattle.mg_dev.specs.declared.part.Part.TheVariants.{Places}
 use Rattle.mg_dev.specs.declared.fault.Fault.{Fault}
 use Rattle.mg_dev.specs.declared.fault.Fault.TheVariants.{Damaged, Memory, StoreFault}
-use Rattle.mg_defs.specs.Numbers.{four}
+use Rattle.mg_bits.specs.Writer.{Writing, put_to}
+use Rattle.mg_defs.specs.Numbers.{eight, four}
+use Rattle.mg_model.specs.Loading.{file_bytes}
 
 -- no file but the one of this name changed
 pub record ChangedAlone (name : List ℕ) (before now : Option Files) : Type 0 where
@@ -30,3 +36,34 @@ pub record AreNarrow (numbers bytes : List ℕ) (count : ℕ) : Type 0 where
 pub record HasFour (bytes : List ℕ) (index number : ℕ) : Type 0 where
   pub small : number < 2 ^ 32
   pub here : take 4 (drop (4 * index) bytes) ≡ four number
+
+-- ---- words for contracts
+
+-- so many bytes of one file, from a place on, were added to another
+abbrev pub HasCopied : FileRef → FileRef → ℕ → Option Files → Option Files → ℕ → Type 0
+HasCopied from to at files files_now count =
+    file_at files_now (full_name to.base.now to.part) ≡ Some (file_bytes to files ++ take count (drop at (file_bytes from files)))
+
+-- the eight bytes of a number were put
+abbrev pub PutsEight : {T E : Type 0} → Writing → Writing → Option Files → Option Files → Result T E → ℕ → Type 0
+PutsEight w w_now files files_now result number = OnOk result (put_to w_now files_now ≡ put_to w files ++ eight number)
+
+-- where the store tells its files, this is so of the number whose four bytes stand at an index of a file
+abbrev pub ForNumberAt : Option Files → List ℕ → ℕ → (ℕ → Type 0) → Type 0
+ForNumberAt files name index holds = IsSome files → (number : ℕ) → HasFour (bytes_at files name) index number → holds number
+
+-- the store tells its files, and there is such a number
+abbrev pub HasSomeFour : Option Files → List ℕ → ℕ → Type 0
+HasSomeFour files name index = IsSome files × (number : ℕ) × HasFour (bytes_at files name) index number
+
+-- where the store tells its files, this is so of the numbers, so many, whose four bytes each the places of a base are
+abbrev pub ForNarrow : Option Files → List ℕ → ℕ → (List ℕ → Type 0) → Type 0
+ForNarrow files base count holds = IsSome files → (numbers : List ℕ) → AreNarrow numbers (bytes_at files (full_name base Places)) count → holds numbers
+
+-- the store tells its files, and there are such numbers
+abbrev pub AreSomeNarrow : Option Files → List ℕ → ℕ → Type 0
+AreSomeNarrow files base count = IsSome files × (numbers : List ℕ) × AreNarrow numbers (bytes_at files (full_name base Places)) count
+
+-- the places of a base are these numbers in eight bytes each
+abbrev pub AreWide : Option Files → List ℕ → List ℕ → Type 0
+AreWide files base numbers = bytes_at files (full_name base Places) ≡ flat_map eight numbers

@@ -1,15 +1,19 @@
 -- What a run of `decode NAME` does.
 use Rattle.std.specs.Prelude.{◌≡◌, ◌⊎◌, ◌≤◌, ℕ, List, [], IsSome}
-use Rattle.mg_dev.specs.Files.{bytes_at}
+use Rattle.std.specs.declared.option.Option.{Option}
+use Rattle.std.specs.declared.result.Result.{Result}
+use Rattle.mg_dev.specs.Files.{Files, Reads, bytes_at}
+use Rattle.mg_dev.specs.Moments.{SinkAt, SourceAt, sink_at, store_at}
 use Rattle.mg_dev.specs.Names.{full_name, number}
 use Rattle.mg_dev.specs.Streams.{appended, GrewByPrefix}
 use Rattle.mg_dev.specs.declared.part.Part.{Part}
 use Rattle.mg_dev.specs.declared.part.Part.TheVariants as part
+use Rattle.mg_dev.specs.declared.fault.Fault.{Fault}
 use Rattle.mg_dev.specs.declared.fault.Fault.TheVariants.{NotBuilt, Memory}
 use Rattle.mg_dev.specs.declared.status.Status.TheVariants.{Done}
 use Rattle.mg_layout.specs.Stands.{Stands}
 use Rattle.mg_build.specs.Outcomes.{DecodeStops}
-use Rattle.mg_dev.specs.Runs.{IfStopped, Run, StoreFailed, OutputFailed, SaysNothing, KeepsFiles, Stops, StopsUnless}
+use Rattle.mg_dev.specs.Runs.{IfStopped, Run, StoreFailed, OutputFailed, SaysNothing, KeepsFiles, Stops, StopsUnless, status_of}
 
 -- of each collection that the files of this name stand for
 pub record Decoded (base : List ℕ) (run : Run) : Type 0 where
@@ -29,3 +33,17 @@ pub record Decoded (base : List ℕ) (run : Run) : Type 0 where
   pub files : KeepsFiles run
   pub reads : (p : Part) → 5 ≤ number p → run.store_now.reads p ≡ run.store.reads p
   pub input : run.input_now ≡ run.input
+
+-- a run that ends with this answer decodes, by what the store and the sink tell before the call and after it, whatever its input is, which is not read, and its error output
+abbrev pub DecodesSet : {X Y T : Type 0} → List ℕ → (X → Option Files) → (X → Reads) → (X → ℕ) → X → X → (Y → Option (List ℕ)) → (Y → ℕ) → (Y → ℕ) → Y → Y → Result T Fault → Type 0
+DecodesSet base files reads faults store store_now written failures lacks out out_now result = (input : SourceAt) (err err_now : SinkAt) → Decoded base (record {
+  store = store_at files reads faults store;
+  store_now = store_at files reads faults store_now;
+  input = input;
+  input_now = input;
+  out = sink_at written failures lacks out;
+  out_now = sink_at written failures lacks out_now;
+  err = err;
+  err_now = err_now;
+  status = status_of result;
+})

@@ -1,16 +1,18 @@
 -- Sets that are made anew in version 2.
-use Rattle.std.specs.Prelude.{◌≡◌, ℕ, List, [], ◌∷◌, slice_index_or, Some}
+use Rattle.std.specs.Prelude.{◌≡◌, ℕ, List, [], ◌∷◌, slice_index_or, OnOk, Some}
 use Rattle.std.specs.Option.{IsSome}
 use Rattle.std.specs.declared.option.Option.{Option}
+use Rattle.std.specs.declared.result.Result.{Result}
 use Rattle.mg_dev.specs.Files.{Files, bytes_at, file_at}
 use Rattle.mg_dev.specs.Names.{full_name}
 use Rattle.mg_dev.specs.declared.fault.Fault.{Fault}
 use Rattle.mg_dev.specs.declared.fault.Fault.TheVariants.{Damaged, Memory, NotBuilt, SameName, StoreFault}
 use Rattle.mg_dev.specs.declared.part.Part.{Part}
 use Rattle.mg_dev.specs.declared.part.Part.TheVariants.{Head, Lex, LexAt, MergeA, MergeB, Nonwords, Places, Post, Run, Skip, Text, Weights, Words}
-use Rattle.mg_defs.specs.CodedText.{TextCode}
-use Rattle.mg_layout.specs.Stands.{StandsBy, StandsForNone}
+use Rattle.mg_defs.specs.CodedText.{TextCode, places_part}
+use Rattle.mg_layout.specs.Stands.{StandsBy, StandsForNone, StandsIn}
 use Rattle.mg_layout.specs.declared.head.Head as layout
+use Rattle.mg_make.specs.Putting.{LacksOnlyHead}
 
 -- the parts that are the same in both versions, by an index
 abbrev pub copied_part : ℕ → Part
@@ -64,3 +66,21 @@ abbrev pub ComesFirst : Fault → Type 0
 ComesFirst SameName = Unit {0}
 ComesFirst NotBuilt = Unit {0}
 ComesFirst _ = ⊥
+
+-- ---- words for contracts
+
+-- a base has no head, or an empty one
+abbrev pub HasNoHead : Option Files → List ℕ → Type 0
+HasNoHead files base = bytes_at files (full_name base Head) ≡ []
+
+-- this is so of each collection that the files of a base stand for, in either version, and of its cap
+abbrev pub ForSetIn : Option Files → List ℕ → (ℕ → List ℕ → Type 0) → Type 0
+ForSetIn files base holds = (version cap : ℕ) (collection : List ℕ) → StandsIn version cap files base collection → holds cap collection
+
+-- when it is done, only the head of a base is to come
+abbrev pub ReadyForHead : {T E : Type 0} → List ℕ → ℕ → Option Files → Result T E → TextCode → List ℕ → Type 0
+ReadyForHead base cap files result code collection = OnOk result (LacksOnlyHead base collection cap code files)
+
+-- the places of a base are those of a collection in version 2
+abbrev pub HasWidePlaces : Option Files → List ℕ → TextCode → List ℕ → Type 0
+HasWidePlaces files base code collection = bytes_at files (full_name base Places) ≡ places_part 2 code collection

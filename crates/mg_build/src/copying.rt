@@ -1,10 +1,11 @@
 //! A part of one base made from that of another: copied, or with wider numbers.
-ghost use Rattle.std.specs.Prelude.{◌≡◌, ◌≢◌, ◌≤◌, ◌<◌, ◌++◌, IfErr, IfOk, OnOk, IsSome, Some, length, take, drop};
+ghost use Rattle.std.specs.Prelude.{◌≡◌, ◌≢◌, ◌≤◌, ◌<◌, IfErr, IfOk, OnOk, IsSome, length};
 ghost use Rattle.mg_dev.specs.Causes.{Rose};
-ghost use Rattle.mg_dev.specs.Files.{bytes_at, file_at};
 ghost use Rattle.mg_dev.specs.Names.{full_name};
 ghost use Rattle.mg_dev.specs.declared.part.Part.TheVariants.{Plain};
-ghost use Rattle.mg_build.specs.Copying.{ChangedAlone, CopyStops};
+ghost use Rattle.mg_model.specs.Loading.{file_bytes};
+ghost use Rattle.mg_build.specs.Copying.{ChangedAlone, CopyStops, HasCopied};
+ghost use Rattle.mg_build.specs.Migrating.{IsCopied};
 
 use mg_dev::{Bad, Fault, FileRef, Part, Store};
 
@@ -19,11 +20,8 @@ fn copy_block<S: Store>(
 ) -> Result<u64, Fault>
     requires room { 1 ≤ length block.old }
     requires rest { 1 ≤ rest }
-    ensures bytes { IsSome (S.files store.old) → IfOk result (λ n. file_at (S.files store.new) (full_name to.now.base.now to.now.part) ≡
-        Some (bytes_at (S.files store.old) (full_name to.now.base.now to.now.part) ++ take n
-        (drop at (bytes_at (S.files store.old) (full_name from.now.base.now from.now.part))))) }
-    ensures some { IsSome (S.files store.old) →
-        at < length (bytes_at (S.files store.old) (full_name from.now.base.now from.now.part)) → IfOk result (λ n. 1 ≤ n) }
+    ensures bytes { IsSome (S.files store.old) → IfOk result (λ n. HasCopied from.now to.now at (S.files store.old) (S.files store.new) n) }
+    ensures some { IsSome (S.files store.old) → at < length (file_bytes from.now (S.files store.old)) → IfOk result (λ n. 1 ≤ n) }
     ensures within { IfOk result (λ n. n ≤ rest) }
     ensures alone { ChangedAlone (full_name to.now.base.now to.now.part) (S.files store.old) (S.files store.new) }
     ensures room { length block.new ≡ length block.old }
@@ -52,8 +50,7 @@ pub(crate) fn copy_part<S: Store>(
     requires apart { new.now ≢ name.now }
     requires own { part ≢ Plain }
     requires room { 1 ≤ length block.old }
-    ensures copied { IsSome (S.files store.old) →
-        OnOk result (bytes_at (S.files store.new) (full_name new.now part) ≡ bytes_at (S.files store.old) (full_name name.now part)) }
+    ensures copied { IsSome (S.files store.old) → OnOk result (IsCopied name.now new.now (S.files store.old) (S.files store.new) part) }
     ensures alone { ChangedAlone (full_name new.now part) (S.files store.old) (S.files store.new) }
     ensures room { length block.new ≡ length block.old }
     ensures refused { IfErr result (CopyStops (Rose (S.faults store.old) (S.faults store.new)) (IsSome (S.files store.old))) }

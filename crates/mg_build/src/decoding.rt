@@ -2,19 +2,19 @@
 ghost use Rattle.std.specs.Prelude.{◌≡◌, ◌⊎◌, ◌≤◌, ◌^◌, ℕ, List, [], IfErr, IsSome, Err};
 ghost use Rattle.mg_dev.specs.Causes.{Rose};
 ghost use Rattle.mg_dev.specs.Files.{bytes_at};
-ghost use Rattle.mg_dev.specs.Moments.{SinkAt, SourceAt};
 ghost use Rattle.mg_dev.specs.Names.{full_name, number};
-ghost use Rattle.mg_dev.specs.Runs.{IsDone, RefusedFor, status_of};
+ghost use Rattle.mg_dev.specs.Runs.{RefusedFor};
 ghost use Rattle.mg_dev.specs.Streams.{AfterPut};
 ghost use Rattle.mg_dev.specs.declared.fault.Fault.TheVariants as fault;
 ghost use Rattle.mg_dev.specs.declared.part.Part.{Part as AnyPart};
 ghost use Rattle.mg_dev.specs.declared.part.Part.TheVariants as part;
-ghost use Rattle.mg_defs.specs.CodedText.{TextCode};
-ghost use Rattle.mg_layout.specs.Stands.{Stands, StandsBy};
+ghost use Rattle.mg_layout.specs.Stands.{Stands};
 ghost use Rattle.mg_text.specs.Decoding.{Added};
 ghost use Rattle.mg_text.specs.Reading.{ShowIsNotBad};
-ghost use Rattle.mg_build.specs.Decoded.{Decoded};
-ghost use Rattle.mg_build.specs.Outcomes.{DecodeStops, ShowStops};
+ghost use Rattle.mg_make.specs.Each.{ForEach};
+ghost use Rattle.mg_make.specs.Outcomes.{Fails, ForSetBy};
+ghost use Rattle.mg_build.specs.Decoded.{DecodesSet};
+ghost use Rattle.mg_build.specs.Outcomes.{DecodeStops, DoneUnlessFails, ShowRefused};
 
 use crate::documents::show_documents;
 use mg_dev::{Fault, PartErr, ShowErr, Sink, Store};
@@ -34,17 +34,7 @@ pub fn decode<S: Store, O: Sink>(
     out: &mut O,
 ) -> Result<(), Fault>
     // What a run does that decodes, whatever its input is, which is not read, and its error output.
-    ensures decoded { (input : SourceAt) (err err_now : SinkAt) → Decoded base.now (record {
-      store = record { files = S.files store.old; reads = S.reads store.old; faults = S.faults store.old };
-      store_now = record { files = S.files store.new; reads = S.reads store.new; faults = S.faults store.new };
-      input = input;
-      input_now = input;
-      out = record { written = O.written out.old; faults = O.faults out.old; lacks = O.lacks out.old };
-      out_now = record { written = O.written out.new; faults = O.faults out.new; lacks = O.lacks out.new };
-      err = err;
-      err_now = err_now;
-      status = status_of result;
-    }) }
+    ensures decoded { DecodesSet base.now S.files S.reads S.faults store.old store.new O.written O.faults O.lacks out.old out.new result }
     // Whatever the files hold, bytes are only added.
     ensures added { Added (O.written out.old) (O.written out.new) (O.faults out.old) (O.faults out.new) (O.lacks out.old) (O.lacks out.new) }
     // At want of memory nothing was written, unless it was the sink that lacked it.
@@ -68,12 +58,11 @@ fn decode_files<S: Store, O: Sink>(
     ensures added { Added (O.written out.old) (O.written out.new) (O.faults out.old) (O.faults out.new) (O.lacks out.old) (O.lacks out.new) }
     ensures silent { result ≡ Err fault.NotBuilt → O.written out.new ≡ O.written out.old }
     // The cause of each refusal.
-    ensures cause { IfErr result
-        (DecodeStops (Rose (S.faults store.old) (S.faults store.new)) (Rose (O.faults out.old) (O.faults out.new)) (S.files store.old) base.now) }
+    ensures cause { IfErr result (DecodeStops (Fails S.faults store.old store.new) (Fails O.faults out.old out.new) (S.files store.old) base.now) }
     ensures not_built { IsSome (S.files store.old) → bytes_at (S.files store.old) (full_name base.now part.Head) ≡ [] → RefusedFor result fault.NotBuilt }
     ensures memory { result ≡ Err fault.Memory → (O.written out.new ≡ O.written out.old) ⊎ Rose (O.lacks out.old) (O.lacks out.new) }
-    ensures complete { (collection : List ℕ) → Stands (S.files store.old) base.now collection → ¬ Rose (S.faults store.old) (S.faults store.new) →
-        ¬ Rose (O.faults out.old) (O.faults out.new) → IsDone result }
+    ensures complete { ForEach (Stands (S.files store.old) base.now)
+        (λ _. DoneUnlessFails S.faults store.old store.new O.faults out.old out.new result) }
     // No file changes, and of the parts only the head, the models, the text and its places are read.
     ensures files { S.files store.new ≡ S.files store.old }
     ensures reads { (p : AnyPart) → 5 ≤ number p → S.reads store.new p ≡ S.reads store.old p }
@@ -103,12 +92,10 @@ fn show_set<S: Store, O: Sink>(
 ) -> Result<(), ShowErr>
     requires words { head.now.words ≤ 2 ^ 22 }
     requires others { head.now.others ≤ 2 ^ 22 }
-    ensures content { (code : TextCode) (collection : List ℕ) → StandsBy head.now code (S.files store.old) base.now collection →
-        AfterPut (O.written out.old) (O.written out.new) collection result }
-    ensures never_bad { (code : TextCode) (collection : List ℕ) → StandsBy head.now code (S.files store.old) base.now collection → ShowIsNotBad result }
+    ensures content { ForSetBy head.now (S.files store.old) base.now (λ _ collection. AfterPut (O.written out.old) (O.written out.new) collection result) }
+    ensures never_bad { ForSetBy head.now (S.files store.old) base.now (λ _ _. ShowIsNotBad result) }
     ensures added { Added (O.written out.old) (O.written out.new) (O.faults out.old) (O.faults out.new) (O.lacks out.old) (O.lacks out.new) }
-    ensures cause { ShowStops result (O.written out.old) (O.written out.new) (S.faults store.old) (S.faults store.new) (O.faults out.old) (O.faults out.new)
-        (O.lacks out.old) (O.lacks out.new) }
+    ensures cause { ShowRefused S.faults store.old store.new O.written O.faults O.lacks out.old out.new result }
     ensures files { S.files store.new ≡ S.files store.old }
     ensures reads { (p : AnyPart) → 5 ≤ number p → S.reads store.new p ≡ S.reads store.old p }
     ensures later { S.faults store.old ≤ S.faults store.new }

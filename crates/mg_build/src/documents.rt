@@ -1,13 +1,13 @@
 //! All documents of a text, one after the other.
-ghost use Rattle.std.specs.Prelude.{◌≡◌, ◌+◌, ◌-◌, ◌≤◌, ◌++◌, ℕ, List, [], Option, get_or};
+ghost use Rattle.std.specs.Prelude.{◌≡◌, ◌+◌, ◌-◌, ◌≤◌, ℕ, List, []};
+ghost use Rattle.mg_dev.specs.Moments.{Between};
 ghost use Rattle.mg_dev.specs.Streams.{AfterPut};
 ghost use Rattle.mg_dev.specs.declared.part.Part.TheVariants as part;
 ghost use Rattle.mg_dev.specs.Faults.{show_of_put};
-ghost use Rattle.mg_defs.specs.Split.{documents, has_open_end};
 ghost use Rattle.mg_front.specs.Reading.{LookedAt};
-ghost use Rattle.mg_text.specs.Decoding.{Added, Gathers, IsShowCaused, Shown};
+ghost use Rattle.mg_text.specs.Decoding.{Added, IsShowCaused};
 ghost use Rattle.mg_text.specs.Reading.{SameText, ShowIsNotBad, TextFits, TextStands};
-ghost use Rattle.mg_build.specs.Documents.{close, is_closed};
+ghost use Rattle.mg_build.specs.Documents.{IfShown, ForTextEnding, GathersClosed, is_closed};
 
 use mg_dev::{PutErr, ShowErr, Sink, Store};
 use mg_text::{ShowBuffer, TextReader};
@@ -40,11 +40,9 @@ fn gather_closed<S: Store, O: Sink>(
     requires within { number ≤ reader.old.documents }
     ensures fits { TextFits reader.new (S.files store.new) }
     ensures same { SameText reader.old reader.new }
-    ensures looked { LookedAt part.Text part.Places (S.files store.old) (S.files store.new) (S.reads store.old) (S.reads store.new)
-        (S.faults store.old) (S.faults store.new) }
-    ensures content { (collection : List ℕ) (before : Option (List ℕ)) (bytes : List ℕ) → TextStands reader.old (S.files store.old) collection →
-        Shown before (O.written out.old) buffer.old bytes →
-        Gathers result before (O.written out.new) buffer.new (bytes ++ (get_or (documents collection) (number - 1) [] ++ close closed)) }
+    ensures looked { Between S.files S.reads S.faults store.old store.new (LookedAt part.Text part.Places) }
+    ensures content { IfShown reader.old (S.files store.old) (O.written out.old) buffer.old
+        (GathersClosed number closed (O.written out.new) buffer.new result) }
     ensures never_bad { (collection : List ℕ) → TextStands reader.old (S.files store.old) collection → ShowIsNotBad result }
     ensures added { Added (O.written out.old) (O.written out.new) (O.faults out.old) (O.faults out.new) (O.lacks out.old) (O.lacks out.new) }
     ensures cause { IsShowCaused result (S.faults store.old) (S.faults store.new) (O.faults out.old) (O.faults out.new) (O.lacks out.old) (O.lacks out.new) }
@@ -74,10 +72,9 @@ pub fn show_documents<S: Store, O: Sink>(
     requires fits { TextFits reader.old (S.files store.old) }
     requires documents { reader.old.documents ≡ documents }
     requires empty { buffer.old ≡ [] }
-    ensures looked { LookedAt part.Text part.Places (S.files store.old) (S.files store.new) (S.reads store.old) (S.reads store.new)
-        (S.faults store.old) (S.faults store.new) }
-    ensures content { (collection : List ℕ) → TextStands reader.old (S.files store.old) collection → has_open_end collection ≡ open_end →
-        AfterPut (O.written out.old) (O.written out.new) collection result }
+    ensures looked { Between S.files S.reads S.faults store.old store.new (LookedAt part.Text part.Places) }
+    ensures content { ForTextEnding reader.old (S.files store.old) open_end
+        (λ collection. AfterPut (O.written out.old) (O.written out.new) collection result) }
     ensures never_bad { (collection : List ℕ) → TextStands reader.old (S.files store.old) collection → ShowIsNotBad result }
     ensures added { Added (O.written out.old) (O.written out.new) (O.faults out.old) (O.faults out.new) (O.lacks out.old) (O.lacks out.new) }
     ensures cause { IsShowCaused result (S.faults store.old) (S.faults store.new) (O.faults out.old) (O.faults out.new) (O.lacks out.old) (O.lacks out.new) }

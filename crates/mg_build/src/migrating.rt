@@ -2,24 +2,24 @@
 //!
 //! Every part but the head and the places is the same in both versions and is copied. The head of the new set is
 //! emptied first and appended last, so that what is left in between stands for no collection.
-ghost use Rattle.std.specs.Prelude.{◌≡◌, ◌≢◌, ◌≤◌, ◌+◌, ℕ, List, [], IfErr, IfOk, OnOk, IsSome, Err, Some, length};
+ghost use Rattle.std.specs.Prelude.{◌≡◌, ◌≢◌, ◌≤◌, ◌+◌, ℕ, List, IfErr, IfOk, OnOk, IsSome, Err, Some, length};
 ghost use Rattle.mg_dev.specs.Causes.{Rose};
-ghost use Rattle.mg_dev.specs.Files.{bytes_at, file_at};
+ghost use Rattle.mg_dev.specs.Files.{file_at};
 ghost use Rattle.mg_dev.specs.Names.{full_name};
 ghost use Rattle.mg_dev.specs.Runs.{IsDone, RefusedFor, status_of};
 ghost use Rattle.mg_dev.specs.declared.fault.Fault.TheVariants as fault;
 ghost use Rattle.mg_dev.specs.declared.part.Part.{Part as AnyPart};
 ghost use Rattle.mg_dev.specs.declared.part.Part.TheVariants as part;
-ghost use Rattle.mg_defs.specs.CodedText.{TextCode, places_of};
 ghost use Rattle.mg_defs.specs.Heads.{IsWithin};
 ghost use Rattle.mg_defs.specs.Split.{documents};
 ghost use Rattle.mg_layout.specs.HeadAnswers.{fields_of};
-ghost use Rattle.mg_layout.specs.Stands.{Stands, StandsBy, StandsIn};
-ghost use Rattle.mg_make.specs.Putting.{IsUnbuilt, LacksOnlyHead, OthersSame};
-ghost use Rattle.mg_make.specs.Outcomes.{Left};
+ghost use Rattle.mg_layout.specs.Stands.{Stands, StandsIn};
+ghost use Rattle.mg_make.specs.Each.{ForEach};
+ghost use Rattle.mg_make.specs.Putting.{IsEmptied, IsUnbuilt, OthersSame};
+ghost use Rattle.mg_make.specs.Outcomes.{BetweenMoments, Fails, ForSetBy, Left};
 ghost use Rattle.mg_build.specs.Copying.{ChangedAlone, CopyStops};
 ghost use Rattle.mg_build.specs.MadeAnew.{MadeAnew};
-ghost use Rattle.mg_build.specs.Migrating.{AreCopied, AreEmptied, ComesFirst, IsMadeAnew, IsSetOf, MigrateStops};
+ghost use Rattle.mg_build.specs.Migrating.{AreCopied, AreEmptied, ComesFirst, ForSetIn, HasNoHead, HasWidePlaces, IsMadeAnew, IsSetOf, MigrateStops, ReadyForHead};
 
 use crate::copying::copy_part;
 use crate::widening::widen_places;
@@ -52,10 +52,8 @@ const COPIED: [Part; 9] = [
 /// `SameName` where both bases are the same, `NotBuilt` where the set has no head; then nothing was written. `Damaged`
 /// only where the set stands for no collection; the store's faults, and want of memory.
 pub fn migrate<S: Store>(alloc: Global, store: &mut S, name: &str, new: &str) -> Result<u32, Fault>
-    ensures made_anew { MadeAnew name.now new.now
-        (record { files = S.files store.old; reads = S.reads store.old; faults = S.faults store.old })
-        (record { files = S.files store.new; reads = S.reads store.new; faults = S.faults store.new })
-        (status_of result) }
+    ensures made_anew { BetweenMoments S.files S.reads S.faults store.old store.new
+        (λ before now. MadeAnew name.now new.now before now (status_of result)) }
     // At `Ok` it answers how many documents the collection has.
     ensures documents { (collection : List ℕ) → Stands (S.files store.old) name.now collection → IfOk result (λ count. count ≡ length (documents collection)) }
     ensures later { S.faults store.old ≤ S.faults store.new }
@@ -71,13 +69,10 @@ fn migrate_files<S: Store>(
     new: &str,
 ) -> Result<u32, Fault>
     // At `Ok` the new set stands for the same collection, with as many occurrences to a run.
-    ensures stands { (version cap : ℕ) (collection : List ℕ) → StandsIn version cap (S.files store.old) name.now collection →
-        OnOk result (StandsIn 2 cap (S.files store.new) new.now collection) }
+    ensures stands { ForSetIn (S.files store.old) name.now (λ cap collection. OnOk result (StandsIn 2 cap (S.files store.new) new.now collection)) }
     ensures documents { (collection : List ℕ) → Stands (S.files store.old) name.now collection → IfOk result (λ count. count ≡ length (documents collection)) }
-    ensures merge_a { (collection : List ℕ) → Stands (S.files store.old) name.now collection →
-        OnOk result (file_at (S.files store.new) (full_name new.now part.MergeA) ≡ Some []) }
-    ensures merge_b { (collection : List ℕ) → Stands (S.files store.old) name.now collection →
-        OnOk result (file_at (S.files store.new) (full_name new.now part.MergeB) ≡ Some []) }
+    ensures merge_a { ForEach (Stands (S.files store.old) name.now) (λ _. OnOk result (IsEmptied (S.files store.new) new.now part.MergeA)) }
+    ensures merge_b { ForEach (Stands (S.files store.old) name.now) (λ _. OnOk result (IsEmptied (S.files store.new) new.now part.MergeB)) }
     // Whatever it answers: files of other names are as before, and the new set is as before, or stands for no
     // collection, or for this one.
     ensures others { OthersSame new.now (S.files store.old) (S.files store.new) }
@@ -86,10 +81,9 @@ fn migrate_files<S: Store>(
     // The cause of each refusal.
     ensures cause { IfErr result (MigrateStops (Rose (S.faults store.old) (S.faults store.new)) (S.files store.old) name.now new.now) }
     ensures same { new.now ≡ name.now → result ≡ Err fault.SameName }
-    ensures not_built { IsSome (S.files store.old) → new.now ≢ name.now → bytes_at (S.files store.old) (full_name name.now part.Head) ≡ [] →
-        RefusedFor result fault.NotBuilt }
-    ensures complete { (collection : List ℕ) → Stands (S.files store.old) name.now collection → new.now ≢ name.now →
-        ¬ Rose (S.faults store.old) (S.faults store.new) → IsDone result }
+    ensures not_built { IsSome (S.files store.old) → new.now ≢ name.now → HasNoHead (S.files store.old) name.now → RefusedFor result fault.NotBuilt }
+    ensures complete { ForEach (Stands (S.files store.old) name.now)
+        (λ _. new.now ≢ name.now → ¬ Fails S.faults store.old store.new → IsDone result) }
     ensures later { S.faults store.old ≤ S.faults store.new }
 {
     if new == name {
@@ -145,8 +139,7 @@ fn copy_places<S: Store>(
     requires apart { new.now ≢ name.now }
     requires within { IsWithin (fields_of head.now) }
     requires room { 1 ≤ length block.old }
-    ensures places { (code : TextCode) (collection : List ℕ) → StandsBy head.now code (S.files store.old) name.now collection →
-        OnOk result (bytes_at (S.files store.new) (full_name new.now part.Places) ≡ places_of 2 code collection) }
+    ensures places { ForSetBy head.now (S.files store.old) name.now (λ code collection. OnOk result (HasWidePlaces (S.files store.new) new.now code collection)) }
     ensures alone { ChangedAlone (full_name new.now part.Places) (S.files store.old) (S.files store.new) }
     ensures room { length block.new ≡ length block.old }
     ensures refused { IfErr result (CopyStops (Rose (S.faults store.old) (S.faults store.new)) (IsSetOf head.now (S.files store.old) name.now)) }
@@ -205,8 +198,7 @@ fn make_parts<S: Store>(
     requires apart { new.now ≢ name.now }
     requires within { IsWithin (fields_of head.now) }
     requires room { 1 ≤ length block.old }
-    ensures ready { (code : TextCode) (collection : List ℕ) → StandsBy head.now code (S.files store.old) name.now collection →
-        OnOk result (LacksOnlyHead new.now collection head.now.cap code (S.files store.new)) }
+    ensures ready { ForSetBy head.now (S.files store.old) name.now (ReadyForHead new.now head.now.cap (S.files store.new) result) }
     ensures unbuilt { IsUnbuilt new.now (S.files store.old) (S.files store.new) }
     ensures others { OthersSame new.now (S.files store.old) (S.files store.new) }
     ensures refused { IfErr result (CopyStops (Rose (S.faults store.old) (S.faults store.new)) (IsSetOf head.now (S.files store.old) name.now)) }
@@ -236,14 +228,11 @@ fn make_set<S: Store>(
 ) -> Result<(), Fault>
     requires apart { new.now ≢ name.now }
     requires within { IsWithin (fields_of head.now) }
-    ensures stands { (code : TextCode) (collection : List ℕ) → StandsBy head.now code (S.files store.old) name.now collection →
-        OnOk result (StandsIn 2 head.now.cap (S.files store.new) new.now collection) }
-    ensures merge_a { (code : TextCode) (collection : List ℕ) → StandsBy head.now code (S.files store.old) name.now collection →
-        OnOk result (file_at (S.files store.new) (full_name new.now part.MergeA) ≡ Some []) }
-    ensures merge_b { (code : TextCode) (collection : List ℕ) → StandsBy head.now code (S.files store.old) name.now collection →
-        OnOk result (file_at (S.files store.new) (full_name new.now part.MergeB) ≡ Some []) }
-    ensures left { (code : TextCode) (collection : List ℕ) → StandsBy head.now code (S.files store.old) name.now collection →
-        Left new.now (S.files store.old) (S.files store.new) collection }
+    ensures stands { ForSetBy head.now (S.files store.old) name.now
+        (λ _ collection. OnOk result (StandsIn 2 head.now.cap (S.files store.new) new.now collection)) }
+    ensures merge_a { ForSetBy head.now (S.files store.old) name.now (λ _ _. OnOk result (IsEmptied (S.files store.new) new.now part.MergeA)) }
+    ensures merge_b { ForSetBy head.now (S.files store.old) name.now (λ _ _. OnOk result (IsEmptied (S.files store.new) new.now part.MergeB)) }
+    ensures left { ForSetBy head.now (S.files store.old) name.now (λ _ collection. Left new.now (S.files store.old) (S.files store.new) collection) }
     ensures others { OthersSame new.now (S.files store.old) (S.files store.new) }
     ensures refused { IfErr result (CopyStops (Rose (S.faults store.old) (S.faults store.new)) (IsSetOf head.now (S.files store.old) name.now)) }
     ensures later { S.faults store.old ≤ S.faults store.new }

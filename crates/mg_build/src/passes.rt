@@ -1,20 +1,18 @@
 //! The two passes over a collection.
-ghost use Rattle.std.specs.Prelude.{◌≡◌, ◌⊎◌, ◌<◌, ◌≤◌, ◌^◌, ℕ, List, [], length, IfErr, IfOk, OnOk, Some};
+ghost use Rattle.std.specs.Prelude.{◌≡◌, ◌<◌, ◌≤◌, ◌^◌, ℕ, List, [], IfErr, IfOk, OnOk, Some};
 ghost use Rattle.std.specs.Option.{IsSome};
 ghost use Rattle.mg_dev.specs.Causes.{Rose};
-ghost use Rattle.mg_dev.specs.Files.{bytes_at, file_at};
+ghost use Rattle.mg_dev.specs.Files.{file_at};
 ghost use Rattle.mg_dev.specs.Names.{full_name};
 ghost use Rattle.mg_dev.specs.declared.part.Part.TheVariants as part;
+ghost use Rattle.mg_dev.specs.Moments.{Between};
 ghost use Rattle.mg_bits.specs.Pages.{Fits, Looked, SameFile};
-ghost use Rattle.mg_defs.specs.Summaries.{run_cap};
-ghost use Rattle.mg_layout.specs.Stands.{StandsIn};
-ghost use Rattle.mg_make.specs.Putting.{IsApart, OthersSame};
+ghost use Rattle.mg_make.specs.Putting.{IsApart, IsEmptied, OthersSame};
 ghost use Rattle.mg_make.specs.Plans.{IsPlan, IsRoomFor};
 ghost use Rattle.mg_make.specs.Counting.{HasCounted};
 ghost use Rattle.mg_make.specs.Putting.{HasPut};
-ghost use Rattle.mg_make.specs.Summaries.{summary_of};
-ghost use Rattle.mg_make.specs.Outcomes.{Left};
-ghost use Rattle.mg_build.specs.Building.{IsPlanFor, PassStops, WriteStops};
+ghost use Rattle.mg_make.specs.Outcomes.{Fails, HasSummaryOf, Left, MakesSet};
+ghost use Rattle.mg_build.specs.Building.{HasItsSize, IfPlanned, IsPlanAt, PassStops, WriteStops};
 ghost use Rattle.mg_build.specs.Sources.{AreRead};
 
 use crate::source::Source;
@@ -36,8 +34,7 @@ fn count_bytes<S: Store>(
     ensures size { source.new.size ≡ source.old.size }
     ensures small { source.old.size < 2 ^ 32 }
     ensures refused { IfErr result (PassStops (Rose (S.faults store.old) (S.faults store.new)) (S.files store.old) source.old.feed.name source.old.size) }
-    ensures looked { Looked part.Plain (S.files store.old) (S.files store.new) (S.reads store.old) (S.reads store.new)
-        (S.faults store.old) (S.faults store.new) }
+    ensures looked { Between S.files S.reads S.faults store.old store.new (Looked part.Plain) }
 {
     for at in 0..source.size() {
         let byte = match source.byte(store, at) {
@@ -64,14 +61,13 @@ pub(crate) fn count_all<S: Store>(
     requires fits { Fits source.old.feed (S.files store.old) }
     ensures plan { IfOk result (λ made. IsPlan made.0) }
     ensures room { IfOk result (λ made. IsRoomFor made.1 made.0 budget) }
-    ensures of { IsSome (S.files store.old) → length (bytes_at (S.files store.old) source.old.feed.name) ≡ source.old.size →
-        IfOk result (λ made. IsPlanFor made.0 (S.files store.old) source.old.feed.name source.old.size) }
+    ensures of { IsSome (S.files store.old) → HasItsSize (S.files store.old) source.old →
+        IfOk result (λ made. IsPlanAt made.0 (S.files store.old) source.old) }
     ensures fits { Fits source.new.feed (S.files store.new) }
     ensures file { SameFile source.old.feed source.new.feed }
     ensures size { source.new.size ≡ source.old.size }
     ensures refused { IfErr result (PassStops (Rose (S.faults store.old) (S.faults store.new)) (S.files store.old) source.old.feed.name source.old.size) }
-    ensures looked { Looked part.Plain (S.files store.old) (S.files store.new) (S.reads store.old) (S.reads store.new)
-        (S.faults store.old) (S.faults store.new) }
+    ensures looked { Between S.files S.reads S.faults store.old store.new (Looked part.Plain) }
 {
     let mut count = Count::new(alloc);
     match count_bytes(store, source, &mut count) {
@@ -99,8 +95,7 @@ fn put_bytes<S: Store>(
     ensures small { source.old.size < 2 ^ 32 }
     ensures head { IsSome (S.files store.old) → file_at (S.files store.new) (full_name writer.old.base part.Head) ≡ Some [] }
     ensures others { OthersSame writer.old.base (S.files store.old) (S.files store.new) }
-    ensures refused { IfErr result
-        (WriteStops (Rose (S.faults store.old) (S.faults store.new)) (IsPlanFor writer.old.plan (S.files store.old) source.old.feed.name source.old.size)) }
+    ensures refused { IfErr result (WriteStops (Fails S.faults store.old store.new) (IsPlanAt writer.old.plan (S.files store.old) source.old)) }
     ensures later { S.faults store.old ≤ S.faults store.new }
 {
     for at in 0..source.size() {
@@ -129,19 +124,13 @@ pub(crate) fn write_set<'a, S: Store>(
     requires room { IsRoomFor room plan.now room.pool.limit }
     requires fits { Fits source.old.feed (S.files store.old) }
     requires apart { IsApart base.now source.old.feed.name }
-    ensures stands { IsPlanFor plan.entry.now (S.files store.old) source.old.feed.name source.old.size →
-        OnOk result (StandsIn 2 (run_cap room.pool.limit) (S.files store.new) base.entry.now (bytes_at (S.files store.old) source.old.feed.name)) }
-    ensures summary { IsPlanFor plan.entry.now (S.files store.old) source.old.feed.name source.old.size →
-        IfOk result (λ summary. summary ≡ summary_of room.pool.limit (bytes_at (S.files store.old) source.old.feed.name)) }
-    ensures merge_a { IsPlanFor plan.entry.now (S.files store.old) source.old.feed.name source.old.size →
-        OnOk result (file_at (S.files store.new) (full_name base.entry.now part.MergeA) ≡ Some []) }
-    ensures merge_b { IsPlanFor plan.entry.now (S.files store.old) source.old.feed.name source.old.size →
-        OnOk result (file_at (S.files store.new) (full_name base.entry.now part.MergeB) ≡ Some []) }
-    ensures left { IsPlanFor plan.entry.now (S.files store.old) source.old.feed.name source.old.size →
-        Left base.entry.now (S.files store.old) (S.files store.new) (bytes_at (S.files store.old) source.old.feed.name) }
+    ensures stands { IfPlanned plan.entry.now (S.files store.old) source.old (MakesSet room.pool.limit (S.files store.new) base.entry.now result) }
+    ensures summary { IfPlanned plan.entry.now (S.files store.old) source.old (HasSummaryOf room.pool.limit result) }
+    ensures merge_a { IfPlanned plan.entry.now (S.files store.old) source.old (λ _. OnOk result (IsEmptied (S.files store.new) base.entry.now part.MergeA)) }
+    ensures merge_b { IfPlanned plan.entry.now (S.files store.old) source.old (λ _. OnOk result (IsEmptied (S.files store.new) base.entry.now part.MergeB)) }
+    ensures left { IfPlanned plan.entry.now (S.files store.old) source.old (Left base.entry.now (S.files store.old) (S.files store.new)) }
     ensures others { OthersSame base.entry.now (S.files store.old) (S.files store.new) }
-    ensures refused { IfErr result
-        (WriteStops (Rose (S.faults store.old) (S.faults store.new)) (IsPlanFor plan.entry.now (S.files store.old) source.old.feed.name source.old.size)) }
+    ensures refused { IfErr result (WriteStops (Fails S.faults store.old store.new) (IsPlanAt plan.entry.now (S.files store.old) source.old)) }
     ensures later { S.faults store.old ≤ S.faults store.new }
 {
     empty_heads_stand_for_none();

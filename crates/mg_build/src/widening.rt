@@ -1,14 +1,10 @@
 //! Numbers of four bytes as numbers of eight.
-ghost use Rattle.std.specs.Prelude.{◌≡◌, ◌≢◌, ◌≤◌, ◌<◌, ◌+◌, ◌*◌, ◌++◌, ◌^◌, ℕ, List, [], IfErr, OnOk, IsSome, Some, length, take, drop};
-ghost use Rattle.std.specs.List.{flat_map};
-ghost use Rattle.mg_dev.specs.Causes.{Rose};
-ghost use Rattle.mg_dev.specs.Files.{bytes_at, file_at};
+ghost use Rattle.std.specs.Prelude.{◌≡◌, ◌≢◌, ◌≤◌, ◌<◌, ◌*◌, IfErr, OnOk};
 ghost use Rattle.mg_dev.specs.Names.{full_name};
 ghost use Rattle.mg_dev.specs.declared.part.Part.TheVariants.{Places};
 ghost use Rattle.mg_bits.specs.Pages.{Fits, SameFile};
-ghost use Rattle.mg_bits.specs.Writer.{put_to};
-ghost use Rattle.mg_defs.specs.Numbers.{eight, four};
-ghost use Rattle.mg_build.specs.Copying.{AreNarrow, ChangedAlone, CopyStops, HasFour};
+ghost use Rattle.mg_make.specs.Outcomes.{Fails};
+ghost use Rattle.mg_build.specs.Copying.{AreSomeNarrow, AreWide, ChangedAlone, CopyStops, ForNumberAt, ForNarrow, HasSomeFour, PutsEight};
 
 use mg_bits::{PageFeed, PageWriter};
 use mg_dev::{Bad, Fault, FileRef, Part, Store};
@@ -25,14 +21,13 @@ fn widen_one<S: Store>(
 ) -> Result<(), Fault>
     requires fits { Fits places.old (S.files store.old) }
     requires apart { places.old.name ≢ wide.old.name }
-    ensures written { IsSome (S.files store.old) → (number : ℕ) → HasFour (bytes_at (S.files store.old) places.old.name) index number →
-        OnOk result (put_to wide.new (S.files store.new) ≡ put_to wide.old (S.files store.old) ++ eight number) }
+    ensures written { ForNumberAt (S.files store.old) places.old.name index
+        (PutsEight wide.old wide.new (S.files store.old) (S.files store.new) result) }
     ensures fits { Fits places.new (S.files store.new) }
     ensures file { SameFile places.old places.new }
     ensures name { wide.new.name ≡ wide.old.name }
     ensures alone { ChangedAlone wide.old.name (S.files store.old) (S.files store.new) }
-    ensures refused { IfErr result (CopyStops (Rose (S.faults store.old) (S.faults store.new)) (IsSome (S.files store.old) × (number : ℕ) ×
-        HasFour (bytes_at (S.files store.old) places.old.name) index number)) }
+    ensures refused { IfErr result (CopyStops (Fails S.faults store.old store.new) (HasSomeFour (S.files store.old) places.old.name index)) }
     ensures later { S.faults store.old ≤ S.faults store.new }
 {
     let mut bytes = [0u8; 4];
@@ -66,11 +61,9 @@ pub(crate) fn widen_places<S: Store>(
     count: u32,
 ) -> Result<(), Fault>
     requires apart { new.now ≢ name.now }
-    ensures widened { IsSome (S.files store.old) → (numbers : List ℕ) → AreNarrow numbers (bytes_at (S.files store.old) (full_name name.now Places)) count →
-        OnOk result (bytes_at (S.files store.new) (full_name new.now Places) ≡ flat_map eight numbers) }
+    ensures widened { ForNarrow (S.files store.old) name.now count (λ numbers. OnOk result (AreWide (S.files store.new) new.now numbers)) }
     ensures alone { ChangedAlone (full_name new.now Places) (S.files store.old) (S.files store.new) }
-    ensures refused { IfErr result (CopyStops (Rose (S.faults store.old) (S.faults store.new)) (IsSome (S.files store.old) × (numbers : List ℕ) ×
-        AreNarrow numbers (bytes_at (S.files store.old) (full_name name.now Places)) count)) }
+    ensures refused { IfErr result (CopyStops (Fails S.faults store.old store.new) (AreSomeNarrow (S.files store.old) name.now count)) }
     ensures later { S.faults store.old ≤ S.faults store.new }
 {
     let from = FileRef {

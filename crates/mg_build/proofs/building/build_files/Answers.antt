@@ -4,7 +4,7 @@ use Rattle.mg_dev.specs.Causes.{Rose}
 use Rattle.mg_dev.specs.Files.{bytes_at}
 use Rattle.mg_dev.specs.Laws.{size_is}
 use Rattle.mg_dev.specs.declared.fault.Fault.TheVariants as fault
-use Rattle.mg_defs.specs.Limits.{IsWithinLimits}
+use Rattle.mg_defs.specs.WithinLimits.{IsWithinLimits}
 use Rattle.mg_defs.specs.Marks.{piece, start}
 use Rattle.mg_defs.specs.Summaries.{run_cap}
 use Rattle.mg_layout.specs.Stands.{StandsIn}
