@@ -10,7 +10,8 @@ use Rattle.mg_dev.specs.declared.fault.Fault.{Fault}
 use Rattle.mg_dev.specs.declared.fault.Fault.TheVariants.{NotBuilt, TooLarge, TooManyDocuments, TooManyPieces, SameName}
 use Rattle.mg_defs.specs.declared.Stream.{Stream}
 use Rattle.mg_defs.specs.Join.{join}
-use Rattle.mg_defs.specs.Limits.{IsWithinLimits, version_2}
+use Rattle.mg_defs.specs.Limits.{version_2}
+use Rattle.mg_defs.specs.WithinLimits.{IsWithinLimits}
 use Rattle.mg_defs.specs.Marks.{PassesFirst, start, piece}
 use Rattle.mg_layout.specs.Stands.{Stands, StandsIn}
 use Rattle.mg_make.specs.Putting.{OthersSame}

@@ -12,7 +12,8 @@ use Rattle.mg_defs.specs.declared.Stream.{Stream}
 use Rattle.mg_defs.specs.Heads as defs
 use Rattle.mg_defs.specs.Heads.{IsHead}
 use Rattle.mg_defs.specs.Join.{join}
-use Rattle.mg_defs.specs.Limits.{IsWithinLimits, version_2}
+use Rattle.mg_defs.specs.Limits.{version_2}
+use Rattle.mg_defs.specs.WithinLimits.{IsWithinLimits}
 use Rattle.mg_defs.specs.Marks.{PassesFirst, piece, start}
 use Rattle.mg_defs.specs.Stands.{head_of}
 use Rattle.mg_defs.specs.Summaries.{run_cap}

@@ -10,7 +10,8 @@ use Rattle.mg_defs.specs.declared.Stream.{Stream}
 use Rattle.mg_defs.specs.Heads as defs
 use Rattle.mg_defs.specs.Heads.{IsHead, first_damage}
 use Rattle.mg_defs.specs.Join.{join}
-use Rattle.mg_defs.specs.Limits.{IsWithinLimits, version_2}
+use Rattle.mg_defs.specs.Limits.{version_2}
+use Rattle.mg_defs.specs.WithinLimits.{IsWithinLimits}
 use Rattle.mg_defs.specs.Marks.{Mark, PassesFirst, piece, start}
 use Rattle.mg_defs.specs.Stands.{head_of}
 use Rattle.mg_defs.proofs.HeadLaws.{no_damage}

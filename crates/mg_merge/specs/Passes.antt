@@ -26,3 +26,7 @@ pub record AreApart (base : List ℕ) (t : TwoTexts) : Type 0 where
 -- The texts stand for a collection of which this is the plan.
 abbrev pub ArePlanned : Plan → TwoTexts → Option Files → Type 0
 ArePlanned plan t files = (collection : List ℕ) × TextsStand t files collection × IsPlanOf plan collection
+
+-- this is so of each collection that the texts stand for and whose plan this is
+abbrev pub ForPlanned : Plan → TwoTexts → Option Files → (List ℕ → Type 0) → Type 0
+ForPlanned plan t files holds = (collection : List ℕ) → TextsStand t files collection → IsPlanOf plan collection → holds collection

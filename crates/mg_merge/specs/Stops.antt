@@ -1,5 +1,5 @@
 -- Why the steps of a merge stop.
-use Rattle.std.specs.Prelude.{◌≡◌, ◌≢◌, ◌⊎◌, ℕ, List, [], ◌∷◌, Ok, Err}
+use Rattle.std.specs.Prelude.{◌≡◌, ◌≢◌, ◌⊎◌, ℕ, List, [], Ok, Err}
 use Rattle.std.specs.Option.{IsSome}
 use Rattle.std.specs.declared.option.Option.{Option}
 use Rattle.std.specs.declared.result.Result.{Result}
@@ -96,3 +96,7 @@ IsDamaged _ = ⊥
 abbrev pub IsRetold : Fault → Fault → Type 0
 IsRetold (Changed what first second) told = IsDamaged told
 IsRetold fault told = told ≡ fault
+
+-- the head of the one or of the other base is missing or empty
+abbrev pub IsOneMissing : Option Files → List ℕ → List ℕ → Type 0
+IsOneMissing files first second = IsMissing files first ⊎ IsMissing files second

@@ -1,6 +1,7 @@
 -- The texts of two sets, whose documents are read one after the other.
-use Rattle.std.specs.Prelude.{◌≡◌, ◌==◌, ◌<◌, ◌+◌, ◌-◌, ◌^◌, ℕ, Bool, true, not, if◌then◌else◌, List, [], ◌∷◌, ◌++◌, length, drop, get_or}
+use Rattle.std.specs.Prelude.{◌≡◌, ◌==◌, ◌<◌, ◌+◌, ◌-◌, ◌^◌, ℕ, Bool, true, not, if◌then◌else◌, List, [], ◌∷◌, ◌++◌, length, drop, get_or, IfOk}
 use Rattle.std.specs.declared.option.Option.{Option}
+use Rattle.std.specs.declared.result.Result.{Result}
 use Rattle.mg_dev.specs.Files.{Files}
 use Rattle.mg_dev.specs.Names.{full_name}
 use Rattle.mg_dev.specs.declared.part.Part.TheVariants.{Places, Text}
@@ -94,3 +95,21 @@ closed_document n collection = numbered n collection ++ close (is_closed n (leng
 -- these bytes are the first n documents of a collection: the others follow
 abbrev pub AreFirst : ℕ → List ℕ → List ℕ → Type 0
 AreFirst n bytes collection = bytes ++ joined (drop n (documents collection)) (has_open_end collection) ≡ collection
+
+-- ---- words for contracts
+
+-- the files of two bases stand for some collections, by these two heads
+abbrev pub AreSomeSets : layout.Head × layout.Head → Option Files → List ℕ → List ℕ → Type 0
+AreSomeSets heads files first second = AreSomeSetsBy heads.0 heads.1 files first second
+
+-- this is so of the collections in one, for each two collections that the files of two bases stand for by these heads
+abbrev pub ForSetsBy : layout.Head → layout.Head → Option Files → List ℕ → List ℕ → (List ℕ → Type 0) → Type 0
+ForSetsBy one other files first second holds = (a b : List ℕ) → AreSetsBy one other files first second a b → holds (join a b)
+
+-- the text of a collection is read by what was loaded
+abbrev pub LoadsText : {E : Type 0} → Option Files → Result TextReading E → TextCode → List ℕ → Type 0
+LoadsText files result code collection = IfOk result (λ (r : TextReading). TextStands r files collection)
+
+-- the texts of a collection are read by what was loaded
+abbrev pub LoadsTexts : {E : Type 0} → Option Files → Result TwoTexts E → List ℕ → Type 0
+LoadsTexts files result collection = IfOk result (λ (t : TwoTexts). TextsStand t files collection)

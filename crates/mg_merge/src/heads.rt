@@ -1,12 +1,12 @@
 //! The heads of two sets.
-ghost use Rattle.std.specs.Prelude.{◌≡◌, ◌⊎◌, ◌≤◌, ℕ, IfErr, IfOk, IsSome, Err};
+ghost use Rattle.std.specs.Prelude.{◌≡◌, ◌≤◌, IfErr, IfOk, IsSome, Err};
 ghost use Rattle.mg_dev.specs.Causes.{Rose};
 ghost use Rattle.mg_dev.specs.declared.fault.Fault.TheVariants as fault;
 ghost use Rattle.mg_defs.specs.Heads.{IsWithin};
 ghost use Rattle.mg_layout.specs.HeadAnswers.{fields_of};
 ghost use Rattle.mg_dev.specs.Runs.{RefusedFor};
 ghost use Rattle.mg_merge.specs.Merging.{budget_of, joined_size};
-ghost use Rattle.mg_merge.specs.Stops.{AreHeads, HeadStops, IsMissing, IsRefusedFirst, IsToldFirst};
+ghost use Rattle.mg_merge.specs.Stops.{AreHeads, HeadStops, IsMissing, IsOneMissing, IsRefusedFirst, IsToldFirst};
 
 use mg_dev::{Fault, PartErr, Store};
 use mg_layout::Head;
@@ -27,8 +27,7 @@ pub(crate) fn load_heads<S: Store>(
         IfOk result (λ heads. AreHeads (S.files store.old) first.now second.now (fields_of heads.0) (fields_of heads.1)) }
     ensures first { IfOk result (λ heads. IsWithin (fields_of heads.0)) }
     ensures second { IfOk result (λ heads. IsWithin (fields_of heads.1)) }
-    ensures missing { IsSome (S.files store.old) → IsMissing (S.files store.old) first.now ⊎ IsMissing (S.files store.old) second.now →
-        RefusedFor result fault.NotBuilt }
+    ensures missing { IsSome (S.files store.old) → IsOneMissing (S.files store.old) first.now second.now → RefusedFor result fault.NotBuilt }
     ensures refused { IfErr result (HeadStops (Rose (S.faults store.old) (S.faults store.new)) (S.files store.old) first.now second.now) }
     ensures files { S.files store.new ≡ S.files store.old }
     ensures later { S.faults store.old ≤ S.faults store.new }

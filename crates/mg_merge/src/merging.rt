@@ -1,24 +1,18 @@
 //! The merge of two sets.
-ghost use Rattle.std.specs.Prelude.{◌≡◌, ◌≢◌, ◌⊎◌, ◌<◌, ◌≤◌, ◌^◌, ℕ, List, [], length, IfErr, IfOk, OnOk, Some, Err};
-ghost use Rattle.std.specs.Option.{IsSome};
+ghost use Rattle.std.specs.Prelude.{◌≡◌, ◌⊎◌, ◌<◌, ◌≤◌, ◌^◌, ℕ, List, IfErr, OnOk, Err};
 ghost use Rattle.mg_dev.specs.Causes.{Rose};
-ghost use Rattle.mg_dev.specs.Files.{file_at};
-ghost use Rattle.mg_dev.specs.Names.{full_name};
-ghost use Rattle.mg_dev.specs.Runs.{IsDone, RefusedFor, status_of};
+ghost use Rattle.mg_dev.specs.Runs.{status_of};
 ghost use Rattle.mg_dev.specs.declared.part.Part.TheVariants as part;
 ghost use Rattle.mg_dev.specs.declared.fault.Fault.TheVariants as fault;
-ghost use Rattle.mg_defs.specs.declared.Stream.{Stream as Kind};
 ghost use Rattle.mg_defs.specs.Join.{join};
-ghost use Rattle.mg_defs.specs.Limits.{IsWithinLimits, version_2};
-ghost use Rattle.mg_defs.specs.Marks.{PassesFirst, start as start_mark, piece as piece_mark};
-ghost use Rattle.mg_defs.specs.Summaries.{run_cap};
-ghost use Rattle.mg_layout.specs.Stands.{Stands, StandsIn};
-ghost use Rattle.mg_make.specs.Putting.{OthersSame};
-ghost use Rattle.mg_make.specs.Summaries.{summary_of};
+ghost use Rattle.mg_defs.specs.WithinLimits.{IsWithinLimits};
+ghost use Rattle.mg_layout.specs.Stands.{StandsIn};
+ghost use Rattle.mg_make.specs.Each.{ForEach};
+ghost use Rattle.mg_make.specs.Putting.{IsEmptied, OthersSame};
 ghost use Rattle.mg_merge.specs.Joined.{Joined};
-ghost use Rattle.mg_make.specs.Outcomes.{IsEarly, Left, most_bytes};
-ghost use Rattle.mg_merge.specs.Merging.{BothStand, IsSizeByHeads, MergeStops, budget_of};
-ghost use Rattle.mg_merge.specs.Stops.{CountingStops, IsMissing};
+ghost use Rattle.mg_make.specs.Outcomes.{BetweenMoments, Completes, HasSummaryOf, IsEarly, Left, MakesSet, RefusesDocuments, RefusesPieces};
+ghost use Rattle.mg_merge.specs.Merging.{BothStand, ForBoth, ForJoin, ForJoinAndPiece, IfNew, MergeStops, RefusesMissing, RefusesSizeByHeads, budget_of};
+ghost use Rattle.mg_merge.specs.Stops.{CountingStops};
 ghost use Rattle.mg_merge.specs.Passes.{AreApart};
 ghost use Rattle.mg_merge.specs.Texts.{AreTexts, TextsFit, TextsStand};
 
@@ -53,13 +47,10 @@ pub fn merge<S: Store>(
     second: &str,
     new: &str,
 ) -> Result<Summary, Fault>
-    ensures joined { Joined first.now second.now new.now
-        (record { files = S.files store.old; reads = S.reads store.old; faults = S.faults store.old })
-        (record { files = S.files store.new; reads = S.reads store.new; faults = S.faults store.new })
-        (status_of result) }
+    ensures joined { BetweenMoments S.files S.reads S.faults store.old store.new
+        (λ before now. Joined first.now second.now new.now before now (status_of result)) }
     // At `Ok` the summary has the numbers of both collections in one.
-    ensures summary { (version cap : ℕ) (a b : List ℕ) → StandsIn version cap (S.files store.old) first.now a → Stands (S.files store.old) second.now b →
-        IfOk result (λ summary. summary ≡ summary_of (budget_of cap) (join a b)) }
+    ensures summary { ForBoth (S.files store.old) first.now second.now (λ cap joined. HasSummaryOf (budget_of cap) result joined) }
     ensures later { S.faults store.old ≤ S.faults store.new }
 {
     merge_files(alloc, store, first, second, new)
@@ -74,14 +65,12 @@ fn merge_files<S: Store>(
     new: &str,
 ) -> Result<Summary, Fault>
     // At `Ok` the new set stands for both collections in one, with as many occurrences to a run as the first one has.
-    ensures stands { (version cap : ℕ) (a b : List ℕ) → StandsIn version cap (S.files store.old) first.now a → Stands (S.files store.old) second.now b →
-        OnOk result (StandsIn 2 cap (S.files store.new) new.now (join a b)) }
-    ensures summary { (version cap : ℕ) (a b : List ℕ) → StandsIn version cap (S.files store.old) first.now a → Stands (S.files store.old) second.now b →
-        IfOk result (λ summary. summary ≡ summary_of (budget_of cap) (join a b)) }
+    ensures stands { ForBoth (S.files store.old) first.now second.now (λ cap joined. OnOk result (StandsIn 2 cap (S.files store.new) new.now joined)) }
+    ensures summary { ForBoth (S.files store.old) first.now second.now (λ cap joined. HasSummaryOf (budget_of cap) result joined) }
     ensures merge_a { (a b : List ℕ) → BothStand (S.files store.old) first.now second.now a b →
-        OnOk result (file_at (S.files store.new) (full_name new.now part.MergeA) ≡ Some []) }
+        OnOk result (IsEmptied (S.files store.new) new.now part.MergeA) }
     ensures merge_b { (a b : List ℕ) → BothStand (S.files store.old) first.now second.now a b →
-        OnOk result (file_at (S.files store.new) (full_name new.now part.MergeB) ≡ Some []) }
+        OnOk result (IsEmptied (S.files store.new) new.now part.MergeB) }
     // Whatever it answers: files of other names are as before, and the new set is as before, or stands for no
     // collection, or for this one; after an early refusal all files are as before.
     ensures others { OthersSame new.now (S.files store.old) (S.files store.new) }
@@ -92,19 +81,13 @@ fn merge_files<S: Store>(
     ensures later { S.faults store.old ≤ S.faults store.new }
     // Each cause is refused, in this order.
     ensures same_name { (new.now ≡ first.now) ⊎ (new.now ≡ second.now) → result ≡ Err fault.SameName }
-    ensures missing { IsSome (S.files store.old) → new.now ≢ first.now → new.now ≢ second.now →
-        IsMissing (S.files store.old) first.now ⊎ IsMissing (S.files store.old) second.now → RefusedFor result fault.NotBuilt }
-    ensures large { (size : ℕ) → IsSome (S.files store.old) → new.now ≢ first.now → new.now ≢ second.now →
-        IsSizeByHeads (S.files store.old) first.now second.now size →
-        most_bytes < size → RefusedFor result (fault.TooLarge size most_bytes) }
-    ensures documents { (a b : List ℕ) → BothStand (S.files store.old) first.now second.now a b → new.now ≢ first.now → new.now ≢ second.now →
-        length (join a b) ≤ most_bytes → PassesFirst version_2 (join a b) start_mark → RefusedFor result fault.TooManyDocuments }
-    ensures pieces { (a b : List ℕ) (stream : Kind) (piece : List ℕ) → BothStand (S.files store.old) first.now second.now a b →
-        new.now ≢ first.now → new.now ≢ second.now →
-        length (join a b) ≤ most_bytes → PassesFirst version_2 (join a b) (piece_mark stream piece) → RefusedFor result (fault.TooManyPieces stream) }
+    ensures missing { IfNew (S.files store.old) first.now second.now new.now (RefusesMissing (S.files store.old) first.now second.now result) }
+    ensures large { (size : ℕ) → IfNew (S.files store.old) first.now second.now new.now
+        (RefusesSizeByHeads (S.files store.old) first.now second.now size result) }
+    ensures documents { ForJoin (S.files store.old) first.now second.now new.now (RefusesDocuments result) }
+    ensures pieces { ForJoinAndPiece (S.files store.old) first.now second.now new.now (RefusesPieces result) }
     // With no such cause it is done, or memory lacks.
-    ensures complete { (a b : List ℕ) → BothStand (S.files store.old) first.now second.now a b → new.now ≢ first.now → new.now ≢ second.now →
-        IsWithinLimits 2 (join a b) → ¬ Rose (S.faults store.old) (S.faults store.new) → IsDone result }
+    ensures complete { ForJoin (S.files store.old) first.now second.now new.now (Completes S.faults store.old store.new result) }
 {
     if new == first {
         return Err(Fault::SameName);
@@ -142,13 +125,11 @@ fn merge_texts<S: Store>(
     requires most { budget ≤ 2 ^ 30 }
     requires fits { TextsFit texts.old (S.files store.old) }
     requires apart { AreApart new.now texts.old }
-    ensures stands { (collection : List ℕ) → TextsStand texts.old (S.files store.old) collection →
-        OnOk result (StandsIn 2 (run_cap budget) (S.files store.new) new.now collection) }
-    ensures summary { (collection : List ℕ) → TextsStand texts.old (S.files store.old) collection →
-        IfOk result (λ summary. summary ≡ summary_of budget collection) }
+    ensures stands { ForEach (TextsStand texts.old (S.files store.old)) (MakesSet budget (S.files store.new) new.now result) }
+    ensures summary { ForEach (TextsStand texts.old (S.files store.old)) (HasSummaryOf budget result) }
     ensures limits { (collection : List ℕ) → TextsStand texts.old (S.files store.old) collection → OnOk result (IsWithinLimits 2 collection) }
-    ensures merge_a { AreTexts texts.old (S.files store.old) → OnOk result (file_at (S.files store.new) (full_name new.now part.MergeA) ≡ Some []) }
-    ensures merge_b { AreTexts texts.old (S.files store.old) → OnOk result (file_at (S.files store.new) (full_name new.now part.MergeB) ≡ Some []) }
+    ensures merge_a { AreTexts texts.old (S.files store.old) → OnOk result (IsEmptied (S.files store.new) new.now part.MergeA) }
+    ensures merge_b { AreTexts texts.old (S.files store.old) → OnOk result (IsEmptied (S.files store.new) new.now part.MergeB) }
     ensures left { (collection : List ℕ) → TextsStand texts.old (S.files store.old) collection →
         Left new.now (S.files store.old) (S.files store.new) collection }
     ensures others { OthersSame new.now (S.files store.old) (S.files store.new) }

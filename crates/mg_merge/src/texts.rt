@@ -1,15 +1,13 @@
 //! The texts of two sets, whose documents are read one after the other.
-ghost use Rattle.std.specs.Prelude.{◌≡◌, ◌≢◌, ◌<◌, ◌≤◌, ◌^◌, ℕ, Bool, List, [], length, IfErr, IfOk, OnOk};
+ghost use Rattle.std.specs.Prelude.{◌≡◌, ◌<◌, ◌≤◌, ◌^◌, ℕ, List, IfErr, IfOk, OnOk};
 ghost use Rattle.mg_dev.specs.Causes.{Rose};
-ghost use Rattle.mg_defs.specs.CodedText.{TextCode};
 ghost use Rattle.mg_defs.specs.Heads.{IsWithin};
-ghost use Rattle.mg_defs.specs.Join.{join};
 ghost use Rattle.mg_layout.specs.HeadAnswers.{fields_of};
-ghost use Rattle.mg_layout.specs.Stands.{StandsBy};
-ghost use Rattle.mg_text.specs.Reading.{IsTextReader, ShowIsNotBad, TextFits, TextStands};
+ghost use Rattle.mg_text.specs.Reading.{IsTextReader, ShowIsNotBad, TextFits};
+ghost use Rattle.mg_make.specs.Outcomes.{Fails, ForSetBy};
 ghost use Rattle.mg_merge.specs.Merging.{joined_size};
 ghost use Rattle.mg_merge.specs.Stops.{IsDecodeCaused, ReadStops};
-ghost use Rattle.mg_merge.specs.Texts.{AreSetsBy, AreSomeSetsBy, AreTexts, AreTextsOf, IsSetBy, SameTexts, TextsFit, TextsStand, closed_document, is_closed, numbered};
+ghost use Rattle.mg_merge.specs.Texts.{AreSomeSets, AreTexts, AreTextsOf, ForSetsBy, IsSetBy, LoadsText, LoadsTexts, SameTexts, TextsFit, TextsStand, closed_document, is_closed, numbered};
 
 use crate::document::Document;
 use crate::heads::joined_size;
@@ -57,8 +55,7 @@ fn load_text<'a, S: Store>(
     requires within { IsWithin (fields_of head.now) }
     ensures fits { IfOk result (λ r. TextFits r (S.files store.new)) }
     ensures reader { IfOk result (λ r. IsTextReader r base.entry.now head.now) }
-    ensures stands { (code : TextCode) (collection : List ℕ) → StandsBy head.now code (S.files store.old) base.entry.now collection →
-        IfOk result (λ r. TextStands r (S.files store.new) collection) }
+    ensures stands { ForSetBy head.now (S.files store.old) base.entry.now (LoadsText (S.files store.new) result) }
     ensures files { S.files store.new ≡ S.files store.old }
     ensures later { S.faults store.old ≤ S.faults store.new }
     ensures refused { IfErr result (ReadStops (Rose (S.faults store.old) (S.faults store.new)) (IsSetBy head.now (S.files store.old) base.entry.now)) }
@@ -85,12 +82,11 @@ impl<'a, S: Store> Texts<'a, S> {
         requires few { joined_size (fields_of heads.now.0) (fields_of heads.now.1) < 2 ^ 32 }
         ensures fits { IfOk result (λ t. TextsFit t (S.files store.new)) }
         ensures of { IfOk result (λ t. AreTextsOf t first.entry.now second.entry.now) }
-        ensures stands { (a b : List ℕ) → AreSetsBy heads.now.0 heads.now.1 (S.files store.old) first.entry.now second.entry.now a b →
-            IfOk result (λ t. TextsStand t (S.files store.new) (join a b)) }
+        ensures stands { ForSetsBy heads.now.0 heads.now.1 (S.files store.old) first.entry.now second.entry.now (LoadsTexts (S.files store.new) result) }
         ensures files { S.files store.new ≡ S.files store.old }
         ensures later { S.faults store.old ≤ S.faults store.new }
-        ensures refused { IfErr result (ReadStops (Rose (S.faults store.old) (S.faults store.new))
-            (AreSomeSetsBy heads.now.0 heads.now.1 (S.files store.old) first.entry.now second.entry.now)) }
+        ensures refused { IfErr result (ReadStops (Fails S.faults store.old store.new)
+            (AreSomeSets heads.now (S.files store.old) first.entry.now second.entry.now)) }
     {
         let before = match load_text(alloc, store, first, &heads.0) {
             Ok(reader) => reader,

@@ -1,20 +1,16 @@
 //! The second pass over two texts.
-ghost use Rattle.std.specs.Prelude.{◌≡◌, ◌⊎◌, ◌<◌, ◌≤◌, ◌+◌, ◌^◌, ◌++◌, ℕ, List, [], length, IfErr, IfOk, OnOk, Some};
+ghost use Rattle.std.specs.Prelude.{◌≡◌, ◌<◌, ◌≤◌, ◌+◌, ◌^◌, ◌++◌, ℕ, List, [], length, IfErr, OnOk, Some};
 ghost use Rattle.std.specs.Option.{IsSome};
 ghost use Rattle.mg_dev.specs.Causes.{Rose};
 ghost use Rattle.mg_dev.specs.Files.{file_at};
 ghost use Rattle.mg_dev.specs.Names.{full_name};
 ghost use Rattle.mg_dev.specs.declared.part.Part.TheVariants as part;
-ghost use Rattle.mg_defs.specs.Summaries.{run_cap};
-ghost use Rattle.mg_layout.specs.Stands.{StandsIn};
-ghost use Rattle.mg_make.specs.Plans.{IsPlan, IsPlanOf, IsRoomFor};
-ghost use Rattle.mg_make.specs.Putting.{HasPut, OthersSame};
-ghost use Rattle.mg_make.specs.Summaries.{summary_of};
-ghost use Rattle.mg_make.specs.Written.{SecondStops};
-ghost use Rattle.mg_make.specs.Outcomes.{Left};
+ghost use Rattle.mg_make.specs.Plans.{IsPlan, IsRoomFor};
+ghost use Rattle.mg_make.specs.Putting.{HasPut, IsEmptied, NextRefused, OthersSame};
+ghost use Rattle.mg_make.specs.Outcomes.{HasSummaryOf, Left, MakesSet};
 ghost use Rattle.mg_merge.specs.Stops.{ReadStops};
-ghost use Rattle.mg_merge.specs.Passes.{AreAllGiven, AreApart, ArePlanned};
-ghost use Rattle.mg_merge.specs.Texts.{SameTexts, TextsFit, TextsStand};
+ghost use Rattle.mg_merge.specs.Passes.{AreAllGiven, AreApart, ArePlanned, ForPlanned};
+ghost use Rattle.mg_merge.specs.Texts.{TextsFit};
 
 use crate::retelling::{retold, too_long};
 use crate::texts::Texts;
@@ -37,8 +33,7 @@ fn put_document<S: Store>(
     ensures head { IsSome (S.files store.old) → file_at (S.files store.new) (full_name writer.old.base part.Head) ≡ Some [] }
     ensures others { OthersSame writer.old.base (S.files store.old) (S.files store.new) }
     ensures later { S.faults store.old ≤ S.faults store.new }
-    ensures refused { IfErr result (λ fault. (fed more : List ℕ) → HasPut writer.old (S.files store.old) fed → length (fed ++ (bytes.now ++ more)) < 2 ^ 32 →
-        SecondStops (Rose (S.faults store.old) (S.faults store.new)) (IsPlanOf writer.old.plan (fed ++ (bytes.now ++ more))) fault) }
+    ensures refused { NextRefused writer.old (λ more. bytes.now ++ more) S.files S.faults store.old store.new result }
 {
     for byte in bytes {
         match writer.take(store, *byte) {
@@ -102,16 +97,11 @@ pub(crate) fn write_set<'a, S: Store>(
     requires room { IsRoomFor room plan.now room.pool.limit }
     requires fits { TextsFit texts.old (S.files store.old) }
     requires apart { AreApart base.now texts.old }
-    ensures stands { (collection : List ℕ) → TextsStand texts.old (S.files store.old) collection → IsPlanOf plan.entry.now collection →
-        OnOk result (StandsIn 2 (run_cap room.pool.limit) (S.files store.new) base.entry.now collection) }
-    ensures summary { (collection : List ℕ) → TextsStand texts.old (S.files store.old) collection → IsPlanOf plan.entry.now collection →
-        IfOk result (λ summary. summary ≡ summary_of room.pool.limit collection) }
-    ensures merge_a { ArePlanned plan.entry.now texts.old (S.files store.old) →
-        OnOk result (file_at (S.files store.new) (full_name base.entry.now part.MergeA) ≡ Some []) }
-    ensures merge_b { ArePlanned plan.entry.now texts.old (S.files store.old) →
-        OnOk result (file_at (S.files store.new) (full_name base.entry.now part.MergeB) ≡ Some []) }
-    ensures left { (collection : List ℕ) → TextsStand texts.old (S.files store.old) collection → IsPlanOf plan.entry.now collection →
-        Left base.entry.now (S.files store.old) (S.files store.new) collection }
+    ensures stands { ForPlanned plan.entry.now texts.old (S.files store.old) (MakesSet room.pool.limit (S.files store.new) base.entry.now result) }
+    ensures summary { ForPlanned plan.entry.now texts.old (S.files store.old) (HasSummaryOf room.pool.limit result) }
+    ensures merge_a { ArePlanned plan.entry.now texts.old (S.files store.old) → OnOk result (IsEmptied (S.files store.new) base.entry.now part.MergeA) }
+    ensures merge_b { ArePlanned plan.entry.now texts.old (S.files store.old) → OnOk result (IsEmptied (S.files store.new) base.entry.now part.MergeB) }
+    ensures left { ForPlanned plan.entry.now texts.old (S.files store.old) (Left base.entry.now (S.files store.old) (S.files store.new)) }
     ensures others { OthersSame base.entry.now (S.files store.old) (S.files store.new) }
     ensures later { S.faults store.old ≤ S.faults store.new }
     ensures refused { IfErr result (ReadStops (Rose (S.faults store.old) (S.faults store.new)) (ArePlanned plan.entry.now texts.old (S.files store.old))) }

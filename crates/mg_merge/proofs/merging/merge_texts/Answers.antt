@@ -1,6 +1,6 @@
 use Rattle.std.proofs.Common.{arith, ◌≡◌, ◌∙◌, [], ap, sym, subst, Some}
 use Rattle.std.specs.Prelude.{IfOk, OnOk}
-use Rattle.mg_defs.specs.Limits.{IsWithinLimits}
+use Rattle.mg_defs.specs.WithinLimits.{IsWithinLimits}
 use Rattle.mg_defs.specs.Summaries.{run_cap}
 use Rattle.mg_layout.specs.Stands.{StandsIn}
 use Rattle.mg_make.specs.Putting.{OthersSame}
