@@ -12,8 +12,8 @@ use Rattle.std.proofs.lemmas.Option.{get_or_from_slice_get, slice_get_within}
 use Rattle.mg_dev.specs.Files.{Files}
 use Rattle.mg_dev.specs.declared.device.PutErr.{PutErr}
 use Rattle.mg_defs.proofs.SortedLaws.{number-at, other-isnt, same-refl}
-use Rattle.mg_defs.specs.Bits.{Bits}
-use Rattle.mg_defs.specs.CodedText.{StreamCode, TextCode, as_bytes, codeword_of, coded_doc, coded_pair}
+use Rattle.mg_defs.specs.Bits.{Bits, as_bytes}
+use Rattle.mg_defs.specs.CodedText.{StreamCode, TextCode, codeword_of, coded_doc, coded_pair}
 use Rattle.mg_defs.specs.Codes.{gamma}
 use Rattle.mg_defs.specs.Means.{HasCodewords, IsStreamCode}
 use Rattle.mg_defs.specs.Parse.{Pair, parse}

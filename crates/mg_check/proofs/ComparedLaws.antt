@@ -14,7 +14,7 @@ use Rattle.mg_dev.specs.Files.{Files, bytes_at}
 use Rattle.mg_dev.specs.Names.{full_name}
 use Rattle.mg_defs.proofs.StandRanges.{entries-append, lists-append}
 use Rattle.mg_defs.specs.declared.Posting.{Posting}
-use Rattle.mg_defs.specs.CodedText.{as_bytes}
+use Rattle.mg_defs.specs.Bits.{as_bytes}
 use Rattle.mg_defs.specs.Lists.{entry_bits, inverted, lists_bits, lists_entries}
 use Rattle.mg_defs.specs.Split.{documents}
 use Rattle.mg_layout.specs.Contents.{StandAt}

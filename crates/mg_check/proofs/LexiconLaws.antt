@@ -13,7 +13,7 @@ use Rattle.mg_dev.specs.declared.part_err.PartErr.TheVariants.{Device, Memory, B
 use Rattle.mg_dev.specs.Files.{Files, bytes_at}
 use Rattle.mg_dev.specs.Names.{full_name}
 use Rattle.mg_defs.specs.Front.{front, is_below, whole_at}
-use Rattle.mg_defs.specs.Lexicon.{lex_at_bytes, lex_bytes, lexicon}
+use Rattle.mg_defs.specs.Lexicon.{lex_at_part, lex_part, lexicon}
 use Rattle.mg_lex.specs.Terms.{entries_of, terms_of}
 use Rattle.mg_lex.specs.Writing.{TermsStand}
 use Rattle.mg_check.specs.Listing.{Refutes}
@@ -45,11 +45,11 @@ refutes_wider P Q (Bad bad) wider none = λ q. none (wider q)
 
 -- ---- the lexicon of a collection
 
-pub lex_is : (base : List ℕ) (files : Option Files) (collection found : List ℕ) → base ≡ codes "new" → entries_of (terms_of collection) ≡ lexicon collection → TermsStand base files (terms_of collection) → found ≡ bytes_at files (codes "new.lex") → found ≡ lex_bytes collection
+pub lex_is : (base : List ℕ) (files : Option Files) (collection found : List ℕ) → base ≡ codes "new" → entries_of (terms_of collection) ≡ lexicon collection → TermsStand base files (terms_of collection) → found ≡ bytes_at files (codes "new.lex") → found ≡ lex_part collection
 lex_is base files collection found base_is entries stand is =
     is ∙ ap (λ n. bytes_at files n) (sym (ap (λ b. full_name b Lex) base_is ∙ lex_name)) ∙ stand.lex ∙ ap front entries
 
-pub lex_at_is : (base : List ℕ) (files : Option Files) (collection found : List ℕ) → base ≡ codes "new" → entries_of (terms_of collection) ≡ lexicon collection → TermsStand base files (terms_of collection) → found ≡ bytes_at files (codes "new.lexat") → found ≡ lex_at_bytes collection
+pub lex_at_is : (base : List ℕ) (files : Option Files) (collection found : List ℕ) → base ≡ codes "new" → entries_of (terms_of collection) ≡ lexicon collection → TermsStand base files (terms_of collection) → found ≡ bytes_at files (codes "new.lexat") → found ≡ lex_at_part collection
 lex_at_is base files collection found base_is entries stand is =
     is ∙ ap (λ n. bytes_at files n) (sym (ap (λ b. full_name b LexAt) base_is ∙ lex_at_name)) ∙ stand.lex_at ∙ ap whole_at entries
 

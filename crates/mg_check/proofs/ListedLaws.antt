@@ -13,7 +13,7 @@ use Rattle.mg_defs.proofs.StandGrow.{docs-are}
 use Rattle.mg_defs.proofs.StandLists.{entry_fits}
 use Rattle.mg_defs.proofs.StandRanges.{lists-append}
 use Rattle.mg_defs.specs.declared.Posting.{Posting}
-use Rattle.mg_defs.specs.CodedText.{as_bytes}
+use Rattle.mg_defs.specs.Bits.{as_bytes}
 use Rattle.mg_defs.specs.Lexicon.{TermInfo, info_of}
 use Rattle.mg_defs.specs.Lists.{Rises, entries_of_list, entry_bits, first_entry, inverted, list_byte, lists_bits, lists_entries}
 use Rattle.mg_defs.specs.Split.{documents}

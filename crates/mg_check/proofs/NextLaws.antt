@@ -10,7 +10,7 @@ use Rattle.mg_dev.specs.declared.part_err.PartErr.TheVariants.{Device, Memory, B
 use Rattle.mg_defs.specs.declared.Stream.TheVariants.{Words, Others}
 use Rattle.mg_defs.specs.CodedText.{TextCode, coded_size}
 use Rattle.mg_defs.specs.Heads as defs
-use Rattle.mg_defs.specs.Heads.{limits}
+use Rattle.mg_defs.specs.Limits.{limits}
 use Rattle.mg_defs.specs.Means.{StandForNone, Tell}
 use Rattle.mg_defs.specs.Parse.{parse}
 use Rattle.mg_defs.specs.Split.{IsDocument, documents}

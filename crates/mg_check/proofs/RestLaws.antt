@@ -6,10 +6,10 @@ use Rattle.std.specs.declared.result.Result.{Result}
 use Rattle.mg_dev.specs.Files.{Files, bytes_at}
 use Rattle.mg_defs.specs.declared.Stream.TheVariants.{Words, Others}
 use Rattle.mg_defs.specs.Bits.{bits_of}
-use Rattle.mg_defs.specs.CodedText.{IsTextCode, TextCode, places_of, text_of}
+use Rattle.mg_defs.specs.CodedText.{IsTextCode, TextCode, places_part, text_part}
 use Rattle.mg_defs.specs.Heads as defs
 use Rattle.mg_defs.specs.Heads.{run_count}
-use Rattle.mg_defs.specs.Limits.{IsWithinLimits}
+use Rattle.mg_defs.specs.WithinLimits.{IsWithinLimits}
 use Rattle.mg_defs.specs.Means.{StandForNone, docs_bytes}
 use Rattle.mg_defs.specs.Occurrences.{occurrences}
 use Rattle.mg_defs.specs.Split.{documents, has_open_end, joined}
@@ -53,15 +53,15 @@ code-meant parts h code docs meant =
       code-of Others (joined docs h.open_end) code.others meant.mean.tell.model.others (λ k d within. all-get (Contains code.others.pieces) (all_pieces Others (joined docs h.open_end)) k d (subst (λ (ds : List (List ℕ)). AllByRecursion (Contains code.others.pieces) (flat_map (pieces_in Others) ds)) own (all-others code docs meant.mean.each)) within) meant.others,
     )
 
-text-meant : (parts : Parts) (h : defs.Head) (code : TextCode) (docs : List (List ℕ)) → IsMeant parts h code docs → parts.text ≡ text_of code (joined docs h.open_end)
+text-meant : (parts : Parts) (h : defs.Head) (code : TextCode) (docs : List (List ℕ)) → IsMeant parts h code docs → parts.text ≡ text_part code (joined docs h.open_end)
 text-meant parts h code docs meant = meant.mean.text ∙ ap (docs_bytes code) (own-docs parts h code docs meant)
 
 room : (narrow : Bool) (n : ℕ) → n < (if narrow then 2 ^ 32 else 2 ^ 60) → n ≤ (if narrow then 2 ^ 32 - 1 else 2 ^ 60)
 room true n h = omega (arith, h)
 room false n h = omega (arith, h)
 
-small-text : (version : ℕ) (code : TextCode) (collection : List ℕ) → IsTextCode collection code → IsWithinLimits version collection → length (text_of code collection) ≤ most_text version
-small-text version code collection is within = room (version == 1) (length (text_of code collection)) (text-room version collection code within is)
+small-text : (version : ℕ) (code : TextCode) (collection : List ℕ) → IsTextCode collection code → IsWithinLimits version collection → length (text_part code collection) ≤ most_text version
+small-text version code collection is within = room (version == 1) (length (text_part code collection)) (text-room version collection code within is)
 
 -- the reader reads its text
 pub meant-stands : (files : Option Files) (base : List ℕ) (head : Head) (r : TextReading) (docs : List (List ℕ)) → IsLoaded files base head r → IsMeant (parts_at files base) (fields_of head) r.code docs → TextStands r files (joined docs head.open_end)
@@ -70,13 +70,13 @@ meant-stands files base head r docs loaded meant =
     let own = own-docs (parts_at files base) (fields_of head) r.code docs meant in
     let code = code-meant (parts_at files base) (fields_of head) r.code docs meant in
     let text = text-meant (parts_at files base) (fields_of head) r.code docs meant in
-    let size : r.size ≡ length (text_of r.code (joined docs head.open_end)) = loaded.reader.size_is ∙ sym loaded.text ∙ ap length text in
+    let size : r.size ≡ length (text_part r.code (joined docs head.open_end)) = loaded.reader.size_is ∙ sym loaded.text ∙ ap length text in
     record {
       told = loaded.told;
       model = loaded.tell.model;
       code = code;
       text = ap (λ (name : List ℕ). bits_of (bytes_at files name)) loaded.reader.text_is ∙ ap bits_of text;
-      places = ap (bytes_at files) loaded.reader.places_is ∙ meant.places ∙ ap (λ (v : ℕ). places_of v r.code (joined docs head.open_end)) (sym loaded.reader.version_is);
+      places = ap (bytes_at files) loaded.reader.places_is ∙ meant.places ∙ ap (λ (v : ℕ). places_part v r.code (joined docs head.open_end)) (sym loaded.reader.version_is);
       size = size;
       documents = loaded.reader.documents_are ∙ sym meant.mean.count ∙ ap length own;
       few = (most head.version (joined docs head.open_end) meant.limits).0;
@@ -93,7 +93,7 @@ head-meant files base head r docs loaded meant numbers =
     let words : head.words ≡ length (sorted_pieces Words (joined docs head.open_end)) = loaded.words ∙ ap length code.0.pieces in
     let others : head.others ≡ length (sorted_pieces Others (joined docs head.open_end)) = loaded.others ∙ ap length code.1.pieces in
     let runs : head.runs ≡ run_count (length (occurrences (joined docs head.open_end))) head.cap = loaded.tell.head.within.runs ∙ ap (λ (n : ℕ). run_count n head.cap) numbers.occurrences in
-    let text : head.text_bytes ≡ length (text_of r.code (joined docs head.open_end)) = sym loaded.text ∙ ap length (text-meant (parts_at files base) (fields_of head) r.code docs meant) in
+    let text : head.text_bytes ≡ length (text_part r.code (joined docs head.open_end)) = sym loaded.text ∙ ap length (text-meant (parts_at files base) (fields_of head) r.code docs meant) in
     let size : head.collection ≡ length (joined docs head.open_end) = meant.bytes in
     let terms = numbers.terms in
     let occurrences_are = numbers.occurrences in

@@ -8,7 +8,7 @@ use Rattle.std.proofs.lemmas.List.{length-map, map-append, take_more}
 use Rattle.mg_dev.specs.Files.{Files, bytes_at}
 use Rattle.mg_dev.specs.declared.part_err.PartErr.{PartErr}
 use Rattle.mg_dev.specs.declared.part_err.PartErr.TheVariants.{Device, Memory, Bad}
-use Rattle.mg_defs.specs.CodedText.{as_bytes}
+use Rattle.mg_defs.specs.Bits.{as_bytes}
 use Rattle.mg_defs.specs.RunBits.{run_part_bits}
 use Rattle.mg_runs.specs.Fed.{cap_of}
 use Rattle.mg_check.specs.Counting.{Comparing, HasBegun, HasTaken, RunReading, WhereBad}

@@ -8,12 +8,13 @@ use Rattle.std.proofs.lemmas.List.{drop-drop}
 use Rattle.mg_dev.specs.Files.{Files, bytes_at}
 use Rattle.mg_dev.specs.declared.part_err.PartErr.{PartErr}
 use Rattle.mg_dev.specs.declared.part_err.PartErr.TheVariants.{Device, Memory, Bad}
-use Rattle.mg_defs.specs.CodedText.{as_bytes}
+use Rattle.mg_defs.specs.Bits.{as_bytes}
 use Rattle.mg_defs.specs.declared.TermPosting.{TermPosting}
-use Rattle.mg_defs.specs.Postings.{once, gathered, postings}
-use Rattle.mg_defs.specs.Runs.{first_runs, finished, runs_of}
+use Rattle.mg_defs.specs.Postings.{once, gathered, term_postings}
+use Rattle.mg_defs.specs.Runs.{first_runs, runs_of}
+use Rattle.mg_runs.specs.FinishedRuns.{finished}
 use Rattle.mg_defs.specs.RunBits.{run_part_bits, runs_bits}
-use Rattle.mg_defs.proofs.Segments.{finished-room, finished-full, finished-low, first_runs-more, first_runs-full}
+use Rattle.mg_runs.proofs.Segments.{finished-room, finished-full, finished-low, first_runs-more, first_runs-full}
 use Rattle.mg_runs.specs.Bytes.{AreEntries}
 use Rattle.mg_runs.specs.Fed.{IsOccurrence, AreOccurrences, cap_of}
 use Rattle.mg_runs.specs.Pooled.{Pooled, used}
@@ -65,7 +66,7 @@ runs_split cap (suc k) j s =
     let one : cap + k * cap ≡ suc k * cap = omega arith in
     let e : drop (k * cap) (drop cap s) ≡ drop (suc k * cap) s = drop-drop (k * cap) cap s ∙ ap (λ m. drop m s) one in
     let n : suc k + j ≡ suc (k + j) = omega arith in
-    ap (λ m. first_runs cap m s) n ∙ ap (λ t. postings (take cap s) ∷ t) (runs_split cap k j (drop cap s) ∙ ap (λ t. first_runs cap k (drop cap s) ++ first_runs cap j t) e)
+    ap (λ m. first_runs cap m s) n ∙ ap (λ t. term_postings (take cap s) ∷ t) (runs_split cap k j (drop cap s) ∙ ap (λ t. first_runs cap k (drop cap s) ++ first_runs cap j t) e)
 
 runs_front : (cap k : ℕ) (s rest : List (ℕ × ℕ)) → k * cap ≤ length s → first_runs cap k (s ++ rest) ≡ first_runs cap k s
 runs_front cap k s [] h = ap (λ t. first_runs cap k t) (append-nil s)
@@ -111,7 +112,7 @@ take_all : (n : ℕ) (xs : List (ℕ × ℕ)) → length xs ≤ n → take n xs 
 take_all n xs h = grind (arith, common_steps)
 
 -- the last run is that of the occurrences behind the finished ones
-runs_of_last : (cap : ℕ) (fed : List (ℕ × ℕ)) → 1 ≤ cap → 1 ≤ length fed → runs_of cap fed ≡ first_runs cap (finished cap (length fed)) fed ++ postings (drop (finished cap (length fed) * cap) fed) ∷ []
+runs_of_last : (cap : ℕ) (fed : List (ℕ × ℕ)) → 1 ≤ cap → 1 ≤ length fed → runs_of cap fed ≡ first_runs cap (finished cap (length fed)) fed ++ term_postings (drop (finished cap (length fed) * cap) fed) ∷ []
 runs_of_last cap fed some more =
     let n : ℕ = length fed in
     let q : ℕ = finished cap n in
@@ -121,7 +122,7 @@ runs_of_last cap fed some more =
     let next : suc q * cap ≡ cap + q * cap = omega arith in
     let count : (n + cap - 1) / cap ≡ q + 1 = ceil_is n cap (suc q) some (omega arith) (omega arith) ∙ omega arith in
     let all : take cap rest ≡ rest = take_all cap rest (omega (arith, length_rest fed (q * cap))) in
-    ap (λ k. first_runs cap k fed) count ∙ runs_split cap q 1 fed ∙ ap (λ t. first_runs cap q fed ++ postings t ∷ []) all
+    ap (λ k. first_runs cap k fed) count ∙ runs_split cap q 1 fed ∙ ap (λ t. first_runs cap q fed ++ term_postings t ∷ []) all
 
 -- ---- what was taken
 
@@ -224,7 +225,7 @@ full_run r f fed is full =
     let low : q * cap ≤ n - 1 = finished-low cap n some in
     let next : suc q * cap ≡ cap + q * cap = omega arith in
     let whole : suc q * cap ≡ n = omega arith in
-    let run : gathered r.pool.entries ≡ postings (drop (q * cap) fed) = ap (λ xs. gathered xs) is.entries in
+    let run : gathered r.pool.entries ≡ term_postings (drop (q * cap) fed) = ap (λ xs. gathered xs) is.entries in
     (whole, first_runs-full cap q fed (sym whole) ∙ ap (λ t. first_runs cap q fed ++ t ∷ []) (sym run))
 
 pub taken_full : RunsJoin → (r0 r1 : RunReading) (f0 f1 : Option Files) (fed : List (ℕ × ℕ)) (o : ℕ × ℕ) → HasTaken r0 f0 fed → length r0.pool.entries ≡ cap_of r0.pool → IsOccurrence o → length fed < 2 ^ 32 - 1 → ((done : List ℕ) → HasBegun r0.part f0 done → HasBegun r1.part f1 (done ++ pool_bytes r0)) → r1.part.at ≤ r0.part.at + 16 + 32 * length r0.pool.entries → r1.pool.entries ≡ once o ∷ [] → r1.pool.slots ≡ [] → r1.pool.limit ≡ r0.pool.limit → HasTaken r1 f1 (fed ++ o ∷ [])
@@ -296,7 +297,7 @@ pub last_bytes : RunsJoin → (r : RunReading) (f : Option Files) (fed : List (�
 last_bytes join r f fed is some =
     let cap : ℕ = cap_of r.pool in
     let q : ℕ = finished cap (length fed) in
-    let run : gathered r.pool.entries ≡ postings (drop (q * cap) fed) = ap (λ xs. gathered xs) is.entries in
+    let run : gathered r.pool.entries ≡ term_postings (drop (q * cap) fed) = ap (λ xs. gathered xs) is.entries in
     sym (join (first_runs cap q fed) (gathered r.pool.entries ∷ []))
     ∙ ap (λ t. as_bytes (runs_bits (first_runs cap q fed ++ t ∷ []))) run
     ∙ ap (λ rs. as_bytes (runs_bits rs)) (sym (runs_of_last cap fed (taken_some_cap r f fed is) (fed_some r f fed is some)))

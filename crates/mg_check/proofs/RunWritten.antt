@@ -2,8 +2,7 @@
 use Rattle.std.proofs.Common.{arith, ◌≡◌, ◌+◌, ◌*◌, ◌/◌, ◌%◌, ◌≤◌, ◌^◌, max, ℕ, List, [], ◌++◌, length, sym, ap, ◌∙◌, append-nil, IsSome}
 use Rattle.std.specs.declared.option.Option.{Option}
 use Rattle.mg_dev.specs.Files.{Files}
-use Rattle.mg_defs.specs.Bits.{Bits, bits_of, digits, filled, to_byte}
-use Rattle.mg_defs.specs.CodedText.{as_bytes}
+use Rattle.mg_defs.specs.Bits.{Bits, bits_of, digits, filled, to_byte, as_bytes}
 use Rattle.mg_defs.specs.Postings.{gathered}
 use Rattle.mg_defs.specs.RunBits.{run_bits}
 use Rattle.mg_defs.proofs.BitLaws.{length_bits_of}

@@ -10,7 +10,8 @@ use Rattle.std.proofs.lemmas.Simd.{map-map}
 use Rattle.mg_dev.specs.Files.{Files, bytes_at}
 use Rattle.mg_dev.specs.declared.part_err.PartErr.{PartErr}
 use Rattle.mg_dev.specs.declared.part_err.PartErr.TheVariants.{Device, Memory, Bad}
-use Rattle.mg_defs.specs.CodedText.{TextCode, as_bytes}
+use Rattle.mg_defs.specs.CodedText.{TextCode}
+use Rattle.mg_defs.specs.Bits.{as_bytes}
 use Rattle.mg_defs.specs.Numbers.{four}
 use Rattle.mg_defs.specs.Occurrences.{occurrences}
 use Rattle.mg_defs.specs.RunBits.{run_part_bits}

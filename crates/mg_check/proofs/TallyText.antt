@@ -12,7 +12,7 @@ use Rattle.mg_dev.specs.Names.{full_name}
 use Rattle.mg_dev.specs.declared.part.Part.TheVariants as part
 use Rattle.mg_dev.specs.declared.part_err.PartErr.{PartErr}
 use Rattle.mg_dev.specs.declared.part_err.PartErr.TheVariants.{Device, Memory, Bad}
-use Rattle.mg_defs.specs.CodedText.{as_bytes}
+use Rattle.mg_defs.specs.Bits.{as_bytes}
 use Rattle.mg_defs.specs.Means.{IsCodable}
 use Rattle.mg_defs.specs.Numbers.{four}
 use Rattle.mg_defs.specs.Occurrences.{occurrences}

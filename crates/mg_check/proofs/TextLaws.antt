@@ -9,9 +9,10 @@ use Rattle.std.proofs.lemmas.List.Sums.{sum_by-append, sum_by-cons, sum_by-take-
 use Rattle.mg_dev.specs.Files.{Files, bytes_at}
 use Rattle.mg_defs.specs.declared.Stream.{Stream}
 use Rattle.mg_defs.specs.declared.Stream.TheVariants.{Words, Others}
-use Rattle.mg_defs.specs.Bits.{bits_of}
-use Rattle.mg_defs.specs.CodedText.{StreamCode, TextCode, as_bytes, coded_doc, coded_size, place_bytes, places_of, running}
+use Rattle.mg_defs.specs.Bits.{bits_of, as_bytes}
+use Rattle.mg_defs.specs.CodedText.{StreamCode, TextCode, coded_doc, coded_size, place_bytes, places_part, running}
 use Rattle.mg_defs.specs.Heads as defs
+use Rattle.mg_defs.specs.Limits.{limits}
 use Rattle.mg_defs.specs.Means.{HasCodewords, IsCodable, IsUsedWell, Mean, counts_in, docs_bytes}
 use Rattle.mg_defs.specs.Numbers.{eight, four}
 use Rattle.mg_defs.specs.Parse.{Pair, parse}
@@ -201,7 +202,7 @@ reader-stands files base head r collection loaded stand =
       model = loaded.tell.model;
       code = is.code_is;
       text = ap (λ (name : List ℕ). bits_of (bytes_at files name)) loaded.reader.text_is ∙ is.text_is;
-      places = ap (bytes_at files) loaded.reader.places_is ∙ is.places_are ∙ ap (λ (v : ℕ). places_of v r.code collection) (sym loaded.reader.version_is);
+      places = ap (bytes_at files) loaded.reader.places_is ∙ is.places_are ∙ ap (λ (v : ℕ). places_part v r.code collection) (sym loaded.reader.version_is);
       size = loaded.reader.size_is ∙ is.size_is;
       documents = loaded.reader.documents_are ∙ is.documents_are;
       few = is.few;
@@ -345,10 +346,10 @@ end-means files base head r docs p loaded so all ends =
           ∙ ap (λ (ds : List (List ℕ)). flat_map (place_bytes head.version) (running 0 (map (coded_size r.code) ds))) own;
       bytes = size;
       limits = record {
-        bytes = subst (λ (n : ℕ). n ≤ (defs.limits head.version).collection) size loaded.tell.head.within.collection;
-        documents = subst (λ (n : ℕ). n ≤ (defs.limits head.version).documents) (sym (ap length (sym own) ∙ so.count ∙ all)) loaded.tell.head.within.documents;
-        words = subst (λ (n : ℕ). n ≤ (defs.limits head.version).pieces) (loaded.words ∙ ap length word_code.pieces) loaded.tell.head.within.words;
-        others = subst (λ (n : ℕ). n ≤ (defs.limits head.version).pieces) (loaded.others ∙ ap length other_code.pieces) loaded.tell.head.within.others;
+        bytes = subst (λ (n : ℕ). n ≤ (limits head.version).collection) size loaded.tell.head.within.collection;
+        documents = subst (λ (n : ℕ). n ≤ (limits head.version).documents) (sym (ap length (sym own) ∙ so.count ∙ all)) loaded.tell.head.within.documents;
+        words = subst (λ (n : ℕ). n ≤ (limits head.version).pieces) (loaded.words ∙ ap length word_code.pieces) loaded.tell.head.within.words;
+        others = subst (λ (n : ℕ). n ≤ (limits head.version).pieces) (loaded.others ∙ ap length other_code.pieces) loaded.tell.head.within.others;
       };
     }
 

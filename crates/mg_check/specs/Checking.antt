@@ -1,5 +1,5 @@
 -- Reading the text of a set: what is known of it after some documents, and what its parts mean at the end.
-use Rattle.std.specs.Prelude.{◌≡◌, ◌≤◌, ◌<◌, ◌+◌, ◌*◌, ℕ, List, [], ◌∷◌, length, map, take, drop, sum, sum_by, IsTrue, Ok, Err}
+use Rattle.std.specs.Prelude.{◌≡◌, ◌≤◌, ◌<◌, ◌+◌, ◌-◌, ◌*◌, ℕ, List, [], ◌∷◌, length, map, take, drop, sum, sum_by, IsTrue, Ok, Err}
 use Rattle.std.specs.List.{AllByRecursion, flat_map}
 use Rattle.std.specs.Option.{IsSome}
 use Rattle.std.specs.declared.option.Option.{Option}
@@ -8,10 +8,11 @@ use Rattle.mg_dev.specs.Files.{Files}
 use Rattle.mg_dev.specs.declared.part_err.PartErr.{PartErr}
 use Rattle.mg_dev.specs.declared.part_err.PartErr.TheVariants.{Device, Memory, Bad}
 use Rattle.mg_defs.specs.declared.Stream.TheVariants.{Words, Others}
-use Rattle.mg_defs.specs.CodedText.{TextCode, as_bytes, coded_doc, coded_size, place_bytes, places_of}
+use Rattle.mg_defs.specs.CodedText.{TextCode, coded_doc, coded_size, place_bytes, places_part}
+use Rattle.mg_defs.specs.Bits.{as_bytes}
 use Rattle.mg_defs.specs.Heads as defs
-use Rattle.mg_defs.specs.Limits.{IsWithinLimits}
-use Rattle.mg_defs.specs.Means.{BeginsWith, IsCodable, IsUsedWell, Mean, Tell, docs_bytes}
+use Rattle.mg_defs.specs.WithinLimits.{IsWithinLimits}
+use Rattle.mg_defs.specs.Means.{BeginsWithDocuments, IsCodable, IsUsedWell, Mean, Tell, docs_bytes}
 use Rattle.mg_defs.specs.Split.{IsDocument, IsSplit, joined}
 use Rattle.mg_defs.specs.Stands.{Parts}
 use Rattle.mg_defs.specs.Vocabulary.{pieces_in}
@@ -72,7 +73,7 @@ last_size (doc ∷ next ∷ docs) = last_size (next ∷ docs)
 
 -- The parts begin with these documents and their places, and this is what they amount to.
 pub record HasRead (parts : Parts) (version : ℕ) (code : TextCode) (docs : List (List ℕ)) (p : Progress) : Type 0 where
-  pub begins : BeginsWith code parts.text docs (drop p.place parts.text)
+  pub begins : BeginsWithDocuments code parts.text docs (drop p.place parts.text)
   pub count : length docs ≡ p.documents
   pub each : AllByRecursion IsDocument docs
   pub place : p.place ≡ length (docs_bytes code docs)
@@ -101,7 +102,7 @@ pub record IsMeant (parts : Parts) (h : defs.Head) (code : TextCode) (docs : Lis
   pub split : IsSplit (joined docs h.open_end) docs h.open_end
   pub words : IsUsedWell Words (joined docs h.open_end) code.words
   pub others : IsUsedWell Others (joined docs h.open_end) code.others
-  pub places : parts.places ≡ places_of h.version code (joined docs h.open_end)
+  pub places : parts.places ≡ places_part h.version code (joined docs h.open_end)
   pub bytes : h.collection ≡ length (joined docs h.open_end)
   pub limits : IsWithinLimits h.version (joined docs h.open_end)
 
@@ -157,3 +158,29 @@ pub record FoundDocs (parts : Parts) (version : ℕ) (code : TextCode) (p : Prog
 pub record FoundText (parts : Parts) (h : defs.Head) (code : TextCode) : Type 0 where
   pub docs : List (List ℕ)
   pub meant : IsMeant parts h code docs
+
+-- ---- claims on what is read
+
+-- for each collection whose text the reader reads, and whose document at a place, from 0, has at most so many bytes: that document
+abbrev pub ForDoc : TextReading → Option Files → ℕ → ℕ → (List ℕ → Type 0) → Type 0
+ForDoc r files place most claim = (collection : List ℕ) → HasDoc r files collection place most → claim (doc_at collection place)
+
+-- the same for the next document, which has no more bytes than the head leaves
+abbrev pub ForNextDoc : TextReading → Option Files → Head → Progress → (List ℕ → Type 0) → Type 0
+ForNextDoc r files head p claim = ForDoc r files p.documents (head.collection - p.bytes) claim
+
+-- a place stands in Places as the one of this number, from 0
+abbrev pub PlaceStands : ℕ → ℕ → ℕ → Parts → Type 0
+PlaceStands version number place parts = StandAt (place_width version * number) (place_bytes version place) parts.places
+
+-- by the parts of a base, a document stands next, and it was added
+abbrev pub FoundMore : Option Files → List ℕ → Head → TextReading → Progress → Progress → Type 0
+FoundMore files base head r old new = FoundNext (parts_at files base) head.version r.code old new
+
+-- the parts of a base mean some documents
+abbrev pub FoundSet : Option Files → List ℕ → Head → TextReading → Type 0
+FoundSet files base head r = FoundText (parts_at files base) (fields_of head) r.code
+
+-- a claim where the reader's codes were told, and some documents were read
+abbrev pub WhereRead : Option Files → List ℕ → Head → TextReading → Progress → Type 0 → Type 0
+WhereRead files base head r p claim = IsLoaded files base head r → (docs : List (List ℕ)) → HasRead (parts_at files base) head.version r.code docs p → claim

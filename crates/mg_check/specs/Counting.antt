@@ -1,5 +1,5 @@
 -- What contracts see of terms that are counted, and of weights and runs that are compared with their parts.
-use Rattle.std.specs.Prelude.{◌≡◌, ℕ, ◌+◌, ◌-◌, ◌*◌, ◌<◌, ◌≤◌, ◌^◌, ◌==◌, nat_eq, nat_lt, if◌then◌else◌, List, [], ◌∷◌, ◌++◌, All, length, take, drop, flat_map, min, slice_index, slice_set, map, filter, sum_by, count_by, Ok, Err}
+use Rattle.std.specs.Prelude.{◌≡◌, ◌≢◌, ℕ, ◌+◌, ◌-◌, ◌*◌, ◌<◌, ◌≤◌, ◌^◌, ◌==◌, nat_eq, nat_lt, if◌then◌else◌, List, [], ◌∷◌, ◌++◌, All, length, take, drop, flat_map, min, slice_index, slice_set, map, filter, sum_by, count_by, Ok, Err}
 use Rattle.std.specs.Cmp.Lexicographic.{slice_cmp}
 use Rattle.std.specs.List.Sorted.{IsStrictlySortedBy}
 use Rattle.std.specs.Ordering.{nat_cmp}
@@ -12,14 +12,16 @@ use Rattle.mg_dev.specs.Names.{full_name}
 use Rattle.mg_dev.specs.declared.part.Part.TheVariants as part
 use Rattle.mg_dev.specs.declared.part_err.PartErr.{PartErr}
 use Rattle.mg_dev.specs.declared.part_err.PartErr.TheVariants.{Device, Memory, Bad}
-use Rattle.mg_defs.specs.CodedText.{TextCode, as_bytes}
+use Rattle.mg_defs.specs.CodedText.{TextCode}
+use Rattle.mg_defs.specs.Bits.{as_bytes}
 use Rattle.mg_defs.specs.Fixed.{isqrt}
 use Rattle.mg_defs.specs.Means.{IsCodable}
 use Rattle.mg_defs.specs.Numbers.{four}
 use Rattle.mg_defs.specs.Occurrences.{occurrences}
 use Rattle.mg_defs.specs.Postings.{gathered, once}
 use Rattle.mg_defs.specs.RunBits.{run_part_bits, runs_bits}
-use Rattle.mg_defs.specs.Runs.{first_runs, finished}
+use Rattle.mg_defs.specs.Runs.{first_runs}
+use Rattle.mg_runs.specs.FinishedRuns.{finished}
 use Rattle.mg_defs.specs.Split.{documents}
 use Rattle.mg_defs.specs.Stands.{weights_part}
 use Rattle.mg_defs.specs.Terms.{dictionary, same_term, terms}
@@ -76,6 +78,22 @@ pub record HasBegun (c : Comparing) (files : Option Files) (done : List ℕ) : T
   pub at_is : c.at ≡ length done
   pub begins : IsSome files → take (length done) (bytes_at files c.name) ≡ done
 
+-- these bytes more were compared
+abbrev pub HasBegunMore : {X : Type 0} → (X → Option Files) → X → X → Comparing → Comparing → List ℕ → Type 0
+HasBegunMore files before now old new wanted = (done : List ℕ) → HasBegun old (files before) done → HasBegun new (files now) (done ++ wanted)
+
+-- the part goes on with other bytes than these
+abbrev pub GoesOnOtherwise : Comparing → Option Files → List ℕ → Type 0
+GoesOnOtherwise c files wanted = (done rest : List ℕ) → HasBegun c files done → bytes_at files c.name ≢ done ++ (wanted ++ rest)
+
+-- the part has the bytes that were compared, and no others
+abbrev pub EndsThere : Comparing → Option Files → Type 0
+EndsThere c files = (done : List ℕ) → HasBegun c files done → bytes_at files c.name ≡ done
+
+-- it has others
+abbrev pub EndsElsewhere : Comparing → Option Files → Type 0
+EndsElsewhere c files = (done : List ℕ) → HasBegun c files done → bytes_at files c.name ≢ done
+
 -- ---- weights
 
 -- the comparison of the part, and the bytes that are held for it
@@ -88,6 +106,26 @@ pub record HasWeighed (w : Weighing) (files : Option Files) (bytes : List ℕ) :
   pub done : List ℕ
   pub begun : HasBegun w.part files done
   pub all : done ++ w.held ≡ bytes
+
+-- these bytes more were taken
+abbrev pub HasWeighedMore : {X : Type 0} → (X → Option Files) → X → X → Weighing → Weighing → List ℕ → Type 0
+HasWeighedMore files before now old new more = (bytes : List ℕ) → HasWeighed old (files before) bytes → HasWeighed new (files now) (bytes ++ more)
+
+-- the part does not begin with the bytes that were taken
+abbrev pub WeighsOtherwise : Weighing → Option Files → Type 0
+WeighsOtherwise w files = (bytes rest : List ℕ) → HasWeighed w files bytes → bytes_at files w.part.name ≢ bytes ++ rest
+
+-- it does not begin with them and these behind them
+abbrev pub WeighsOtherwiseOn : Weighing → Option Files → List ℕ → Type 0
+WeighsOtherwiseOn w files more = (bytes rest : List ℕ) → HasWeighed w files bytes → bytes_at files w.part.name ≢ bytes ++ (more ++ rest)
+
+-- the part is the bytes that were taken
+abbrev pub AreItsWeights : Weighing → Option Files → Type 0
+AreItsWeights w files = (bytes : List ℕ) → HasWeighed w files bytes → bytes_at files w.part.name ≡ bytes
+
+-- it is not
+abbrev pub AreOtherWeights : Weighing → Option Files → Type 0
+AreOtherWeights w files = (bytes : List ℕ) → HasWeighed w files bytes → bytes_at files w.part.name ≢ bytes
 
 -- ---- runs
 
@@ -118,6 +156,39 @@ pub record HasTaken (r : RunReading) (files : Option Files) (fed : List (ℕ × 
   pub below : r.part.at ≤ 64 * (finished (cap_of r.pool) (length fed) * cap_of r.pool)
   pub occurrences : AreOccurrences fed
   pub few : length fed < 2 ^ 32
+
+-- one occurrence more was taken
+abbrev pub HasTakenOne : {X : Type 0} → (X → Option Files) → X → X → RunReading → RunReading → ℕ × ℕ → Type 0
+HasTakenOne files before now old new o = (fed : List (ℕ × ℕ)) → length fed < 2 ^ 32 - 1 → HasTaken old (files before) fed → HasTaken new (files now) (fed ++ o ∷ [])
+
+-- the occurrences of terms in a document, by the terms' numbers
+abbrev pub occurrences_in : ℕ → List ℕ → List (ℕ × ℕ)
+occurrences_in doc numbers = map (λ n. (n, doc)) numbers
+
+-- those of terms in a document were taken
+abbrev pub HasTakenAll : {X : Type 0} → (X → Option Files) → X → X → RunReading → RunReading → ℕ → List ℕ → Type 0
+HasTakenAll files before now old new doc numbers = (fed : List (ℕ × ℕ)) → length fed + length numbers < 2 ^ 32 → HasTaken old (files before) fed → HasTaken new (files now) (fed ++ occurrences_in doc numbers)
+
+-- the part is the runs of no occurrences that begin with those that were taken
+abbrev pub RunsOtherwise : RunReading → Option Files → Type 0
+RunsOtherwise r files = (fed rest : List (ℕ × ℕ)) → HasTaken r files fed → bytes_at files r.part.name ≢ run_part_of r (fed ++ rest)
+
+-- nor of those with these of a document behind them
+abbrev pub RunsOtherwiseOn : RunReading → Option Files → ℕ → List ℕ → Type 0
+RunsOtherwiseOn r files doc numbers =
+    (fed rest : List (ℕ × ℕ)) → length fed + length numbers < 2 ^ 32 → HasTaken r files fed → bytes_at files r.part.name ≢ run_part_of r (fed ++ (occurrences_in doc numbers ++ rest))
+
+-- the part begins with the runs of the occurrences that were taken
+abbrev pub HasBegunRuns : {X : Type 0} → (X → Option Files) → X → X → RunReading → Comparing → Type 0
+HasBegunRuns files before now r part = (fed : List (ℕ × ℕ)) → HasTaken r (files before) fed → HasBegun part (files now) (run_part_of r fed)
+
+-- the part is the runs of the occurrences that were taken
+abbrev pub AreItsRuns : RunReading → Option Files → Type 0
+AreItsRuns r files = (fed : List (ℕ × ℕ)) → HasTaken r files fed → bytes_at files r.part.name ≡ run_part_of r fed
+
+-- it is not
+abbrev pub AreOtherRuns : RunReading → Option Files → Type 0
+AreOtherRuns r files = (fed : List (ℕ × ℕ)) → HasTaken r files fed → bytes_at files r.part.name ≢ run_part_of r fed
 
 -- ---- all of a collection's documents
 
@@ -198,7 +269,16 @@ pub record HaveTallied (t : Tallying) (files : Option Files) (dictionary docs : 
   pub weights : bytes_at files t.weights.part.name ≡ flat_map four (map weight docs)
   pub run : bytes_at files t.runs.part.name ≡ as_bytes (run_part_bits (cap_of t.runs.pool) (occurrences_from dictionary 1 docs))
 
--- They are not those of the documents that were taken.
+-- the next document was taken, which has this number and these terms
+abbrev pub TalliedNext : {X : Type 0} → (X → Option Files) → X → X → Tallying → Tallying → ℕ → TermsRead → Type 0
+TalliedNext files before now old new number terms_read =
+    (words docs : List (List ℕ)) (doc : List ℕ) → 1 + length docs ≡ number → AreTermsOf words doc terms_read → HasTallied old (files before) words docs → HasTallied new (files now) words (docs ++ doc ∷ [])
+
+-- They are those of the documents that were taken.
+abbrev pub AreTallied : Tallying → Option Files → Type 0
+AreTallied t files = (words docs : List (List ℕ)) → HasTallied t files words docs → HaveTallied t files words docs
+
+-- They are not.
 abbrev pub NotTallied : Tallying → Option Files → Type 0
 NotTallied t files = (words docs : List (List ℕ)) → HasTallied t files words docs → HaveTallied t files words docs → ⊥
 

@@ -4,11 +4,15 @@ use Rattle.std.specs.List.{AllByRecursion, flat_map}
 use Rattle.std.specs.Option.{is_some}
 use Rattle.std.specs.declared.option.Option.{Option}
 use Rattle.std.specs.declared.result.Result.{Result}
-use Rattle.mg_dev.specs.Files.{Files}
+use Rattle.mg_dev.specs.Files.{Files, bytes_at}
+use Rattle.mg_dev.specs.Names.{full_name}
+use Rattle.mg_dev.specs.declared.part.Part.TheVariants as part
+use Rattle.mg_defs.specs.declared.Stream.{Stream}
 use Rattle.mg_defs.specs.declared.Stream.TheVariants.{Words, Others}
-use Rattle.mg_defs.specs.Bits.{Bits}
-use Rattle.mg_defs.specs.CodedText.{StreamCode, TextCode, as_bytes, codeword_of, coded_doc, coded_pair}
+use Rattle.mg_defs.specs.Bits.{Bits, as_bytes}
+use Rattle.mg_defs.specs.CodedText.{StreamCode, TextCode, codeword_of, coded_doc, coded_pair}
 use Rattle.mg_defs.specs.Cost.{cost_of, huffman_cost}
+use Rattle.mg_defs.specs.Marks.{code_of}
 use Rattle.mg_defs.specs.Means.{HasCodewords, IsCodable}
 use Rattle.mg_defs.specs.Parse.{Pair}
 use Rattle.mg_defs.specs.Vocabulary.{count_in, piece_of_pair, pieces_in}
@@ -43,6 +47,10 @@ pub record PutPiece (code : StreamCode) (piece : List ℕ) (w0 w1 : TextWriting)
   pub known : Contains code.pieces piece
   pub counted : Counted code (piece ∷ []) old new
 
+-- the same of a piece of a stream of a model, into a store
+abbrev pub PutsPiece : {X : Type 0} → (X → Option Files) → X → X → Stream → TextCode → List ℕ → TextWriting → TextWriting → List ℕ → List ℕ → Type 0
+PutsPiece files before now stream model piece w0 w1 old new = PutPiece (code_of stream model) piece w0 w1 (files before) (files now) old new
+
 -- the codewords of some pairs more were put, and their pieces were counted
 pub record PutPairs (code : TextCode) (pairs : List Pair) (w0 w1 : TextWriting) (f0 f1 : Option Files) (old new : Uses) : Type 0 where
   pub took : (bits : Bits) → IsOnText w0 f0 [] bits → IsOnText w1 f1 [] (bits ++ flat_map (coded_pair code) pairs)
@@ -63,6 +71,10 @@ pub record IsCodedAs (code : TextCode) (doc bytes : List ℕ) (old new : Uses) :
   pub short : length bytes ≤ 12 * length doc + 13
   pub words : Counted code.words (pieces_in Words doc) old.words.items new.words.items
   pub others : Counted code.others (pieces_in Others doc) old.others.items new.others.items
+
+-- the bytes of the text in a store of its own
+abbrev pub text_in : Option Files → List ℕ
+text_in files = bytes_at files (full_name [] part.Text)
 
 -- ---- what came of it
 

@@ -1,7 +1,8 @@
 -- What checking a set finds, and why it stops.
-use Rattle.std.specs.Prelude.{◌≡◌, ◌≢◌, ℕ, List, [], length}
+use Rattle.std.specs.Prelude.{◌≡◌, ◌≢◌, ◌⊎◌, ℕ, List, [], length, Err}
 use Rattle.std.specs.Option.{IsSome}
 use Rattle.std.specs.declared.option.Option.{Option}
+use Rattle.std.specs.declared.result.Result.{Result}
 use Rattle.mg_dev.specs.Files.{Files, bytes_at}
 use Rattle.mg_dev.specs.Names.{full_name}
 use Rattle.mg_dev.specs.declared.fault.Fault.{Fault}
@@ -35,3 +36,15 @@ CheckStops store_rose files base _ = ⊥
 abbrev pub TellsOutside : Fault → Type 0
 TellsOutside (Damaged bad) = IsOutside bad
 TellsOutside _ = Unit {0}
+
+-- there is no head, or it is empty
+abbrev pub HasNoHead : Option Files → List ℕ → Type 0
+HasNoHead files base = bytes_at files (full_name base Head) ≡ []
+
+-- that is told, or that the store failed or memory is wanting
+abbrev pub TellsNotBuilt : {T : Type 0} → Result T Fault → Type 0
+TellsNotBuilt result = (result ≡ Err NotBuilt) ⊎ (result ≡ Err StoreFault) ⊎ (result ≡ Err Memory)
+
+-- a claim where the files of this name stand for some collection
+abbrev pub IfStands : Option Files → List ℕ → Type 0 → Type 0
+IfStands files base claim = (collection : List ℕ) → Stands files base collection → claim

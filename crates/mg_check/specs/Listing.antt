@@ -1,15 +1,17 @@
 -- The lists of a range of terms in one vector, and lists, skip entries and lexicon as far as the terms below a number.
-use Rattle.std.specs.Prelude.{◌≡◌, ◌<◌, ◌≤◌, ◌+◌, ◌-◌, ◌^◌, ℕ, List, [], ◌++◌, length, map, filter, flat_map, take, drop, get_or, codes, slice_get, slice_index, nat_eq, Some}
+use Rattle.std.specs.Prelude.{◌≡◌, ◌<◌, ◌≤◌, ◌+◌, ◌-◌, ◌/◌, ◌^◌, ℕ, List, [], ◌∷◌, ◌++◌, IfErr, OnOk, length, map, filter, flat_map, take, drop, get_or, codes, slice_get, slice_index, nat_eq, Some}
 use Rattle.std.specs.Option.{IsSome}
 use Rattle.std.specs.declared.option.Option.{Option}
+use Rattle.std.specs.declared.result.Result.{Result}
 use Rattle.mg_dev.specs.Files.{Files, bytes_at}
 use Rattle.mg_dev.specs.Names.{full_name}
 use Rattle.mg_dev.specs.declared.part.Part.TheVariants.{Lex, LexAt, Post, Skip}
+use Rattle.mg_dev.specs.declared.sure_store.SureStore.{SureStore}
 use Rattle.mg_dev.specs.declared.part_err.PartErr.{PartErr}
 use Rattle.mg_dev.specs.declared.part_err.PartErr.TheVariants.{Device, Memory, Bad}
 use Rattle.mg_defs.specs.declared.Posting.{Posting}
-use Rattle.mg_defs.specs.CodedText.{as_bytes}
-use Rattle.mg_defs.specs.Lexicon.{lex_at_bytes, lex_bytes}
+use Rattle.mg_defs.specs.Bits.{as_bytes}
+use Rattle.mg_defs.specs.Lexicon.{lex_at_part, lex_part}
 use Rattle.mg_defs.specs.Lists.{entry_bits, inverted, lists_bits, lists_entries, postings, skip_bits}
 use Rattle.mg_defs.specs.PostingLists.{postings_upto}
 use Rattle.mg_defs.specs.Split.{documents}
@@ -20,8 +22,12 @@ use Rattle.mg_layout.specs.Infos.{info_of}
 use Rattle.mg_layout.specs.declared.term_info.TermInfo.{TermInfo}
 use Rattle.mg_lex.specs.Terms.{Term, terms_of}
 use Rattle.mg_lex.specs.Writing.{LexWriting, TookTerms}
+use Rattle.mg_model.specs.Terms.{TermNumbers}
 use Rattle.mg_post.specs.Writing.{Listing, Took}
 use Rattle.mg_text.specs.Reading.{TextReading, TextStands}
+use Rattle.mg_check.specs.declared.lexicon.Lexicon.{Lexicon}
+use Rattle.mg_check.specs.declared.lists.Compared.{Compared}
+use Rattle.mg_check.specs.declared.lists.NewLists.{NewLists}
 use Rattle.mg_check.specs.declared.lists.Places.{Places}
 
 -- ---- sizes
@@ -217,8 +223,8 @@ pub record ListsStand (files : Option Files) (base collection : List ℕ) : Type
 
 -- Lex and LexAt are its lexicon
 pub record LexiconStands (files : Option Files) (base collection : List ℕ) : Type 0 where
-  pub lex : bytes_at files (full_name base Lex) ≡ lex_bytes collection
-  pub lex_at : bytes_at files (full_name base LexAt) ≡ lex_at_bytes collection
+  pub lex : bytes_at files (full_name base Lex) ≡ lex_part collection
+  pub lex_at : bytes_at files (full_name base LexAt) ≡ lex_at_part collection
 
 pub record IndexStands (files : Option Files) (base collection : List ℕ) : Type 0 where
   pub lists : ListsStand files base collection
@@ -230,3 +236,133 @@ pub record IsIndexOf (r : TextReading) (files : Option Files) (terms : List (Lis
   pub terms_are : terms ≡ dictionary collection
   pub docs_are : docs_of ≡ map (docs collection) (dictionary collection)
   pub few : length (documents collection) ≤ 2 ^ 24
+
+-- ---- claims on the text, the lists and the lexicon of a collection
+
+-- for each collection whose text the reader reads
+abbrev pub ForText : TextReading → Option Files → (List ℕ → Type 0) → Type 0
+ForText reader files claim = (collection : List ℕ) → TextStands reader files collection → claim collection
+
+-- for each of them whose lists have their room
+abbrev pub ForRooms : TextReading → Option Files → Ranged → (List ℕ → Type 0) → Type 0
+ForRooms reader files lists claim = (collection : List ℕ) → TextStands reader files collection → HasRoomForAll lists collection → claim collection
+
+-- for each of them whose lists are held as far as so many documents go, and have room for one document more: the lists with that document
+abbrev pub ForNextLists : TextReading → Option Files → Ranged → ℕ → ((ℕ → List Posting) → Type 0) → Type 0
+ForNextLists reader files lists before claim = (collection : List ℕ) → TextStands reader files collection → HoldsLists lists (lists_upto before collection) → HasRoomFor lists (lists_upto (before + 1) collection) → claim (lists_upto (before + 1) collection)
+
+-- for each collection whose text the reader reads, and whose terms and numbers of documents these are
+abbrev pub ForIndex : TextReading → Option Files → TermNumbers → List ℕ → (List ℕ → Type 0) → Type 0
+ForIndex reader files table docs_of claim = (collection : List ℕ) → IsIndexOf reader files table.terms docs_of collection → claim collection
+
+-- how many documents have each term of a collection
+abbrev pub docs_of_terms : List ℕ → List ℕ
+docs_of_terms collection = map (docs collection) (dictionary collection)
+
+-- the number behind the last term of a range
+abbrev pub end_of_range : Ranged → ℕ
+end_of_range w = w.first + length w.next
+
+-- the lists are those of a range of the terms of a collection
+abbrev pub AreListsOf : List (List ℕ) → ℕ → List ℕ → Ranged → Type 0
+AreListsOf terms all collection lists = IsRangeOf lists terms all collection
+
+-- a refusal tells that Post, Skip, Lex and LexAt are not those of the collection
+abbrev pub RefutesIndex : {T : Type 0} → Option Files → List ℕ → Result T PartErr → List ℕ → Type 0
+RefutesIndex files base result collection = IfErr result (Refutes (IndexStands files base collection))
+
+-- for each collection as far as whose last term Post and Skip were compared
+abbrev pub ForEnds : Option Files → List ℕ → Places → (List ℕ → Type 0) → Type 0
+ForEnds files base ends claim = (collection : List ℕ) → IsSome files → ListsAgree files base collection (length (dictionary collection)) ends → claim collection
+
+-- ---- lists in a store in memory, which told its files so
+
+-- one posting more of the list that was begun was taken
+abbrev pub TookPosting : (SureStore → Option Files) → NewLists → NewLists → Posting → Type 0
+TookPosting told old new posting = (done : List (List Posting)) (ps : List Posting) → Took old.writer (told old.store) done ps → Took new.writer (told new.store) done (ps ++ posting ∷ [])
+
+-- these postings of the list that was begun were taken
+abbrev pub TookPostings : (SureStore → Option Files) → NewLists → NewLists → List Posting → Type 0
+TookPostings told old new ps = (done : List (List Posting)) → Took old.writer (told old.store) done [] → Took new.writer (told new.store) done ps
+
+-- one list more was taken
+abbrev pub TookList : (SureStore → Option Files) → NewLists → NewLists → List Posting → Type 0
+TookList told old new ps = (done : List (List Posting)) → Took old.writer (told old.store) done [] → Took new.writer (told new.store) (done ++ ps ∷ []) []
+
+-- for all lists that were taken
+abbrev pub ForWritten : (SureStore → Option Files) → NewLists → (List (List Posting) → Type 0) → Type 0
+ForWritten told lists claim = (done : List (List Posting)) → Took lists.writer (told lists.store) done [] → claim done
+
+-- the bytes and the skip entries of the lists that were taken end here
+abbrev pub AreEndsOf : (SureStore → Option Files) → NewLists → ℕ → ℕ × ℕ → Type 0
+AreEndsOf told lists all at = ForWritten told lists (λ done. (at.0 ≡ length (lists_bits all done) / 8) × (at.1 ≡ length (lists_entries all done)))
+
+-- these lists stand in Post and Skip from two places on, where the store tells its files
+abbrev pub FindsFollowing : {T : Type 0} → Option Files → List ℕ → NewLists → Places → Result T PartErr → List (List Posting) → Type 0
+FindsFollowing files base lists before result done = IsSome files → OnOk result (ListsFollow files base lists.writer.all done before)
+
+-- a refusal tells that they do not
+abbrev pub RefutesFollowing : {T : Type 0} → Option Files → List ℕ → NewLists → Places → Result T PartErr → List (List Posting) → Type 0
+RefutesFollowing files base lists before result done = IsSome files → IfErr result (Refutes (ListsFollow files base lists.writer.all done before))
+
+-- ---- a lexicon in a store in memory, which told its files so
+
+-- it has the terms below a number
+abbrev pub CanPushIn : (SureStore → Option Files) → List (List ℕ) → ℕ → Lexicon → Type 0
+CanPushIn told terms number lexicon = CanPush terms number lexicon.writer (told lexicon.store)
+
+-- it takes the term of a table of which this is told
+abbrev pub TakesTerm : {T E : Type 0} → (SureStore → Option Files) → List (List ℕ) → TermInfo → Lexicon → Lexicon → Result T E → Type 0
+TakesTerm told terms info old new result =
+    (ts : List Term) (t : List ℕ) → slice_get terms info.number ≡ Some t → TookTerms old.writer (told old.store) ts → OnOk result (TookTerms new.writer (told new.store) (ts ++ term_of t info ∷ []))
+
+-- where it has the terms of a collection, Lex and LexAt are its lexicon
+abbrev pub FindsLexicon : {T : Type 0} → (SureStore → Option Files) → Lexicon → Option Files → List ℕ → Result T PartErr → Type 0
+FindsLexicon told lexicon files base result = (collection : List ℕ) → IsSome files → TookTerms lexicon.writer (told lexicon.store) (terms_of collection) → OnOk result (LexiconStands files base collection)
+
+-- where it has them, a refusal tells that they are not
+abbrev pub RefusesLexicon : {T : Type 0} → (SureStore → Option Files) → Lexicon → Option Files → List ℕ → Result T PartErr → Type 0
+RefusesLexicon told lexicon files base result = (collection : List ℕ) → IsSome files → TookTerms lexicon.writer (told lexicon.store) (terms_of collection) → IfErr result (Refutes (LexiconStands files base collection))
+
+-- ---- both
+
+-- the first lists of a range of a collection were written, and the lexicon as far as they go
+abbrev pub ListedIn : (SureStore → Option Files) → Ranged → TermNumbers → Places → ℕ → NewLists → Lexicon → List ℕ → Type 0
+ListedIn told w table before index lists lexicon collection = HasListed w table.terms before index collection lists.writer (told lists.store) lexicon.writer (told lexicon.store)
+
+-- a claim where the range is one of some collection and was written so far
+abbrev pub ForListed : (SureStore → Option Files) → Ranged → TermNumbers → Places → ℕ → NewLists → Lexicon → Type 0 → Type 0
+ForListed told w table before index lists lexicon claim = (collection : List ℕ) → ListedIn told w table before index lists lexicon collection → claim
+
+-- a range that was written from its start on is written further
+abbrev pub ListsOn : {T : Type 0} → (SureStore → Option Files) → Ranged → TermNumbers → Places → ℕ → ℕ → NewLists → NewLists → Lexicon → Lexicon → Result T PartErr → Type 0
+ListsOn told w table before index end old new lexicon lexicon_now result =
+    (collection : List ℕ) → ListedIn told w table before index old lexicon collection → OnOk result (ListedIn told w table before end new lexicon_now collection)
+
+-- what was compared of the terms below a number may be followed by the next term
+abbrev pub CanCompareIn : (SureStore → Option Files) → List (List ℕ) → ℕ → Compared → Type 0
+CanCompareIn told terms number compared = CanCompare terms number compared.places compared.lexicon.writer (told compared.lexicon.store)
+
+-- Post, Skip and the lexicon in memory agree with a collection, as far as the terms below a number
+abbrev pub ComparedIn : (SureStore → Option Files) → Option Files → List ℕ → List ℕ → ℕ → Compared → Type 0
+ComparedIn told files base collection number compared = HasCompared files base collection number compared.places compared.lexicon.writer (told compared.lexicon.store)
+
+-- where these are the lists of a range of a collection, and the terms before it agree with it, the terms of the range do
+abbrev pub ComparesRange : {T : Type 0} → (SureStore → Option Files) → Option Files → List ℕ → Ranged → List (List ℕ) → ℕ → Compared → Compared → Result T PartErr → Type 0
+ComparesRange told files base w terms all old new result =
+    (collection : List ℕ) → IsSome files → IsRangeOf w terms all collection → ComparedIn told files base collection w.first old → OnOk result (ComparedIn told files base collection (end_of_range w) new)
+
+-- where they are, a refusal tells that Post and Skip are not the lists of the collection
+abbrev pub RefusesRange : {T : Type 0} → (SureStore → Option Files) → Option Files → List ℕ → Ranged → List (List ℕ) → ℕ → Compared → Result T PartErr → Type 0
+RefusesRange told files base w terms all old result =
+    (collection : List ℕ) → IsSome files → IsRangeOf w terms all collection → ComparedIn told files base collection w.first old → IfErr result (Refutes (ListsStand files base collection))
+
+-- where these are the terms of the collection whose text is read, and nothing was compared before, all its terms agree with it
+abbrev pub ComparesIndex : {T : Type 0} → (SureStore → Option Files) → Option Files → List ℕ → TextReading → List (List ℕ) → List ℕ → Compared → Compared → Result T PartErr → Type 0
+ComparesIndex told files base reader terms docs_of old new result =
+    (collection : List ℕ) → IsIndexOf reader files terms docs_of collection → ComparedIn told files base collection 0 old → OnOk result (ComparedIn told files base collection (length terms) new)
+
+-- where they are, a refusal tells that Post and Skip are not the lists of the collection
+abbrev pub RefusesIndex : {T : Type 0} → (SureStore → Option Files) → Option Files → List ℕ → TextReading → List (List ℕ) → List ℕ → Compared → Result T PartErr → Type 0
+RefusesIndex told files base reader terms docs_of old result =
+    (collection : List ℕ) → IsIndexOf reader files terms docs_of collection → ComparedIn told files base collection 0 old → IfErr result (Refutes (ListsStand files base collection))

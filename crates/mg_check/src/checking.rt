@@ -1,14 +1,14 @@
 //! A set whose head is known against the one collection that it can stand for.
-ghost use Rattle.std.specs.Prelude.{◌≡◌, ◌<◌, ◌^◌, ℕ, List, IfErr, IsSome, OnOk};
+ghost use Rattle.std.specs.Prelude.{◌≡◌, ◌<◌, ◌^◌, ℕ, IfErr, IsSome, OnOk};
 ghost use Rattle.mg_dev.specs.PartCauses.{HasPartCause};
 ghost use Rattle.mg_defs.specs.Heads.{IsWithin};
 ghost use Rattle.mg_defs.specs.Means.{StandForNone};
 ghost use Rattle.mg_layout.specs.HeadAnswers.{fields_of};
 ghost use Rattle.mg_layout.specs.Stands.{parts_at};
-ghost use Rattle.mg_text.specs.Reading.{TextFits, TextStands};
+ghost use Rattle.mg_text.specs.Reading.{TextFits};
 ghost use Rattle.mg_check.specs.Checking.{HasHead, OnBad};
 ghost use Rattle.mg_check.specs.Found.{StandsWith};
-ghost use Rattle.mg_check.specs.Listing.{Refutes};
+ghost use Rattle.mg_check.specs.Listing.{Refutes, ForText};
 ghost use Rattle.mg_check.specs.Reads.{reads_outside};
 ghost use Rattle.mg_check.specs.Rest.{HaveSizes, RestStands};
 
@@ -98,10 +98,9 @@ fn check_rest<S: Store>(
     requires within { IsWithin (fields_of head.now) }
     requires fits { TextFits reader.old (S.files store.old) }
     requires documents { reader.old.documents ≡ head.now.documents }
-    ensures stand { (collection : List ℕ) → TextStands reader.old (S.files store.old) collection →
-        OnOk result (RestStands (S.files store.old) base.now head.now collection) }
-    ensures other { (collection : List ℕ) → TextStands reader.old (S.files store.old) collection →
-        IfErr result (Refutes (RestStands (S.files store.old) base.now head.now collection)) }
+    ensures stand { ForText reader.old (S.files store.old) (λ collection. OnOk result (RestStands (S.files store.old) base.now head.now collection)) }
+    ensures other { ForText reader.old (S.files store.old)
+        (λ collection. IfErr result (Refutes (RestStands (S.files store.old) base.now head.now collection))) }
     ensures files { S.files store.new ≡ S.files store.old }
     ensures unread { reads_outside (S.reads store.new) ≡ reads_outside (S.reads store.old) }
     ensures cause { HasPartCause (S.faults store.old) (S.faults store.new) result }

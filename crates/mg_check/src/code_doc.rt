@@ -2,9 +2,7 @@
 //!
 //! Nothing is known of what decoding damaged text gives. So a document is kept only once its own code is found in the
 //! text: it is coded by the same model into a store of its own, and the bytes are compared.
-ghost use Rattle.std.specs.Prelude.{◌≡◌, ◌≢◌, ◌+◌, ◌*◌, ◌<◌, ◌≤◌, ◌^◌, ◌∷◌, [], ℕ, List, Contains, IsSome, length};
-ghost use Rattle.mg_dev.specs.Files.{bytes_at};
-ghost use Rattle.mg_dev.specs.Names.{full_name};
+ghost use Rattle.std.specs.Prelude.{◌≡◌, ◌+◌, ◌*◌, ◌<◌, ◌^◌, ◌∷◌, [], ℕ, Contains, IsSome, length};
 ghost use Rattle.mg_dev.specs.declared.part.Part.TheVariants as part;
 ghost use Rattle.mg_defs.specs.Bits.{Bits};
 ghost use Rattle.mg_defs.specs.Marks.{code_of};
@@ -13,7 +11,7 @@ ghost use Rattle.mg_parse.specs.Lent.{pair_of};
 ghost use Rattle.mg_text.specs.Writing.{IsOnText, turn};
 ghost use Rattle.std.specs.List.{AllByRecursion};
 ghost use Rattle.mg_defs.specs.Parse.{parse};
-ghost use Rattle.mg_check.specs.Decoding.{HasRoom, IsCodedAs, PutPairs, PutPiece, WhereCoded, WherePut, WhereUnknown};
+ghost use Rattle.mg_check.specs.Decoding.{HasRoom, IsCodedAs, PutPairs, WhereCoded, WherePut, WhereUnknown, PutsPiece, text_in};
 
 use crate::recent::Recent;
 use crate::uses::{Uses, count_use};
@@ -38,7 +36,7 @@ impl CodedDoc {
     /// The bytes.
     #[tactic(auto, unfolding(mg_dev::specs::Names::full_name))]
     pub(crate) fn bytes(&self) -> &[u8]
-        ensures { result.now ≡ bytes_at (⟦<SureStore as Store>⟧.files self.now.store) (full_name [] part.Text) }
+        ensures { result.now ≡ text_in (⟦<SureStore as Store>⟧.files self.now.store) }
     {
         match self.store.file(TEXT) {
             Some(bytes) => bytes,
@@ -62,8 +60,7 @@ fn put_piece<S: Store>(
     requires turn { stream ≡ turn writer.old.left }
     requires keeps { IsStreamCode (code_of stream model.now) }
     requires room { HasRoom (code_of stream model.now) counts.old.items 1 }
-    ensures put { WherePut result
-        (PutPiece (code_of stream model.now) piece.now writer.old writer.new (S.files store.old) (S.files store.new) counts.old.items counts.new.items) }
+    ensures put { WherePut result (PutsPiece S.files store.old store.new stream model.now piece.now writer.old writer.new counts.old.items counts.new.items) }
     ensures unknown { WhereUnknown result (Contains (code_of stream model.now).pieces piece.now → ⊥) }
 {
     // Laws of symbols.
@@ -167,8 +164,7 @@ fn code_into<S: Store>(
     requires model { IsModel model.now }
     requires words { HasRoom model.now.words uses.old.words.items (length doc.now) }
     requires others { HasRoom model.now.others uses.old.others.items (length doc.now) }
-    ensures coded { WherePut result (IsSome (S.files store.old) →
-        IsCodedAs model.now doc.now (bytes_at (S.files store.new) (full_name [] part.Text)) uses.old uses.new) }
+    ensures coded { WherePut result (IsSome (S.files store.old) → IsCodedAs model.now doc.now (text_in (S.files store.new)) uses.old uses.new) }
     ensures unknown { WhereUnknown result (IsCodable model.now doc.now → ⊥) }
 {
     let count = count_pairs(doc);
@@ -196,8 +192,7 @@ pub(crate) fn code_doc(
     requires model { IsModel model.now }
     requires words { HasRoom model.now.words uses.old.words.items (length doc.now) }
     requires others { HasRoom model.now.others uses.old.others.items (length doc.now) }
-    ensures coded { WhereCoded result
-        (λ coded. IsCodedAs model.now doc.now (bytes_at (⟦<SureStore as Store>⟧.files coded.store) (full_name [] part.Text)) uses.old uses.new) }
+    ensures coded { WhereCoded result (λ coded. IsCodedAs model.now doc.now (text_in (⟦<SureStore as Store>⟧.files coded.store)) uses.old uses.new) }
     ensures unknown { WhereUnknown result (IsCodable model.now doc.now → ⊥) }
 {
     let mut store = SureStore::new(alloc);

@@ -1,9 +1,8 @@
 //! A part that is compared with the bytes that it is to have, as they come.
-ghost use Rattle.std.specs.Prelude.{◌≡◌, ◌≢◌, ◌+◌, ◌≤◌, ◌^◌, ◌++◌, ℕ, List, [], length, true, Err, IsSome, OnOk};
-ghost use Rattle.mg_dev.specs.Files.{bytes_at};
+ghost use Rattle.std.specs.Prelude.{◌≡◌, ◌≢◌, ◌+◌, ◌≤◌, ◌^◌, length, true, Err, IsSome, OnOk};
 ghost use Rattle.mg_dev.specs.Names.{full_name};
 ghost use Rattle.mg_dev.specs.PartCauses.{HasPartCause};
-ghost use Rattle.mg_check.specs.Counting.{HasBegun, WhereBad};
+ghost use Rattle.mg_check.specs.Counting.{WhereBad, HasBegunMore, GoesOnOtherwise, EndsThere, EndsElsewhere};
 ghost use Rattle.mg_check.specs.Reads.{is_of_set, reads_outside};
 
 use mg_dev::{FileRef, Part, PartErr, Store};
@@ -44,10 +43,8 @@ impl<'a> Comparison<'a> {
     /// Compares the next bytes of the part with these.
     pub(crate) fn expect<S: Store>(&mut self, store: &mut S, wanted: &[u8]) -> Result<(), PartErr>
         requires place { self.old.at + length wanted.now ≤ 2 ^ 63 }
-        ensures begun { OnOk result ((done : List ℕ) → HasBegun self.old (S.files store.old) done →
-            HasBegun self.new (S.files store.new) (done ++ wanted.now)) }
-        ensures bad { IsSome (S.files store.old) → WhereBad ((done rest : List ℕ) → HasBegun self.old (S.files store.old) done →
-            bytes_at (S.files store.old) self.old.name ≢ done ++ (wanted.now ++ rest)) result }
+        ensures begun { OnOk result (HasBegunMore S.files store.old store.new self.old self.new wanted.now) }
+        ensures bad { IsSome (S.files store.old) → WhereBad (GoesOnOtherwise self.old (S.files store.old) wanted.now) result }
         ensures at { OnOk result (self.new.at ≡ self.old.at + length wanted.now) }
         ensures name { self.new.name ≡ self.old.name }
         ensures memory { result ≢ Err PartErr.Memory }
@@ -69,10 +66,8 @@ impl<'a> Comparison<'a> {
 
     /// Refuses a part that has more bytes than were compared.
     pub(crate) fn finish<S: Store>(&self, store: &mut S) -> Result<(), PartErr>
-        ensures done { IsSome (S.files store.old) →
-            OnOk result ((done : List ℕ) → HasBegun self.now (S.files store.old) done → bytes_at (S.files store.old) self.now.name ≡ done) }
-        ensures bad { IsSome (S.files store.old) →
-            WhereBad ((done : List ℕ) → HasBegun self.now (S.files store.old) done → bytes_at (S.files store.old) self.now.name ≢ done) result }
+        ensures done { IsSome (S.files store.old) → OnOk result (EndsThere self.now (S.files store.old)) }
+        ensures bad { IsSome (S.files store.old) → WhereBad (EndsElsewhere self.now (S.files store.old)) result }
         ensures memory { result ≢ Err PartErr.Memory }
         ensures files { S.files store.new ≡ S.files store.old }
         ensures unread { reads_outside (S.reads store.new) ≡ reads_outside (S.reads store.old) }

@@ -2,15 +2,14 @@
 //!
 //! The text is read a second time. Of each document the terms are counted, which gives its weight, one more for each of
 //! its terms, and its occurrences for the runs. So one reading tells whether Weights and Run are those of the collection.
-ghost use Rattle.std.specs.Prelude.{◌≡◌, ◌<◌, ◌≤◌, ◌+◌, ◌-◌, ◌^◌, ℕ, List, length, map, IfErr, IfOk, IsSome, OnOk};
-ghost use Rattle.mg_dev.specs.Files.{Files};
+ghost use Rattle.std.specs.Prelude.{◌≡◌, ◌<◌, ◌≤◌, ◌+◌, ◌-◌, ◌^◌, length, IfErr, IfOk, OnOk};
 ghost use Rattle.mg_dev.specs.PartCauses.{HasPartCause};
 ghost use Rattle.mg_defs.specs.Occurrences.{occurrences};
-ghost use Rattle.mg_defs.specs.Terms.{dictionary, docs};
+ghost use Rattle.mg_defs.specs.Terms.{docs};
 ghost use Rattle.mg_model.specs.Terms.{terms_and_numbers};
-ghost use Rattle.mg_text.specs.Reading.{SameText, TextFits, TextStands};
+ghost use Rattle.mg_text.specs.Reading.{SameText, TextFits};
 ghost use Rattle.mg_check.specs.Counting.{AreOwn, SameParts, TalliedText, TermsStand, WhereBad};
-ghost use Rattle.mg_check.specs.Listing.{Refutes};
+ghost use Rattle.mg_check.specs.Listing.{Refutes, ForText, docs_of_terms};
 ghost use Rattle.mg_check.specs.Reads.{reads_outside};
 
 use crate::doc_terms::DocTerms;
@@ -64,8 +63,7 @@ fn count_document<S: Store>(
     ensures most { held.new.most ≡ held.old.most }
     ensures tallied { OnOk result (TalliedText tally.new (S.files store.new) table.now.terms (before + 1) reader.old) }
     ensures parts { SameParts tally.old tally.new }
-    ensures other { (collection : List ℕ) → TextStands reader.old (S.files store.old) collection →
-        WhereBad (AreOwn tally.old (S.files store.old) collection → ⊥) result }
+    ensures other { ForText reader.old (S.files store.old) (λ collection. WhereBad (AreOwn tally.old (S.files store.old) collection → ⊥) result) }
     ensures files { S.files store.new ≡ S.files store.old }
     ensures unread { reads_outside (S.reads store.new) ≡ reads_outside (S.reads store.old) }
     ensures cause { HasPartCause (S.faults store.old) (S.faults store.new) result }
@@ -107,8 +105,7 @@ fn count_documents<S: Store>(
     ensures same { SameText reader.old reader.new }
     ensures tallied { OnOk result (TalliedText tally.new (S.files store.new) table.now.terms documents reader.old) }
     ensures parts { SameParts tally.old tally.new }
-    ensures other { (collection : List ℕ) → TextStands reader.old (S.files store.old) collection →
-        WhereBad (AreOwn tally.old (S.files store.old) collection → ⊥) result }
+    ensures other { ForText reader.old (S.files store.old) (λ collection. WhereBad (AreOwn tally.old (S.files store.old) collection → ⊥) result) }
     ensures files { S.files store.new ≡ S.files store.old }
     ensures unread { reads_outside (S.reads store.new) ≡ reads_outside (S.reads store.old) }
     ensures cause { HasPartCause (S.faults store.old) (S.faults store.new) result }
@@ -140,14 +137,11 @@ pub(crate) fn check_terms<S: Store>(
     requires most { cap ≤ 89478485 }
     ensures fits { TextFits reader.new (S.files store.new) }
     ensures same { SameText reader.old reader.new }
-    ensures stand { (collection : List ℕ) → TextStands reader.old (S.files store.old) collection →
-        OnOk result (TermsStand base.entry.now (S.files store.old) cap collection) }
-    ensures docs { (collection : List ℕ) → TextStands reader.old (S.files store.old) collection →
-        IfOk result (λ counts. counts.docs.items ≡ map (docs collection) (dictionary collection)) }
-    ensures occurrences { (collection : List ℕ) → TextStands reader.old (S.files store.old) collection →
-        IfOk result (λ counts. counts.occurrences ≡ length (occurrences collection)) }
-    ensures other { (collection : List ℕ) → TextStands reader.old (S.files store.old) collection →
-        IfErr result (Refutes (TermsStand base.entry.now (S.files store.old) cap collection)) }
+    ensures stand { ForText reader.old (S.files store.old) (λ collection. OnOk result (TermsStand base.entry.now (S.files store.old) cap collection)) }
+    ensures docs { ForText reader.old (S.files store.old) (λ collection. IfOk result (λ counts. counts.docs.items ≡ docs_of_terms collection)) }
+    ensures occurrences { ForText reader.old (S.files store.old) (λ collection. IfOk result (λ counts. counts.occurrences ≡ length (occurrences collection))) }
+    ensures other { ForText reader.old (S.files store.old)
+        (λ collection. IfErr result (Refutes (TermsStand base.entry.now (S.files store.old) cap collection))) }
     ensures files { S.files store.new ≡ S.files store.old }
     ensures unread { reads_outside (S.reads store.new) ≡ reads_outside (S.reads store.old) }
     ensures cause { HasPartCause (S.faults store.old) (S.faults store.new) result }

@@ -1,12 +1,9 @@
 //! Whether a set of files stands for a collection.
-ghost use Rattle.std.specs.Prelude.{◌≡◌, ◌≢◌, ◌⊎◌, ◌≤◌, ℕ, List, [], Err, IfErr, IfOk, IsSome};
+ghost use Rattle.std.specs.Prelude.{◌≡◌, ◌≢◌, ◌≤◌, Err, IfErr, IfOk, IsSome};
 ghost use Rattle.mg_dev.specs.Causes.{Rose};
-ghost use Rattle.mg_dev.specs.Files.{bytes_at};
-ghost use Rattle.mg_dev.specs.Names.{full_name};
 ghost use Rattle.mg_dev.specs.declared.fault.Fault.TheVariants as fault;
 ghost use Rattle.mg_dev.specs.declared.part.Part.TheVariants as part;
-ghost use Rattle.mg_layout.specs.Stands.{Stands};
-ghost use Rattle.mg_check.specs.Found.{CheckStops, StandsWith, TellsOutside};
+ghost use Rattle.mg_check.specs.Found.{CheckStops, StandsWith, TellsOutside, HasNoHead, TellsNotBuilt, IfStands};
 ghost use Rattle.mg_check.specs.Reads.{ReadsSet, reads_outside};
 
 use crate::checking::check_set;
@@ -39,12 +36,11 @@ pub fn check<S: Store>(alloc: Global, store: &mut S, base: &str) -> Result<Found
     ensures cause { IfErr result (CheckStops (Rose (S.faults store.old) (S.faults store.new)) (S.files store.old) base.now) }
     ensures outside { IfErr result TellsOutside }
     // Where there is no head, that is told, unless the store fails; memory is not wanted there.
-    ensures not_built { IsSome (S.files store.old) → bytes_at (S.files store.old) (full_name base.now part.Head) ≡ [] →
-        (result ≡ Err fault.NotBuilt) ⊎ (result ≡ Err fault.StoreFault) ⊎ (result ≡ Err fault.Memory) }
-    ensures early { IsSome (S.files store.old) → bytes_at (S.files store.old) (full_name base.now part.Head) ≡ [] → result ≢ Err fault.Memory }
+    ensures not_built { IsSome (S.files store.old) → HasNoHead (S.files store.old) base.now → TellsNotBuilt result }
+    ensures early { IsSome (S.files store.old) → HasNoHead (S.files store.old) base.now → result ≢ Err fault.Memory }
     // Where the files stand and the store does not fail, the answer is yes, or memory is wanting.
-    ensures complete { (collection : List ℕ) → Stands (S.files store.old) base.now collection → ¬ Rose (S.faults store.old) (S.faults store.new) →
-        IfErr result (λ refusal. refusal ≡ fault.Memory) }
+    ensures complete { IfStands (S.files store.old) base.now (¬ Rose (S.faults store.old) (S.faults store.new) →
+        IfErr result (λ refusal. refusal ≡ fault.Memory)) }
     // No file changes.
     ensures files { S.files store.new ≡ S.files store.old }
     // No part is read but those of a set: not those that a merge of runs works with, and not the plain text.
@@ -58,7 +54,7 @@ pub fn check<S: Store>(alloc: Global, store: &mut S, base: &str) -> Result<Found
 fn check_files<S: Store>(alloc: Global, store: &mut S, base: &str) -> Result<Found, Fault>
     ensures stands { IsSome (S.files store.old) → IfOk result (λ found. StandsWith (S.files store.old) base.now found.documents found.bytes) }
     ensures cause { IfErr result (CheckStops (Rose (S.faults store.old) (S.faults store.new)) (S.files store.old) base.now) }
-    ensures early { IsSome (S.files store.old) → bytes_at (S.files store.old) (full_name base.now part.Head) ≡ [] → result ≢ Err fault.Memory }
+    ensures early { IsSome (S.files store.old) → HasNoHead (S.files store.old) base.now → result ≢ Err fault.Memory }
     ensures files { S.files store.new ≡ S.files store.old }
     ensures unread { reads_outside (S.reads store.new) ≡ reads_outside (S.reads store.old) }
     ensures later { S.faults store.old ≤ S.faults store.new }

@@ -2,13 +2,12 @@
 //!
 //! The text is read once for each range of terms. The range's lists are written anew, and Post and Skip are compared with
 //! them. What is to stand of all terms is held, and at last the lexicon is compared with it.
-ghost use Rattle.std.specs.Prelude.{◌≡◌, ◌<◌, ◌≤◌, ◌+◌, ◌-◌, ◌^◌, ℕ, List, IfErr, IfOk, OnOk, IsSome, length};
+ghost use Rattle.std.specs.Prelude.{◌≡◌, ◌<◌, ◌≤◌, ◌+◌, ◌-◌, ◌^◌, IfErr, IfOk, OnOk, length};
 ghost use Rattle.mg_dev.specs.Bads.{IsNotBad};
 ghost use Rattle.mg_dev.specs.PartCauses.{HasPartCause};
-ghost use Rattle.mg_defs.specs.Terms.{dictionary};
 ghost use Rattle.mg_model.specs.Terms.{terms_and_numbers};
 ghost use Rattle.mg_text.specs.Reading.{SameText, TextFits};
-ghost use Rattle.mg_check.specs.Listing.{AreRooms, AreSizes, CanCompare, HasCompared, IndexStands, IsIndexOf, IsLaidOut, IsRangeOf, ListsAgree, ListsStand, Refutes};
+ghost use Rattle.mg_check.specs.Listing.{AreRooms, AreSizes, IndexStands, IsLaidOut, ListsStand, Refutes, ForIndex, AreListsOf, RefutesIndex, ForEnds, CanCompareIn, ComparesIndex, RefusesIndex};
 ghost use Rattle.mg_check.specs.Reads.{reads_outside};
 
 use crate::doc_terms::DocTerms;
@@ -64,10 +63,8 @@ fn read_range<S: Store>(
     ensures range { IfOk result (λ lists. first + length lists.next ≤ length table.now.terms) }
     ensures laid { IfOk result (λ lists. IsLaidOut lists) }
     ensures rooms { IfOk result (λ lists. AreRooms lists documents) }
-    ensures held { (collection : List ℕ) → IsIndexOf reader.old (S.files store.old) table.now.terms docs.now collection →
-        IfOk result (λ lists. IsRangeOf lists table.now.terms documents collection) }
-    ensures never_bad { (collection : List ℕ) → IsIndexOf reader.old (S.files store.old) table.now.terms docs.now collection →
-        IfErr result (λ refusal. IsNotBad refusal) }
+    ensures held { ForIndex reader.old (S.files store.old) table.now docs.now (λ collection. IfOk result (AreListsOf table.now.terms documents collection)) }
+    ensures never_bad { ForIndex reader.old (S.files store.old) table.now docs.now (λ _. IfErr result IsNotBad) }
     ensures files { S.files store.new ≡ S.files store.old }
     ensures unread { reads_outside (S.reads store.new) ≡ reads_outside (S.reads store.old) }
     ensures cause { HasPartCause (S.faults store.old) (S.faults store.new) result }
@@ -106,21 +103,13 @@ fn check_ranges<S: Store>(
     requires table { table.now ≡ terms_and_numbers reader.old.code.words.pieces }
     requires sizes { AreSizes docs.now (length table.now.terms) documents }
     requires most { documents ≤ 2 ^ 24 }
-    requires can { CanCompare table.now.terms 0
-        compared.old.places compared.old.lexicon.writer (⟦<SureStore as Store>⟧.files compared.old.lexicon.store) }
+    requires can { CanCompareIn ⟦<SureStore as Store>⟧.files table.now.terms 0 compared.old }
     ensures fits { TextFits reader.new (S.files store.new) }
     ensures same { SameText reader.old reader.new }
-    ensures can { OnOk result (CanCompare table.now.terms (length table.now.terms)
-        compared.new.places compared.new.lexicon.writer (⟦<SureStore as Store>⟧.files compared.new.lexicon.store)) }
-    ensures agree { (collection : List ℕ) → IsIndexOf reader.old (S.files store.old) table.now.terms docs.now collection →
-        HasCompared (S.files store.old) base.now collection 0
-        compared.old.places compared.old.lexicon.writer (⟦<SureStore as Store>⟧.files compared.old.lexicon.store) →
-        OnOk result (HasCompared (S.files store.old) base.now collection (length table.now.terms)
-        compared.new.places compared.new.lexicon.writer (⟦<SureStore as Store>⟧.files compared.new.lexicon.store)) }
-    ensures other { (collection : List ℕ) → IsIndexOf reader.old (S.files store.old) table.now.terms docs.now collection →
-        HasCompared (S.files store.old) base.now collection 0
-        compared.old.places compared.old.lexicon.writer (⟦<SureStore as Store>⟧.files compared.old.lexicon.store) →
-        IfErr result (Refutes (ListsStand (S.files store.old) base.now collection)) }
+    ensures can { OnOk result (CanCompareIn ⟦<SureStore as Store>⟧.files table.now.terms (length table.now.terms) compared.new) }
+    ensures agree { ComparesIndex ⟦<SureStore as Store>⟧.files (S.files store.old) base.now reader.old table.now.terms docs.now
+        compared.old compared.new result }
+    ensures other { RefusesIndex ⟦<SureStore as Store>⟧.files (S.files store.old) base.now reader.old table.now.terms docs.now compared.old result }
     ensures files { S.files store.new ≡ S.files store.old }
     ensures unread { reads_outside (S.reads store.new) ≡ reads_outside (S.reads store.old) }
     ensures cause { HasPartCause (S.faults store.old) (S.faults store.new) result }
@@ -143,12 +132,8 @@ fn check_ranges<S: Store>(
 
 // Sees that Post and Skip have no bytes behind two places.
 fn expect_ends<S: Store>(store: &mut S, base: &str, ends: Places) -> Result<(), PartErr>
-    ensures stand { (collection : List ℕ) → IsSome (S.files store.old) →
-        ListsAgree (S.files store.old) base.now collection (length (dictionary collection)) ends →
-        OnOk result (ListsStand (S.files store.old) base.now collection) }
-    ensures other { (collection : List ℕ) → IsSome (S.files store.old) →
-        ListsAgree (S.files store.old) base.now collection (length (dictionary collection)) ends →
-        IfErr result (Refutes (ListsStand (S.files store.old) base.now collection)) }
+    ensures stand { ForEnds (S.files store.old) base.now ends (λ collection. OnOk result (ListsStand (S.files store.old) base.now collection)) }
+    ensures other { ForEnds (S.files store.old) base.now ends (λ collection. IfErr result (Refutes (ListsStand (S.files store.old) base.now collection))) }
     ensures files { S.files store.new ≡ S.files store.old }
     ensures unread { reads_outside (S.reads store.new) ≡ reads_outside (S.reads store.old) }
     ensures cause { HasPartCause (S.faults store.old) (S.faults store.new) result }
@@ -187,10 +172,9 @@ pub(crate) fn check_index<S: Store>(
     requires table { table.now ≡ terms_and_numbers reader.old.code.words.pieces }
     ensures fits { TextFits reader.new (S.files store.new) }
     ensures same { SameText reader.old reader.new }
-    ensures stand { (collection : List ℕ) → IsIndexOf reader.old (S.files store.old) table.now.terms docs.now collection →
-        OnOk result (IndexStands (S.files store.old) base.now collection) }
-    ensures other { (collection : List ℕ) → IsIndexOf reader.old (S.files store.old) table.now.terms docs.now collection →
-        IfErr result (Refutes (IndexStands (S.files store.old) base.now collection)) }
+    ensures stand { ForIndex reader.old (S.files store.old) table.now docs.now
+        (λ collection. OnOk result (IndexStands (S.files store.old) base.now collection)) }
+    ensures other { ForIndex reader.old (S.files store.old) table.now docs.now (RefutesIndex (S.files store.old) base.now result) }
     ensures files { S.files store.new ≡ S.files store.old }
     ensures unread { reads_outside (S.reads store.new) ≡ reads_outside (S.reads store.old) }
     ensures cause { HasPartCause (S.faults store.old) (S.faults store.new) result }

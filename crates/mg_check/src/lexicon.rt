@@ -1,13 +1,11 @@
 //! The lexicon against one that is written anew.
-ghost use Rattle.std.specs.Prelude.{◌≡◌, ◌<◌, ◌≤◌, ◌+◌, ◌++◌, ◌∷◌, ◌^◌, ℕ, List, [], IfErr, IfOk, OnOk, IsSome, codes, length, slice_get, Some};
+ghost use Rattle.std.specs.Prelude.{◌≡◌, ◌<◌, ◌≤◌, ◌+◌, ◌^◌, ℕ, List, [], IfOk, OnOk, codes, length};
 ghost use Rattle.std.specs.Cmp.Lexicographic.{slice_cmp};
 ghost use Rattle.std.specs.List.Sorted.{IsStrictlySortedBy};
 ghost use Rattle.std.specs.Ordering.{nat_cmp};
 ghost use Rattle.mg_dev.specs.PartCauses.{HasPartCause};
-ghost use Rattle.mg_defs.specs.Terms.{dictionary};
-ghost use Rattle.mg_lex.specs.Terms.{Term, terms_of};
 ghost use Rattle.mg_lex.specs.Writing.{TookTerms};
-ghost use Rattle.mg_check.specs.Listing.{CanPush, LexiconStands, Refutes, term_of};
+ghost use Rattle.mg_check.specs.Listing.{CanPush, TakesTerm, FindsLexicon, RefusesLexicon};
 ghost use Rattle.mg_check.specs.Reads.{reads_outside};
 
 use crate::wanted::{expect_whole, wanted};
@@ -45,9 +43,7 @@ impl<'a> Lexicon<'a> {
         requires few { length table.now.terms ≤ 2 ^ 22 }
         requires rising { IsStrictlySortedBy (slice_cmp nat_cmp) table.now.terms }
         ensures can { OnOk result (CanPush table.now.terms (info.now.number + 1) self.new.writer (⟦<SureStore as Store>⟧.files self.new.store)) }
-        ensures took { (ts : List Term) (t : List ℕ) → slice_get table.now.terms info.now.number ≡ Some t →
-            TookTerms self.old.writer (⟦<SureStore as Store>⟧.files self.old.store) ts →
-            OnOk result (TookTerms self.new.writer (⟦<SureStore as Store>⟧.files self.new.store) (ts ++ term_of t info.now ∷ [])) }
+        ensures took { TakesTerm ⟦<SureStore as Store>⟧.files table.now.terms info.now self.old self.new result }
         ensures base { self.new.writer.base ≡ self.old.writer.base }
     {
         match self
@@ -63,12 +59,8 @@ impl<'a> Lexicon<'a> {
     pub(crate) fn check<S: Store>(&mut self, store: &mut S, base: &str) -> Result<(), PartErr>
         requires can { (terms : List (List ℕ)) × (number : ℕ) × CanPush terms number self.old.writer (⟦<SureStore as Store>⟧.files self.old.store) }
         requires base { self.old.writer.base ≡ codes "new" }
-        ensures stand { (collection : List ℕ) → IsSome (S.files store.old) →
-            TookTerms self.old.writer (⟦<SureStore as Store>⟧.files self.old.store) (terms_of collection) →
-            OnOk result (LexiconStands (S.files store.old) base.now collection) }
-        ensures other { (collection : List ℕ) → IsSome (S.files store.old) →
-            TookTerms self.old.writer (⟦<SureStore as Store>⟧.files self.old.store) (terms_of collection) →
-            IfErr result (Refutes (LexiconStands (S.files store.old) base.now collection)) }
+        ensures stand { FindsLexicon ⟦<SureStore as Store>⟧.files self.old (S.files store.old) base.now result }
+        ensures other { RefusesLexicon ⟦<SureStore as Store>⟧.files self.old (S.files store.old) base.now result }
         ensures files { S.files store.new ≡ S.files store.old }
         ensures unread { reads_outside (S.reads store.new) ≡ reads_outside (S.reads store.old) }
         ensures cause { HasPartCause (S.faults store.old) (S.faults store.new) result }

@@ -2,7 +2,7 @@
 //!
 //! The lists of a range of terms are written into a store in memory, and its bytes are compared with those of Post and
 //! Skip behind what was compared before. On the way the lexicon gets what is to stand of each term.
-ghost use Rattle.std.specs.Prelude.{◌≡◌, ◌<◌, ◌≤◌, ◌+◌, ◌-◌, ◌*◌, ◌/◌, ◌^◌, ◌++◌, ◌∷◌, ℕ, List, [], IfErr, IfOk, IfSome, OnOk, IsSome, codes, length};
+ghost use Rattle.std.specs.Prelude.{◌≡◌, ◌<◌, ◌≤◌, ◌+◌, ◌-◌, ◌*◌, ◌/◌, ◌^◌, ◌∷◌, List, [], IfErr, IfOk, IfSome, OnOk, IsSome, codes, length};
 ghost use Rattle.std.specs.Cmp.Lexicographic.{slice_cmp};
 ghost use Rattle.std.specs.List.Sorted.{IsStrictlySortedBy};
 ghost use Rattle.std.specs.Ordering.{nat_cmp};
@@ -11,10 +11,10 @@ ghost use Rattle.mg_dev.specs.Names.{full_name};
 ghost use Rattle.mg_dev.specs.PartCauses.{HasPartCause};
 ghost use Rattle.mg_dev.specs.declared.part.Part.TheVariants as part;
 ghost use Rattle.mg_defs.specs.declared.Posting.{Posting};
-ghost use Rattle.mg_defs.specs.Lists.{Rises, lists_bits, lists_entries};
+ghost use Rattle.mg_defs.specs.Lists.{Rises};
 ghost use Rattle.mg_post.specs.Writing.{Pushed, SameFiles, Took};
 ghost use Rattle.mg_layout.specs.Infos.{info_of};
-ghost use Rattle.mg_check.specs.Listing.{AreBehind, ArePlaces, AreRooms, CanCompare, CanList, CanPush, HasCompared, HasListed, IsLaidOut, IsNotDevice, IsRangeOf, ListsFollow, ListsStand, PushedMore, Refutes};
+ghost use Rattle.mg_check.specs.Listing.{AreBehind, ArePlaces, AreRooms, CanList, CanPush, IsLaidOut, IsNotDevice, PushedMore, end_of_range, TookPosting, TookPostings, TookList, ForWritten, AreEndsOf, FindsFollowing, RefutesFollowing, CanPushIn, ForListed, ListsOn, CanCompareIn, ComparesRange, RefusesRange};
 ghost use Rattle.mg_check.specs.Reads.{reads_outside};
 
 use crate::lexicon::Lexicon;
@@ -102,9 +102,7 @@ impl<'a> NewLists<'a> {
         requires all { self.old.writer.all ≡ all }
         requires more { self.old.writer.pushed < self.old.writer.docs }
         requires total { self.old.writer.total < 2 ^ 32 }
-        ensures took { OnOk result ((done : List (List Posting)) (ps : List Posting) →
-            Took self.old.writer (⟦<SureStore as Store>⟧.files self.old.store) done ps →
-            Took self.new.writer (⟦<SureStore as Store>⟧.files self.new.store) done (ps ++ posting ∷ [])) }
+        ensures took { OnOk result (TookPosting ⟦<SureStore as Store>⟧.files self.old self.new posting) }
         ensures pushed { OnOk result (Pushed self.old.writer self.new.writer posting.doc) }
         ensures within { OnOk result (posting.doc ≤ all) }
         ensures same { SameFiles self.old.writer self.new.writer }
@@ -136,8 +134,7 @@ impl<'a> NewLists<'a> {
         requires few { all ≤ 2 ^ 24 }
         requires more { length postings.now ≤ self.old.writer.docs }
         requires total { self.old.writer.total + length postings.now ≤ 2 ^ 32 }
-        ensures took { OnOk result ((done : List (List Posting)) → Took self.old.writer (⟦<SureStore as Store>⟧.files self.old.store) done [] →
-            Took self.new.writer (⟦<SureStore as Store>⟧.files self.new.store) done postings.now) }
+        ensures took { OnOk result (TookPostings ⟦<SureStore as Store>⟧.files self.old self.new postings.now) }
         ensures pushed { OnOk result (PushedMore self.old.writer self.new.writer (length postings.now)) }
         ensures same { SameFiles self.old.writer self.new.writer }
         ensures never_bad { Rises all 0 postings.now → IfErr result (λ refusal. IsNotBad refusal) }
@@ -162,10 +159,8 @@ impl<'a> NewLists<'a> {
         requires some { 1 ≤ count }
         requires within { count ≤ all }
         requires total { self.old.writer.total + count ≤ 2 ^ 32 }
-        ensures took { OnOk result ((done : List (List Posting)) → Took self.old.writer (⟦<SureStore as Store>⟧.files self.old.store) done [] →
-            Took self.new.writer (⟦<SureStore as Store>⟧.files self.new.store) (done ++ postings.now ∷ []) []) }
-        ensures answer { IfOk result (λ at. (done : List (List Posting)) → Took self.old.writer (⟦<SureStore as Store>⟧.files self.old.store) done [] →
-            (at.0 ≡ length (lists_bits all done) / 8) × (at.1 ≡ length (lists_entries all done))) }
+        ensures took { OnOk result (TookList ⟦<SureStore as Store>⟧.files self.old self.new postings.now) }
+        ensures answer { IfOk result (AreEndsOf ⟦<SureStore as Store>⟧.files self.old all) }
         ensures between { OnOk result (self.new.writer.pushed ≡ 0) }
         ensures total { OnOk result (self.new.writer.total ≡ self.old.writer.total + count) }
         ensures same { SameFiles self.old.writer self.new.writer }
@@ -213,13 +208,8 @@ impl<'a> NewLists<'a> {
         ensures can { OnOk result (CanList lists.now (index + 1) self.new.writer (⟦<SureStore as Store>⟧.files self.new.store)) }
         ensures push { OnOk result (CanPush table.now.terms (lists.now.first + (index + 1))
             lexicon.new.writer (⟦<SureStore as Store>⟧.files lexicon.new.store)) }
-        ensures listed { (collection : List ℕ) → HasListed lists.now table.now.terms before index collection
-            self.old.writer (⟦<SureStore as Store>⟧.files self.old.store) lexicon.old.writer (⟦<SureStore as Store>⟧.files lexicon.old.store) →
-            OnOk result (HasListed lists.now table.now.terms before (index + 1) collection
-            self.new.writer (⟦<SureStore as Store>⟧.files self.new.store) lexicon.new.writer (⟦<SureStore as Store>⟧.files lexicon.new.store)) }
-        ensures never_bad { (collection : List ℕ) → HasListed lists.now table.now.terms before index collection
-            self.old.writer (⟦<SureStore as Store>⟧.files self.old.store) lexicon.old.writer (⟦<SureStore as Store>⟧.files lexicon.old.store) →
-            IfErr result (λ refusal. IsNotBad refusal) }
+        ensures listed { ListsOn ⟦<SureStore as Store>⟧.files lists.now table.now before index (index + 1) self.old self.new lexicon.old lexicon.new result }
+        ensures never_bad { ForListed ⟦<SureStore as Store>⟧.files lists.now table.now before index self.old lexicon.old (IfErr result IsNotBad) }
         ensures own { IfErr result (λ refusal. IsNotDevice refusal) }
         ensures same { SameFiles self.old.writer self.new.writer }
         ensures base { lexicon.new.writer.base ≡ lexicon.old.writer.base }
@@ -257,15 +247,10 @@ impl<'a> NewLists<'a> {
         requires can { CanList lists.now 0 self.old.writer (⟦<SureStore as Store>⟧.files self.old.store) }
         requires push { CanPush table.now.terms lists.now.first lexicon.old.writer (⟦<SureStore as Store>⟧.files lexicon.old.store) }
         ensures can { OnOk result (CanList lists.now (length lists.now.next) self.new.writer (⟦<SureStore as Store>⟧.files self.new.store)) }
-        ensures push { OnOk result (CanPush table.now.terms (lists.now.first + length lists.now.next)
-            lexicon.new.writer (⟦<SureStore as Store>⟧.files lexicon.new.store)) }
-        ensures listed { (collection : List ℕ) → HasListed lists.now table.now.terms before 0 collection
-            self.old.writer (⟦<SureStore as Store>⟧.files self.old.store) lexicon.old.writer (⟦<SureStore as Store>⟧.files lexicon.old.store) →
-            OnOk result (HasListed lists.now table.now.terms before (length lists.now.next) collection
-            self.new.writer (⟦<SureStore as Store>⟧.files self.new.store) lexicon.new.writer (⟦<SureStore as Store>⟧.files lexicon.new.store)) }
-        ensures never_bad { (collection : List ℕ) → HasListed lists.now table.now.terms before 0 collection
-            self.old.writer (⟦<SureStore as Store>⟧.files self.old.store) lexicon.old.writer (⟦<SureStore as Store>⟧.files lexicon.old.store) →
-            IfErr result (λ refusal. IsNotBad refusal) }
+        ensures push { OnOk result (CanPushIn ⟦<SureStore as Store>⟧.files table.now.terms (lists.now.first + length lists.now.next) lexicon.new) }
+        ensures listed { ListsOn ⟦<SureStore as Store>⟧.files lists.now table.now before 0
+            (length lists.now.next) self.old self.new lexicon.old lexicon.new result }
+        ensures never_bad { ForListed ⟦<SureStore as Store>⟧.files lists.now table.now before 0 self.old lexicon.old (IfErr result IsNotBad) }
         ensures own { IfErr result (λ refusal. IsNotDevice refusal) }
         ensures same { SameFiles self.old.writer self.new.writer }
         ensures base { lexicon.new.writer.base ≡ lexicon.old.writer.base }
@@ -291,12 +276,9 @@ impl<'a> NewLists<'a> {
         requires post { self.old.writer.post.name ≡ full_name (codes "new") part.Post }
         requires skip { self.old.writer.skip.name ≡ full_name (codes "new") part.Skip }
         requires places { ArePlaces before }
-        ensures stand { (done : List (List Posting)) → Took self.old.writer (⟦<SureStore as Store>⟧.files self.old.store) done [] →
-            IsSome (S.files store.old) → OnOk result (ListsFollow (S.files store.old) base.now self.old.writer.all done before) }
-        ensures other { (done : List (List Posting)) → Took self.old.writer (⟦<SureStore as Store>⟧.files self.old.store) done [] →
-            IsSome (S.files store.old) → IfErr result (Refutes (ListsFollow (S.files store.old) base.now self.old.writer.all done before)) }
-        ensures behind { (done : List (List Posting)) → Took self.old.writer (⟦<SureStore as Store>⟧.files self.old.store) done [] →
-            IfOk result (λ after. AreBehind self.old.writer.all done before after) }
+        ensures stand { ForWritten ⟦<SureStore as Store>⟧.files self.old (FindsFollowing (S.files store.old) base.now self.old before result) }
+        ensures other { ForWritten ⟦<SureStore as Store>⟧.files self.old (RefutesFollowing (S.files store.old) base.now self.old before result) }
+        ensures behind { ForWritten ⟦<SureStore as Store>⟧.files self.old (λ done. IfOk result (λ after. AreBehind self.old.writer.all done before after)) }
         ensures places { IfOk result (λ after. ArePlaces after) }
         ensures files { S.files store.new ≡ S.files store.old }
         ensures unread { reads_outside (S.reads store.new) ≡ reads_outside (S.reads store.old) }
@@ -348,19 +330,10 @@ pub(crate) fn check_lists<S: Store>(
     requires few { length table.now.terms ≤ 2 ^ 22 }
     requires rising { IsStrictlySortedBy (slice_cmp nat_cmp) table.now.terms }
     requires documents { all ≤ 2 ^ 24 }
-    requires can { CanCompare table.now.terms lists.now.first
-        compared.old.places compared.old.lexicon.writer (⟦<SureStore as Store>⟧.files compared.old.lexicon.store) }
-    ensures can { OnOk result (CanCompare table.now.terms (lists.now.first + length lists.now.next)
-        compared.new.places compared.new.lexicon.writer (⟦<SureStore as Store>⟧.files compared.new.lexicon.store)) }
-    ensures agree { (collection : List ℕ) → IsSome (S.files store.old) → IsRangeOf lists.now table.now.terms all collection →
-        HasCompared (S.files store.old) base.now collection lists.now.first
-        compared.old.places compared.old.lexicon.writer (⟦<SureStore as Store>⟧.files compared.old.lexicon.store) →
-        OnOk result (HasCompared (S.files store.old) base.now collection (lists.now.first + length lists.now.next)
-        compared.new.places compared.new.lexicon.writer (⟦<SureStore as Store>⟧.files compared.new.lexicon.store)) }
-    ensures other { (collection : List ℕ) → IsSome (S.files store.old) → IsRangeOf lists.now table.now.terms all collection →
-        HasCompared (S.files store.old) base.now collection lists.now.first
-        compared.old.places compared.old.lexicon.writer (⟦<SureStore as Store>⟧.files compared.old.lexicon.store) →
-        IfErr result (Refutes (ListsStand (S.files store.old) base.now collection)) }
+    requires can { CanCompareIn ⟦<SureStore as Store>⟧.files table.now.terms lists.now.first compared.old }
+    ensures can { OnOk result (CanCompareIn ⟦<SureStore as Store>⟧.files table.now.terms (end_of_range lists.now) compared.new) }
+    ensures agree { ComparesRange ⟦<SureStore as Store>⟧.files (S.files store.old) base.now lists.now table.now.terms all compared.old compared.new result }
+    ensures other { RefusesRange ⟦<SureStore as Store>⟧.files (S.files store.old) base.now lists.now table.now.terms all compared.old result }
     ensures files { S.files store.new ≡ S.files store.old }
     ensures unread { reads_outside (S.reads store.new) ≡ reads_outside (S.reads store.old) }
     ensures cause { HasPartCause (S.faults store.old) (S.faults store.new) result }

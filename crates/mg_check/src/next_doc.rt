@@ -1,19 +1,16 @@
 //! One document more of a text that nothing is known of.
-ghost use Rattle.std.specs.Prelude.{◌≡◌, ◌≢◌, ◌+◌, ◌-◌, ◌*◌, ◌<◌, ◌≤◌, ◌^◌, ℕ, List, Err, IfErr, IsSome, OnOk, length};
+ghost use Rattle.std.specs.Prelude.{◌≡◌, ◌≢◌, ◌+◌, ◌-◌, ◌*◌, ◌<◌, ◌≤◌, ◌^◌, Err, IfErr, IsSome, OnOk, length};
 ghost use Rattle.mg_dev.specs.Bads.{IsNotBad};
 ghost use Rattle.mg_dev.specs.PartCauses.{HasPartCause};
-ghost use Rattle.mg_defs.specs.CodedText.{coded_size, place_bytes};
+ghost use Rattle.mg_defs.specs.CodedText.{coded_size};
 ghost use Rattle.mg_defs.specs.Heads.{IsWithin};
 ghost use Rattle.mg_defs.specs.Means.{IsModel, StandForNone};
 ghost use Rattle.mg_defs.specs.Split.{IsDocument};
-ghost use Rattle.mg_layout.specs.Contents.{StandAt};
 ghost use Rattle.mg_layout.specs.HeadAnswers.{fields_of};
 ghost use Rattle.mg_layout.specs.Stands.{parts_at};
-ghost use Rattle.mg_text.specs.Places.{place_width};
 ghost use Rattle.mg_text.specs.Reading.{SameText, TextFits};
-ghost use Rattle.mg_check.specs.Checking.{FoundNext, HasAdded, HasDoc, HasRead, IsInRange, IsLoaded, IsNextDoc, OnBad};
+ghost use Rattle.mg_check.specs.Checking.{HasAdded, IsInRange, IsNextDoc, OnBad, ForNextDoc, PlaceStands, FoundMore, WhereRead};
 ghost use Rattle.mg_check.specs.Decoding.{HasRoom};
-ghost use Rattle.mg_check.specs.Documents.{doc_at};
 ghost use Rattle.mg_check.specs.Listing.{Refutes};
 ghost use Rattle.mg_check.specs.Reads.{reads_outside};
 
@@ -41,10 +38,8 @@ pub(crate) fn expect_place<S: Store>(
     place: u64,
 ) -> Result<(), PartErr>
     requires narrow { version ≡ 1 → place < 2 ^ 32 }
-    ensures stand { IsSome (S.files store.old) →
-        OnOk result (StandAt (place_width version * number) (place_bytes version place) (parts_at (S.files store.old) base.now).places) }
-    ensures other { IsSome (S.files store.old) →
-        IfErr result (Refutes (StandAt (place_width version * number) (place_bytes version place) (parts_at (S.files store.old) base.now).places)) }
+    ensures stand { IsSome (S.files store.old) → OnOk result (PlaceStands version number place (parts_at (S.files store.old) base.now)) }
+    ensures other { IsSome (S.files store.old) → IfErr result (Refutes (PlaceStands version number place (parts_at (S.files store.old) base.now))) }
     ensures files { S.files store.new ≡ S.files store.old }
     ensures unread { reads_outside (S.reads store.new) ≡ reads_outside (S.reads store.old) }
     ensures cause { HasPartCause (S.faults store.old) (S.faults store.new) result }
@@ -104,12 +99,8 @@ fn decode_next<S: Store>(
     ensures same { SameText reader.old reader.new }
     ensures document { OnOk result (IsDocument held.new.bytes.items) }
     ensures short { OnOk result (progress.now.bytes + length held.new.bytes.items ≤ head.now.collection) }
-    ensures own { (collection : List ℕ) →
-        HasDoc reader.old (S.files store.old) collection progress.now.documents (head.now.collection - progress.now.bytes) →
-        OnOk result (held.new.bytes.items ≡ doc_at collection progress.now.documents) }
-    ensures never_bad { (collection : List ℕ) →
-        HasDoc reader.old (S.files store.old) collection progress.now.documents (head.now.collection - progress.now.bytes) →
-        IfErr result (λ refusal. IsNotBad refusal) }
+    ensures own { ForNextDoc reader.old (S.files store.old) head.now progress.now (λ doc. OnOk result (held.new.bytes.items ≡ doc)) }
+    ensures never_bad { ForNextDoc reader.old (S.files store.old) head.now progress.now (λ _. IfErr result IsNotBad) }
     ensures files { S.files store.new ≡ S.files store.old }
     ensures unread { reads_outside (S.reads store.new) ≡ reads_outside (S.reads store.old) }
     ensures cause { HasPartCause (S.faults store.old) (S.faults store.new) result }
@@ -208,11 +199,9 @@ pub(crate) fn next_doc<S: Store>(
     ensures same { SameText reader.old reader.new }
     ensures range { OnOk result (IsInRange reader.old.code head.now progress.new) }
     ensures count { OnOk result (progress.new.documents ≡ progress.old.documents + 1) }
-    ensures found { IsSome (S.files store.old) →
-        OnOk result (FoundNext (parts_at (S.files store.old) base.now) head.now.version reader.old.code progress.old progress.new) }
-    ensures none { IsLoaded (S.files store.old) base.now head.now reader.old → (docs : List (List ℕ)) →
-        HasRead (parts_at (S.files store.old) base.now) head.now.version reader.old.code docs progress.old →
-        OnBad result (StandForNone (parts_at (S.files store.old) base.now)) }
+    ensures found { IsSome (S.files store.old) → OnOk result (FoundMore (S.files store.old) base.now head.now reader.old progress.old progress.new) }
+    ensures none { WhereRead (S.files store.old) base.now head.now reader.old progress.old
+        (OnBad result (StandForNone (parts_at (S.files store.old) base.now))) }
     ensures files { S.files store.new ≡ S.files store.old }
     ensures unread { reads_outside (S.reads store.new) ≡ reads_outside (S.reads store.old) }
     ensures cause { HasPartCause (S.faults store.old) (S.faults store.new) result }

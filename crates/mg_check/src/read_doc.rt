@@ -1,11 +1,10 @@
 // One document of the text.
-ghost use Rattle.std.specs.Prelude.{◌≡◌, ◌≢◌, ◌<◌, ◌≤◌, ◌-◌, ℕ, List, length, IfErr, OnOk};
+ghost use Rattle.std.specs.Prelude.{◌≡◌, ◌<◌, ◌≤◌, ◌-◌, length, IfErr, OnOk};
 ghost use Rattle.mg_dev.specs.Bads.{IsNotBad};
 ghost use Rattle.mg_dev.specs.PartCauses.{HasPartCause};
 ghost use Rattle.mg_text.specs.Reading.{SameText, TextFits};
-ghost use Rattle.mg_check.specs.Checking.{HasDoc};
-ghost use Rattle.mg_check.specs.Documents.{doc_at};
 ghost use Rattle.mg_check.specs.Reads.{reads_outside};
+ghost use Rattle.mg_check.specs.Checking.{ForDoc};
 
 use crate::held::Held;
 use mg_dev::{Bad, Part, PartErr, ShowErr, Store};
@@ -26,10 +25,8 @@ pub(crate) fn read_doc<S: Store>(
     ensures same { SameText reader.old reader.new }
     ensures most { held.new.most ≡ held.old.most }
     ensures few { OnOk result (length held.new.bytes.items ≤ held.old.most) }
-    ensures own { (collection : List ℕ) → HasDoc reader.old (S.files store.old) collection (number - 1) held.old.most →
-        OnOk result (held.new.bytes.items ≡ doc_at collection (number - 1)) }
-    ensures never_bad { (collection : List ℕ) → HasDoc reader.old (S.files store.old) collection (number - 1) held.old.most →
-        IfErr result (λ refusal. IsNotBad refusal) }
+    ensures own { ForDoc reader.old (S.files store.old) (number - 1) held.old.most (λ doc. OnOk result (held.new.bytes.items ≡ doc)) }
+    ensures never_bad { ForDoc reader.old (S.files store.old) (number - 1) held.old.most (λ _. IfErr result IsNotBad) }
     ensures files { S.files store.new ≡ S.files store.old }
     ensures unread { reads_outside (S.reads store.new) ≡ reads_outside (S.reads store.old) }
     ensures cause { HasPartCause (S.faults store.old) (S.faults store.new) result }

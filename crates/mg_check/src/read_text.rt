@@ -9,7 +9,7 @@ ghost use Rattle.mg_defs.specs.Means.{IsModel, StandForNone};
 ghost use Rattle.mg_layout.specs.HeadAnswers.{fields_of};
 ghost use Rattle.mg_layout.specs.Stands.{parts_at};
 ghost use Rattle.mg_text.specs.Reading.{SameText, TextFits};
-ghost use Rattle.mg_check.specs.Checking.{EndNumbers, FoundDocs, FoundText, IsAtEnd, IsInRange, IsLoaded, OnBad};
+ghost use Rattle.mg_check.specs.Checking.{EndNumbers, FoundDocs, IsAtEnd, IsInRange, IsLoaded, OnBad, FoundSet};
 ghost use Rattle.mg_check.specs.Reads.{reads_outside};
 
 use crate::held::Held;
@@ -163,8 +163,7 @@ pub(crate) fn read_text<S: Store>(
     requires model { IsModel reader.old.code }
     ensures fits { TextFits reader.new (S.files store.new) }
     ensures same { SameText reader.old reader.new }
-    ensures found { IsLoaded (S.files store.old) base.now head.now reader.old →
-        OnOk result (FoundText (parts_at (S.files store.old) base.now) (fields_of head.now) reader.old.code) }
+    ensures found { IsLoaded (S.files store.old) base.now head.now reader.old → OnOk result (FoundSet (S.files store.old) base.now head.now reader.old) }
     ensures none { IsLoaded (S.files store.old) base.now head.now reader.old → OnBad result (StandForNone (parts_at (S.files store.old) base.now)) }
     ensures files { S.files store.new ≡ S.files store.old }
     ensures unread { reads_outside (S.reads store.new) ≡ reads_outside (S.reads store.old) }

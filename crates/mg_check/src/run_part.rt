@@ -2,14 +2,14 @@
 //!
 //! The occurrences go into a pool of the size that the set was made with. A full pool is written into a store in memory
 //! as a run, and its bytes are compared with those of the part behind the runs before.
-ghost use Rattle.std.specs.Prelude.{◌≡◌, ◌≢◌, ◌+◌, ◌-◌, ◌*◌, ◌<◌, ◌≤◌, ◌^◌, ◌++◌, ◌∷◌, ℕ, List, [], length, map, IfOk, IsSome, Option, OnOk};
-ghost use Rattle.mg_dev.specs.Files.{Files, bytes_at};
+ghost use Rattle.std.specs.Prelude.{◌≡◌, ◌+◌, ◌-◌, ◌*◌, ◌<◌, ◌≤◌, ◌^◌, ℕ, List, [], length, IfOk, IsSome, Option, OnOk};
+ghost use Rattle.mg_dev.specs.Files.{Files};
 ghost use Rattle.mg_dev.specs.Names.{full_name};
 ghost use Rattle.mg_dev.specs.PartCauses.{HasPartCause};
 ghost use Rattle.mg_dev.specs.declared.part.Part.TheVariants as part;
 ghost use Rattle.mg_runs.specs.Bytes.{AreEntries};
 ghost use Rattle.mg_runs.specs.Fed.{cap_of};
-ghost use Rattle.mg_check.specs.Counting.{HasBegun, HasTaken, WhereBad, run_bytes, run_of_pool, run_part_of};
+ghost use Rattle.mg_check.specs.Counting.{HasTaken, WhereBad, run_bytes, run_of_pool, HasBegunMore, GoesOnOtherwise, HasTakenOne, HasTakenAll, RunsOtherwise, RunsOtherwiseOn, HasBegunRuns, AreItsRuns, AreOtherRuns};
 ghost use Rattle.mg_check.specs.Reads.{reads_outside};
 
 use crate::comparison::Comparison;
@@ -127,10 +127,8 @@ impl<'a> RunPart<'a> {
         requires many { length self.old.pool.entries ≤ 2 ^ 32 }
         requires entries { AreEntries self.old.pool.entries }
         requires place { self.old.part.at ≤ 2 ^ 62 }
-        ensures begun { OnOk result ((done : List ℕ) → HasBegun self.old.part (S.files store.old) done →
-            HasBegun self.new.part (S.files store.new) (done ++ run_of_pool self.old.pool)) }
-        ensures bad { IsSome (S.files store.old) → WhereBad ((done rest : List ℕ) → HasBegun self.old.part (S.files store.old) done →
-            bytes_at (S.files store.old) self.old.part.name ≢ done ++ (run_of_pool self.old.pool ++ rest)) result }
+        ensures begun { OnOk result (HasBegunMore S.files store.old store.new self.old.part self.new.part (run_of_pool self.old.pool)) }
+        ensures bad { IsSome (S.files store.old) → WhereBad (GoesOnOtherwise self.old.part (S.files store.old) (run_of_pool self.old.pool)) result }
         ensures place { OnOk result (self.new.part.at ≤ self.old.part.at + 16 + 32 * length self.old.pool.entries) }
         ensures empty { OnOk result (self.new.pool.entries ≡ []) }
         ensures slots { OnOk result (self.old.pool.slots ≡ [] → self.new.pool.slots ≡ []) }
@@ -159,10 +157,8 @@ impl<'a> RunPart<'a> {
     ) -> Result<(), PartErr>
         requires taken { (fed : List (ℕ × ℕ)) × (length fed < 2 ^ 32 - 1) × HasTaken self.old (S.files store.old) fed }
         requires doc { 1 ≤ doc }
-        ensures taken { OnOk result ((fed : List (ℕ × ℕ)) → length fed < 2 ^ 32 - 1 → HasTaken self.old (S.files store.old) fed →
-            HasTaken self.new (S.files store.new) (fed ++ (term, doc) ∷ [])) }
-        ensures bad { IsSome (S.files store.old) → WhereBad ((fed rest : List (ℕ × ℕ)) → HasTaken self.old (S.files store.old) fed →
-            bytes_at (S.files store.old) self.old.part.name ≢ run_part_of self.old (fed ++ rest)) result }
+        ensures taken { OnOk result (HasTakenOne S.files store.old store.new self.old self.new (term, doc)) }
+        ensures bad { IsSome (S.files store.old) → WhereBad (RunsOtherwise self.old (S.files store.old)) result }
         ensures limit { self.new.pool.limit ≡ self.old.pool.limit }
         ensures name { self.new.part.name ≡ self.old.part.name }
         ensures files { S.files store.new ≡ S.files store.old }
@@ -190,11 +186,8 @@ impl<'a> RunPart<'a> {
     ) -> Result<(), PartErr>
         requires taken { (fed : List (ℕ × ℕ)) × (length fed + length numbers.now < 2 ^ 32) × HasTaken self.old (S.files store.old) fed }
         requires doc { 1 ≤ doc }
-        ensures taken { OnOk result ((fed : List (ℕ × ℕ)) → length fed + length numbers.now < 2 ^ 32 → HasTaken self.old (S.files store.old) fed →
-            HasTaken self.new (S.files store.new) (fed ++ map (λ n. (n, doc)) numbers.now)) }
-        ensures bad { IsSome (S.files store.old) →
-            WhereBad ((fed rest : List (ℕ × ℕ)) → length fed + length numbers.now < 2 ^ 32 → HasTaken self.old (S.files store.old) fed →
-            bytes_at (S.files store.old) self.old.part.name ≢ run_part_of self.old (fed ++ (map (λ n. (n, doc)) numbers.now ++ rest))) result }
+        ensures taken { OnOk result (HasTakenAll S.files store.old store.new self.old self.new doc numbers.now) }
+        ensures bad { IsSome (S.files store.old) → WhereBad (RunsOtherwiseOn self.old (S.files store.old) doc numbers.now) result }
         ensures limit { self.new.pool.limit ≡ self.old.pool.limit }
         ensures name { self.new.part.name ≡ self.old.part.name }
         ensures files { S.files store.new ≡ S.files store.old }
@@ -213,10 +206,8 @@ impl<'a> RunPart<'a> {
     // Compares what is left in the pool as the last run.
     fn compare_rest<S: Store>(&mut self, store: &mut S) -> Result<(), PartErr>
         requires taken { (fed : List (ℕ × ℕ)) × HasTaken self.old (S.files store.old) fed }
-        ensures begun { OnOk result ((fed : List (ℕ × ℕ)) → HasTaken self.old (S.files store.old) fed →
-            HasBegun self.new.part (S.files store.new) (run_part_of self.old fed)) }
-        ensures bad { IsSome (S.files store.old) → WhereBad ((fed : List (ℕ × ℕ)) → HasTaken self.old (S.files store.old) fed →
-            bytes_at (S.files store.old) self.old.part.name ≢ run_part_of self.old fed) result }
+        ensures begun { OnOk result (HasBegunRuns S.files store.old store.new self.old self.new.part) }
+        ensures bad { IsSome (S.files store.old) → WhereBad (AreOtherRuns self.old (S.files store.old)) result }
         ensures name { self.new.part.name ≡ self.old.part.name }
         ensures files { S.files store.new ≡ S.files store.old }
         ensures unread { reads_outside (S.reads store.new) ≡ reads_outside (S.reads store.old) }
@@ -236,10 +227,8 @@ impl<'a> RunPart<'a> {
     /// Compares what is left as the last run, and refuses a part with more bytes.
     pub(crate) fn finish<S: Store>(&mut self, store: &mut S) -> Result<(), PartErr>
         requires taken { (fed : List (ℕ × ℕ)) × HasTaken self.old (S.files store.old) fed }
-        ensures done { IsSome (S.files store.old) → OnOk result ((fed : List (ℕ × ℕ)) → HasTaken self.old (S.files store.old) fed →
-            bytes_at (S.files store.old) self.old.part.name ≡ run_part_of self.old fed) }
-        ensures bad { IsSome (S.files store.old) → WhereBad ((fed : List (ℕ × ℕ)) → HasTaken self.old (S.files store.old) fed →
-            bytes_at (S.files store.old) self.old.part.name ≢ run_part_of self.old fed) result }
+        ensures done { IsSome (S.files store.old) → OnOk result (AreItsRuns self.old (S.files store.old)) }
+        ensures bad { IsSome (S.files store.old) → WhereBad (AreOtherRuns self.old (S.files store.old)) result }
         ensures files { S.files store.new ≡ S.files store.old }
         ensures unread { reads_outside (S.reads store.new) ≡ reads_outside (S.reads store.old) }
         ensures cause { HasPartCause (S.faults store.old) (S.faults store.new) result }

@@ -1,11 +1,11 @@
 //! What the documents of a text amount to: how many have each term, their weights, and the runs of their occurrences.
-ghost use Rattle.std.specs.Prelude.{◌≡◌, ◌+◌, ◌≤◌, ◌<◌, ◌^◌, ◌++◌, ◌∷◌, ℕ, List, [], length, All, IfOk, IsSome, Option, OnOk};
+ghost use Rattle.std.specs.Prelude.{◌≡◌, ◌+◌, ◌≤◌, ◌<◌, ◌^◌, ℕ, List, [], length, All, IfOk, IsSome, Option, OnOk};
 ghost use Rattle.mg_dev.specs.Files.{Files};
 ghost use Rattle.mg_dev.specs.Names.{full_name};
 ghost use Rattle.mg_dev.specs.PartCauses.{HasPartCause};
 ghost use Rattle.mg_dev.specs.declared.part.Part.TheVariants as part;
 ghost use Rattle.mg_runs.specs.Fed.{cap_of};
-ghost use Rattle.mg_check.specs.Counting.{AreTermsOf, CanAdd, HasTallied, HaveTallied, IsCounted, NoneGoesOn, NotTallied, SameParts, WhereBad, one_more_each};
+ghost use Rattle.mg_check.specs.Counting.{CanAdd, HasTallied, IsCounted, NoneGoesOn, NotTallied, SameParts, WhereBad, one_more_each, TalliedNext, AreTallied};
 ghost use Rattle.mg_check.specs.Reads.{reads_outside};
 
 use crate::doc_terms::{DocTerms, weight_of};
@@ -93,8 +93,7 @@ impl<'a> Tally<'a> {
         terms: &DocTerms,
     ) -> Result<(), PartErr>
         requires can { CanAdd self.old (S.files store.old) number terms.now }
-        ensures tallied { OnOk result ((words docs : List (List ℕ)) (doc : List ℕ) → 1 + length docs ≡ number → AreTermsOf words doc terms.now →
-            HasTallied self.old (S.files store.old) words docs → HasTallied self.new (S.files store.new) words (docs ++ doc ∷ [])) }
+        ensures tallied { OnOk result (TalliedNext S.files store.old store.new self.old self.new number terms.now) }
         ensures bad { IsSome (S.files store.old) → WhereBad (NoneGoesOn self.old (S.files store.old) number terms.now) result }
         ensures same { SameParts self.old self.new }
         ensures files { S.files store.new ≡ S.files store.old }
@@ -123,8 +122,7 @@ impl<'a> Tally<'a> {
     /// Compares what is left of both parts, and refuses more bytes.
     pub(crate) fn finish<S: Store>(&mut self, store: &mut S) -> Result<(), PartErr>
         requires tallied { (words docs : List (List ℕ)) × (length docs < 2 ^ 32) × HasTallied self.old (S.files store.old) words docs }
-        ensures done { IsSome (S.files store.old) → OnOk result ((words docs : List (List ℕ)) → HasTallied self.old (S.files store.old) words docs →
-            HaveTallied self.old (S.files store.old) words docs) }
+        ensures done { IsSome (S.files store.old) → OnOk result (AreTallied self.old (S.files store.old)) }
         ensures bad { IsSome (S.files store.old) → WhereBad (NotTallied self.old (S.files store.old)) result }
         ensures docs { self.new.docs ≡ self.old.docs }
         ensures occurrences { self.new.occurrences ≡ self.old.occurrences }

@@ -1,11 +1,11 @@
 //! Parts against bytes that were written anew into a store in memory.
 ghost use Rattle.std.specs.Prelude.{◌≡◌, ◌≤◌, ◌+◌, ◌^◌, IfErr, IfOk, OnOk, IsSome, length, true};
 ghost use Rattle.mg_dev.specs.Files.{bytes_at};
-ghost use Rattle.mg_dev.specs.Names.{full_name};
 ghost use Rattle.mg_dev.specs.PartCauses.{HasPartCause};
 ghost use Rattle.mg_layout.specs.Contents.{StandAt};
 ghost use Rattle.mg_check.specs.Listing.{Refutes};
 ghost use Rattle.mg_check.specs.Reads.{is_of_set, reads_outside};
+ghost use Rattle.mg_runs.specs.Reading.{file_bytes};
 
 use mg_dev::{FileRef, PartErr, Store, SureStore};
 use mg_layout::{expect_bytes, expect_size};
@@ -31,10 +31,8 @@ pub(crate) fn expect_more<S: Store>(
     requires place { at ≤ 2 ^ 63 }
     ensures end { IfOk result (λ end. end ≡ at + length wanted.now) }
     ensures within { IfOk result (λ end. end ≤ 2 ^ 63) }
-    ensures stand { IsSome (S.files store.old) →
-        OnOk result (StandAt at wanted.now (bytes_at (S.files store.old) (full_name file.entry.base.now file.entry.part))) }
-    ensures other { IsSome (S.files store.old) →
-        IfErr result (Refutes (StandAt at wanted.now (bytes_at (S.files store.old) (full_name file.entry.base.now file.entry.part)))) }
+    ensures stand { IsSome (S.files store.old) → OnOk result (StandAt at wanted.now (file_bytes file.entry (S.files store.old))) }
+    ensures other { IsSome (S.files store.old) → IfErr result (Refutes (StandAt at wanted.now (file_bytes file.entry (S.files store.old)))) }
     ensures files { S.files store.new ≡ S.files store.old }
     ensures unread { reads_outside (S.reads store.new) ≡ reads_outside (S.reads store.old) }
     ensures cause { HasPartCause (S.faults store.old) (S.faults store.new) result }
@@ -57,9 +55,8 @@ pub(crate) fn expect_whole<S: Store>(
     wanted: &[u8],
 ) -> Result<(), PartErr>
     requires { is_of_set file.part ≡ true }
-    ensures stand { IsSome (S.files store.old) → OnOk result (bytes_at (S.files store.old) (full_name file.entry.base.now file.entry.part) ≡ wanted.now) }
-    ensures other { IsSome (S.files store.old) →
-        IfErr result (Refutes (bytes_at (S.files store.old) (full_name file.entry.base.now file.entry.part) ≡ wanted.now)) }
+    ensures stand { IsSome (S.files store.old) → OnOk result (file_bytes file.entry (S.files store.old) ≡ wanted.now) }
+    ensures other { IsSome (S.files store.old) → IfErr result (Refutes (file_bytes file.entry (S.files store.old) ≡ wanted.now)) }
     ensures files { S.files store.new ≡ S.files store.old }
     ensures unread { reads_outside (S.reads store.new) ≡ reads_outside (S.reads store.old) }
     ensures cause { HasPartCause (S.faults store.old) (S.faults store.new) result }

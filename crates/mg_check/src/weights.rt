@@ -1,11 +1,11 @@
 //! The weights of documents, compared with the part that has them.
-ghost use Rattle.std.specs.Prelude.{◌≡◌, ◌≢◌, ◌+◌, ◌≤◌, ◌^◌, ◌++◌, ℕ, List, [], length, IsSome, Option, OnOk};
-ghost use Rattle.mg_dev.specs.Files.{Files, bytes_at};
+ghost use Rattle.std.specs.Prelude.{◌≡◌, ◌+◌, ◌≤◌, ◌^◌, ◌++◌, ℕ, List, [], length, IsSome, Option, OnOk};
+ghost use Rattle.mg_dev.specs.Files.{Files};
 ghost use Rattle.mg_dev.specs.Names.{full_name};
 ghost use Rattle.mg_dev.specs.PartCauses.{HasPartCause};
 ghost use Rattle.mg_dev.specs.declared.part.Part.TheVariants as part;
 ghost use Rattle.mg_defs.specs.Numbers.{four};
-ghost use Rattle.mg_check.specs.Counting.{HasWeighed, WhereBad};
+ghost use Rattle.mg_check.specs.Counting.{HasWeighed, WhereBad, HasWeighedMore, WeighsOtherwise, WeighsOtherwiseOn, AreItsWeights, AreOtherWeights};
 ghost use Rattle.mg_check.specs.Reads.{reads_outside};
 
 use crate::comparison::Comparison;
@@ -48,10 +48,8 @@ impl<'a> Weights<'a> {
     /// Takes the weight of the next document.
     pub(crate) fn push<S: Store>(&mut self, store: &mut S, weight: u32) -> Result<(), PartErr>
         requires place { self.old.part.at + length self.old.held + 4 ≤ 2 ^ 63 }
-        ensures weighed { OnOk result ((bytes : List ℕ) → HasWeighed self.old (S.files store.old) bytes →
-            HasWeighed self.new (S.files store.new) (bytes ++ four weight)) }
-        ensures bad { IsSome (S.files store.old) → WhereBad ((bytes rest : List ℕ) → HasWeighed self.old (S.files store.old) bytes →
-            bytes_at (S.files store.old) self.old.part.name ≢ bytes ++ (four weight ++ rest)) result }
+        ensures weighed { OnOk result (HasWeighedMore S.files store.old store.new self.old self.new (four weight)) }
+        ensures bad { IsSome (S.files store.old) → WhereBad (WeighsOtherwiseOn self.old (S.files store.old) (four weight)) result }
         ensures size { OnOk result (self.new.part.at + length self.new.held ≡ self.old.part.at + length self.old.held + 4) }
         ensures name { self.new.part.name ≡ self.old.part.name }
         ensures files { S.files store.new ≡ S.files store.old }
@@ -82,8 +80,7 @@ impl<'a> Weights<'a> {
         requires place { self.old.part.at + length self.old.held ≤ 2 ^ 63 }
         ensures weighed { OnOk result ((bytes : List ℕ) → HasWeighed self.old (S.files store.old) bytes → HasWeighed self.new (S.files store.new) bytes) }
         ensures none { OnOk result (self.new.held ≡ []) }
-        ensures bad { IsSome (S.files store.old) → WhereBad ((bytes rest : List ℕ) → HasWeighed self.old (S.files store.old) bytes →
-            bytes_at (S.files store.old) self.old.part.name ≢ bytes ++ rest) result }
+        ensures bad { IsSome (S.files store.old) → WhereBad (WeighsOtherwise self.old (S.files store.old)) result }
         ensures size { OnOk result (self.new.part.at + length self.new.held ≡ self.old.part.at + length self.old.held) }
         ensures name { self.new.part.name ≡ self.old.part.name }
         ensures files { S.files store.new ≡ S.files store.old }
@@ -101,11 +98,8 @@ impl<'a> Weights<'a> {
     /// Compares what is still held, and refuses a part with more bytes.
     pub(crate) fn finish<S: Store>(&mut self, store: &mut S) -> Result<(), PartErr>
         requires place { self.old.part.at + length self.old.held ≤ 2 ^ 63 }
-        ensures done { IsSome (S.files store.old) →
-            OnOk result ((bytes : List ℕ) → HasWeighed self.old (S.files store.old) bytes → bytes_at (S.files store.old) self.old.part.name ≡ bytes) }
-        ensures bad { IsSome (S.files store.old) →
-            WhereBad ((bytes : List ℕ) → HasWeighed self.old (S.files store.old) bytes →
-            bytes_at (S.files store.old) self.old.part.name ≢ bytes) result }
+        ensures done { IsSome (S.files store.old) → OnOk result (AreItsWeights self.old (S.files store.old)) }
+        ensures bad { IsSome (S.files store.old) → WhereBad (AreOtherWeights self.old (S.files store.old)) result }
         ensures files { S.files store.new ≡ S.files store.old }
         ensures unread { reads_outside (S.reads store.new) ≡ reads_outside (S.reads store.old) }
         ensures cause { HasPartCause (S.faults store.old) (S.faults store.new) result }
