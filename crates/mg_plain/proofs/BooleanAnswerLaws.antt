@@ -9,9 +9,9 @@ use Rattle.mg_defs.specs.Split.{documents}
 use Rattle.mg_defs.specs.Terms.{document}
 use Rattle.mg_defs.specs.Sat.{Query, satisfies}
 use Rattle.mg_defs.specs.declared.session.Settings.{Settings}
-use Rattle.mg_defs.specs.Weights.{first}
+use Rattle.mg_defs.specs.Weights.{limited_to}
 use Rattle.mg_defs.specs.Texts.{count}
-use Rattle.mg_defs.specs.Reply.{plain, found, shown, answer_text, satisfying}
+use Rattle.mg_defs.specs.ShownAnswers.{plain, found, shown, answer_text, satisfying}
 use Rattle.mg_defs.specs.Replies.{hit_text}
 use Rattle.mg_defs.proofs.ReplyLaws.{none_first, hit_adds, reply-front, found-hit, found-miss, document_at}
 use Rattle.mg_reply.specs.Pending.{Passed}
@@ -49,8 +49,8 @@ is_there collection q now w0 w waiting number total doc before rest s e =
 
 pub so_far_hit : (collection : List ℕ) (q : Query) (now : Settings) (w0 w w2 : Option (List ℕ)) (waiting waiting2 : List ℕ) (number total : ℕ) (doc : List ℕ) (before rest : List (List ℕ)) → FoundSoFar collection q now w0 w waiting number total before → before ≡ doc ∷ rest → satisfies q doc ≡ true → Passed w w2 waiting waiting2 (hit_text doc now.mode now.most total (plain (number + 1))) → FoundSoFar collection q now w0 w2 waiting2 (number + 1) (total + 1) rest
 so_far_hit collection q now w0 w w2 waiting waiting2 number total doc before rest s e hit given =
-    let whole : Passed w0 w2 [] waiting2 (flat_map (shown collection now.mode) (first now.most s.so_far) ++ hit_text doc now.mode now.most total (plain (number + 1))) =
-    pass_both w0 w w2 [] waiting waiting2 (flat_map (shown collection now.mode) (first now.most s.so_far)) (hit_text doc now.mode now.most total (plain (number + 1))) s.passed given in
+    let whole : Passed w0 w2 [] waiting2 (flat_map (shown collection now.mode) (limited_to now.most s.so_far) ++ hit_text doc now.mode now.most total (plain (number + 1))) =
+    pass_both w0 w w2 [] waiting waiting2 (flat_map (shown collection now.mode) (limited_to now.most s.so_far)) (hit_text doc now.mode now.most total (plain (number + 1))) s.passed given in
     record {
       front = s.front ++ doc ∷ [];
       docs_is = s.docs_is ∙ ap (λ r. s.front ++ r) e ∙ sym (append_assoc s.front (doc ∷ []) rest);
@@ -71,20 +71,20 @@ so_far_part collection q now w0 w w2 waiting number total doc before rest s e hi
     s.split ∙ ap (λ r. s.so_far ++ found q (number + 1) r) e ∙ ap (λ r. s.so_far ++ r) (found-hit q (number + 1) doc rest hit) ∙ sym (append_assoc s.so_far (x ∷ []) (found q (number + 1 + 1) rest)) in
     let front = reply-front collection now (s.so_far ++ x ∷ []) (found q (number + 1 + 1) rest) in
     let adds = hit_adds collection now doc s.so_far x total (is_there collection q now w0 w waiting number total doc before rest s e) s.total_is in
-    let is_text : answer_text collection now (satisfying collection q) ≡ (flat_map g (first now.most s.so_far) ++ text) ++ front.0 =
+    let is_text : answer_text collection now (satisfying collection q) ≡ (flat_map g (limited_to now.most s.so_far) ++ text) ++ front.0 =
     ap (answer_text collection now) all ∙ front.1 ∙ ap (λ t. t ++ front.0) adds in
-    let part : GrewByPrefix w0 w2 (flat_map g (first now.most s.so_far) ++ text) =
-    pass_cut w0 w w2 [] waiting (flat_map g (first now.most s.so_far)) text s.passed grew in
-    subst (GrewByPrefix w0 w2) (sym is_text) (grew_first w0 w2 (flat_map g (first now.most s.so_far) ++ text) front.0 part)
+    let part : GrewByPrefix w0 w2 (flat_map g (limited_to now.most s.so_far) ++ text) =
+    pass_cut w0 w w2 [] waiting (flat_map g (limited_to now.most s.so_far)) text s.passed grew in
+    subst (GrewByPrefix w0 w2) (sym is_text) (grew_first w0 w2 (flat_map g (limited_to now.most s.so_far) ++ text) front.0 part)
 
 -- all documents were scanned
 pub so_far_text : (collection : List ℕ) (q : Query) (now : Settings) (w0 w : Option (List ℕ)) (waiting : List ℕ) (number total : ℕ) (rest : List (List ℕ)) → FoundSoFar collection q now w0 w waiting number total rest → rest ≡ [] → (shown_part : List ℕ) × Passed w0 w [] waiting shown_part × (answer_text collection now (satisfying collection q) ≡ shown_part ++ count total)
 unfolding answer_text found
 so_far_text collection q now w0 w waiting number total rest s none =
     let all : found q 1 (documents collection) ≡ s.so_far = s.split ∙ ap (λ r. s.so_far ++ found q (number + 1) r) none ∙ append-nil s.so_far in (
-      flat_map (shown collection now.mode) (first now.most s.so_far),
+      flat_map (shown collection now.mode) (limited_to now.most s.so_far),
       s.passed,
-      ap (λ xs. flat_map (shown collection now.mode) (first now.most xs) ++ count (length xs)) all ∙ ap (λ n. flat_map (shown collection now.mode) (first now.most s.so_far) ++ count n) s.total_is,
+      ap (λ xs. flat_map (shown collection now.mode) (limited_to now.most xs) ++ count (length xs)) all ∙ ap (λ n. flat_map (shown collection now.mode) (limited_to now.most s.so_far) ++ count n) s.total_is,
     )
 
 pub so_far_count : (collection : List ℕ) (q : Query) (now : Settings) (w0 w : Option (List ℕ)) (waiting : List ℕ) (number total : ℕ) (before rest : List (List ℕ)) (doc : List ℕ) → FoundSoFar collection q now w0 w waiting number total before → before ≡ doc ∷ rest → length collection ≤ 2 ^ 28 → (number + 1 ≤ 2 ^ 28) × (length doc ≤ 2 ^ 28)

@@ -12,13 +12,14 @@ use Rattle.std.proofs.lemmas.List.{take-append-drop, take-map, length-map}
 use Rattle.std.proofs.lemmas.List.Sums.{length-filter, count_by-le-length}
 use Rattle.std.proofs.lemmas.List.FromFn.{length-enumerate_from}
 use Rattle.mg_dev.specs.Streams.{AfterPut, GrewByPrefix}
-use Rattle.mg_defs.specs.Tokens.{Token, Placed, word, bar, amp, bang, opening, closing, tokens}
+use Rattle.mg_defs.specs.Tokens.{Token, PlacedToken, word, bar, amp, bang, opening, closing, tokens}
 use Rattle.mg_defs.specs.Terms.{folded, same_term}
-use Rattle.mg_defs.specs.Read.{Reading, reads, refused, ranked_with, ranked_token, ranked_next, ranked_from, ranked}
+use Rattle.mg_defs.specs.Read.{ranked_with, ranked_token, ranked_next, ranked_from, ranked}
+use Rattle.mg_defs.specs.Refusals.{Reading, reads, refused}
 use Rattle.mg_defs.specs.Split.{documents}
-use Rattle.mg_defs.specs.Weights.{Hit, hits, by_score, first, has_term, score}
+use Rattle.mg_defs.specs.Weights.{Hit, hits, by_score, limited_to, has_term, score}
 use Rattle.mg_defs.specs.Texts.{count}
-use Rattle.mg_defs.specs.Reply.{shown, ranking, answer_text}
+use Rattle.mg_defs.specs.ShownAnswers.{shown, ranking, answer_text}
 use Rattle.mg_defs.specs.declared.session.Mode.{Mode}
 use Rattle.mg_defs.specs.declared.session.Settings.{Settings}
 use Rattle.mg_reply.specs.Pending.{Passed}
@@ -48,11 +49,11 @@ few_token terms at bang few = few
 few_token terms at opening few = few
 few_token terms at closing few = few
 
-few_next : (r : Reading (List (List ℕ))) (t : Placed) → HasFew r → HasFew (ranked_next r t)
+few_next : (r : Reading (List (List ℕ))) (t : PlacedToken) → HasFew r → HasFew (ranked_next r t)
 few_next (reads terms) t few = few_token terms t.at t.token few
 few_next (refused why) t few = tt
 
-few_from : (r : Reading (List (List ℕ))) (ts : List Placed) → HasFew r → HasFew (ranked_from r ts)
+few_from : (r : Reading (List (List ℕ))) (ts : List PlacedToken) → HasFew r → HasFew (ranked_from r ts)
 few_from r [] few = few
 few_from r (t ∷ ts) few = few_from (ranked_next r t) ts (few_next r t few)
 
@@ -125,26 +126,26 @@ rows_part collection mode rows i d w0 w1 w2 p0 p1 lt before grew =
 
 -- ---- the whole reply
 
-first-map : (most : Option ℕ) (rows : List Row) → first most (shown_rows rows) ≡ shown_rows (first most rows)
+first-map : (most : Option ℕ) (rows : List Row) → limited_to most (shown_rows rows) ≡ shown_rows (limited_to most rows)
 first-map None rows = refl
 first-map (Some k) rows = take-map shown_of k rows
 
-text-answer : (collection : List ℕ) (now : Settings) (rows shown_too : List Row) → shown_too ≡ first now.most rows → answer_text collection now (shown_rows rows) ≡ rows_text collection now.mode shown_too ++ count (length rows)
+text-answer : (collection : List ℕ) (now : Settings) (rows shown_too : List Row) → shown_too ≡ limited_to now.most rows → answer_text collection now (shown_rows rows) ≡ rows_text collection now.mode shown_too ++ count (length rows)
 unfolding rows_text answer_text
 text-answer collection now rows shown_too e =
     ap (λ xs. flat_map (shown collection now.mode) xs ++ count (length (shown_rows rows))) (first-map now.most rows ∙ ap shown_rows (sym e))
     ∙ ap (λ n. flat_map (shown collection now.mode) (shown_rows shown_too) ++ count n) (length-map rows shown_of)
 
-pub answer_put : {T E : Type 0} (collection : List ℕ) (now : Settings) (rows shown_too : List Row) (w0 w1 w2 w3 : Option (List ℕ)) (p0 p1 p2 : List ℕ) (r : Result T E) → p0 ≡ [] → shown_too ≡ first now.most rows → Passed w0 w1 p0 p1 (rows_text collection now.mode shown_too) → Passed w1 w2 p1 p2 (count (length rows)) → AfterPut w2 w3 p2 r → AfterPut w0 w3 (answer_text collection now (shown_rows rows)) r
+pub answer_put : {T E : Type 0} (collection : List ℕ) (now : Settings) (rows shown_too : List Row) (w0 w1 w2 w3 : Option (List ℕ)) (p0 p1 p2 : List ℕ) (r : Result T E) → p0 ≡ [] → shown_too ≡ limited_to now.most rows → Passed w0 w1 p0 p1 (rows_text collection now.mode shown_too) → Passed w1 w2 p1 p2 (count (length rows)) → AfterPut w2 w3 p2 r → AfterPut w0 w3 (answer_text collection now (shown_rows rows)) r
 answer_put collection now rows shown_too w0 w1 w2 w3 p0 p1 p2 r none e passed counted put =
     subst (λ t. AfterPut w0 w3 t r) (sym (text-answer collection now rows shown_too e)) (pass_put w0 w2 w3 p0 p2 _ r none (pass_both w0 w1 w2 p0 p1 p2 _ _ passed counted) put)
 
 -- the count was refused
-pub answer_cut : (collection : List ℕ) (now : Settings) (rows shown_too : List Row) (w0 w1 w2 : Option (List ℕ)) (p0 p1 : List ℕ) → p0 ≡ [] → shown_too ≡ first now.most rows → Passed w0 w1 p0 p1 (rows_text collection now.mode shown_too) → GrewByPrefix w1 w2 (p1 ++ count (length rows)) → GrewByPrefix w0 w2 (answer_text collection now (shown_rows rows))
+pub answer_cut : (collection : List ℕ) (now : Settings) (rows shown_too : List Row) (w0 w1 w2 : Option (List ℕ)) (p0 p1 : List ℕ) → p0 ≡ [] → shown_too ≡ limited_to now.most rows → Passed w0 w1 p0 p1 (rows_text collection now.mode shown_too) → GrewByPrefix w1 w2 (p1 ++ count (length rows)) → GrewByPrefix w0 w2 (answer_text collection now (shown_rows rows))
 answer_cut collection now rows shown_too w0 w1 w2 p0 p1 none e passed grew =
     subst (GrewByPrefix w0 w2) (sym (text-answer collection now rows shown_too e)) (pass_refused w0 w2 p0 _ none (pass_cut w0 w1 w2 p0 p1 _ _ passed grew))
 
 -- a row was refused
-pub answer_part : (collection : List ℕ) (now : Settings) (rows shown_too : List Row) (w0 w1 : Option (List ℕ)) (p0 : List ℕ) → p0 ≡ [] → shown_too ≡ first now.most rows → GrewByPrefix w0 w1 (p0 ++ rows_text collection now.mode shown_too) → GrewByPrefix w0 w1 (answer_text collection now (shown_rows rows))
+pub answer_part : (collection : List ℕ) (now : Settings) (rows shown_too : List Row) (w0 w1 : Option (List ℕ)) (p0 : List ℕ) → p0 ≡ [] → shown_too ≡ limited_to now.most rows → GrewByPrefix w0 w1 (p0 ++ rows_text collection now.mode shown_too) → GrewByPrefix w0 w1 (answer_text collection now (shown_rows rows))
 answer_part collection now rows shown_too w0 w1 p0 none e grew =
     subst (GrewByPrefix w0 w1) (sym (text-answer collection now rows shown_too e)) (pass_refused w0 w1 p0 _ none (pass_part w0 w1 p0 _ _ grew))

@@ -11,7 +11,7 @@ use Rattle.std.proofs.lemmas.Cmp.{nat_cmp_total, on_total, then_total, back_tota
 use Rattle.std.proofs.lemmas.List.Sums.{sum_by-cons}
 use Rattle.std.proofs.lemmas.List.Sorted.{sum_by-IsPermutation, IsPermutation-map}
 use Rattle.mg_defs.specs.Weights.{Hit, by_score}
-use Rattle.mg_defs.specs.Order.{IsBefore, AreSorted, AreRising}
+use Rattle.mg_defs.specs.Order.{RanksBefore, AreSorted, AreRisingByNumber}
 use Rattle.mg_defs.proofs.TopLaws.{order_is}
 use Rattle.mg_plain.specs.declared.order.Row.{Row}
 use Rattle.mg_plain.specs.RankedRows.{hit_of, hits_of}
@@ -43,7 +43,7 @@ none_later : (m n : ℕ) (hs : List Hit) → n ≤ m → AllByRecursion (λ (x :
 none_later m n [] le all = refl
 none_later m n (h ∷ hs) le all = omega (arith, numbered-cons n h hs, none_of n h (λ e. omega (arith, e, all.0, le)), none_later m n hs le all.1)
 
-rising_once : (n : ℕ) (hs : List Hit) → AreRising hs → numbered n hs ≤ 1
+rising_once : (n : ℕ) (hs : List Hit) → AreRisingByNumber hs → numbered n hs ≤ 1
 rising_once n [] up = omega arith
 rising_once n (h ∷ hs) up =
     elim (cases_eq h.number n) [
@@ -53,7 +53,7 @@ rising_once n (h ∷ hs) up =
 
 -- ---- the order
 
-before_before : (a b c : Hit) → IsBefore a b → IsBefore b c → IsBefore a c
+before_before : (a b c : Hit) → RanksBefore a b → RanksBefore b c → RanksBefore a c
 before_before a b c (inl p) (inl q) = inl (omega (arith, p, q))
 before_before a b c (inl p) (inr q) = inl (omega (arith, p, q.0))
 before_before a b c (inr p) (inl q) = inl (omega (arith, p.0, q))
@@ -63,9 +63,9 @@ before_before a b c (inr p) (inr q) = inr (p.0 ∙ q.0, omega (arith, p.1, q.1))
 abbrev Chain : List Hit → Type 0
 Chain [] = Unit {0}
 Chain (a ∷ []) = Unit {0}
-Chain (a ∷ b ∷ hs) = IsBefore a b × Chain (b ∷ hs)
+Chain (a ∷ b ∷ hs) = RanksBefore a b × Chain (b ∷ hs)
 
-all_before : (a b : Hit) (hs : List Hit) → IsBefore a b → Chain (b ∷ hs) → AllByRecursion (IsBefore a) (b ∷ hs)
+all_before : (a b : Hit) (hs : List Hit) → RanksBefore a b → Chain (b ∷ hs) → AllByRecursion (RanksBefore a) (b ∷ hs)
 all_before a b [] p c = (p, tt)
 all_before a b (x ∷ hs) p c = (p, all_before a x hs (before_before a b x p c.0) c.1)
 
@@ -75,7 +75,7 @@ sorted_chain (a ∷ []) c = (tt, tt)
 sorted_chain (a ∷ b ∷ hs) c = (all_before a b hs c.0 c.1, sorted_chain (b ∷ hs) c.1)
 
 -- two rows of which the second is not above the first, and their numbers differ
-before_from : (x y : Row) → is_above y x ≡ false → (x.number ≡ y.number → ⊥) → IsBefore (hit_of x) (hit_of y)
+before_from : (x y : Row) → is_above y x ≡ false → (x.number ≡ y.number → ⊥) → RanksBefore (hit_of x) (hit_of y)
 before_from x y h ne =
     by_ranked _ _ _ (nat_cmp x.score y.score) (ranked x.score y.score (nat_cmp x.score y.score) refl)
     (λ e lt. absurd (true≢false (sym (ap (λ o. is_lt (ordering_then o (nat_cmp y.number x.number))) e) ∙ h)))
@@ -98,7 +98,7 @@ chain_from (x ∷ y ∷ xs) h once =
     let first : is_above y x ≡ false = h 0 x (omega arith) (omega arith) in
     (before_from x y first apart, chain_from (y ∷ xs) (later x (y ∷ xs) h) (λ n. omega (arith, once n, numbered-cons n (hit_of x) (hits_of (y ∷ xs)))))
 
-pub ranking_from : (xs ys : List Row) → AreRising (hits_of xs) → IsPermutation xs ys → IsSortedBy is_above ys → hits_of ys ≡ by_score (hits_of xs)
+pub ranking_from : (xs ys : List Row) → AreRisingByNumber (hits_of xs) → IsPermutation xs ys → IsSortedBy is_above ys → hits_of ys ≡ by_score (hits_of xs)
 ranking_from xs ys up same sorted =
     let hits = IsPermutation-map hit_of xs ys same in
     let once : (n : ℕ) → numbered n (hits_of ys) ≤ 1 = λ n. omega (arith, sum_by-IsPermutation (λ (h : Hit). cond (h.number == n) 1 0) (hits_of xs) (hits_of ys) hits, rising_once n (hits_of xs) up) in

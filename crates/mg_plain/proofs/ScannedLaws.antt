@@ -11,7 +11,8 @@ use Rattle.mg_dev.specs.declared.fault.Fault.TheVariants.{StoreFault, NoCollecti
 use Rattle.mg_dev.specs.declared.status.Status.{Status}
 use Rattle.mg_dev.specs.declared.status.Status.TheVariants.{Done, Stopped}
 use Rattle.mg_defs.specs.Replies.{session}
-use Rattle.mg_defs.specs.Limit.{is_too_much, input_limit}
+use Rattle.mg_defs.specs.InputLimit.{is_too_much}
+use Rattle.mg_defs.specs.Limits.{input_limit}
 use Rattle.mg_reply.specs.Served.{LeftEnough}
 use Rattle.mg_plain.specs.Stops.{ScanStops}
 use Rattle.mg_dev.specs.Runs.{IfStopped, Run, StoreFailed, InputFailed, OutputFailed, Stops, status_of}
@@ -20,7 +21,7 @@ use Rattle.mg_plain.proofs.Complete.{only_memory}
 use Rattle.mg_dev.proofs.CallerLemmas.{when_ok, err_by, stopped_by, unless_by}
 
 done_or : (name bytes given : List ℕ) (run : Run) (r : Result (Unit {0}) Fault) → run.status ≡ status_of r
-    → IfErr r (ScanStops (StoreFailed run) (InputFailed run) (OutputFailed run) run.store.files name run.input.left)
+    → IfErr r (ScanStops name (StoreFailed run) (InputFailed run) (OutputFailed run) run.store.files run.input.left)
     → file_at run.store.files name ≡ Some bytes → length bytes ≤ 2 ^ 28 → run.input.left ≡ Some given → is_too_much input_limit given ≡ false
     → ¬ StoreFailed run → ¬ InputFailed run → ¬ OutputFailed run → (run.status ≡ Done) ⊎ Stops run Memory
 done_or name bytes given run (Ok u) is cause there small told short no_store no_input no_output = inl is
@@ -34,7 +35,7 @@ module _ (name : List ℕ) (run : Run) (r : Result (Unit {0}) Fault) (is : run.s
     (prefix : IsSome run.store.files → ForSome run.input.left (λ given. GrewByPrefix run.out.written run.out_now.written (session (bytes_at run.store.files name) given)))
     (silent : IsErrOf r NoCollection → run.out_now.written ≡ run.out.written)
     (silent_large : (size most : ℕ) → IsErrOf r (TooLarge size most) → run.out_now.written ≡ run.out.written)
-    (cause : IfErr r (ScanStops (StoreFailed run) (InputFailed run) (OutputFailed run) run.store.files name run.input.left))
+    (cause : IfErr r (ScanStops name (StoreFailed run) (InputFailed run) (OutputFailed run) run.store.files run.input.left))
     (missing : IsSome run.store.files → file_at run.store.files name ≡ None → (r ≡ Err NoCollection) ⊎ (r ≡ Err StoreFault) ⊎ (r ≡ Err Memory))
     (large : IsSome run.store.files → 2 ^ 28 < length (bytes_at run.store.files name) → (r ≡ Err (TooLarge (length (bytes_at run.store.files name)) (2 ^ 28))) ⊎ (r ≡ Err StoreFault) ⊎ (r ≡ Err Memory))
     (files : run.store_now.files ≡ run.store.files) (reads : (p : Part) → p ≢ Plain → run.store_now.reads p ≡ run.store.reads p) where
@@ -46,7 +47,7 @@ module _ (name : List ℕ) (run : Run) (r : Result (Unit {0}) Fault) (is : run.s
     prefix = λ told given some. prefix told given some;
     silent = λ end. silent (err_by r _ (sym is ∙ end));
     silent_large = λ size most end. silent_large size most (err_by r _ (sym is ∙ end));
-    cause = subst (λ (s : Status). IfStopped s (ScanStops (StoreFailed run) (InputFailed run) (OutputFailed run) run.store.files name run.input.left)) (sym is) (stopped_by _ r cause);
+    cause = subst (λ (s : Status). IfStopped s (ScanStops name (StoreFailed run) (InputFailed run) (OutputFailed run) run.store.files run.input.left)) (sym is) (stopped_by _ r cause);
     missing = λ told none. unless_by run r _ is (missing told none);
     large = λ told more. unless_by run r _ is (large told more);
     complete = λ bytes given there small some short no_store no_input no_output. done_or name bytes given run r is cause there small some short no_store no_input no_output;

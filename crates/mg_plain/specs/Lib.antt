@@ -1,5 +1,6 @@
 pub mod Inside
 pub mod Counts
+pub mod Scores
 pub mod BooleanUnderWay
 pub mod EqualTerms
 pub mod RankedRows

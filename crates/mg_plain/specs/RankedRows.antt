@@ -1,7 +1,7 @@
 -- The rows of a ranked answer: as hits, as they are shown, and where their documents begin.
 use Rattle.std.specs.Prelude.{◌≡◌, ◌≤◌, ℕ, List, Some, map, flat_map, length, take, drop}
 use Rattle.std.specs.List.{prefix_len}
-use Rattle.mg_defs.specs.Reply.{Shown, shown}
+use Rattle.mg_defs.specs.ShownAnswers.{Shown, shown}
 use Rattle.mg_defs.specs.Terms.{document}
 use Rattle.mg_defs.specs.Weights.{Hit}
 use Rattle.mg_defs.specs.declared.session.Mode.{Mode}

@@ -1,5 +1,5 @@
 -- What a run of `scan COLLECTION` does.
-use Rattle.std.specs.Prelude.{◌≡◌, ◌≢◌, ◌⊎◌, ◌<◌, ◌≤◌, ◌^◌, ℕ, false, List, length, Some, None, IsSome}
+use Rattle.std.specs.Prelude.{◌≡◌, ◌≢◌, ◌⊎◌, ◌<◌, ◌≤◌, ℕ, false, List, length, Some, None, IsSome}
 use Rattle.mg_dev.specs.Files.{file_at, bytes_at}
 use Rattle.mg_dev.specs.Streams.{appended, GrewByPrefix}
 use Rattle.mg_dev.specs.declared.part.Part.{Part}
@@ -7,7 +7,8 @@ use Rattle.mg_dev.specs.declared.part.Part.TheVariants.{Plain}
 use Rattle.mg_dev.specs.declared.fault.Fault.TheVariants.{NoCollection, TooLarge, Memory}
 use Rattle.mg_dev.specs.declared.status.Status.TheVariants.{Done}
 use Rattle.mg_defs.specs.Replies.{session}
-use Rattle.mg_defs.specs.Limit.{is_too_much, input_limit}
+use Rattle.mg_defs.specs.InputLimit.{is_too_much}
+use Rattle.mg_defs.specs.Limits.{input_limit, held_bytes}
 use Rattle.mg_reply.specs.Served.{LeftEnough}
 use Rattle.mg_plain.specs.Stops.{ScanStops}
 use Rattle.mg_dev.specs.Runs.{IfStopped, Run, StoreFailed, InputFailed, OutputFailed, SaysNothing, KeepsFiles, Stops, StopsUnless}
@@ -25,13 +26,13 @@ pub record Scanned (name : List ℕ) (run : Run) : Type 0 where
   pub silent : Stops run NoCollection → SaysNothing run
   pub silent_large : (size most : ℕ) → Stops run (TooLarge size most) → SaysNothing run
   -- the cause of every other status; 7 and 8 come exactly where they have it, unless the store fails or memory is wanting
-  pub cause : IfStopped run.status (ScanStops (StoreFailed run) (InputFailed run) (OutputFailed run) run.store.files name run.input.left)
+  pub cause : IfStopped run.status (ScanStops name (StoreFailed run) (InputFailed run) (OutputFailed run) run.store.files run.input.left)
   pub missing : IsSome run.store.files → file_at run.store.files name ≡ None
       → StopsUnless run NoCollection
-  pub large : IsSome run.store.files → 2 ^ 28 < length (bytes_at run.store.files name)
-      → StopsUnless run (TooLarge (length (bytes_at run.store.files name)) (2 ^ 28))
+  pub large : IsSome run.store.files → held_bytes < length (bytes_at run.store.files name)
+      → StopsUnless run (TooLarge (length (bytes_at run.store.files name)) held_bytes)
   -- where nothing stands in its way and no device fails, it is done, or memory is wanting
-  pub complete : (bytes given : List ℕ) → file_at run.store.files name ≡ Some bytes → length bytes ≤ 2 ^ 28
+  pub complete : (bytes given : List ℕ) → file_at run.store.files name ≡ Some bytes → length bytes ≤ held_bytes
       → run.input.left ≡ Some given → is_too_much input_limit given ≡ false
       → ¬ StoreFailed run → ¬ InputFailed run → ¬ OutputFailed run → (run.status ≡ Done) ⊎ Stops run Memory
   -- no file changes, and no part is read but the collection

@@ -4,7 +4,7 @@ ghost use Rattle.mg_defs.specs.Sat.{satisfies};
 ghost use Rattle.mg_defs.specs.QueryTerms.{query_terms};
 ghost use Rattle.mg_dev.specs.Causes.{HasPutCause, HasLack, Rose};
 ghost use Rattle.mg_dev.specs.Streams.{AfterPut};
-ghost use Rattle.mg_defs.specs.Reply.{satisfying, answer_text};
+ghost use Rattle.mg_defs.specs.ShownAnswers.{satisfying, answer_text};
 ghost use Rattle.mg_defs.specs.Replies.{boolean_reply};
 ghost use Rattle.mg_defs.specs.Read.{boolean};
 ghost use Rattle.mg_query.specs.QueryOf.{query_of};
@@ -12,12 +12,10 @@ ghost use Rattle.mg_plain.specs.Stops.{AnswerStops};
 
 use crate::counts::{count_terms, mark_counted};
 use crate::docs::Docs;
-use crate::hit::pass_hit;
-use crate::refusal::answer_refused;
 use mg_defs::Settings;
 use mg_dev::{PartErr, PutErr, ShowErr, Sink};
 use mg_query::{Query, Terms, parse_boolean};
-use mg_reply::Pending;
+use mg_reply::{Pending, answer_refused, pass_hit};
 use std::alloc::{AllocError, Global};
 
 /// Whether a document satisfies a query with these terms. What is counted and what is there is left
@@ -84,7 +82,7 @@ fn put_found<O: Sink>(
         if !is_satisfied(query, doc, terms, counts, there) {
             continue;
         }
-        match pass_hit(&mut pending, out, now, total, number, doc) {
+        match pass_hit(&mut pending, out, now, total, number, None, doc) {
             Ok(()) => {}
             Err(error) => return Err(error),
         }

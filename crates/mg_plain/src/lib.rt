@@ -11,11 +11,9 @@
 mod boolean;
 mod counts;
 mod docs;
-mod hit;
 mod order;
 mod plain;
 mod ranked;
-mod refusal;
 mod rows;
 mod scanner;
 mod score;

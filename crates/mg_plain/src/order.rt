@@ -1,7 +1,7 @@
 // The rows of a ranked answer.
 ghost use Rattle.std.specs.Prelude.{◌≡◌};
 ghost use Rattle.std.specs.List.Sorted.{IsPermutation};
-ghost use Rattle.mg_defs.specs.Order.{AreRising};
+ghost use Rattle.mg_defs.specs.Order.{AreRisingByNumber};
 ghost use Rattle.mg_defs.specs.Weights.{by_score};
 ghost use Rattle.mg_plain.specs.RankedRows.{hits_of};
 
@@ -17,7 +17,7 @@ pub(crate) struct Row {
 
 /// Sorts rows by falling score, ties by rising number.
 pub(crate) fn sort_rows(rows: &mut Vec<Row>)
-    requires { AreRising (hits_of rows.old.items) }
+    requires { AreRisingByNumber (hits_of rows.old.items) }
     ensures sorted { hits_of rows.new.items ≡ by_score (hits_of rows.old.items) }
     ensures same { IsPermutation rows.old.items rows.new.items }
 {

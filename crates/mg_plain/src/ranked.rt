@@ -1,9 +1,9 @@
 // Ranked lines.
 ghost use Rattle.std.specs.Prelude.{◌≡◌, ◌<◌, ◌≤◌, ◌^◌, length, take, drop, Some, IfErr, IsErrOf};
 ghost use Rattle.std.specs.List.{All, prefix_len};
-ghost use Rattle.mg_defs.specs.Weights.{first};
+ghost use Rattle.mg_defs.specs.Weights.{limited_to};
 ghost use Rattle.mg_defs.specs.Read.{ranked};
-ghost use Rattle.mg_defs.specs.Reply.{ranking, answer_text, shown};
+ghost use Rattle.mg_defs.specs.ShownAnswers.{ranking, answer_text, shown};
 ghost use Rattle.mg_defs.specs.Replies.{ranked_reply};
 ghost use Rattle.mg_dev.specs.Causes.{HasPutCause, HasLack, Rose};
 ghost use Rattle.mg_dev.specs.Streams.{AfterPut};
@@ -13,14 +13,12 @@ ghost use Rattle.mg_plain.specs.RankedRows.{IsPlaced, shown_of, shown_rows, rows
 ghost use Rattle.mg_plain.specs.Stops.{AnswerStops};
 
 use crate::docs::doc_len;
-use crate::hit::pass_document;
 use crate::order::{Row, sort_rows};
-use crate::refusal::answer_refused;
 use crate::rows::rows_of;
 use mg_defs::{Mode, Settings};
 use mg_dev::{PartErr, PutErr, ShowErr, Sink};
 use mg_query::{Terms, parse_ranked};
-use mg_reply::Pending;
+use mg_reply::{Pending, answer_refused, pass_shown};
 use std::alloc::Global;
 
 /// The document that begins at a place.
@@ -50,7 +48,7 @@ fn put_row<O: Sink>(
         Mode::Docnums => &[],
         Mode::Count => &[],
     };
-    pass_document(pending, out, mode, row.number, Some(row.score), doc)
+    pass_shown(pending, out, mode, row.number, Some(row.score), doc)
 }
 
 /// Passes on what a reply shows of rows, one after another.
@@ -77,7 +75,7 @@ fn put_rows<O: Sink>(
 
 /// The rows that are shown.
 fn first_rows(rows: &[Row], most: Option<u32>) -> &[Row]
-    ensures { result.now ≡ first most rows.now }
+    ensures { result.now ≡ limited_to most rows.now }
 {
     match most {
         None => rows,

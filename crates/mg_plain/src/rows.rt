@@ -6,6 +6,7 @@ ghost use Rattle.mg_defs.specs.Terms.{docs};
 ghost use Rattle.mg_defs.specs.Weights.{hits, has_term, weight_of_term, wt, score};
 ghost use Rattle.mg_plain.specs.Counts.{AreCounts};
 ghost use Rattle.mg_plain.specs.RankedRows.{hits_of, IsPlaced};
+ghost use Rattle.mg_plain.specs.Scores.{IsScoreFor};
 
 use crate::counts::count_terms;
 use crate::docs::Docs;
@@ -113,8 +114,7 @@ fn score_where_found<'a>(
     requires counts { length counts.old ≡ length terms.now }
     requires weights { length weights.now ≡ length terms.now }
     requires light { (k : ℕ) → k < length weights.now → get_or weights.now k 0 < 2 ^ 14 }
-    ensures score { IfOk result (λ found. MatchOption found (list_any (has_term doc.now) terms.now ≡ false) (λ s. (list_any (has_term doc.now) terms.now
-        ≡ true) × ((collection : List ℕ) → AreCounts (wt collection) terms.now weights.now → s ≡ score collection terms.now doc.now))) }
+    ensures score { IfOk result (IsScoreFor doc.now terms.now weights.now) }
     ensures counts { length counts.new ≡ length terms.now }
 {
     count_terms(doc, terms, counts);

@@ -1,21 +1,20 @@
 // A session over a collection, from its name to its last reply.
-ghost use Rattle.std.specs.Prelude.{◌≡◌, ◌≢◌, ◌⊎◌, ◌≤◌, ◌<◌, ◌^◌, ℕ, List, false, None, IsSome, OnOk, IfErr, IsErrOf, length, refl};
+ghost use Rattle.std.specs.Prelude.{◌≡◌, ◌≢◌, ◌≤◌, ℕ, List, false, None, IsSome, OnOk, IsErrOf, refl};
 ghost use Rattle.std.specs.Option.{ForSome};
 ghost use Rattle.std.proofs.Common.{◌∙◌, ap, sym};
-ghost use Rattle.mg_dev.specs.Causes.{Rose};
 ghost use Rattle.mg_dev.specs.Files.{file_at, bytes_at};
-ghost use Rattle.mg_dev.specs.Streams.{appended, GrewByPrefix};
 ghost use Rattle.mg_dev.specs.declared.part.Part.{Part};
 ghost use Rattle.mg_dev.specs.declared.part.Part.TheVariants.{Plain};
-ghost use Rattle.mg_dev.specs.declared.fault.Fault.TheVariants.{NoCollection, TooLarge, StoreFault, Memory};
+ghost use Rattle.mg_dev.specs.declared.fault.Fault.TheVariants.{NoCollection, TooLarge};
 ghost use Rattle.mg_dev.specs.declared.part_err.PartErr.TheVariants as part;
 ghost use Rattle.mg_defs.specs.Replies.{session, reply as reply_spec};
-ghost use Rattle.mg_defs.specs.Limit.{is_too_much, input_limit};
-ghost use Rattle.mg_dev.specs.Moments.{SinkAt};
-ghost use Rattle.mg_dev.specs.Runs.{status_of};
+ghost use Rattle.mg_defs.specs.InputLimit.{is_too_much};
+ghost use Rattle.mg_defs.specs.Limits.{input_limit};
+ghost use Rattle.mg_dev.specs.Runs.{RefusedFor};
+ghost use Rattle.mg_reply.specs.Printed.{PrintsAll, PrintsPrefix, Runs, StopsBy};
 ghost use Rattle.mg_reply.specs.Served.{LeftEnough};
 ghost use Rattle.mg_plain.specs.Scanned.{Scanned};
-ghost use Rattle.mg_plain.specs.Stops.{ScanStops, fault_of_serve};
+ghost use Rattle.mg_plain.specs.Stops.{RefusesLarge, ScanStops, fault_of_serve};
 
 use crate::PlainText;
 use mg_defs::Settings;
@@ -89,20 +88,18 @@ fn scan_text<S: Store, I: Source, O: Sink>(
 ) -> Result<(), Fault>
     ensures files { S.files store.new ≡ S.files store.old }
     ensures reads { (p : Part) → p ≢ Plain → S.reads store.new p ≡ S.reads store.old p }
-    ensures all { IsSome (S.files store.old) → ForSome (I.left input.old) (λ given. OnOk result (O.written out.new
-        ≡ appended (O.written out.old) (session (bytes_at (S.files store.old) name.now) given))) }
+    ensures all { IsSome (S.files store.old) →
+        PrintsAll I.left O.written input.old out.old out.new result session (bytes_at (S.files store.old) name.now) }
     ensures left { ForSome (I.left input.old) (λ given. OnOk result (LeftEnough given (I.left input.new))) }
     ensures within { ForSome (I.left input.old) (λ given. OnOk result (is_too_much input_limit given ≡ false)) }
     ensures prefix { IsSome (S.files store.old) →
-        ForSome (I.left input.old) (λ given. GrewByPrefix (O.written out.old) (O.written out.new) (session (bytes_at (S.files store.old) name.now) given)) }
+        PrintsPrefix I.left O.written input.old out.old out.new session (bytes_at (S.files store.old) name.now) }
     ensures silent { IsErrOf result NoCollection → O.written out.new ≡ O.written out.old }
     ensures silent_large { (size most : ℕ) → IsErrOf result (TooLarge size most) → O.written out.new ≡ O.written out.old }
-    ensures cause { IfErr result (ScanStops (Rose (S.faults store.old) (S.faults store.new)) (Rose (I.faults input.old) (I.faults input.new))
-        (Rose (O.faults out.old) (O.faults out.new)) (S.files store.old) name.now (I.left input.old)) }
-    ensures missing { IsSome (S.files store.old) → file_at (S.files store.old) name.now ≡ None →
-        (result ≡ Err NoCollection) ⊎ (result ≡ Err StoreFault) ⊎ (result ≡ Err Memory) }
-    ensures large { IsSome (S.files store.old) → 2 ^ 28 < length (bytes_at (S.files store.old) name.now) →
-        (result ≡ Err (TooLarge (length (bytes_at (S.files store.old) name.now)) (2 ^ 28))) ⊎ (result ≡ Err StoreFault) ⊎ (result ≡ Err Memory) }
+    ensures cause { StopsBy S.files S.faults I.left I.faults O.faults
+        store.old store.new input.old input.new out.old out.new result (ScanStops name.now) }
+    ensures missing { IsSome (S.files store.old) → file_at (S.files store.old) name.now ≡ None → RefusedFor result NoCollection }
+    ensures large { IsSome (S.files store.old) → RefusesLarge result (bytes_at (S.files store.old) name.now) }
     ensures store_later { S.faults store.old ≤ S.faults store.new }
 {
     let text = match PlainText::load(alloc, store, name) {
@@ -134,17 +131,8 @@ pub fn scan<S: Store, I: Source, O: Sink>(
     out: &mut O,
 ) -> Result<(), Fault>
     // What a run does that scans, whatever its error output is.
-    ensures scanned { (err err_now : SinkAt) → Scanned name.now (record {
-      store = record { files = S.files store.old; reads = S.reads store.old; faults = S.faults store.old };
-      store_now = record { files = S.files store.new; reads = S.reads store.new; faults = S.faults store.new };
-      input = record { left = I.left input.old; faults = I.faults input.old };
-      input_now = record { left = I.left input.new; faults = I.faults input.new };
-      out = record { written = O.written out.old; faults = O.faults out.old; lacks = O.lacks out.old };
-      out_now = record { written = O.written out.new; faults = O.faults out.new; lacks = O.lacks out.new };
-      err = err;
-      err_now = err_now;
-      status = status_of result;
-    }) }
+    ensures scanned { Runs S.files S.reads S.faults I.left I.faults O.written O.faults O.lacks
+        store.old store.new input.old input.new out.old out.new result (Scanned name.now) }
     ensures store_later { S.faults store.old ≤ S.faults store.new }
 {
     scan_text(alloc, store, name, input, out)

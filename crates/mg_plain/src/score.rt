@@ -1,9 +1,8 @@
 // The score of a document.
-ghost use Rattle.std.specs.Prelude.{◌≡◌, ℕ, List, ◌*◌, ◌^◌, ◌<◌, ◌≤◌, length, get_or, nat_lt, cond, IfOk};
-ghost use Rattle.mg_defs.specs.Weights.{weight, weight_in_doc, wt, score as score_spec};
-ghost use Rattle.mg_defs.specs.Terms.{freq_in};
-ghost use Rattle.mg_plain.specs.Counts.{AreCounts};
+ghost use Rattle.std.specs.Prelude.{◌≡◌, ℕ, ◌*◌, ◌^◌, ◌<◌, ◌≤◌, length, get_or, nat_lt, cond, IfOk};
+ghost use Rattle.mg_defs.specs.Weights.{weight, weight_in_doc};
 ghost use Rattle.mg_plain.specs.Products.{products};
+ghost use Rattle.mg_plain.specs.Scores.{IsScoreBy};
 
 use crate::weigh::document_weight;
 use mg_fixed::{doc_term_weight, score};
@@ -52,8 +51,7 @@ pub(crate) fn document_score<'a>(
     requires same { length weights.now ≡ length counts.now }
     requires few { length counts.now ≤ 2 ^ 10 }
     requires light { (k : ℕ) → k < length weights.now → get_or weights.now k 0 < 2 ^ 14 }
-    ensures { IfOk result (λ s. (collection : List ℕ) (query : List (List ℕ)) → AreCounts (freq_in doc.now) query counts.now →
-        AreCounts (wt collection) query weights.now → s ≡ score_spec collection query doc.now) }
+    ensures { IfOk result (IsScoreBy doc.now counts.now weights.now) }
 {
     let weight = document_weight(doc, words)?;
     Ok(score(sum_of_products(counts, weights), weight))

@@ -2,9 +2,9 @@ use Rattle.std.proofs.Common.{◌≡◌, ◌≤◌, ◌^◌, List, length, sym, 
 use Rattle.std.specs.List.{All}
 use Rattle.std.proofs.lemmas.List.Sorted.{All-permutation}
 use Rattle.mg_dev.specs.Streams.{GrewByPrefix, appended}
-use Rattle.mg_defs.specs.Order.{AreRising}
+use Rattle.mg_defs.specs.Order.{AreRisingByNumber}
 use Rattle.mg_defs.specs.Weights.{by_score}
-use Rattle.mg_defs.specs.Reply.{Shown, ranking, answer_text}
+use Rattle.mg_defs.specs.ShownAnswers.{Shown, ranking, answer_text}
 use Rattle.mg_defs.proofs.TopLaws.{hits_rise}
 use Rattle.mg_plain.specs.declared.order.Row.{Row}
 use Rattle.mg_plain.specs.RankedRows.{IsPlaced, hits_of, shown_rows}
@@ -12,7 +12,7 @@ use Rattle.mg_plain.proofs.RankedAnswerLaws.{few_rows, ranking-is}
 use Rattle.mg_plain.proofs.ranked.answer_terms.Goals as goal
 
 pub sort_rows-requires : goal.sort_rows-requires
-sort_rows-requires g c = subst AreRising (sym c.in_ok-rows.ensures.hits) (hits_rise c.args.bytes.now c.args.terms.now)
+sort_rows-requires g c = subst AreRisingByNumber (sym c.in_ok-rows.ensures.hits) (hits_rise c.args.bytes.now c.args.terms.now)
 
 pub put_answer-requires-clause-few : goal.put_answer-requires-clause-few
 put_answer-requires-clause-few g c =
