@@ -3,7 +3,7 @@ use Rattle.std.proofs.Common.{◌≡◌, ℕ, false, List, [], sym, subst}
 use Rattle.std.specs.declared.option.Option.{Option}
 use Rattle.std.proofs.lemmas.Bool.{cond-false}
 use Rattle.mg_defs.specs.Replies.{hit_text, shows}
-use Rattle.mg_defs.specs.Reply.{Shown, shown_as}
+use Rattle.mg_defs.specs.ShownAnswers.{Shown, shown_as}
 use Rattle.mg_defs.specs.declared.session.Mode.{Mode}
 use Rattle.mg_reply.specs.Pending.{Passed}
 use Rattle.mg_reply.proofs.CallerLemmas.{pass_nothing}

@@ -11,7 +11,8 @@ use Rattle.mg_dev.specs.declared.fault.Fault.{Fault}
 use Rattle.mg_dev.specs.declared.fault.Fault.TheVariants.{Usage, StoreFault, ReadFault, WriteFault, NotBuilt, Damaged, NoCollection, TooLarge, TooManyDocuments, TooManyPieces, Changed, Memory, NameClash, InputTooLong, SameName, TooManyRotations}
 use Rattle.mg_dev.specs.declared.status.Status.{Status}
 use Rattle.mg_dev.specs.declared.status.Status.TheVariants.{Done, Stopped}
-use Rattle.mg_defs.specs.Limit.{is_too_much, input_limit}
+use Rattle.mg_defs.specs.InputLimit.{is_too_much}
+use Rattle.mg_defs.specs.Limits.{input_limit}
 use Rattle.mg_defs.specs.Rotations.{most_rotations, rotation_count}
 use Rattle.mg_defs.specs.Terms.{dictionary}
 use Rattle.mg_defs.specs.WildSession.{wild_session}
@@ -29,7 +30,7 @@ true_is_not_false e = cc
 
 -- where nothing stands in a session's way and no device failed, want of memory is the only refusal
 only_memory : (store_rose input_rose output_rose : Type 0) (files : Option Files) (base collection given : List ℕ) (left : Option (List ℕ)) (fault : Fault) →
-    WildStops store_rose input_rose output_rose files base left fault → Stands files base collection → rotation_count (dictionary collection) ≤ most_rotations →
+    WildStops base store_rose input_rose output_rose files left fault → Stands files base collection → rotation_count (dictionary collection) ≤ most_rotations →
     left ≡ Some given → is_too_much input_limit given ≡ false → ¬ store_rose → ¬ input_rose → ¬ output_rose → fault ≡ Memory
 only_memory s i o files base collection given left Usage cause stands few is short no_store no_input no_output = absurd cause
 only_memory s i o files base collection given left StoreFault cause stands few is short no_store no_input no_output = absurd (no_store cause)
@@ -49,7 +50,7 @@ only_memory s i o files base collection given left SameName cause stands few is 
 only_memory s i o files base collection given left (TooManyRotations count) cause stands few is short no_store no_input no_output = let told : count ≡ rotation_count (dictionary collection) = cause.1 collection stands in absurd (omega (arith, cause.0, told, few))
 
 done_or : (base collection given : List ℕ) (run : Run) (r : Result (Unit {0}) Fault) → run.status ≡ status_of r
-    → IfErr r (WildStops (StoreFailed run) (InputFailed run) (OutputFailed run) run.store.files base run.input.left)
+    → IfErr r (WildStops base (StoreFailed run) (InputFailed run) (OutputFailed run) run.store.files run.input.left)
     → Stands run.store.files base collection → rotation_count (dictionary collection) ≤ most_rotations → run.input.left ≡ Some given
     → is_too_much input_limit given ≡ false → ¬ StoreFailed run → ¬ InputFailed run → ¬ OutputFailed run → (run.status ≡ Done) ⊎ Stops run Memory
 done_or base collection given run (Ok u) is cause stands few told short no_store no_input no_output = inl is
@@ -71,7 +72,7 @@ module _ (base : List ℕ) (run : Run) (r : Result (Unit {0}) Fault) (is : run.s
     (within : ForSome run.input.left (λ given. OnOk r (is_too_much input_limit given ≡ false)))
     (unread : (p : Part) → NeverReadByPatterns p → run.store_now.reads p ≡ run.store.reads p)
     (files : run.store_now.files ≡ run.store.files)
-    (cause : IfErr r (WildStops (StoreFailed run) (InputFailed run) (OutputFailed run) run.store.files base run.input.left))
+    (cause : IfErr r (WildStops base (StoreFailed run) (InputFailed run) (OutputFailed run) run.store.files run.input.left))
     (silent : IfErr r (λ fault. IsFirst fault → run.out_now.written ≡ run.out.written))
     (untouched : IfErr r (λ fault. IsFirst fault → run.input_now.left ≡ run.input.left))
     (not_built : IsSome run.store.files → bytes_at run.store.files (full_name base part.Head) ≡ [] → RefusedFor r NotBuilt)
@@ -85,7 +86,7 @@ module _ (base : List ℕ) (run : Run) (r : Result (Unit {0}) Fault) (is : run.s
     prefix = λ collection given stands some. prefix collection stands given some;
     silent = first_by run r _ is silent;
     untouched = first_by run r _ is untouched;
-    cause = subst (λ (s : Status). IfStopped s (WildStops (StoreFailed run) (InputFailed run) (OutputFailed run) run.store.files base run.input.left)) (sym is) (stopped_by _ r cause);
+    cause = subst (λ (s : Status). IfStopped s (WildStops base (StoreFailed run) (InputFailed run) (OutputFailed run) run.store.files run.input.left)) (sym is) (stopped_by _ r cause);
     not_built = λ told none. unless_by run r _ is (not_built told none);
     many = λ collection stands more. unless_by run r _ is (many collection stands more);
     complete = λ collection given stands few some short no_store no_input no_output. done_or base collection given run r is cause stands few some short no_store no_input no_output;

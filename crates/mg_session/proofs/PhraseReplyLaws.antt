@@ -5,14 +5,12 @@ use Rattle.std.specs.Option.{ForSome}
 use Rattle.std.specs.declared.option.Option.{Option}
 use Rattle.std.specs.declared.result.Result.{Result}
 use Rattle.std.proofs.lemmas.Bool.{cond_both, leb-false}
+use Rattle.std.proofs.lemmas.Option.{IfSome_then}
 use Rattle.std.proofs.lemmas.List.Sums.{sum_by-append, sum_by-cons}
 use Rattle.mg_dev.specs.Causes.{Rose}
-use Rattle.mg_dev.specs.Faults.{show_of_put}
 use Rattle.mg_dev.specs.Files.{Reads}
 use Rattle.mg_dev.specs.Streams.{AfterPut, GrewByPrefix, appended}
 use Rattle.mg_dev.specs.StreamLaws.{grew_nothing}
-use Rattle.mg_dev.specs.declared.device.PutErr.{PutErr}
-use Rattle.mg_dev.specs.declared.device.PutErr.TheVariants as put
 use Rattle.mg_dev.specs.declared.part.Part.TheVariants as part
 use Rattle.mg_dev.specs.declared.part_err.PartErr.TheVariants.{Device, Memory, Bad}
 use Rattle.mg_dev.specs.declared.show_err.ShowErr.{ShowErr}
@@ -22,31 +20,32 @@ use Rattle.mg_defs.specs.Lines.{lines}
 use Rattle.mg_defs.specs.Phrases.{phrase_from, phrase_next, phrase_of, phrase_places, phrase_token, phrase_with}
 use Rattle.mg_defs.specs.PhraseSession.{found_text, phrase_reply, phrase_session, with_places}
 use Rattle.mg_defs.specs.PlainSession.{plain_questions}
-use Rattle.mg_defs.specs.Read.{Reading, Refusal, reads, refused}
+use Rattle.mg_defs.specs.Refusals.{Reading, Refusal, reads, refused}
 use Rattle.mg_defs.specs.Replies.{refusal}
 use Rattle.mg_defs.specs.Session.{Question, heard_questions, heard_session}
 use Rattle.mg_defs.specs.Split.{documents}
 use Rattle.mg_defs.specs.Terms.{folded}
 use Rattle.mg_defs.specs.Texts.{count}
-use Rattle.mg_defs.specs.Tokens.{Placed, Token, amp, bang, bar, closing, opening, tokens, word}
+use Rattle.mg_defs.specs.Tokens.{PlacedToken, Token, amp, bang, bar, closing, opening, tokens, word}
 use Rattle.mg_defs.specs.declared.session.Hearing.TheVariants.{Questions}
 use Rattle.mg_defs.specs.declared.session.Settings.{Settings}
 use Rattle.mg_laws.proofs.PlainLaws.{plain_heard, questions_heard}
 use Rattle.mg_query.specs.AllOf.{IsAllOf}
 use Rattle.mg_query.specs.RefusalOf.{refusal_of}
 use Rattle.mg_query.specs.declared.query_err.QueryErr.{QueryErr}
-use Rattle.mg_query.specs.declared.query_err.QueryErr.TheVariants as query
+use Rattle.mg_reply.specs.Refusals.{AnswerStops}
 use Rattle.mg_reply.specs.Served.{EndsFor, PartStops}
 use Rattle.mg_reply.specs.declared.serve.ServeErr.{ServeErr}
 use Rattle.mg_reply.specs.declared.serve.ServeErr.TheVariants as serve
 use Rattle.mg_session.specs.Serves.{Stops, fault_of_serve}
-use Rattle.mg_defs.specs.Limit.{input_limit, is_too_much}
+use Rattle.mg_defs.specs.InputLimit.{is_too_much}
+use Rattle.mg_defs.specs.Limits.{input_limit}
 use Rattle.mg_text.specs.Decoding as decoding
 use Rattle.mg_text.specs.Reading.{ShowIsNotBad}
-use Rattle.mg_session.specs.Answering.{HasShowCause}
+use Rattle.mg_session.specs.Answering.{HasShowCause, HasShowLack, of_allocator}
 use Rattle.mg_session.specs.PhraseAnswers.{PhraseAnswered, PhraseReplied, ReadsPhrases, candidate_pages, joined_bound, line_lists, line_pages}
 use Rattle.mg_session.specs.PhraseSearching.{OnlyReads, PhraseMayStop, PhraseState, PhrasesAsked, PhrasesBy, PhrasesOver, SamePhraseParts}
-use Rattle.mg_session.proofs.ReplyLaws.{put_sound}
+use Rattle.mg_session.proofs.ReplyLaws.{refused_sound}
 
 -- ---- a phrase has at most 64 words
 
@@ -68,11 +67,11 @@ few_token phrase at bang few = few
 few_token phrase at opening few = few
 few_token phrase at closing few = few
 
-few_next : (r : Reading (List (List ℕ))) (t : Placed) → IsFew r → IsFew (phrase_next r t)
+few_next : (r : Reading (List (List ℕ))) (t : PlacedToken) → IsFew r → IsFew (phrase_next r t)
 few_next (reads phrase) t few = few_token phrase t.at t.token few
 few_next (refused why) t few = tt
 
-few_from : (r : Reading (List (List ℕ))) (ts : List Placed) → IsFew r → IsFew (phrase_from r ts)
+few_from : (r : Reading (List (List ℕ))) (ts : List PlacedToken) → IsFew r → IsFew (phrase_from r ts)
 few_from r [] few = few
 few_from r (t ∷ ts) few = few_from (phrase_next r t) ts (few_next r t few)
 
@@ -82,37 +81,14 @@ line_words line phrase e = subst IsFew e (few_from (reads []) (tokens line) (ome
 
 -- ---- a line that is no phrase
 
-refused_put : (e : QueryErr) (Said : Refusal → Type 0) (text : List ℕ) (w0 w1 : Option (List ℕ)) (r : Result (Unit {0}) PutErr) → ((why : Refusal) → Said why → text ≡ refusal why) → IfSome (refusal_of e) Said → IfSome (refusal_of e) (λ why. AfterPut w0 w1 (refusal why) r) → (e ≡ query.Memory → (r ≡ Err put.Memory) × (w1 ≡ w0)) → AfterPut w0 w1 text r
-refused_put (query.Syntax at) Said text w0 w1 r says said put none = subst (λ t. AfterPut w0 w1 t r) (sym (says _ said)) put
-refused_put (query.TooDeep at) Said text w0 w1 r says said put none = subst (λ t. AfterPut w0 w1 t r) (sym (says _ said)) put
-refused_put (query.TermTooLong at) Said text w0 w1 r says said put none = subst (λ t. AfterPut w0 w1 t r) (sym (says _ said)) put
-refused_put (query.TooManyTerms at) Said text w0 w1 r says said put none = subst (λ t. AfterPut w0 w1 t r) (sym (says _ said)) put
-refused_put query.Memory Said text w0 w1 r says said put none =
-    let m = none refl in
-    subst (AfterPut w0 w1 text) (sym m.0) (subst (λ w. GrewByPrefix w0 w text) (sym m.1) (grew_nothing w0 text))
-
-abbrev done : Result (Unit {0}) PutErr
-done = Ok tt
-
-abbrev not_put : PutErr → Result (Unit {0}) PutErr
-not_put refusal = Err refusal
-
 says_refused : (collection line : List ℕ) (why : Refusal) → phrase_of line ≡ refused why → phrase_reply collection line ≡ refusal why
 unfolding phrase_reply
 says_refused collection line why e = rw e refl
 
-pub line_refused : (e : QueryErr) (code : TextCode) (collection line : List ℕ) (w0 w1 : Option (List ℕ)) (r : Reads) → IfSome (refusal_of e) (λ why. phrase_of line ≡ refused why) → IfSome (refusal_of e) (λ why. AfterPut w0 w1 (refusal why) done) → (e ≡ query.Memory → (done ≡ not_put put.Memory) × (w1 ≡ w0)) → PhraseReplied code collection line w0 w1 r r (Ok tt)
-line_refused e code collection line w0 w1 r said put none = record {
-  put = refused_put e (λ why. phrase_of line ≡ refused why) (phrase_reply collection line) w0 w1 done (says_refused collection line) said put none;
-  sound = tt;
-  post = omega arith;
-  text = omega arith;
-}
-
-pub line_unput : (e : QueryErr) (code : TextCode) (collection line : List ℕ) (w0 w1 : Option (List ℕ)) (r : Reads) (refused_for : PutErr) (error : ShowErr) → IfSome (refusal_of e) (λ why. phrase_of line ≡ refused why) → IfSome (refusal_of e) (λ why. AfterPut w0 w1 (refusal why) (not_put refused_for)) → (e ≡ query.Memory → (not_put refused_for ≡ not_put put.Memory) × (w1 ≡ w0)) → error ≡ show_of_put refused_for → PhraseReplied code collection line w0 w1 r r (Err error)
-line_unput e code collection line w0 w1 r refused_for error said put none is = record {
-  put = refused_put e (λ why. phrase_of line ≡ refused why) (phrase_reply collection line) w0 w1 (not_put refused_for) (says_refused collection line) said put none;
-  sound = put_sound refused_for error is;
+pub line_refused : (e : QueryErr) (code : TextCode) (collection line : List ℕ) (w0 w1 : Option (List ℕ)) (r : Reads) (result : Result (Unit {0}) ShowErr) (P Q : Type 0) → IfSome (refusal_of e) (λ why. phrase_of line ≡ refused why) → ((text : List ℕ) → IfSome (refusal_of e) (λ why. text ≡ refusal why) → AfterPut w0 w1 text result) → IfErr result (AnswerStops P Q) → PhraseReplied code collection line w0 w1 r r result
+line_refused e code collection line w0 w1 r result P Q said put stops = record {
+  put = put (phrase_reply collection line) (IfSome_then (refusal_of e) said (says_refused collection line));
+  sound = refused_sound P Q result stops;
   post = omega arith;
   text = omega arith;
 }
@@ -171,13 +147,31 @@ line_answered code collection line phrase w0 w1 r0 r1 r2 result is a post text =
 -- ---- a document that is held
 
 -- a sink that never fails has no failure
-pub held_cause : (r : Result (Unit {0}) ShowErr) (s t l m output : ℕ) → s ≤ t → decoding.IsShowCaused r s t 0 0 l m → HasShowCause r s t output output
-held_cause (Ok value) s t l m output later caused = record { store = later; output = omega arith; caused = tt }
-held_cause (Err (show.Part Device)) s t l m output later caused = record { store = later; output = omega arith; caused = caused }
-held_cause (Err (show.Part Memory)) s t l m output later caused = absurd caused
-held_cause (Err (show.Part (Bad bad))) s t l m output later caused = record { store = later; output = omega arith; caused = tt }
-held_cause (Err show.Write) s t l m output later caused = absurd (omega (arith, caused))
-held_cause (Err show.Memory) s t l m output later caused = record { store = later; output = omega arith; caused = tt }
+pub held_cause : (error : ShowErr) (s t l m output : ℕ) → s ≤ t → decoding.IsShowCaused (Err error) s t 0 0 l m → HasShowCause (Err (of_allocator error)) s t output output
+held_cause (show.Part Device) s t l m output later caused = record { store = later; output = omega arith; caused = caused }
+held_cause (show.Part Memory) s t l m output later caused = absurd caused
+held_cause (show.Part (Bad bad)) s t l m output later caused = record { store = later; output = omega arith; caused = tt }
+held_cause show.Write s t l m output later caused = absurd (omega (arith, caused))
+held_cause show.Memory s t l m output later caused = record { store = later; output = omega arith; caused = tt }
+
+pub held_sound : (error : ShowErr) → ShowIsNotBad (Err error) → ShowIsNotBad (Err (of_allocator error))
+held_sound (show.Part Device) sound = tt
+held_sound (show.Part Memory) sound = tt
+held_sound (show.Part (Bad bad)) sound = sound
+held_sound show.Write sound = tt
+held_sound show.Memory sound = tt
+
+-- and no lack of an output
+pub held_memory : (error : ShowErr) → of_allocator error ≡ show.Memory → ⊥
+held_memory (show.Part error) is = cc
+held_memory show.Write is = cc
+held_memory show.Memory is = cc
+
+-- where it is not the output's own want of memory, no lack is told
+pub no_lack : (error : ShowErr) (l m : ℕ) → l ≤ m → (error ≡ show.Memory → ⊥) → HasShowLack l m (Err error)
+no_lack (show.Part refusal) l m later other = record { later = later; lacked = tt }
+no_lack show.Write l m later other = record { later = later; lacked = tt }
+no_lack show.Memory l m later other = absurd (other refl)
 
 -- ---- a session
 

@@ -17,9 +17,9 @@ use Rattle.mg_dev.specs.declared.show_err.ShowErr.{ShowErr}
 use Rattle.mg_defs.specs.CodedText.{TextCode}
 use Rattle.mg_defs.specs.PageBounds.{boolean_bound}
 use Rattle.mg_defs.specs.Phrases.{all_of, phrase_places}
-use Rattle.mg_defs.specs.PhraseSession.{Found, found_text, with_places}
+use Rattle.mg_defs.specs.PhraseSession.{PhraseHit, found_text, with_places}
 use Rattle.mg_defs.specs.QueryTerms.{query_terms}
-use Rattle.mg_defs.specs.Reply.{Shown, found, plain, satisfying}
+use Rattle.mg_defs.specs.ShownAnswers.{Shown, found, plain, satisfying}
 use Rattle.mg_defs.specs.Sat.{Query, satisfies}
 use Rattle.mg_defs.specs.Split.{documents}
 use Rattle.mg_defs.specs.Terms.{document}
@@ -148,19 +148,19 @@ among-none collection phrase = refl
 among-push : (collection : List ℕ) (phrase : List (List ℕ)) (xs : List Shown) (number places : ℕ) → places ≡ phrase_places phrase (document collection number) → found_among collection phrase (xs ++ plain number ∷ []) ≡ found_among collection phrase xs ++ found_at number places
 among-push collection phrase xs number places is = among-append collection phrase xs (plain number ∷ []) ∙ ap (λ fs. found_among collection phrase xs ++ fs) (among-one collection phrase number places is)
 
-rows-append : (xs ys : List Found) → rows_of (xs ++ ys) ≡ rows_of xs ++ rows_of ys
+rows-append : (xs ys : List PhraseHit) → rows_of (xs ++ ys) ≡ rows_of xs ++ rows_of ys
 unfolding rows_of
-rows-append xs ys = flat_map-append (λ (f : Found). row f.number (Some f.places)) xs ys
+rows-append xs ys = flat_map-append (λ (f : PhraseHit). row f.number (Some f.places)) xs ys
 
 rows-none : rows_of [] ≡ []
 unfolding rows_of
 rows-none = refl
 
-text-is : (fs : List Found) → found_text fs ≡ rows_of fs ++ count (length fs)
+text-is : (fs : List PhraseHit) → found_text fs ≡ rows_of fs ++ count (length fs)
 unfolding found_text rows_of
 text-is fs = refl
 
-text_front : (xs ys : List Found) → (rest : List ℕ) × (found_text (xs ++ ys) ≡ rows_of xs ++ rest)
+text_front : (xs ys : List PhraseHit) → (rest : List ℕ) × (found_text (xs ++ ys) ≡ rows_of xs ++ rest)
 text_front xs ys = (rows_of ys ++ count (length (xs ++ ys)), text-is (xs ++ ys) ∙ ap (λ t. t ++ count (length (xs ++ ys))) (rows-append xs ys) ∙ append_assoc (rows_of xs) (rows_of ys) (count (length (xs ++ ys))))
 
 pub size_some : (number places : ℕ) → 0 < places → length (found_at number places) ≡ 1
@@ -316,7 +316,7 @@ walked_uncounted base code collection phrase q w0 w1 w2 waiting total m n r0 r1 
 one-row : (number places : ℕ) → (places ≡ 0 → ⊥) → rows_of (found_at number places) ≡ row number (Some places)
 unfolding rows_of
 one-row number places some =
-    let found_one = ap (λ (b : Bool). flat_map (λ (f : Found). row f.number (Some f.places)) (found_if b number places)) (lt-ltb 0 places (omega (arith, some))) in
+    let found_one = ap (λ (b : Bool). flat_map (λ (f : PhraseHit). row f.number (Some f.places)) (found_if b number places)) (lt-ltb 0 places (omega (arith, some))) in
     found_one ∙ append-nil (row number (Some places))
 
 pub row_found : {T E : Type 0} (w0 w1 : Option (List ℕ)) (p0 p1 : List ℕ) (number places : ℕ) (r : Result T E) → (places ≡ 0 → ⊥) → AfterPass w0 w1 p0 p1 (row number (Some places)) r → AfterPass w0 w1 p0 p1 (rows_of (found_at number places)) r

@@ -11,7 +11,8 @@ use Rattle.mg_dev.specs.declared.fault.Fault.{Fault}
 use Rattle.mg_dev.specs.declared.fault.Fault.TheVariants.{NotBuilt}
 use Rattle.mg_dev.specs.declared.status.Status.{Status}
 use Rattle.mg_defs.specs.CodedText.{TextCode}
-use Rattle.mg_defs.specs.Limit.{is_too_much, input_limit}
+use Rattle.mg_defs.specs.InputLimit.{is_too_much}
+use Rattle.mg_defs.specs.Limits.{input_limit}
 use Rattle.mg_defs.specs.PhraseSession.{phrase_session}
 use Rattle.mg_layout.specs.Stands.{Stands, StandsBy}
 use Rattle.mg_layout.specs.declared.head.Head.{Head}
@@ -32,7 +33,7 @@ module _ (base : List ℕ) (run : Run) (r : Result (Unit {0}) Fault) (is : run.s
     (pages : (head : Head) (code : TextCode) (collection : List ℕ) → StandsBy head code run.store.files base collection → ForSome run.input.left (λ given. ReadsPhrases code collection given run.store.reads run.store_now.reads))
     (unread : (p : Part) → NeverRead p → run.store_now.reads p ≡ run.store.reads p)
     (files : run.store_now.files ≡ run.store.files)
-    (cause : IfErr r (StopsFor (StoreFailed run) (InputFailed run) (OutputFailed run) run.store.files base run.input.left))
+    (cause : IfErr r (StopsFor base (StoreFailed run) (InputFailed run) (OutputFailed run) run.store.files run.input.left))
     (silent : r ≡ Err NotBuilt → run.out_now.written ≡ run.out.written)
     (not_built : IsSome run.store.files → bytes_at run.store.files (full_name base part.Head) ≡ [] → RefusedFor r NotBuilt) where
   pub phrased_by : Phrased base run
@@ -42,7 +43,7 @@ module _ (base : List ℕ) (run : Run) (r : Result (Unit {0}) Fault) (is : run.s
     within = λ given some end. when_ok _ r (sym is ∙ end) (within given some);
     prefix = λ collection given stands some. prefix collection stands given some;
     silent = λ end. silent (err_by r _ (sym is ∙ end));
-    cause = subst (λ (s : Status). IfStopped s (StopsFor (StoreFailed run) (InputFailed run) (OutputFailed run) run.store.files base run.input.left)) (sym is) (stopped_by _ r cause);
+    cause = subst (λ (s : Status). IfStopped s (StopsFor base (StoreFailed run) (InputFailed run) (OutputFailed run) run.store.files run.input.left)) (sym is) (stopped_by _ r cause);
     not_built = λ told none. unless_by run r _ is (not_built told none);
     complete = λ collection given stands some short no_store no_input no_output. done_or base collection given run r is cause stands some short no_store no_input no_output;
     files = files;

@@ -12,7 +12,8 @@ use Rattle.mg_dev.specs.declared.fault.Fault.TheVariants.{Usage, StoreFault, Rea
 use Rattle.mg_dev.specs.declared.status.Status.{Status}
 use Rattle.mg_dev.specs.declared.status.Status.TheVariants.{Done, Stopped}
 use Rattle.mg_defs.specs.CodedText.{TextCode}
-use Rattle.mg_defs.specs.Limit.{is_too_much, input_limit}
+use Rattle.mg_defs.specs.InputLimit.{is_too_much}
+use Rattle.mg_defs.specs.Limits.{input_limit}
 use Rattle.mg_defs.specs.Replies.{session}
 use Rattle.mg_defs.specs.Session.{questions_of}
 use Rattle.mg_layout.specs.Stands.{Stands, StandsBy}
@@ -31,7 +32,7 @@ true_is_not_false e = cc
 
 -- where nothing stands in a session's way and no device failed, want of memory is the only refusal
 only_memory : (store_rose input_rose output_rose : Type 0) (files : Option Files) (base collection given : List ℕ) (left : Option (List ℕ)) (fault : Fault) →
-    StopsFor store_rose input_rose output_rose files base left fault → Stands files base collection → left ≡ Some given → is_too_much input_limit given ≡ false →
+    StopsFor base store_rose input_rose output_rose files left fault → Stands files base collection → left ≡ Some given → is_too_much input_limit given ≡ false →
     ¬ store_rose → ¬ input_rose → ¬ output_rose → fault ≡ Memory
 only_memory s i o files base collection given left Usage cause stands is short no_store no_input no_output = absurd cause
 only_memory s i o files base collection given left StoreFault cause stands is short no_store no_input no_output = absurd (no_store cause)
@@ -51,7 +52,7 @@ only_memory s i o files base collection given left SameName cause stands is shor
 only_memory s i o files base collection given left (TooManyRotations count) cause stands is short no_store no_input no_output = absurd cause
 
 pub done_or : (base collection given : List ℕ) (run : Run) (r : Result (Unit {0}) Fault) → run.status ≡ status_of r
-    → IfErr r (StopsFor (StoreFailed run) (InputFailed run) (OutputFailed run) run.store.files base run.input.left)
+    → IfErr r (StopsFor base (StoreFailed run) (InputFailed run) (OutputFailed run) run.store.files run.input.left)
     → Stands run.store.files base collection → run.input.left ≡ Some given → is_too_much input_limit given ≡ false
     → ¬ StoreFailed run → ¬ InputFailed run → ¬ OutputFailed run → (run.status ≡ Done) ⊎ Stops run Memory
 done_or base collection given run (Ok u) is cause stands told short no_store no_input no_output = inl is
@@ -67,7 +68,7 @@ module _ (base : List ℕ) (run : Run) (r : Result (Unit {0}) Fault) (is : run.s
     (unread : (p : Part) → NeverRead p → run.store_now.reads p ≡ run.store.reads p)
     (texts_unread : ForSome run.input.left (λ given. AskForNoText (questions_of given) → (p : Part) → is_of_text p ≡ true → run.store_now.reads p ≡ run.store.reads p))
     (files : run.store_now.files ≡ run.store.files)
-    (cause : IfErr r (StopsFor (StoreFailed run) (InputFailed run) (OutputFailed run) run.store.files base run.input.left))
+    (cause : IfErr r (StopsFor base (StoreFailed run) (InputFailed run) (OutputFailed run) run.store.files run.input.left))
     (silent : r ≡ Err NotBuilt → run.out_now.written ≡ run.out.written)
     (not_built : IsSome run.store.files → bytes_at run.store.files (full_name base part.Head) ≡ [] → RefusedFor r NotBuilt) where
   pub queried_by : Queried base run
@@ -77,7 +78,7 @@ module _ (base : List ℕ) (run : Run) (r : Result (Unit {0}) Fault) (is : run.s
     within = λ given some end. when_ok _ r (sym is ∙ end) (within given some);
     prefix = λ collection given stands some. prefix collection stands given some;
     silent = λ end. silent (err_by r _ (sym is ∙ end));
-    cause = subst (λ (s : Status). IfStopped s (StopsFor (StoreFailed run) (InputFailed run) (OutputFailed run) run.store.files base run.input.left)) (sym is) (stopped_by _ r cause);
+    cause = subst (λ (s : Status). IfStopped s (StopsFor base (StoreFailed run) (InputFailed run) (OutputFailed run) run.store.files run.input.left)) (sym is) (stopped_by _ r cause);
     not_built = λ told none. unless_by run r _ is (not_built told none);
     complete = λ collection given stands some short no_store no_input no_output. done_or base collection given run r is cause stands some short no_store no_input no_output;
     files = files;

@@ -14,11 +14,11 @@ use Rattle.mg_dev.specs.StreamLaws.{grew_first, grew_nothing}
 use Rattle.mg_dev.specs.declared.part.Part.TheVariants as part
 use Rattle.mg_dev.specs.declared.show_err.ShowErr.{ShowErr}
 use Rattle.mg_defs.specs.CodedText.{TextCode}
-use Rattle.mg_defs.specs.Reply.{Shown, answer_text, ranking, shown}
+use Rattle.mg_defs.specs.ShownAnswers.{Shown, answer_text, ranking, shown}
 use Rattle.mg_defs.specs.Split.{documents}
 use Rattle.mg_defs.specs.TextBounds.{doc_pages, texts_in}
 use Rattle.mg_defs.specs.Texts.{count}
-use Rattle.mg_defs.specs.Weights.{Hit, by_score, first, has_term, hit_count, hits, score, top}
+use Rattle.mg_defs.specs.Weights.{Hit, by_score, limited_to, has_term, hits, score}
 use Rattle.mg_defs.specs.declared.session.Mode.{Mode}
 use Rattle.mg_defs.specs.declared.session.Mode.TheVariants.{Docnums, Text, Count}
 use Rattle.mg_defs.specs.declared.session.Settings.{Settings}
@@ -26,7 +26,8 @@ use Rattle.mg_defs.proofs.TopLaws.{by_score_permutes}
 use Rattle.mg_reply.specs.Pending.{Passed}
 use Rattle.mg_reply.proofs.CallerLemmas.{pass_both, pass_cut, pass_nothing, pass_part, pass_put, pass_refused}
 use Rattle.mg_text.specs.Reading.{ShowIsNotBad}
-use Rattle.mg_session.specs.Answering.{Answered, RowsShown, answer_pages, at_score, mode_pages, rows_asked, rows_in, rows_pages, rows_text, shown_hit, shown_hits}
+use Rattle.mg_reply.specs.Printed.{at_score}
+use Rattle.mg_session.specs.Answering.{Answered, RowsShown, answer_pages, mode_pages, rows_asked, rows_in, rows_pages, rows_text, shown_hit, shown_hits}
 
 -- ---- row by row
 
@@ -122,10 +123,10 @@ few_hits collection query =
       length-enumerate_from 1 (documents collection),
     )
 
-ranked_count : (collection : List ℕ) (query : List (List ℕ)) → length (by_score (hits collection query)) ≡ hit_count collection query
+ranked_count : (collection : List ℕ) (query : List (List ℕ)) → length (by_score (hits collection query)) ≡ length (hits collection query)
 ranked_count collection query = length_permutation (hits collection query) (by_score (hits collection query)) (by_score_permutes (hits collection query))
 
-first_rows : (collection : List ℕ) (query : List (List ℕ)) (most : Option ℕ) (all : ℕ) → all ≡ length (documents collection) → shown_hits (top collection query (Some (unwrap_or most all))) ≡ first most (ranking collection query)
+first_rows : (collection : List ℕ) (query : List (List ℕ)) (most : Option ℕ) (all : ℕ) → all ≡ length (documents collection) → shown_hits (take (unwrap_or most all) (by_score (hits collection query))) ≡ limited_to most (ranking collection query)
 first_rows collection query None all is = ap shown_hits (take_all all (by_score (hits collection query)) (omega (arith, is, few_hits collection query, ranked_count collection query)))
 first_rows collection query (Some k) all is = sym (take-map shown_hit k (by_score (hits collection query)))
 
@@ -133,10 +134,10 @@ no_mode_pages : (rows : List Shown) → sum_by (λ (h : Shown). 0) rows ≡ 0
 no_mode_pages [] = refl
 no_mode_pages (r ∷ rows) = no_mode_pages rows
 
-mode_sum : (code : TextCode) (collection : List ℕ) (mode : Mode) (most : Option ℕ) (answer : List Shown) → sum_by (mode_pages code collection mode) (first most answer) ≡ sum_by (doc_pages code collection) (texts_in mode most answer)
-mode_sum code collection Docnums most answer = no_mode_pages (first most answer)
+mode_sum : (code : TextCode) (collection : List ℕ) (mode : Mode) (most : Option ℕ) (answer : List Shown) → sum_by (mode_pages code collection mode) (limited_to most answer) ≡ sum_by (doc_pages code collection) (texts_in mode most answer)
+mode_sum code collection Docnums most answer = no_mode_pages (limited_to most answer)
 mode_sum code collection Text most answer = refl
-mode_sum code collection Count most answer = no_mode_pages (first most answer)
+mode_sum code collection Count most answer = no_mode_pages (limited_to most answer)
 
 -- ---- where only the count is shown, no row is
 
@@ -145,31 +146,31 @@ nothing_shown collection [] = refl
 nothing_shown collection (r ∷ rows) = nothing_shown collection rows
 
 shown_first : (collection : List ℕ) (query : List (List ℕ)) (mode : Mode) (most : Option ℕ) (all : ℕ) → all ≡ length (documents collection) →
-    flat_map (shown collection mode) (shown_hits (top collection query (Some (rows_in mode (unwrap_or most all))))) ≡ flat_map (shown collection mode) (first most (ranking collection query))
+    flat_map (shown collection mode) (shown_hits (take (rows_in mode (unwrap_or most all)) (by_score (hits collection query)))) ≡ flat_map (shown collection mode) (limited_to most (ranking collection query))
 shown_first collection query Docnums most all is = ap (flat_map (shown collection Docnums)) (first_rows collection query most all is)
 shown_first collection query Text most all is = ap (flat_map (shown collection Text)) (first_rows collection query most all is)
 shown_first collection query Count most all is =
-    nothing_shown collection (shown_hits (top collection query (Some 0))) ∙ sym (nothing_shown collection (first most (ranking collection query)))
+    nothing_shown collection (shown_hits (take 0 (by_score (hits collection query)))) ∙ sym (nothing_shown collection (limited_to most (ranking collection query)))
 
 pages_first : (code : TextCode) (collection : List ℕ) (query : List (List ℕ)) (mode : Mode) (most : Option ℕ) (all : ℕ) → all ≡ length (documents collection) →
-    sum_by (mode_pages code collection mode) (shown_hits (top collection query (Some (rows_in mode (unwrap_or most all))))) ≡ sum_by (mode_pages code collection mode) (first most (ranking collection query))
+    sum_by (mode_pages code collection mode) (shown_hits (take (rows_in mode (unwrap_or most all)) (by_score (hits collection query)))) ≡ sum_by (mode_pages code collection mode) (limited_to most (ranking collection query))
 pages_first code collection query Docnums most all is = ap (sum_by (mode_pages code collection Docnums)) (first_rows collection query most all is)
 pages_first code collection query Text most all is = ap (sum_by (mode_pages code collection Text)) (first_rows collection query most all is)
 pages_first code collection query Count most all is =
-    no_mode_pages (shown_hits (top collection query (Some 0))) ∙ sym (no_mode_pages (first most (ranking collection query)))
+    no_mode_pages (shown_hits (take 0 (by_score (hits collection query)))) ∙ sym (no_mode_pages (limited_to most (ranking collection query)))
 
-rows_pages_are : (code : TextCode) (collection : List ℕ) (query : List (List ℕ)) (now : Settings) (all : ℕ) (rows : List Hit) → all ≡ length (documents collection) → rows ≡ top collection query (Some (rows_asked now all)) → rows_pages code collection now.mode rows ≡ answer_pages code collection now (ranking collection query)
+rows_pages_are : (code : TextCode) (collection : List ℕ) (query : List (List ℕ)) (now : Settings) (all : ℕ) (rows : List Hit) → all ≡ length (documents collection) → rows ≡ take (rows_asked now all) (by_score (hits collection query)) → rows_pages code collection now.mode rows ≡ answer_pages code collection now (ranking collection query)
 unfolding rows_pages
 rows_pages_are code collection query now all rows is e =
     ap (λ hits. sum_by (mode_pages code collection now.mode) (shown_hits hits)) e ∙ pages_first code collection query now.mode now.most all is ∙ mode_sum code collection now.mode now.most (ranking collection query)
 
-rows_text_is : (collection : List ℕ) (query : List (List ℕ)) (now : Settings) (all total : ℕ) (rows : List Hit) → all ≡ length (documents collection) → rows ≡ top collection query (Some (rows_asked now all)) → total ≡ hit_count collection query → answer_text collection now (ranking collection query) ≡ rows_text collection now.mode rows ++ count total
+rows_text_is : (collection : List ℕ) (query : List (List ℕ)) (now : Settings) (all total : ℕ) (rows : List Hit) → all ≡ length (documents collection) → rows ≡ take (rows_asked now all) (by_score (hits collection query)) → total ≡ length (hits collection query) → answer_text collection now (ranking collection query) ≡ rows_text collection now.mode rows ++ count total
 unfolding answer_text rows_text
 rows_text_is collection query now all total rows is e n =
-    let same : flat_map (shown collection now.mode) (shown_hits rows) ≡ flat_map (shown collection now.mode) (first now.most (ranking collection query)) =
+    let same : flat_map (shown collection now.mode) (shown_hits rows) ≡ flat_map (shown collection now.mode) (limited_to now.most (ranking collection query)) =
     ap (λ hits. flat_map (shown collection now.mode) (shown_hits hits)) e ∙ shown_first collection query now.mode now.most all is in
     let size : length (ranking collection query) ≡ total = length-map (by_score (hits collection query)) shown_hit ∙ ranked_count collection query ∙ sym n in
-    ap (λ k. flat_map (shown collection now.mode) (first now.most (ranking collection query)) ++ count k) size
+    ap (λ k. flat_map (shown collection now.mode) (limited_to now.most (ranking collection query)) ++ count k) size
     ∙ ap (λ t. t ++ count total) (sym same)
 
 -- ---- numbers that are shown
@@ -192,11 +193,11 @@ terms_stop code collection now query bound kept w r0 r1 error less post text sou
 -- the rows are the first of the answer, and so many documents are counted
 pub record AreRows (collection : List ℕ) (query : List (List ℕ)) (now : Settings) (all total : ℕ) (rows : List Hit) : Type 0 where
   pub all_is : all ≡ length (documents collection)
-  pub rows_are : rows ≡ top collection query (Some (rows_asked now all))
-  pub total_is : total ≡ hit_count collection query
+  pub rows_are : rows ≡ take (rows_asked now all) (by_score (hits collection query))
+  pub total_is : total ≡ length (hits collection query)
 
 -- the rows of an answer to the terms that are known
-pub are_rows : (collection : List ℕ) (kept query : List (List ℕ)) (now : Settings) (all most total : ℕ) (rows : List Hit) → hits collection kept ≡ hits collection query → all ≡ length (documents collection) → most ≡ rows_asked now all → rows ≡ top collection kept (Some most) → total ≡ hit_count collection kept → AreRows collection query now all total rows
+pub are_rows : (collection : List ℕ) (kept query : List (List ℕ)) (now : Settings) (all most total : ℕ) (rows : List Hit) → hits collection kept ≡ hits collection query → all ≡ length (documents collection) → most ≡ rows_asked now all → rows ≡ take most (by_score (hits collection kept)) → total ≡ length (hits collection kept) → AreRows collection query now all total rows
 are_rows collection kept query now all most total rows same is m rows_are total_is = record {
   all_is = is;
   rows_are = rows_are ∙ ap (λ hs. take most (by_score hs)) same ∙ ap (λ k. take k (by_score (hits collection query))) m;

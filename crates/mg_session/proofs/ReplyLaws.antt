@@ -1,13 +1,14 @@
 -- The reply to a query line.
-use Rattle.std.proofs.Common.{arith, ◌≡◌, ◌≢◌, inl, inr, ℕ, Bool, true, false, List, [], ◌∷◌, Ok, Err, refl, sym, subst}
+use Rattle.std.proofs.Common.{arith, ◌≡◌, ◌≢◌, ◌≤◌, inl, inr, ℕ, Bool, true, false, List, [], ◌∷◌, Ok, Err, refl, sym, subst}
 use Rattle.std.specs.Prelude.{IfSome, IfErr, IsErrOf}
 use Rattle.std.specs.declared.option.Option.{Option}
 use Rattle.std.specs.declared.result.Result.{Result}
 use Rattle.std.proofs.lemmas.List.Elements.{All-head}
+use Rattle.std.proofs.lemmas.Option.{IfSome_then}
 use Rattle.mg_dev.specs.Causes.{Rose}
 use Rattle.mg_dev.specs.Faults.{show_of_put}
 use Rattle.mg_dev.specs.Files.{Files, Reads}
-use Rattle.mg_dev.specs.Streams.{AfterPut, GrewByPrefix}
+use Rattle.mg_dev.specs.Streams.{AfterPut}
 use Rattle.mg_dev.specs.StreamLaws.{grew_nothing}
 use Rattle.mg_dev.specs.declared.device.PutErr.{PutErr}
 use Rattle.mg_dev.specs.declared.device.PutErr.TheVariants as put
@@ -18,9 +19,10 @@ use Rattle.mg_dev.specs.declared.show_err.ShowErr.{ShowErr}
 use Rattle.mg_dev.specs.declared.show_err.ShowErr.TheVariants as show
 use Rattle.mg_defs.specs.CodedText.{TextCode}
 use Rattle.mg_defs.specs.PageBounds.{bound_by, boolean_bound, line_bound, ranked_bound}
-use Rattle.mg_defs.specs.Read.{Refusal, boolean, ranked, reads, refused}
+use Rattle.mg_defs.specs.Read.{boolean, ranked}
+use Rattle.mg_defs.specs.Refusals.{Refusal, reads, refused}
 use Rattle.mg_defs.specs.Replies.{refusal, reply, reply_as}
-use Rattle.mg_defs.specs.Reply.{Shown, answer_text, ranking, satisfying}
+use Rattle.mg_defs.specs.ShownAnswers.{Shown, answer_text, ranking, satisfying}
 use Rattle.mg_defs.specs.Sat.{Query}
 use Rattle.mg_defs.specs.TextBounds.{answer_by, answer_of, line_text_bound}
 use Rattle.mg_defs.specs.Session.{Question}
@@ -28,12 +30,12 @@ use Rattle.mg_defs.specs.declared.session.Mode.TheVariants as mode
 use Rattle.mg_defs.specs.declared.session.Settings.{Settings}
 use Rattle.mg_query.specs.RefusalOf.{refusal_of}
 use Rattle.mg_query.specs.declared.query_err.QueryErr.{QueryErr}
-use Rattle.mg_query.specs.declared.query_err.QueryErr.TheVariants as query
 use Rattle.mg_post.specs.Answers.{AnswersList}
 use Rattle.mg_rank.specs.Ranked.{AnswersOr, AnswersTop}
+use Rattle.mg_reply.specs.Refusals.{AnswerStops}
 use Rattle.mg_reply.specs.Served.{PartStops}
 use Rattle.mg_text.specs.Reading.{ShowIsNotBad}
-use Rattle.mg_session.specs.Answering.{Answered, AnswersFor, HasShowCause, Replied, answer_pages}
+use Rattle.mg_session.specs.Answering.{Answered, AnswersFor, HasShowCause, HasShowLack, Replied, answer_pages}
 use Rattle.mg_session.specs.Parts.{Stepped}
 use Rattle.mg_session.specs.SearchLaws.{same_texts, texts_later, weights_later}
 use Rattle.mg_session.specs.Searching.{Asked, MayStop, Opened, OpenedOver, Over, SameOpened, Searching}
@@ -68,20 +70,29 @@ none_answered code collection now answer bound w r = record { put = grew_nothing
 
 -- ---- a line that is no query
 
-refused_put : (e : QueryErr) (Said : Refusal → Type 0) (text : List ℕ) (w0 w1 : Option (List ℕ)) (r : Result (Unit {0}) PutErr) → ((why : Refusal) → Said why → text ≡ refusal why) → IfSome (refusal_of e) Said → IfSome (refusal_of e) (λ why. AfterPut w0 w1 (refusal why) r) → (e ≡ query.Memory → (r ≡ Err put.Memory) × (w1 ≡ w0)) → AfterPut w0 w1 text r
-refused_put (query.Syntax at) Said text w0 w1 r says said put none = subst (λ t. AfterPut w0 w1 t r) (sym (says _ said)) put
-refused_put (query.TooDeep at) Said text w0 w1 r says said put none = subst (λ t. AfterPut w0 w1 t r) (sym (says _ said)) put
-refused_put (query.TermTooLong at) Said text w0 w1 r says said put none = subst (λ t. AfterPut w0 w1 t r) (sym (says _ said)) put
-refused_put (query.TooManyTerms at) Said text w0 w1 r says said put none = subst (λ t. AfterPut w0 w1 t r) (sym (says _ said)) put
-refused_put query.Memory Said text w0 w1 r says said put none =
-    let m = none refl in
-    subst (AfterPut w0 w1 text) (sym m.0) (subst (λ w. GrewByPrefix w0 w text) (sym m.1) (grew_nothing w0 text))
+-- what was answered says of no part that it is bad
+pub refused_sound : (P Q : Type 0) (r : Result (Unit {0}) ShowErr) → IfErr r (AnswerStops P Q) → ShowIsNotBad r
+refused_sound P Q (Ok done) stops = tt
+refused_sound P Q (Err (show.Part Device)) stops = tt
+refused_sound P Q (Err (show.Part Memory)) stops = tt
+refused_sound P Q (Err (show.Part (Bad bad))) stops = stops
+refused_sound P Q (Err show.Write) stops = tt
+refused_sound P Q (Err show.Memory) stops = tt
 
-abbrev done : Result (Unit {0}) PutErr
-done = Ok tt
+-- and has a cause
+pub refused_cause : (Q : Type 0) (r : Result (Unit {0}) ShowErr) (s f g : ℕ) → f ≤ g → IfErr r (AnswerStops (Rose f g) Q) → HasShowCause r s s f g
+refused_cause Q (Ok done) s f g later stops = record { store = omega arith; output = later; caused = tt }
+refused_cause Q (Err (show.Part Device)) s f g later stops = absurd stops
+refused_cause Q (Err (show.Part Memory)) s f g later stops = record { store = omega arith; output = later; caused = tt }
+refused_cause Q (Err (show.Part (Bad bad))) s f g later stops = absurd stops
+refused_cause Q (Err show.Write) s f g later stops = record { store = omega arith; output = later; caused = stops }
+refused_cause Q (Err show.Memory) s f g later stops = record { store = omega arith; output = later; caused = tt }
 
-abbrev not_put : PutErr → Result (Unit {0}) PutErr
-not_put refusal = Err refusal
+pub refused_lack : (P : Type 0) (r : Result (Unit {0}) ShowErr) (l m : ℕ) → l ≤ m → IfErr r (AnswerStops P (Rose l m)) → HasShowLack l m r
+refused_lack P (Ok done) l m later stops = record { later = later; lacked = tt }
+refused_lack P (Err (show.Part refusal)) l m later stops = record { later = later; lacked = tt }
+refused_lack P (Err show.Write) l m later stops = record { later = later; lacked = tt }
+refused_lack P (Err show.Memory) l m later stops = record { later = later; lacked = stops }
 
 boolean_says : (collection : List ℕ) (now : Settings) (line : List ℕ) (why : Refusal) → boolean line ≡ refused why → reply_as false collection now line ≡ refusal why
 boolean_says collection now line why e = rw e refl
@@ -89,34 +100,18 @@ boolean_says collection now line why e = rw e refl
 ranked_says : (collection : List ℕ) (now : Settings) (line : List ℕ) (why : Refusal) → ranked line ≡ refused why → reply_as true collection now line ≡ refusal why
 ranked_says collection now line why e = rw e refl
 
-pub boolean_refused : (e : QueryErr) (code : TextCode) (collection : List ℕ) (now : Settings) (line : List ℕ) (w0 w1 : Option (List ℕ)) (r : Reads) → IfSome (refusal_of e) (λ why. boolean line ≡ refused why) → IfSome (refusal_of e) (λ why. AfterPut w0 w1 (refusal why) done) → (e ≡ query.Memory → (done ≡ not_put put.Memory) × (w1 ≡ w0)) → Replied code collection false now line w0 w1 r r (Ok tt)
-boolean_refused e code collection now line w0 w1 r said put none = record {
-  put = refused_put e (λ why. boolean line ≡ refused why) (reply_as false collection now line) w0 w1 done (boolean_says collection now line) said put none;
-  sound = tt;
+pub boolean_refused : (e : QueryErr) (code : TextCode) (collection : List ℕ) (now : Settings) (line : List ℕ) (w0 w1 : Option (List ℕ)) (r : Reads) (result : Result (Unit {0}) ShowErr) (P Q : Type 0) → IfSome (refusal_of e) (λ why. boolean line ≡ refused why) → ((text : List ℕ) → IfSome (refusal_of e) (λ why. text ≡ refusal why) → AfterPut w0 w1 text result) → IfErr result (AnswerStops P Q) → Replied code collection false now line w0 w1 r r result
+boolean_refused e code collection now line w0 w1 r result P Q said put stops = record {
+  put = put (reply_as false collection now line) (IfSome_then (refusal_of e) said (boolean_says collection now line));
+  sound = refused_sound P Q result stops;
   post = omega arith;
   text = omega arith;
 }
 
-pub boolean_unput : (e : QueryErr) (code : TextCode) (collection : List ℕ) (now : Settings) (line : List ℕ) (w0 w1 : Option (List ℕ)) (r : Reads) (refused_for : PutErr) (error : ShowErr) → IfSome (refusal_of e) (λ why. boolean line ≡ refused why) → IfSome (refusal_of e) (λ why. AfterPut w0 w1 (refusal why) (not_put refused_for)) → (e ≡ query.Memory → (not_put refused_for ≡ not_put put.Memory) × (w1 ≡ w0)) → error ≡ show_of_put refused_for → Replied code collection false now line w0 w1 r r (Err error)
-boolean_unput e code collection now line w0 w1 r refused_for error said put none is = record {
-  put = refused_put e (λ why. boolean line ≡ refused why) (reply_as false collection now line) w0 w1 (not_put refused_for) (boolean_says collection now line) said put none;
-  sound = put_sound refused_for error is;
-  post = omega arith;
-  text = omega arith;
-}
-
-pub ranked_refused : (e : QueryErr) (code : TextCode) (collection : List ℕ) (now : Settings) (line : List ℕ) (w0 w1 : Option (List ℕ)) (r : Reads) → IfSome (refusal_of e) (λ why. ranked line ≡ refused why) → IfSome (refusal_of e) (λ why. AfterPut w0 w1 (refusal why) done) → (e ≡ query.Memory → (done ≡ not_put put.Memory) × (w1 ≡ w0)) → Replied code collection true now line w0 w1 r r (Ok tt)
-ranked_refused e code collection now line w0 w1 r said put none = record {
-  put = refused_put e (λ why. ranked line ≡ refused why) (reply_as true collection now line) w0 w1 done (ranked_says collection now line) said put none;
-  sound = tt;
-  post = omega arith;
-  text = omega arith;
-}
-
-pub ranked_unput : (e : QueryErr) (code : TextCode) (collection : List ℕ) (now : Settings) (line : List ℕ) (w0 w1 : Option (List ℕ)) (r : Reads) (refused_for : PutErr) (error : ShowErr) → IfSome (refusal_of e) (λ why. ranked line ≡ refused why) → IfSome (refusal_of e) (λ why. AfterPut w0 w1 (refusal why) (not_put refused_for)) → (e ≡ query.Memory → (not_put refused_for ≡ not_put put.Memory) × (w1 ≡ w0)) → error ≡ show_of_put refused_for → Replied code collection true now line w0 w1 r r (Err error)
-ranked_unput e code collection now line w0 w1 r refused_for error said put none is = record {
-  put = refused_put e (λ why. ranked line ≡ refused why) (reply_as true collection now line) w0 w1 (not_put refused_for) (ranked_says collection now line) said put none;
-  sound = put_sound refused_for error is;
+pub ranked_refused : (e : QueryErr) (code : TextCode) (collection : List ℕ) (now : Settings) (line : List ℕ) (w0 w1 : Option (List ℕ)) (r : Reads) (result : Result (Unit {0}) ShowErr) (P Q : Type 0) → IfSome (refusal_of e) (λ why. ranked line ≡ refused why) → ((text : List ℕ) → IfSome (refusal_of e) (λ why. text ≡ refusal why) → AfterPut w0 w1 text result) → IfErr result (AnswerStops P Q) → Replied code collection true now line w0 w1 r r result
+ranked_refused e code collection now line w0 w1 r result P Q said put stops = record {
+  put = put (reply_as true collection now line) (IfSome_then (refusal_of e) said (ranked_says collection now line));
+  sound = refused_sound P Q result stops;
   post = omega arith;
   text = omega arith;
 }

@@ -13,7 +13,8 @@ use Rattle.mg_reply.specs.declared.serve.ServeErr.{ServeErr}
 use Rattle.mg_reply.specs.declared.serve.ServeErr.TheVariants as serve
 use Rattle.mg_reply.specs.Served.{EndsFor}
 use Rattle.mg_defs.specs.CodedText.{TextCode}
-use Rattle.mg_defs.specs.Limit.{is_too_much, input_limit}
+use Rattle.mg_defs.specs.InputLimit.{is_too_much}
+use Rattle.mg_defs.specs.Limits.{input_limit}
 use Rattle.mg_defs.specs.PageBounds.{line_bound, session_bound}
 use Rattle.mg_defs.specs.Replies.{reply, session}
 use Rattle.mg_defs.specs.Session.{Question, questions_of, session_of}

@@ -49,7 +49,7 @@ head_there files base collection stands = no_empty_head (bytes_at files (full_na
 -- a head that was refused as bad is that of no set
 pub bad_head : (files : Option Files) (base : List ℕ) (refusal : PartErr) →
     (IsSome files → (h : defs.Head) → IsHead 1 2 (bytes_at files (full_name base part.Head)) h → AnswersBack h (Err refusal)) → (before now : ℕ) (I O : Type 0) (input : Option (List ℕ)) → HasPartCause {T = Option Head} before now (Err refusal) →
-    StopsFor (Rose before now) I O files base input (fault_of_part refusal)
+    StopsFor base (Rose before now) I O files input (fault_of_part refusal)
 bad_head files base Device back before now I O input cause = cause.device
 bad_head files base Memory back before now I O input cause = tt
 bad_head files base (Bad bad) back before now I O input cause = λ collection stands. back stands.told _ (own_head files base collection stands)
@@ -140,7 +140,7 @@ from_built fault.InputTooLong A I O U D input stops = stops
 from_built fault.SameName A I O U D input stops = stops
 from_built (fault.TooManyRotations count) A I O U D input stops = stops
 
-pub stops_for : (r : Result (Unit {0}) Fault) (s0 s1 t : ℕ) (I O D : Type 0) (files : Option Files) (base : List ℕ) (input : Option (List ℕ)) → s0 ≤ s1 → (D → StandsForNone files base) → IfErr r (Stops (Rose s1 t) I O ⊥ D input) → IfErr r (StopsFor (Rose s0 t) I O files base input)
+pub stops_for : (r : Result (Unit {0}) Fault) (s0 s1 t : ℕ) (I O D : Type 0) (files : Option Files) (base : List ℕ) (input : Option (List ℕ)) → s0 ≤ s1 → (D → StandsForNone files base) → IfErr r (Stops (Rose s1 t) I O ⊥ D input) → IfErr r (StopsFor base (Rose s0 t) I O files input)
 stops_for (Ok done) s0 s1 t I O D files base input le bad stops = tt
 stops_for (Err f) s0 s1 t I O D files base input le bad stops = from_built f (Rose s0 t) I O (IsSome files → bytes_at files (full_name base part.Head) ≡ []) (StandsForNone files base) input (wider f (Rose s1 t) (Rose s0 t) I O D (StandsForNone files base) input (rose_before s0 s1 t le) bad stops)
 

@@ -5,9 +5,10 @@ use Rattle.std.specs.List.{AllByRecursion, IsDistinct, list_any}
 use Rattle.std.specs.Str.{bytes_eq}
 use Rattle.std.proofs.lemmas.Bool.{cond_both, leb-false}
 use Rattle.std.proofs.lemmas.Slice.Eq.{bytes_eq-Decides}
-use Rattle.mg_defs.specs.Read.{Reading, ranked, ranked_from, ranked_next, ranked_token, ranked_with, reads, refused}
+use Rattle.mg_defs.specs.Read.{ranked, ranked_from, ranked_next, ranked_token, ranked_with}
+use Rattle.mg_defs.specs.Refusals.{Reading, reads, refused}
 use Rattle.mg_defs.specs.Terms.{folded, same_term}
-use Rattle.mg_defs.specs.Tokens.{Placed, Token, amp, bang, bar, closing, opening, tokens, word}
+use Rattle.mg_defs.specs.Tokens.{PlacedToken, Token, amp, bang, bar, closing, opening, tokens, word}
 
 or_none : (a b : Bool) → (a || b) ≡ false → (a ≡ false) × (b ≡ false)
 or_none true b e = cc
@@ -56,11 +57,11 @@ terms_token terms at bang is = is
 terms_token terms at opening is = is
 terms_token terms at closing is = is
 
-terms_next : (r : Reading (List (List ℕ))) (t : Placed) → AreTerms r → AreTerms (ranked_next r t)
+terms_next : (r : Reading (List (List ℕ))) (t : PlacedToken) → AreTerms r → AreTerms (ranked_next r t)
 terms_next (reads terms) t is = terms_token terms t.at t.token is
 terms_next (refused why) t is = tt
 
-terms_from : (r : Reading (List (List ℕ))) (ts : List Placed) → AreTerms r → AreTerms (ranked_from r ts)
+terms_from : (r : Reading (List (List ℕ))) (ts : List PlacedToken) → AreTerms r → AreTerms (ranked_from r ts)
 terms_from r [] is = is
 terms_from r (t ∷ ts) is = terms_from (ranked_next r t) ts (terms_next r t is)
 

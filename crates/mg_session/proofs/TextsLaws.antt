@@ -13,7 +13,7 @@ use Rattle.mg_front.specs.Reading.{IsNotBad}
 use Rattle.mg_layout.specs.declared.head.Head.{Head}
 use Rattle.mg_text.specs.Reading.{IsText, IsTextReader, SameText, ShowIsNotBad, TextFits, TextReading, TextStands}
 use Rattle.mg_text.proofs.CallerLemmas.{text_stays}
-use Rattle.mg_session.specs.Answering.{at_score}
+use Rattle.mg_reply.specs.Printed.{at_score}
 use Rattle.mg_session.specs.Texts.{IsLoaded, Texting, TextsFit}
 
 -- the same reader, over the same files

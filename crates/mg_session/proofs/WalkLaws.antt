@@ -14,13 +14,13 @@ use Rattle.mg_dev.specs.declared.part.Part.TheVariants as part
 use Rattle.mg_dev.specs.declared.show_err.ShowErr.{ShowErr}
 use Rattle.mg_defs.specs.CodedText.{TextCode}
 use Rattle.mg_defs.specs.Replies.{hit_text, shows}
-use Rattle.mg_defs.specs.Reply.{Shown, answer_text, found, plain, satisfying, shown}
+use Rattle.mg_defs.specs.ShownAnswers.{Shown, answer_text, found, plain, satisfying, shown}
 use Rattle.mg_defs.specs.Sat.{Query}
 use Rattle.mg_defs.specs.Split.{documents}
 use Rattle.mg_defs.specs.Terms.{document}
 use Rattle.mg_defs.specs.TextBounds.{doc_pages, texts_in}
 use Rattle.mg_defs.specs.Texts.{count}
-use Rattle.mg_defs.specs.Weights.{first}
+use Rattle.mg_defs.specs.Weights.{limited_to}
 use Rattle.mg_defs.specs.declared.session.Mode.{Mode}
 use Rattle.mg_defs.specs.declared.session.Mode.TheVariants.{Docnums, Text, Count}
 use Rattle.mg_defs.specs.declared.session.Settings.{Settings}
@@ -32,7 +32,8 @@ use Rattle.mg_post.specs.TermLists.{PagesWithin}
 use Rattle.mg_reply.specs.Pending.{Passed}
 use Rattle.mg_reply.proofs.CallerLemmas.{pass_nothing, pass_both, pass_cut, pass_put}
 use Rattle.mg_text.specs.Reading.{ShowIsNotBad}
-use Rattle.mg_session.specs.Answering.{Answered, Walked, answer_pages, at_score, hit_pages, mode_pages}
+use Rattle.mg_reply.specs.Printed.{at_score}
+use Rattle.mg_session.specs.Answering.{Answered, Walked, answer_pages, hit_pages, mode_pages}
 
 -- ---- the documents that are found have no score
 
@@ -55,13 +56,13 @@ goes_none (s ∷ more) now goes = absurd goes
 
 -- ---- the pages of the text
 
-texts_more : (f : Shown → ℕ) (most : Option ℕ) (so_far : List Shown) (hit : Shown) (total : ℕ) → length so_far ≡ total → sum_by f (first most (so_far ++ hit ∷ [])) ≡ sum_by f (first most so_far) + (if shows most total then f hit else 0)
+texts_more : (f : Shown → ℕ) (most : Option ℕ) (so_far : List Shown) (hit : Shown) (total : ℕ) → length so_far ≡ total → sum_by f (limited_to most (so_far ++ hit ∷ [])) ≡ sum_by f (limited_to most so_far) + (if shows most total then f hit else 0)
 texts_more f most so_far hit total size =
     elim (cases_Bool (shows most total)) [
       | inl more ↦ omega (
         arith,
         ap (sum_by f) (first-more most so_far hit (ap (shows most) size ∙ more)),
-        sum_by-append f (first most so_far) (hit ∷ []),
+        sum_by-append f (limited_to most so_far) (hit ∷ []),
         cond-true (shows most total) (f hit) 0 more,
       )
       | inr full ↦ omega (arith, ap (sum_by f) (first-full most so_far hit (ap (shows most) size ∙ full)), cond-false (shows most total) (f hit) 0 full)
@@ -77,10 +78,10 @@ pages_adds code collection Docnums most so_far hit total size = omega (arith, no
 pages_adds code collection Text most so_far hit total size = texts_more (doc_pages code collection) most so_far hit total size
 pages_adds code collection Count most so_far hit total size = omega (arith, none_more (shows most total))
 
-texts_front : (f : Shown → ℕ) (most : Option ℕ) (xs ys : List Shown) → sum_by f (first most xs) ≤ sum_by f (first most (xs ++ ys))
+texts_front : (f : Shown → ℕ) (most : Option ℕ) (xs ys : List Shown) → sum_by f (limited_to most xs) ≤ sum_by f (limited_to most (xs ++ ys))
 texts_front f most xs ys =
     let front = first-front most xs ys in
-    omega (arith, ap (sum_by f) front.1, sum_by-append f (first most xs) front.0)
+    omega (arith, ap (sum_by f) front.1, sum_by-append f (limited_to most xs) front.0)
 
 pages_front : (code : TextCode) (collection : List ℕ) (mode : Mode) (most : Option ℕ) (xs ys : List Shown) → sum_by (doc_pages code collection) (texts_in mode most xs) ≤ sum_by (doc_pages code collection) (texts_in mode most (xs ++ ys))
 pages_front code collection Docnums most xs ys = omega arith
@@ -112,8 +113,8 @@ pub walked_hit : (base : List ℕ) (code : TextCode) (collection : List ℕ) (q 
     Walked base code collection q now w0 w2 waiting2 (total + 1) n r0 r3
 walked_hit base code collection q now w0 w1 w2 waiting waiting2 total number bound m n r0 r1 r2 r3 w goes over pages text passed post shown_text =
     let hit = at_score number None in
-    let whole : Passed w0 w2 [] waiting2 (flat_map (shown collection now.mode) (first now.most w.so_far) ++ hit_text (document collection number) now.mode now.most total hit) =
-    pass_both w0 w1 w2 [] waiting waiting2 (flat_map (shown collection now.mode) (first now.most w.so_far)) (hit_text (document collection number) now.mode now.most total hit) w.passed passed in
+    let whole : Passed w0 w2 [] waiting2 (flat_map (shown collection now.mode) (limited_to now.most w.so_far) ++ hit_text (document collection number) now.mode now.most total hit) =
+    pass_both w0 w1 w2 [] waiting waiting2 (flat_map (shown collection now.mode) (limited_to now.most w.so_far)) (hit_text (document collection number) now.mode now.most total hit) w.passed passed in
     record {
       so_far = w.so_far ++ hit ∷ [];
       split = w.split ∙ ap (λ l. w.so_far ++ l) (goes_some (left_of collection m) (left_of collection n) number (left_plain collection m) goes) ∙ sym (append_assoc w.so_far (hit ∷ []) (left_of collection n));
@@ -131,7 +132,7 @@ so_far_prefix : (base : List ℕ) (code : TextCode) (collection : List ℕ) (q :
 so_far_prefix base code collection q now w0 w1 waiting total m r0 r1 w =
     let front = reply-front collection now w.so_far (left_of collection m) in
     let part : GrewByPrefix w0 w1 (w.passed.sent ++ waiting) = grew_first w0 w1 w.passed.sent waiting (record { count = length w.passed.sent; within = omega arith; is = w.passed.given ∙ ap (appended w0) (sym (take-length w.passed.sent)) }) in
-    let shown_part : GrewByPrefix w0 w1 (flat_map (shown collection now.mode) (first now.most w.so_far)) = subst (GrewByPrefix w0 w1) w.passed.whole part in
+    let shown_part : GrewByPrefix w0 w1 (flat_map (shown collection now.mode) (limited_to now.most w.so_far)) = subst (GrewByPrefix w0 w1) w.passed.whole part in
     subst (GrewByPrefix w0 w1) (sym (ap (answer_text collection now) w.split ∙ front.1)) (grew_first w0 w1 _ front.0 shown_part)
 
 pages_so_far : (base : List ℕ) (code : TextCode) (collection : List ℕ) (q : Query) (now : Settings) (w0 w1 : Option (List ℕ)) (waiting : List ℕ) (total : ℕ) (m : Matching) (r0 r1 : Reads) → Walked base code collection q now w0 w1 waiting total m r0 r1 → r1 part.Text ≤ r0 part.Text + answer_pages code collection now (satisfying collection q)
@@ -162,11 +163,11 @@ walked_cut base code collection q now w0 w1 w2 waiting total number bound m n r0
     w.split ∙ ap (λ l. w.so_far ++ l) (goes_some (left_of collection m) (left_of collection n) number (left_plain collection m) goes) ∙ sym (append_assoc w.so_far (hit ∷ []) (left_of collection n)) in
     let front = reply-front collection now (w.so_far ++ hit ∷ []) (left_of collection n) in
     let adds = hit_adds collection now (document collection number) w.so_far hit total refl w.total_is in
-    let is_text : answer_text collection now (satisfying collection q) ≡ (flat_map g (first now.most w.so_far) ++ one) ++ front.0 =
+    let is_text : answer_text collection now (satisfying collection q) ≡ (flat_map g (limited_to now.most w.so_far) ++ one) ++ front.0 =
     ap (answer_text collection now) split ∙ front.1 ∙ ap (λ t. t ++ front.0) adds in
-    let part : GrewByPrefix w0 w2 (flat_map g (first now.most w.so_far) ++ one) = pass_cut w0 w1 w2 [] waiting (flat_map g (first now.most w.so_far)) one w.passed grew in
+    let part : GrewByPrefix w0 w2 (flat_map g (limited_to now.most w.so_far) ++ one) = pass_cut w0 w1 w2 [] waiting (flat_map g (limited_to now.most w.so_far)) one w.passed grew in
     record {
-      put = subst (GrewByPrefix w0 w2) (sym is_text) (grew_first w0 w2 (flat_map g (first now.most w.so_far) ++ one) front.0 part);
+      put = subst (GrewByPrefix w0 w2) (sym is_text) (grew_first w0 w2 (flat_map g (limited_to now.most w.so_far) ++ one) front.0 part);
       sound = sound;
       post = omega (arith, w.post, pages.post, pages.within, post);
       text = omega (
@@ -186,9 +187,9 @@ ended : (base : List ℕ) (code : TextCode) (collection : List ℕ) (q : Query) 
 unfolding answer_text
 ended base code collection q now w0 w1 waiting total m n r0 r1 w goes =
     let all : satisfying collection q ≡ w.so_far = w.split ∙ ap (λ l. w.so_far ++ l) (goes_none (left_of collection m) (left_of collection n) goes) ∙ append-nil w.so_far in (
-      flat_map (shown collection now.mode) (first now.most w.so_far),
+      flat_map (shown collection now.mode) (limited_to now.most w.so_far),
       w.passed,
-      ap (λ xs. flat_map (shown collection now.mode) (first now.most xs) ++ count (length xs)) all ∙ ap (λ k. flat_map (shown collection now.mode) (first now.most w.so_far) ++ count k) w.total_is,
+      ap (λ xs. flat_map (shown collection now.mode) (limited_to now.most xs) ++ count (length xs)) all ∙ ap (λ k. flat_map (shown collection now.mode) (limited_to now.most w.so_far) ++ count k) w.total_is,
     )
 
 -- the count was passed on, and what waited was put or refused

@@ -10,7 +10,8 @@ use Rattle.mg_dev.specs.StreamLaws.{grew_nothing}
 use Rattle.mg_dev.specs.declared.part_err.PartErr.TheVariants.{Device, Memory, Bad}
 use Rattle.mg_dev.specs.declared.show_err.ShowErr.{ShowErr}
 use Rattle.mg_dev.specs.declared.show_err.ShowErr.TheVariants as show
-use Rattle.mg_defs.specs.Limit.{input_limit, is_too_much}
+use Rattle.mg_defs.specs.InputLimit.{is_too_much}
+use Rattle.mg_defs.specs.Limits.{input_limit}
 use Rattle.mg_defs.specs.Patterns.{Pattern, bad, pattern_of, sides}
 use Rattle.mg_defs.specs.Session.{heard_session}
 use Rattle.mg_defs.specs.WildSession.{bad_pattern, match_text, wild_reply, wild_session}

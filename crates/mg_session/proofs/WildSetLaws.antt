@@ -10,7 +10,7 @@ use Rattle.mg_dev.specs.declared.part.Part.TheVariants as part
 use Rattle.mg_defs.specs.CodedText.{TextCode}
 use Rattle.mg_defs.specs.Heads as defs
 use Rattle.mg_defs.specs.Lexicon.{info_bytes, info_of, lexicon}
-use Rattle.mg_defs.specs.Limits.{IsWithinLimits}
+use Rattle.mg_defs.specs.WithinLimits.{IsWithinLimits}
 use Rattle.mg_defs.specs.Rotations.{most_rotations, rotation_count}
 use Rattle.mg_defs.specs.Terms.{dictionary}
 use Rattle.mg_defs.proofs.FrontParts.{one_front}

@@ -24,8 +24,8 @@ use Rattle.mg_wild.specs.Terms.{LexTerms}
 use Rattle.mg_wild.specs.declared.rotated.RotErr.{RotErr}
 use Rattle.mg_wild.specs.declared.rotated.RotErr.TheVariants as rot
 use Rattle.mg_dev.specs.Runs.{RefusedFor}
-use Rattle.mg_session.specs.Serves.{Stops, StopsFor}
-use Rattle.mg_session.specs.WildServes.{AreRotationsBy, IsFirst, StandsByNone, WildSetStops, WildStops, WildStopsBy, fault_of_rotated}
+use Rattle.mg_session.specs.Serves.{StandsByNone, Stops, StopsFor}
+use Rattle.mg_session.specs.WildServes.{AreRotationsBy, IsFirst, WildSetStops, WildStops, WildStopsBy, fault_of_rotated}
 use Rattle.mg_session.proofs.SetLaws.{set_lexicon}
 use Rattle.mg_session.proofs.StopLaws.{stops_wider}
 use Rattle.mg_session.proofs.WildSetLaws.{counted_set}
@@ -39,7 +39,7 @@ not_held refusal = Err refusal
 pub rotated_stops : (refusal : RotErr) (s t : ℕ) (I O : Type 0) (head : Head) (files : Option Files) (base : List ℕ) (input : Option (List ℕ)) →
     (IsSome files → AnswersRotated {T = LexTerms} (λ r. r) (bytes_at files (full_name base part.Lex)) head.terms (Err refusal)) →
     ((collection : List ℕ) (bad : declared.Bad) → IsLexicon base files head.terms collection → not_held refusal ≢ not_held (rot.Part (Bad bad))) → IsBeyond refusal → (not_held refusal ≡ not_held (rot.Part Device) → Rose s t) →
-    WildSetStops (Rose s t) I O head files base input (fault_of_rotated refusal)
+    WildSetStops head base (Rose s t) I O files input (fault_of_rotated refusal)
 rotated_stops (rot.Part Device) s t I O head files base input answer never beyond cause = cause refl
 rotated_stops (rot.Part Memory) s t I O head files base input answer never beyond cause = tt
 rotated_stops (rot.Part (Bad bad)) s t I O head files base input answer never beyond cause = λ code collection is. never collection bad (set_lexicon base files head code collection is) refl
@@ -75,7 +75,7 @@ as_others fault.SameName A I O U D C input stops = stops
 as_others (fault.TooManyRotations count) A I O U D C input stops = absurd stops
 
 -- what stops the lines stops the session over a set
-pub set_stops : (r : Result (Unit {0}) Fault) (s0 s1 t : ℕ) (I O D : Type 0) (head : Head) (files : Option Files) (base : List ℕ) (input : Option (List ℕ)) → s0 ≤ s1 → (D → StandsByNone head files base) → IfErr r (Stops (Rose s1 t) I O ⊥ D input) → IfErr r (WildSetStops (Rose s0 t) I O head files base input)
+pub set_stops : (r : Result (Unit {0}) Fault) (s0 s1 t : ℕ) (I O D : Type 0) (head : Head) (files : Option Files) (base : List ℕ) (input : Option (List ℕ)) → s0 ≤ s1 → (D → StandsByNone head files base) → IfErr r (Stops (Rose s1 t) I O ⊥ D input) → IfErr r (WildSetStops head base (Rose s0 t) I O files input)
 set_stops (Ok value) s0 s1 t I O D head files base input le bad stops = tt
 set_stops (Err f) s0 s1 t I O D head files base input le bad stops = as_others f (Rose s0 t) I O ⊥ (StandsByNone head files base) (AreRotationsBy head files base) input (stops_wider (Err f) s0 s1 t I O D (StandsByNone head files base) input le bad stops)
 
@@ -124,7 +124,7 @@ wider (fault.TooManyRotations count) A B I O U D E C K input rose bad counts sto
 
 -- the files stand for a collection only where the set with this head does
 pub wild_stops_for : (r : Result (Unit {0}) Fault) (s0 s1 t : ℕ) (I O : Type 0) (head : Head) (files now : Option Files) (base : List ℕ) (input : Option (List ℕ)) → s0 ≤ s1 → ((collection : List ℕ) → Stands files base collection → (code : TextCode) × StandsBy head code now base collection) →
-    IfErr r (WildSetStops (Rose s1 t) I O head now base input) → IfErr r (WildStops (Rose s0 t) I O files base input)
+    IfErr r (WildSetStops head base (Rose s1 t) I O now input) → IfErr r (WildStops base (Rose s0 t) I O files input)
 wild_stops_for (Ok value) s0 s1 t I O head files now base input le by stops = tt
 wild_stops_for (Err f) s0 s1 t I O head files now base input le by stops =
     wider f (Rose s1 t) (Rose s0 t) I O _ _ _ _ _ input (λ rose. omega (arith, le, rose))
@@ -133,7 +133,7 @@ wild_stops_for (Err f) s0 s1 t I O head files now base input le by stops =
 
 -- ---- a head that is not loaded
 
-pub head_refused : (refusal : PartErr) (A I O : Type 0) (files : Option Files) (base collection : List ℕ) (input : Option (List ℕ)) (f : Fault) → Stands files base collection → StopsFor A I O files base input (fault_of_part refusal) → RefusedFor {T = Unit {0}} (Err (fault_of_part refusal)) f
+pub head_refused : (refusal : PartErr) (A I O : Type 0) (files : Option Files) (base collection : List ℕ) (input : Option (List ℕ)) (f : Fault) → Stands files base collection → StopsFor base A I O files input (fault_of_part refusal) → RefusedFor {T = Unit {0}} (Err (fault_of_part refusal)) f
 head_refused Device A I O files base collection input f is stops = inr (inl refl)
 head_refused Memory A I O files base collection input f is stops = inr (inr refl)
 head_refused (Bad bad) A I O files base collection input f is stops = absurd (stops collection is)

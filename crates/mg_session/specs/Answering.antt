@@ -11,11 +11,11 @@ use Rattle.mg_dev.specs.declared.show_err.ShowErr.TheVariants as show
 use Rattle.mg_defs.specs.CodedText.{TextCode}
 use Rattle.mg_defs.specs.PageBounds.{bound_by}
 use Rattle.mg_defs.specs.Replies.{reply_as, shows}
-use Rattle.mg_defs.specs.Reply.{Shown, answer_text, satisfying, shown}
+use Rattle.mg_defs.specs.ShownAnswers.{Shown, answer_text, satisfying, shown}
 use Rattle.mg_defs.specs.Sat.{Query}
 use Rattle.mg_defs.specs.Split.{documents}
 use Rattle.mg_defs.specs.TextBounds.{answer_by, doc_pages, texts_in}
-use Rattle.mg_defs.specs.Weights.{Hit, first}
+use Rattle.mg_defs.specs.Weights.{Hit, limited_to}
 use Rattle.mg_defs.specs.declared.session.Mode.{Mode}
 use Rattle.mg_defs.specs.declared.session.Mode.TheVariants.{Docnums, Text, Count}
 use Rattle.mg_defs.specs.declared.session.Settings.{Settings}
@@ -43,10 +43,24 @@ pub record HasShowCause (result : Result (Unit {0}) ShowErr) (store_before store
   pub output : output_before ≤ output_now
   pub caused : IsShowCaused result store_before store_now output_before output_now
 
--- ---- one document
+abbrev pub IsShowLacked : Result (Unit {0}) ShowErr → ℕ → ℕ → Type 0
+IsShowLacked (Ok done) before now = Unit {0}
+IsShowLacked (Err (show.Part refusal)) before now = Unit {0}
+IsShowLacked (Err show.Write) before now = Unit {0}
+IsShowLacked (Err show.Memory) before now = Rose before now
 
-abbrev pub at_score : ℕ → Option ℕ → Shown
-at_score number score = record { number = number; score = score }
+-- the output's own want of memory has a cause, and no lack is forgotten; the allocator's want of memory is a part's
+pub record HasShowLack (lacks_before lacks_now : ℕ) (result : Result (Unit {0}) ShowErr) : Type 0 where
+  pub later : lacks_before ≤ lacks_now
+  pub lacked : IsShowLacked result lacks_before lacks_now
+
+-- want of memory of a sink in memory, told as the allocator's
+abbrev pub of_allocator : ShowErr → ShowErr
+of_allocator (show.Part error) = show.Part error
+of_allocator show.Write = show.Write
+of_allocator show.Memory = show.Part Memory
+
+-- ---- one document
 
 -- the pages of Text on which a document lies, where its text is shown
 abbrev pub mode_pages : TextCode → List ℕ → Mode → Shown → ℕ
@@ -91,7 +105,7 @@ pub record Walked (base : List ℕ) (code : TextCode) (collection : List ℕ) (q
   pub so_far : List Shown
   pub split : satisfying collection q ≡ so_far ++ left_of collection m
   pub total_is : length so_far ≡ total
-  pub passed : Passed before after [] waiting (flat_map (shown collection now.mode) (first now.most so_far))
+  pub passed : Passed before after [] waiting (flat_map (shown collection now.mode) (limited_to now.most so_far))
   pub over : MatchesOver base collection m
   pub post : reads_now part.Post ≤ reads_before part.Post + pages_read m.places
   pub text : reads_now part.Text ≤ reads_before part.Text + answer_pages code collection now so_far

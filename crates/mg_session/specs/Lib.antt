@@ -2,6 +2,8 @@ pub mod Parts
 pub mod Texts
 pub mod Searching
 pub mod Answering
+pub mod Sessions
+pub mod Showing
 pub mod Serves
 pub mod SearchLaws
 pub mod PhraseAnswers
@@ -13,6 +15,7 @@ pub mod WildSearchLaws
 pub mod WildServes
 pub mod DocumentSets
 pub mod WildMarks
+pub mod Replying
 pub mod Queried
 pub mod Phrased
 pub mod Matched

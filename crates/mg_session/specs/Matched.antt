@@ -8,7 +8,8 @@ use Rattle.mg_dev.specs.declared.part.Part.TheVariants as part
 use Rattle.mg_dev.specs.declared.fault.Fault.{Fault}
 use Rattle.mg_dev.specs.declared.fault.Fault.TheVariants.{NotBuilt, Memory, TooManyRotations}
 use Rattle.mg_dev.specs.declared.status.Status.TheVariants.{Done}
-use Rattle.mg_defs.specs.Limit.{is_too_much, input_limit}
+use Rattle.mg_defs.specs.InputLimit.{is_too_much}
+use Rattle.mg_defs.specs.Limits.{input_limit}
 use Rattle.mg_defs.specs.Rotations.{most_rotations, rotation_count}
 use Rattle.mg_defs.specs.Terms.{dictionary}
 use Rattle.mg_defs.specs.WildSession.{wild_session}
@@ -31,7 +32,7 @@ pub record Matched (base : List ℕ) (run : Run) : Type 0 where
   pub silent : (fault : Fault) → IsFirst fault → Stops run fault → SaysNothing run
   pub untouched : (fault : Fault) → IsFirst fault → Stops run fault → run.input_now.left ≡ run.input.left
   -- the cause of every other status; 5 and 17 come exactly where they have it, in this order, unless the store fails or memory is wanting
-  pub cause : IfStopped run.status (WildStops (StoreFailed run) (InputFailed run) (OutputFailed run) run.store.files base run.input.left)
+  pub cause : IfStopped run.status (WildStops base (StoreFailed run) (InputFailed run) (OutputFailed run) run.store.files run.input.left)
   pub not_built : IsSome run.store.files → bytes_at run.store.files (full_name base part.Head) ≡ [] → StopsUnless run NotBuilt
   pub many : (collection : List ℕ) → Stands run.store.files base collection → most_rotations < rotation_count (dictionary collection)
       → StopsUnless run (TooManyRotations (rotation_count (dictionary collection)))

@@ -9,9 +9,9 @@ use Rattle.mg_defs.specs.CodedText.{TextCode}
 use Rattle.mg_defs.specs.Lines.{lines}
 use Rattle.mg_defs.specs.PageBounds.{boolean_bound, bound_as}
 use Rattle.mg_defs.specs.Phrases.{all_of, phrase_of, phrase_places}
-use Rattle.mg_defs.specs.PhraseSession.{Found, found_text, phrase_reply, with_places}
+use Rattle.mg_defs.specs.PhraseSession.{PhraseHit, found_text, phrase_reply, with_places}
 use Rattle.mg_defs.specs.PlainSession.{plain_questions}
-use Rattle.mg_defs.specs.Reply.{Shown, satisfying}
+use Rattle.mg_defs.specs.ShownAnswers.{Shown, satisfying}
 use Rattle.mg_defs.specs.Sat.{Query}
 use Rattle.mg_defs.specs.Split.{documents}
 use Rattle.mg_defs.specs.Terms.{document}
@@ -24,21 +24,21 @@ use Rattle.mg_text.specs.Reading.{ShowIsNotBad}
 
 -- ---- rows
 
-abbrev pub found_if : Bool → ℕ → ℕ → List Found
+abbrev pub found_if : Bool → ℕ → ℕ → List PhraseHit
 found_if true number places = record { number = number; places = places } ∷ []
 found_if false number places = []
 
 -- a document as it is found, where it has places
-abbrev pub found_at : ℕ → ℕ → List Found
+abbrev pub found_at : ℕ → ℕ → List PhraseHit
 found_at number places = found_if (nat_lt 0 places) number places
 
 -- of these documents, those that have places of a phrase
-unfoldable pub found_among : List ℕ → List (List ℕ) → List Shown → List Found
+unfoldable pub found_among : List ℕ → List (List ℕ) → List Shown → List PhraseHit
 found_among collection phrase candidates = flat_map (λ (s : Shown). found_at s.number (phrase_places phrase (document collection s.number))) candidates
 
 -- what is printed for them
-unfoldable pub rows_of : List Found → List ℕ
-rows_of found = flat_map (λ (f : Found). row f.number (Some f.places)) found
+unfoldable pub rows_of : List PhraseHit → List ℕ
+rows_of found = flat_map (λ (f : PhraseHit). row f.number (Some f.places)) found
 
 -- ---- bounds
 

@@ -7,7 +7,7 @@ use Rattle.mg_dev.specs.Files.{Files, Reads, bytes_at}
 use Rattle.mg_dev.specs.declared.part_err.PartErr.{PartErr}
 use Rattle.mg_dev.specs.declared.part_err.PartErr.TheVariants.{Device, Memory, Bad}
 use Rattle.mg_defs.specs.Bits.{bits_of}
-use Rattle.mg_defs.specs.CodedText.{IsTextCode, places_of, text_of}
+use Rattle.mg_defs.specs.CodedText.{IsTextCode, places_part, text_part}
 use Rattle.mg_defs.specs.Means.{IsModel}
 use Rattle.mg_defs.specs.Session.{Question}
 use Rattle.mg_defs.specs.declared.session.Settings.{Settings}
@@ -31,9 +31,9 @@ text_stays a b files now collection same e is = record {
   told = subst IsSome (sym e) is.told;
   model = subst IsModel (sym same.code) is.model;
   code = subst (IsTextCode collection) (sym same.code) is.code;
-  text = ap (λ n. bits_of (bytes_at now n)) same.text ∙ ap (λ f. bits_of (bytes_at f a.text.name)) e ∙ is.text ∙ ap (λ code. bits_of (text_of code collection)) (sym same.code);
-  places = ap (bytes_at now) same.places ∙ ap (λ f. bytes_at f a.places.name) e ∙ is.places ∙ ap (λ code. places_of a.version code collection) (sym same.code) ∙ ap (λ v. places_of v b.code collection) (sym same.version);
-  size = same.size ∙ is.size ∙ ap (λ code. length (text_of code collection)) (sym same.code);
+  text = ap (λ n. bits_of (bytes_at now n)) same.text ∙ ap (λ f. bits_of (bytes_at f a.text.name)) e ∙ is.text ∙ ap (λ code. bits_of (text_part code collection)) (sym same.code);
+  places = ap (bytes_at now) same.places ∙ ap (λ f. bytes_at f a.places.name) e ∙ is.places ∙ ap (λ code. places_part a.version code collection) (sym same.code) ∙ ap (λ v. places_part v b.code collection) (sym same.version);
+  size = same.size ∙ is.size ∙ ap (λ code. length (text_part code collection)) (sym same.code);
   documents = same.documents ∙ is.documents;
   few = is.few;
   small = omega (arith, same.size, is.small, ap most_text same.version);

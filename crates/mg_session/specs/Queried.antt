@@ -8,7 +8,8 @@ use Rattle.mg_dev.specs.declared.part.Part.TheVariants as part
 use Rattle.mg_dev.specs.declared.fault.Fault.TheVariants.{NotBuilt, Memory}
 use Rattle.mg_dev.specs.declared.status.Status.TheVariants.{Done}
 use Rattle.mg_defs.specs.CodedText.{TextCode}
-use Rattle.mg_defs.specs.Limit.{is_too_much, input_limit}
+use Rattle.mg_defs.specs.InputLimit.{is_too_much}
+use Rattle.mg_defs.specs.Limits.{input_limit}
 use Rattle.mg_defs.specs.Replies.{session}
 use Rattle.mg_defs.specs.Session.{questions_of}
 use Rattle.mg_layout.specs.Stands.{Stands, StandsBy}
@@ -31,7 +32,7 @@ pub record Queried (base : List ℕ) (run : Run) : Type 0 where
       → GrewByPrefix run.out.written run.out_now.written (session collection given)
   pub silent : Stops run NotBuilt → SaysNothing run
   -- the cause of every other status; 5 comes exactly where it has it, unless the store fails or memory is wanting
-  pub cause : IfStopped run.status (StopsFor (StoreFailed run) (InputFailed run) (OutputFailed run) run.store.files base run.input.left)
+  pub cause : IfStopped run.status (StopsFor base (StoreFailed run) (InputFailed run) (OutputFailed run) run.store.files run.input.left)
   pub not_built : IsSome run.store.files → bytes_at run.store.files (full_name base part.Head) ≡ [] → StopsUnless run NotBuilt
   -- where the files stand, the input is not too long and no device fails, it is done, or memory is wanting
   pub complete : (collection given : List ℕ) → Stands run.store.files base collection → run.input.left ≡ Some given → is_too_much input_limit given ≡ false

@@ -1,5 +1,5 @@
 -- Why a session over files stops, and what it reads.
-use Rattle.std.specs.Prelude.{◌≡◌, ◌⊎◌, ℕ, ◌+◌, ◌≤◌, true, List, [], IsSome}
+use Rattle.std.specs.Prelude.{◌≡◌, ℕ, ◌+◌, ◌≤◌, true, List, [], IsSome}
 use Rattle.std.specs.Option.{ForSome}
 use Rattle.std.specs.declared.option.Option.{Option}
 use Rattle.mg_dev.specs.Files.{Files, Reads, bytes_at}
@@ -11,10 +11,17 @@ use Rattle.mg_dev.specs.Faults.{fault_of_show}
 use Rattle.mg_reply.specs.declared.serve.ServeErr.{ServeErr}
 use Rattle.mg_reply.specs.declared.serve.ServeErr.TheVariants as serve
 use Rattle.mg_defs.specs.CodedText.{TextCode}
-use Rattle.mg_defs.specs.Limit.{is_too_much, input_limit}
+use Rattle.mg_defs.specs.InputLimit.{is_too_much}
+use Rattle.mg_defs.specs.Limits.{input_limit}
 use Rattle.mg_defs.specs.PageBounds.{session_bound}
 use Rattle.mg_defs.specs.TextBounds.{session_text_bound}
 use Rattle.mg_layout.specs.Stands.{StandsForNone}
+use Rattle.mg_layout.specs.declared.head.Head.{Head}
+use Rattle.mg_reply.specs.Printed.{ForEach}
+use Rattle.mg_session.specs.PhraseSearching.{PartsOver, PhraseParts}
+use Rattle.mg_session.specs.Searching.{Opened}
+use Rattle.mg_session.specs.Sessions.{ForOpened, ForSet}
+use Rattle.mg_session.specs.WildSearching.{PartsAreOf, WildParts}
 
 -- the cause of each refusal, by the faults of store, input and output, whether nothing is built, whether the files stand for none, and the input
 abbrev pub Stops : Type 0 → Type 0 → Type 0 → Type 0 → Type 0 → Option (List ℕ) → Fault → Type 0
@@ -28,8 +35,28 @@ Stops store_rose input_rose output_rose unbuilt damaged input InputTooLong = For
 Stops store_rose input_rose output_rose unbuilt damaged input _ = ⊥
 
 -- the same by the files under a base
-abbrev pub StopsFor : Type 0 → Type 0 → Type 0 → Option Files → List ℕ → Option (List ℕ) → Fault → Type 0
-StopsFor store_rose input_rose output_rose files base input fault = Stops store_rose input_rose output_rose (IsSome files → bytes_at files (full_name base part.Head) ≡ []) (StandsForNone files base) input fault
+abbrev pub StopsFor : List ℕ → Type 0 → Type 0 → Type 0 → Option Files → Option (List ℕ) → Fault → Type 0
+StopsFor base store_rose input_rose output_rose files input fault = Stops store_rose input_rose output_rose (IsSome files → bytes_at files (full_name base part.Head) ≡ []) (StandsForNone files base) input fault
+
+-- they stand for none with this head
+abbrev pub StandsByNone : Head → Option Files → List ℕ → Type 0
+StandsByNone head files base = ForSet head files base (λ code collection. ⊥)
+
+-- the same by the files that have this head
+abbrev pub SetStops : Head → List ℕ → Type 0 → Type 0 → Type 0 → Option Files → Option (List ℕ) → Fault → Type 0
+SetStops head base store_rose input_rose output_rose files input fault = Stops store_rose input_rose output_rose ⊥ (StandsByNone head files base) input fault
+
+-- by the parts that are open
+abbrev pub OpenedStops : Opened → Type 0 → Type 0 → Type 0 → Option Files → Option (List ℕ) → Fault → Type 0
+OpenedStops opened store_rose input_rose output_rose files input fault = Stops store_rose input_rose output_rose ⊥ (ForOpened files opened (λ code collection. ⊥)) input fault
+
+-- by those that phrases are sought in
+abbrev pub PhrasesStop : PhraseParts → Type 0 → Type 0 → Type 0 → Option Files → Option (List ℕ) → Fault → Type 0
+PhrasesStop parts store_rose input_rose output_rose files input fault = Stops store_rose input_rose output_rose ⊥ (ForEach (PartsOver files parts) (λ collection. ⊥)) input fault
+
+-- by those that patterns are answered from
+abbrev pub PatternsStop : WildParts → Type 0 → Type 0 → Type 0 → Option Files → Option (List ℕ) → Fault → Type 0
+PatternsStop parts store_rose input_rose output_rose files input fault = Stops store_rose input_rose output_rose ⊥ (ForEach (PartsAreOf files parts) (λ collection. ⊥)) input fault
 
 -- no more pages are read than the bounds of the query lines add up to
 pub record ReadsWithin (code : TextCode) (collection given : List ℕ) (before now : Reads) : Type 0 where

@@ -15,7 +15,7 @@ use Rattle.mg_layout.specs.Stands.{Stands, StandsBy, StandsForNone}
 use Rattle.mg_layout.specs.declared.head.Head.{Head}
 use Rattle.mg_wild.specs.declared.rotated.RotErr.{RotErr}
 use Rattle.mg_wild.specs.declared.rotated.RotErr.TheVariants as rot
-use Rattle.mg_session.specs.Serves.{Stops}
+use Rattle.mg_session.specs.Serves.{StandsByNone, Stops}
 
 -- the cause of each refusal as in the other sessions, and of one more: there are more rotations than can be held, and as many as counted
 abbrev pub WildStopsBy : Type 0 → Type 0 → Type 0 → Type 0 → Type 0 → (ℕ → Type 0) → Option (List ℕ) → Fault → Type 0
@@ -27,8 +27,8 @@ abbrev pub AreRotationsAt : Option Files → List ℕ → ℕ → Type 0
 AreRotationsAt files base count = (collection : List ℕ) → Stands files base collection → count ≡ rotation_count (dictionary collection)
 
 -- the cause of each refusal by the files under a base
-abbrev pub WildStops : Type 0 → Type 0 → Type 0 → Option Files → List ℕ → Option (List ℕ) → Fault → Type 0
-WildStops store_rose input_rose output_rose files base input fault =
+abbrev pub WildStops : List ℕ → Type 0 → Type 0 → Type 0 → Option Files → Option (List ℕ) → Fault → Type 0
+WildStops base store_rose input_rose output_rose files input fault =
     WildStopsBy store_rose input_rose output_rose
     (IsSome files → bytes_at files (full_name base part.Head) ≡ []) (StandsForNone files base) (AreRotationsAt files base) input fault
 
@@ -37,13 +37,9 @@ abbrev pub AreRotationsBy : Head → Option Files → List ℕ → ℕ → Type 
 AreRotationsBy head files base count =
     (code : TextCode) (collection : List ℕ) → StandsBy head code files base collection → count ≡ rotation_count (dictionary collection)
 
--- they stand for none with this head
-abbrev pub StandsByNone : Head → Option Files → List ℕ → Type 0
-StandsByNone head files base = (code : TextCode) (collection : List ℕ) → StandsBy head code files base collection → ⊥
-
 -- the cause of each refusal by the files that have this head
-abbrev pub WildSetStops : Type 0 → Type 0 → Type 0 → Head → Option Files → List ℕ → Option (List ℕ) → Fault → Type 0
-WildSetStops store_rose input_rose output_rose head files base input fault =
+abbrev pub WildSetStops : Head → List ℕ → Type 0 → Type 0 → Type 0 → Option Files → Option (List ℕ) → Fault → Type 0
+WildSetStops head base store_rose input_rose output_rose files input fault =
     WildStopsBy store_rose input_rose output_rose ⊥ (StandsByNone head files base) (AreRotationsBy head files base) input fault
 
 -- a refusal before the input is read

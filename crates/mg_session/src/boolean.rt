@@ -1,13 +1,11 @@
 //! The answer to a Boolean query.
-ghost use Rattle.std.specs.Prelude.{◌≡◌, ℕ, List, length};
-ghost use Rattle.mg_defs.specs.CodedText.{TextCode};
-ghost use Rattle.mg_defs.specs.PageBounds.{boolean_bound};
+ghost use Rattle.std.specs.Prelude.{◌≡◌, length};
+ghost use Rattle.mg_dev.specs.Moments.{Between};
 ghost use Rattle.mg_defs.specs.QueryTerms.{query_terms};
-ghost use Rattle.mg_defs.specs.Reply.{satisfying};
-ghost use Rattle.mg_bool.specs.Places.{AreInfos};
 ghost use Rattle.mg_query.specs.QueryOf.{query_of};
-ghost use Rattle.mg_session.specs.Answering.{Answered, AnswersFor, HasShowCause};
+ghost use Rattle.mg_session.specs.Answering.{HasShowCause, HasShowLack};
 ghost use Rattle.mg_session.specs.Parts.{Stepped};
+ghost use Rattle.mg_session.specs.Replying.{AnswersQuery, ForAnswers};
 ghost use Rattle.mg_session.specs.Texts.{SameTexts, TextsFit};
 
 use crate::hit::show_hit;
@@ -39,13 +37,11 @@ pub(crate) fn answer_query<S: Store, O: Sink>(
     requires all { texts.old.head.documents ≡ all }
     ensures fits { TextsFit (S.files store.new) texts.new }
     ensures same { SameTexts texts.old texts.new }
-    ensures answer { (code : TextCode) (collection : List ℕ) → AnswersFor base.now (S.files store.old) texts.old all code collection →
-        AreInfos collection (query_terms (query_of query.now)) infos.now →
-        Answered code collection now.now (satisfying collection (query_of query.now)) (boolean_bound collection (query_of query.now))
-        (O.written out.old) (O.written out.new) (S.reads store.old) (S.reads store.new) result }
-    ensures step { Stepped now.now.mode (S.files store.old) (S.files store.new)
-        (S.reads store.old) (S.reads store.new) (S.faults store.old) (S.faults store.new) }
+    ensures answer { ForAnswers base.now (S.files store.old) texts.old all
+        (AnswersQuery O.written S.reads out.old out.new store.old store.new result (query_of query.now) infos.now now.now) }
+    ensures step { Between S.files S.reads S.faults store.old store.new (Stepped now.now.mode) }
     ensures cause { HasShowCause result (S.faults store.old) (S.faults store.new) (O.faults out.old) (O.faults out.new) }
+    ensures lack { HasShowLack (O.lacks out.old) (O.lacks out.new) result }
 {
     let mut matches = match Matches::start(alloc, base, query, infos, all) {
         Ok(matches) => matches,

@@ -1,15 +1,16 @@
 //! The documents that have a phrase, sought among those that have all its words.
-ghost use Rattle.std.specs.Prelude.{◌≡◌, ◌≤◌, ℕ, List, Some, length};
-ghost use Rattle.mg_dev.specs.Causes.{HasPutCause};
+ghost use Rattle.std.specs.Prelude.{◌≡◌, ◌≤◌, Some, length};
+ghost use Rattle.mg_dev.specs.Causes.{HasPutCause, HasLack};
+ghost use Rattle.mg_dev.specs.Moments.{Between};
 ghost use Rattle.mg_defs.specs.QueryTerms.{query_terms};
-ghost use Rattle.mg_bool.specs.Places.{AreInfos};
 ghost use Rattle.mg_query.specs.AllOf.{IsAllOf};
 ghost use Rattle.mg_query.specs.QueryOf.{query_of};
-ghost use Rattle.mg_reply.specs.Pending.{AfterPass};
+ghost use Rattle.mg_reply.specs.Printed.{ForEach, Passes};
 ghost use Rattle.mg_text.specs.Reading.{SameText, TextFits};
-ghost use Rattle.mg_session.specs.Answering.{HasShowCause};
-ghost use Rattle.mg_session.specs.PhraseAnswers.{PhraseAnswered, found_at, rows_of};
+ghost use Rattle.mg_session.specs.Answering.{HasShowCause, HasShowLack};
+ghost use Rattle.mg_session.specs.PhraseAnswers.{found_at, rows_of};
 ghost use Rattle.mg_session.specs.PhraseSearching.{OnlyReads, PhraseSources};
+ghost use Rattle.mg_session.specs.Replying.{AnswersPhrase};
 
 use crate::held::HeldDocument;
 use mg_bool::Matches;
@@ -29,8 +30,9 @@ fn pass_places<O: Sink>(
     number: u32,
     places: u64,
 ) -> Result<(), PutErr>
-    ensures content { AfterPass (O.written out.old) (O.written out.new) pending.old pending.new (rows_of (found_at number places)) result }
+    ensures content { Passes O.written out.old out.new pending.old pending.new result (rows_of (found_at number places)) }
     ensures cause { HasPutCause (O.faults out.old) (O.faults out.new) result }
+    ensures lack { HasLack (O.lacks out.old) (O.lacks out.new) result }
 {
     if places == 0 {
         return Ok(());
@@ -62,11 +64,11 @@ pub(crate) fn answer_phrase<S: Store, O: Sink>(
     requires all { text.old.documents ≡ all }
     ensures fits { TextFits text.new (S.files store.new) }
     ensures same { SameText text.old text.new }
-    ensures answer { (collection : List ℕ) → PhraseSources base.now (S.files store.old) text.old all collection →
-        AreInfos collection (query_terms (query_of query.now)) infos.now →
-        PhraseAnswered text.old.code collection phrase.now (O.written out.old) (O.written out.new) (S.reads store.old) (S.reads store.new) result }
-    ensures step { OnlyReads (S.files store.old) (S.files store.new) (S.reads store.old) (S.reads store.new) (S.faults store.old) (S.faults store.new) }
+    ensures answer { ForEach (PhraseSources base.now (S.files store.old) text.old all)
+        (AnswersPhrase O.written S.reads out.old out.new store.old store.new result (query_of query.now) infos.now phrase.now text.old.code) }
+    ensures step { Between S.files S.reads S.faults store.old store.new OnlyReads }
     ensures cause { HasShowCause result (S.faults store.old) (S.faults store.new) (O.faults out.old) (O.faults out.new) }
+    ensures lack { HasShowLack (O.lacks out.old) (O.lacks out.new) result }
 {
     let mut matches = match Matches::start(alloc, base, query, infos, all) {
         Ok(matches) => matches,

@@ -1,13 +1,13 @@
 //! What the lexicon tells of the terms of a query.
-ghost use Rattle.std.specs.Prelude.{◌≡◌, ◌≤◌, ℕ, List, IfOk, length};
+ghost use Rattle.std.specs.Prelude.{◌≡◌, ◌≤◌, IfOk, length};
+ghost use Rattle.mg_dev.specs.Moments.{Between};
 ghost use Rattle.mg_dev.specs.PartCauses.{HasPartCause};
 ghost use Rattle.mg_dev.specs.declared.part.Part.TheVariants as part;
-ghost use Rattle.mg_defs.specs.Limits.{IsWithinLimits};
 ghost use Rattle.mg_front.specs.Reading.{FrontFits, LookedAt, SameParts};
-ghost use Rattle.mg_lex.specs.Reading.{LexStands};
 ghost use Rattle.mg_bool.specs.Places.{AreInfos};
 ghost use Rattle.mg_rank.specs.Ranked.{AnswersOr};
 ghost use Rattle.mg_session.specs.Answering.{known_infos};
+ghost use Rattle.mg_session.specs.Sessions.{ForLexicon};
 
 use mg_dev::{PartErr, Store};
 use mg_layout::TermInfo;
@@ -26,10 +26,9 @@ pub(crate) fn find_terms<S: Store>(
     ensures fits { FrontFits lex.new (S.files store.new) }
     ensures same { SameParts lex.old lex.new }
     ensures size { IfOk result (λ infos. length infos.items ≡ length terms.now) }
-    ensures answer { (version : ℕ) (collection : List ℕ) → IsWithinLimits version collection → LexStands lex.old (S.files store.old) collection →
-        AnswersOr result (λ infos. AreInfos collection terms.now infos.items) }
-    ensures looked { LookedAt part.Lex part.LexAt (S.files store.old) (S.files store.new)
-        (S.reads store.old) (S.reads store.new) (S.faults store.old) (S.faults store.new) }
+    ensures answer { ForLexicon lex.old (S.files store.old)
+        (λ collection. AnswersOr result (λ infos. AreInfos collection terms.now infos.items)) }
+    ensures looked { Between S.files S.reads S.faults store.old store.new (LookedAt part.Lex part.LexAt) }
     ensures cause { HasPartCause (S.faults store.old) (S.faults store.new) result }
 {
     let mut infos = Vec::new(alloc);

@@ -1,18 +1,29 @@
 //! A document that is held in memory.
-ghost use Rattle.std.specs.Prelude.{◌≡◌, ◌≢◌, ◌-◌, ◌≤◌, ◌+◌, ℕ, List, [], Some, OnOk, OnErr};
-ghost use Rattle.mg_dev.specs.Causes.{HasPutCause, HasLack};
-ghost use Rattle.mg_dev.specs.Streams.{AfterPut};
+ghost use Rattle.std.specs.Prelude.{◌≡◌, ◌≢◌, ◌-◌, ◌≤◌, ℕ, Some, Err, OnOk, None};
+ghost use Rattle.mg_dev.specs.Moments.{Between};
 ghost use Rattle.mg_dev.specs.declared.part.Part.TheVariants as part;
-ghost use Rattle.mg_defs.specs.Reply.{plain};
 ghost use Rattle.mg_defs.specs.Terms.{document};
-ghost use Rattle.mg_defs.specs.TextBounds.{doc_pages};
+ghost use Rattle.mg_defs.specs.declared.session.Mode.TheVariants as mode;
 ghost use Rattle.mg_front.specs.Reading.{LookedAt};
 ghost use Rattle.mg_text.specs.Reading.{SameText, ShowIsNotBad, TextFits, TextStands};
-ghost use Rattle.mg_session.specs.Answering.{HasShowCause};
+ghost use Rattle.mg_session.specs.Answering.{HasShowCause, of_allocator};
+ghost use Rattle.mg_reply.specs.Printed.{ForEach};
+ghost use Rattle.mg_session.specs.Showing.{ReadsShown};
 
-use mg_dev::{PutErr, ShowErr, Sink, Store};
+use mg_dev::{PartErr, PutErr, ShowErr, Sink, Store};
 use mg_text::TextReader;
 use std::alloc::{AllocError, Global};
+
+/// Tells the want of memory of a sink in memory as the allocator's.
+fn of_allocator(refusal: ShowErr) -> ShowErr
+    ensures { result ≡ of_allocator refusal }
+{
+    match refusal {
+        ShowErr::Memory => ShowErr::Part(PartErr::Memory),
+        ShowErr::Part(refusal) => ShowErr::Part(refusal),
+        ShowErr::Write => ShowErr::Write,
+    }
+}
 
 /// The bytes of one document at a time, as a sink that never fails; only memory may be wanting. Its
 /// room is kept from one document to the next.
@@ -50,17 +61,20 @@ impl HeldDocument {
         requires within { number ≤ text.old.documents }
         ensures fits { TextFits text.new (S.files store.new) }
         ensures same { SameText text.old text.new }
-        ensures content { (collection : List ℕ) → TextStands text.old (S.files store.old) collection →
-            OnOk result (self.new.bytes.items ≡ document collection number) }
-        ensures pages { (collection : List ℕ) → TextStands text.old (S.files store.old) collection →
-            S.reads store.new part.Text ≤ S.reads store.old part.Text + doc_pages text.old.code collection (plain number) }
-        ensures sound { (collection : List ℕ) → TextStands text.old (S.files store.old) collection → ShowIsNotBad result }
-        ensures looked { LookedAt part.Text part.Places (S.files store.old) (S.files store.new)
-            (S.reads store.old) (S.reads store.new) (S.faults store.old) (S.faults store.new) }
+        ensures content { ForEach (TextStands text.old (S.files store.old))
+            (λ collection. OnOk result (self.new.bytes.items ≡ document collection number)) }
+        ensures pages { ForEach (TextStands text.old (S.files store.old))
+            (ReadsShown S.reads store.old store.new mode.Text number None text.old.code) }
+        ensures sound { ForEach (TextStands text.old (S.files store.old)) (λ collection. ShowIsNotBad result) }
+        ensures looked { Between S.files S.reads S.faults store.old store.new (LookedAt part.Text part.Places) }
+        ensures memory { result ≢ Err ShowErr.Memory }
         ensures cause { (output : ℕ) → HasShowCause result (S.faults store.old) (S.faults store.new) output output }
     {
         self.bytes.clear();
-        text.doc(store, number, self)
+        match text.doc(store, number, self) {
+            Ok(()) => Ok(()),
+            Err(refusal) => Err(of_allocator(refusal)),
+        }
     }
 }
 

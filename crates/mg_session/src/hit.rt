@@ -1,18 +1,13 @@
 //! A document of an answer, as it is shown from the coded text.
-ghost use Rattle.std.specs.Prelude.{◌≡◌, ◌++◌, ◌+◌, ◌≤◌, ℕ, List, None};
-ghost use Rattle.mg_dev.specs.declared.part.Part.TheVariants as part;
-ghost use Rattle.mg_defs.specs.CodedText.{TextCode};
-ghost use Rattle.mg_defs.specs.Replies.{hit_text};
-ghost use Rattle.mg_defs.specs.Reply.{shown};
-ghost use Rattle.mg_defs.specs.Terms.{document};
-ghost use Rattle.mg_defs.specs.Texts.{close, header};
-ghost use Rattle.mg_defs.specs.TextBounds.{doc_pages};
+ghost use Rattle.std.specs.Prelude.{◌≤◌};
+ghost use Rattle.mg_dev.specs.Moments.{Between};
 ghost use Rattle.mg_defs.specs.declared.session.Mode.TheVariants as mode;
-ghost use Rattle.mg_reply.specs.Pending.{AfterPass};
 ghost use Rattle.mg_text.specs.Reading.{ShowIsNotBad};
-ghost use Rattle.mg_session.specs.Answering.{HasShowCause, at_score, hit_pages, mode_pages};
+ghost use Rattle.mg_session.specs.Answering.{HasShowCause, HasShowLack};
 ghost use Rattle.mg_session.specs.Parts.{ShownIn};
-ghost use Rattle.mg_session.specs.Texts.{SameTexts, TextsFit, TextsStand};
+ghost use Rattle.mg_session.specs.Sessions.{ForText};
+ghost use Rattle.mg_session.specs.Showing.{PassesHit, PassesShown, ReadsHit, ReadsShown};
+ghost use Rattle.mg_session.specs.Texts.{SameTexts, TextsFit};
 
 use crate::texts::Texts;
 use mg_defs::{Mode, Settings};
@@ -34,14 +29,13 @@ fn show_text<S: Store, O: Sink>(
     requires within { number ≤ texts.old.head.documents }
     ensures fits { TextsFit (S.files store.new) texts.new }
     ensures same { SameTexts texts.old texts.new }
-    ensures content { (code : TextCode) (collection : List ℕ) → TextsStand texts.old (S.files store.old) code collection →
-        AfterPass (O.written out.old) (O.written out.new) pending.old pending.new (header number score ++ (document collection number ++ close)) result }
-    ensures pages { (code : TextCode) (collection : List ℕ) → TextsStand texts.old (S.files store.old) code collection →
-        S.reads store.new part.Text ≤ S.reads store.old part.Text + doc_pages code collection (at_score number score) }
-    ensures sound { (code : TextCode) (collection : List ℕ) → TextsStand texts.old (S.files store.old) code collection → ShowIsNotBad result }
-    ensures looked { ShownIn mode.Text (S.files store.old) (S.files store.new)
-        (S.reads store.old) (S.reads store.new) (S.faults store.old) (S.faults store.new) }
+    ensures content { ForText texts.old (S.files store.old)
+        (λ code. PassesShown O.written out.old out.new pending.old pending.new result mode.Text number score) }
+    ensures pages { ForText texts.old (S.files store.old) (ReadsShown S.reads store.old store.new mode.Text number score) }
+    ensures sound { ForText texts.old (S.files store.old) (λ code collection. ShowIsNotBad result) }
+    ensures looked { Between S.files S.reads S.faults store.old store.new (ShownIn mode.Text) }
     ensures cause { HasShowCause result (S.faults store.old) (S.faults store.new) (O.faults out.old) (O.faults out.new) }
+    ensures lack { HasShowLack (O.lacks out.old) (O.lacks out.new) result }
 {
     match pending.header(out, number, score) {
         Ok(()) => {}
@@ -76,14 +70,13 @@ pub(crate) fn show_doc<S: Store, O: Sink>(
     requires within { number ≤ texts.old.head.documents }
     ensures fits { TextsFit (S.files store.new) texts.new }
     ensures same { SameTexts texts.old texts.new }
-    ensures content { (code : TextCode) (collection : List ℕ) → TextsStand texts.old (S.files store.old) code collection →
-        AfterPass (O.written out.old) (O.written out.new) pending.old pending.new (shown collection mode (at_score number score)) result }
-    ensures pages { (code : TextCode) (collection : List ℕ) → TextsStand texts.old (S.files store.old) code collection →
-        S.reads store.new part.Text ≤ S.reads store.old part.Text + mode_pages code collection mode (at_score number score) }
-    ensures sound { (code : TextCode) (collection : List ℕ) → TextsStand texts.old (S.files store.old) code collection → ShowIsNotBad result }
-    ensures looked { ShownIn mode (S.files store.old) (S.files store.new)
-        (S.reads store.old) (S.reads store.new) (S.faults store.old) (S.faults store.new) }
+    ensures content { ForText texts.old (S.files store.old)
+        (λ code. PassesShown O.written out.old out.new pending.old pending.new result mode number score) }
+    ensures pages { ForText texts.old (S.files store.old) (ReadsShown S.reads store.old store.new mode number score) }
+    ensures sound { ForText texts.old (S.files store.old) (λ code collection. ShowIsNotBad result) }
+    ensures looked { Between S.files S.reads S.faults store.old store.new (ShownIn mode) }
     ensures cause { HasShowCause result (S.faults store.old) (S.faults store.new) (O.faults out.old) (O.faults out.new) }
+    ensures lack { HasShowLack (O.lacks out.old) (O.lacks out.new) result }
 {
     match mode {
         Mode::Docnums => match pending.row(out, number, score) {
@@ -111,15 +104,13 @@ pub(crate) fn show_hit<S: Store, O: Sink>(
     requires within { number ≤ texts.old.head.documents }
     ensures fits { TextsFit (S.files store.new) texts.new }
     ensures same { SameTexts texts.old texts.new }
-    ensures content { (code : TextCode) (collection : List ℕ) → TextsStand texts.old (S.files store.old) code collection →
-        AfterPass (O.written out.old) (O.written out.new) pending.old pending.new
-        (hit_text (document collection number) now.now.mode now.now.most total (at_score number None)) result }
-    ensures pages { (code : TextCode) (collection : List ℕ) → TextsStand texts.old (S.files store.old) code collection →
-        S.reads store.new part.Text ≤ S.reads store.old part.Text + hit_pages code collection now.now total (at_score number None) }
-    ensures sound { (code : TextCode) (collection : List ℕ) → TextsStand texts.old (S.files store.old) code collection → ShowIsNotBad result }
-    ensures looked { ShownIn now.now.mode (S.files store.old) (S.files store.new)
-        (S.reads store.old) (S.reads store.new) (S.faults store.old) (S.faults store.new) }
+    ensures content { ForText texts.old (S.files store.old)
+        (λ code. PassesHit O.written out.old out.new pending.old pending.new result now.now total number) }
+    ensures pages { ForText texts.old (S.files store.old) (ReadsHit S.reads store.old store.new now.now total number) }
+    ensures sound { ForText texts.old (S.files store.old) (λ code collection. ShowIsNotBad result) }
+    ensures looked { Between S.files S.reads S.faults store.old store.new (ShownIn now.now.mode) }
     ensures cause { HasShowCause result (S.faults store.old) (S.faults store.new) (O.faults out.old) (O.faults out.new) }
+    ensures lack { HasShowLack (O.lacks out.old) (O.lacks out.new) result }
 {
     if !shows(now.most, total) {
         return Ok(());

@@ -1,11 +1,9 @@
 //! An answerer of phrases over the open parts of a set.
-ghost use Rattle.std.specs.Prelude.{◌≡◌, ◌≤◌, ℕ, List, [], ◌∷◌, IfErr, IsErrOf, length};
-ghost use Rattle.mg_dev.specs.Causes.{Rose};
-ghost use Rattle.mg_dev.specs.Streams.{AfterPut};
-ghost use Rattle.mg_dev.specs.declared.show_err.ShowErr.TheVariants.{Write};
-ghost use Rattle.mg_reply.specs.Served.{PartStops};
-ghost use Rattle.mg_session.specs.Answering.{HasShowCause};
-ghost use Rattle.mg_session.specs.PhraseAnswers.{PhraseReplied};
+ghost use Rattle.std.specs.Prelude.{◌≡◌, ◌≤◌, length};
+ghost use Rattle.mg_dev.specs.Moments.{Between};
+ghost use Rattle.mg_reply.specs.Printed.{ForEach};
+ghost use Rattle.mg_session.specs.Answering.{HasShowCause, HasShowLack};
+ghost use Rattle.mg_session.specs.Replying.{RepliesToPhrase};
 ghost use Rattle.mg_session.specs.PhraseSearching.{OnlyReads, PartsFit, PartsOver, PhraseMayStop, PhraseState, PhrasesAsked, PhrasesBy, PhrasesFit, SamePhraseParts, phrase_state};
 ghost use Rattle.mg_session.specs.PhraseSearchLaws.{phrases_later, phrases_more, phrases_none, phrases_stop};
 
@@ -17,7 +15,7 @@ use mg_dev::{PartErr, ShowErr, Sink, Store};
 use mg_lex::Lex;
 use mg_phrase::parse_phrase;
 use mg_query::Query;
-use mg_reply::{Answerer, put_count, put_refused};
+use mg_reply::{Answerer, answer_refused, put_count};
 use mg_text::TextReader;
 use std::alloc::Global;
 use std::marker::Model;
@@ -75,18 +73,15 @@ impl<'a, S: Store> PhraseSearcher<'a, S> {
         requires fits { PartsFit (S.files store.old) self.old }
         ensures fits { PartsFit (S.files store.new) self.new }
         ensures same { SamePhraseParts self.old self.new }
-        ensures replied { (collection : List ℕ) → PartsOver (S.files store.old) self.old collection →
-            PhraseReplied self.old.text.code collection line.now
-            (O.written out.old) (O.written out.new) (S.reads store.old) (S.reads store.new) result }
-        ensures step { OnlyReads (S.files store.old) (S.files store.new) (S.reads store.old) (S.reads store.new) (S.faults store.old) (S.faults store.new) }
+        ensures replied { ForEach (PartsOver (S.files store.old) self.old)
+            (RepliesToPhrase O.written S.reads out.old out.new store.old store.new result self.old.text.code line.now) }
+        ensures step { Between S.files S.reads S.faults store.old store.new OnlyReads }
         ensures cause { HasShowCause result (S.faults store.old) (S.faults store.new) (O.faults out.old) (O.faults out.new) }
+        ensures lack { HasShowLack (O.lacks out.old) (O.lacks out.new) result }
     {
         let phrase = match parse_phrase(self.alloc, line) {
             Ok(phrase) => phrase,
-            Err(why) => match put_refused(out, why) {
-                Ok(()) => return Ok(()),
-                Err(refusal) => return Err(ShowErr::from(refusal)),
-            },
+            Err(why) => return answer_refused(out, why),
         };
         let joined = match Query::all_of(self.alloc, &phrase) {
             Ok(joined) => joined,

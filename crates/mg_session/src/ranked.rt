@@ -1,18 +1,14 @@
 //! The answer to ranked terms.
-ghost use Rattle.std.specs.Prelude.{◌≡◌, ◌≤◌, ◌+◌, ℕ, List, All, length};
-ghost use Rattle.std.specs.List.{IsDistinct};
-ghost use Rattle.std.specs.Str.{bytes_eq};
-ghost use Rattle.mg_dev.specs.declared.part.Part.TheVariants as part;
-ghost use Rattle.mg_defs.specs.CodedText.{TextCode};
-ghost use Rattle.mg_defs.specs.PageBounds.{ranked_bound};
-ghost use Rattle.mg_defs.specs.Reply.{ranking};
-ghost use Rattle.mg_bool.specs.Places.{AreInfos};
+ghost use Rattle.std.specs.Prelude.{◌≡◌, ◌≤◌, All, length};
+ghost use Rattle.mg_dev.specs.Moments.{Between};
 ghost use Rattle.mg_rank.specs.Ranked.{IsNumbered};
-ghost use Rattle.mg_reply.specs.Pending.{AfterPass};
 ghost use Rattle.mg_text.specs.Reading.{ShowIsNotBad};
-ghost use Rattle.mg_session.specs.Answering.{Answered, AnswersFor, HasShowCause, rows_asked, rows_pages, rows_text};
+ghost use Rattle.mg_session.specs.Answering.{HasShowCause, HasShowLack, rows_asked};
 ghost use Rattle.mg_session.specs.Parts.{ShownIn, Stepped};
-ghost use Rattle.mg_session.specs.Texts.{SameTexts, TextsFit, TextsStand};
+ghost use Rattle.mg_session.specs.Replying.{AnswersTerms, ForAnswers};
+ghost use Rattle.mg_session.specs.Sessions.{ForText};
+ghost use Rattle.mg_session.specs.Showing.{PassesRows, ReadsRows};
+ghost use Rattle.mg_session.specs.Texts.{SameTexts, TextsFit};
 
 use crate::find::known_of;
 use crate::hit::show_doc;
@@ -37,14 +33,13 @@ fn show_rows<S: Store, O: Sink>(
     requires range { All (IsNumbered texts.old.head.documents) rows.now }
     ensures fits { TextsFit (S.files store.new) texts.new }
     ensures same { SameTexts texts.old texts.new }
-    ensures content { (code : TextCode) (collection : List ℕ) → TextsStand texts.old (S.files store.old) code collection →
-        AfterPass (O.written out.old) (O.written out.new) pending.old pending.new (rows_text collection mode rows.now) result }
-    ensures pages { (code : TextCode) (collection : List ℕ) → TextsStand texts.old (S.files store.old) code collection →
-        S.reads store.new part.Text ≤ S.reads store.old part.Text + rows_pages code collection mode rows.now }
-    ensures sound { (code : TextCode) (collection : List ℕ) → TextsStand texts.old (S.files store.old) code collection → ShowIsNotBad result }
-    ensures looked { ShownIn mode (S.files store.old) (S.files store.new)
-        (S.reads store.old) (S.reads store.new) (S.faults store.old) (S.faults store.new) }
+    ensures content { ForText texts.old (S.files store.old)
+        (λ code. PassesRows O.written out.old out.new pending.old pending.new result mode rows.now) }
+    ensures pages { ForText texts.old (S.files store.old) (ReadsRows S.reads store.old store.new mode rows.now) }
+    ensures sound { ForText texts.old (S.files store.old) (λ code collection. ShowIsNotBad result) }
+    ensures looked { Between S.files S.reads S.faults store.old store.new (ShownIn mode) }
     ensures cause { HasShowCause result (S.faults store.old) (S.faults store.new) (O.faults out.old) (O.faults out.new) }
+    ensures lack { HasShowLack (O.lacks out.old) (O.lacks out.new) result }
 {
     for place in 0..rows.len() {
         let row = rows.row(place);
@@ -91,14 +86,11 @@ pub(crate) fn answer_terms<S: Store, O: Sink>(
     requires all { texts.old.head.documents ≡ all }
     ensures fits { TextsFit (S.files store.new) texts.new }
     ensures same { SameTexts texts.old texts.new }
-    ensures answer { (code : TextCode) (collection : List ℕ) (terms : List (List ℕ)) →
-        AnswersFor base.now (S.files store.old) texts.old all code collection →
-        AreInfos collection terms infos.now → IsDistinct bytes_eq terms →
-        Answered code collection now.now (ranking collection terms) (ranked_bound collection terms)
-        (O.written out.old) (O.written out.new) (S.reads store.old) (S.reads store.new) result }
-    ensures step { Stepped now.now.mode (S.files store.old) (S.files store.new)
-        (S.reads store.old) (S.reads store.new) (S.faults store.old) (S.faults store.new) }
+    ensures answer { ForAnswers base.now (S.files store.old) texts.old all
+        (AnswersTerms O.written S.reads out.old out.new store.old store.new result infos.now now.now) }
+    ensures step { Between S.files S.reads S.faults store.old store.new (Stepped now.now.mode) }
     ensures cause { HasShowCause result (S.faults store.old) (S.faults store.new) (O.faults out.old) (O.faults out.new) }
+    ensures lack { HasShowLack (O.lacks out.old) (O.lacks out.new) result }
 {
     let known = match known_of(alloc, infos) {
         Ok(known) => known,

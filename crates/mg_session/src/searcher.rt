@@ -1,14 +1,12 @@
 //! An answerer over the open parts of a set.
-ghost use Rattle.std.specs.Prelude.{◌≡◌, ◌≤◌, ℕ, List, [], ◌∷◌, false, true, IfErr, IsErrOf, length};
-ghost use Rattle.mg_dev.specs.Causes.{Rose};
-ghost use Rattle.mg_dev.specs.Streams.{AfterPut};
-ghost use Rattle.mg_dev.specs.declared.show_err.ShowErr.TheVariants.{Write};
-ghost use Rattle.mg_defs.specs.CodedText.{TextCode};
+ghost use Rattle.std.specs.Prelude.{◌≡◌, ◌≤◌, false, true, length};
+ghost use Rattle.mg_dev.specs.Moments.{Between};
 ghost use Rattle.mg_defs.specs.Replies.{reply};
-ghost use Rattle.mg_reply.specs.Served.{PartStops};
-ghost use Rattle.mg_session.specs.Answering.{HasShowCause, Replied};
+ghost use Rattle.mg_session.specs.Answering.{HasShowCause, HasShowLack};
 ghost use Rattle.mg_session.specs.Parts.{Stepped};
-ghost use Rattle.mg_session.specs.Searching.{AnswersBy, Asked, Fits, MayStop, OpenedOver, Over, SameOpened, SearchFits, Searching, opened_at, state_of};
+ghost use Rattle.mg_session.specs.Replying.{RepliesTo};
+ghost use Rattle.mg_session.specs.Searching.{AnswersBy, Asked, Fits, MayStop, Over, SameOpened, SearchFits, Searching, opened_at, state_of};
+ghost use Rattle.mg_session.specs.Sessions.{ForOpened};
 ghost use Rattle.mg_session.specs.SearchLaws.{answers_later, asked_more, asked_none, stops_later};
 
 use crate::boolean::answer_query;
@@ -20,7 +18,7 @@ use mg_dev::{PartErr, ShowErr, Sink, Store};
 use mg_layout::Head;
 use mg_lex::Lex;
 use mg_query::{parse_boolean, parse_ranked};
-use mg_reply::{Answerer, put_refused};
+use mg_reply::{Answerer, answer_refused};
 use std::alloc::Global;
 use std::marker::Model;
 
@@ -68,19 +66,15 @@ impl<'a, S: Store> Searcher<'a, S> {
         requires fits { SearchFits (S.files store.old) self.old }
         ensures fits { SearchFits (S.files store.new) self.new }
         ensures same { SameOpened self.old self.new }
-        ensures replied { (code : TextCode) (collection : List ℕ) → OpenedOver (S.files store.old) self.old code collection →
-            Replied code collection false now.now line.now
-            (O.written out.old) (O.written out.new) (S.reads store.old) (S.reads store.new) result }
-        ensures step { Stepped now.now.mode (S.files store.old) (S.files store.new)
-            (S.reads store.old) (S.reads store.new) (S.faults store.old) (S.faults store.new) }
+        ensures replied { ForOpened (S.files store.old) self.old
+            (RepliesTo O.written S.reads out.old out.new store.old store.new result false now.now line.now) }
+        ensures step { Between S.files S.reads S.faults store.old store.new (Stepped now.now.mode) }
         ensures cause { HasShowCause result (S.faults store.old) (S.faults store.new) (O.faults out.old) (O.faults out.new) }
+        ensures lack { HasShowLack (O.lacks out.old) (O.lacks out.new) result }
     {
         let query = match parse_boolean(self.alloc, line) {
             Ok(query) => query,
-            Err(why) => match put_refused(out, why) {
-                Ok(()) => return Ok(()),
-                Err(refusal) => return Err(ShowErr::from(refusal)),
-            },
+            Err(why) => return answer_refused(out, why),
         };
         let terms = match query.terms(self.alloc) {
             Ok(terms) => terms,
@@ -115,19 +109,15 @@ impl<'a, S: Store> Searcher<'a, S> {
         requires fits { SearchFits (S.files store.old) self.old }
         ensures fits { SearchFits (S.files store.new) self.new }
         ensures same { SameOpened self.old self.new }
-        ensures replied { (code : TextCode) (collection : List ℕ) → OpenedOver (S.files store.old) self.old code collection →
-            Replied code collection true now.now line.now
-            (O.written out.old) (O.written out.new) (S.reads store.old) (S.reads store.new) result }
-        ensures step { Stepped now.now.mode (S.files store.old) (S.files store.new)
-            (S.reads store.old) (S.reads store.new) (S.faults store.old) (S.faults store.new) }
+        ensures replied { ForOpened (S.files store.old) self.old
+            (RepliesTo O.written S.reads out.old out.new store.old store.new result true now.now line.now) }
+        ensures step { Between S.files S.reads S.faults store.old store.new (Stepped now.now.mode) }
         ensures cause { HasShowCause result (S.faults store.old) (S.faults store.new) (O.faults out.old) (O.faults out.new) }
+        ensures lack { HasShowLack (O.lacks out.old) (O.lacks out.new) result }
     {
         let terms = match parse_ranked(self.alloc, line) {
             Ok(terms) => terms,
-            Err(why) => match put_refused(out, why) {
-                Ok(()) => return Ok(()),
-                Err(refusal) => return Err(ShowErr::from(refusal)),
-            },
+            Err(why) => return answer_refused(out, why),
         };
         let infos = match find_terms(self.alloc, store, &mut self.lex, terms.as_slice()) {
             Ok(infos) => infos,
@@ -157,12 +147,11 @@ impl<'a, S: Store> Searcher<'a, S> {
         requires fits { SearchFits (S.files store.old) self.old }
         ensures fits { SearchFits (S.files store.new) self.new }
         ensures same { SameOpened self.old self.new }
-        ensures replied { (code : TextCode) (collection : List ℕ) → OpenedOver (S.files store.old) self.old code collection →
-            Replied code collection now.now.ranked now.now line.now
-            (O.written out.old) (O.written out.new) (S.reads store.old) (S.reads store.new) result }
-        ensures step { Stepped now.now.mode (S.files store.old) (S.files store.new)
-            (S.reads store.old) (S.reads store.new) (S.faults store.old) (S.faults store.new) }
+        ensures replied { ForOpened (S.files store.old) self.old
+            (RepliesTo O.written S.reads out.old out.new store.old store.new result now.now.ranked now.now line.now) }
+        ensures step { Between S.files S.reads S.faults store.old store.new (Stepped now.now.mode) }
         ensures cause { HasShowCause result (S.faults store.old) (S.faults store.new) (O.faults out.old) (O.faults out.new) }
+        ensures lack { HasShowLack (O.lacks out.old) (O.lacks out.new) result }
     {
         if now.ranked {
             self.answer_ranked(store, line, now, out)

@@ -1,26 +1,25 @@
 //! A session over built files, from their head to the last reply.
-ghost use Rattle.std.specs.Prelude.{◌≡◌, ℕ, ◌≤◌, ◌^◌, List, [], Err, Some, false, true, OnOk, IfErr, IsSome};
+ghost use Rattle.std.specs.Prelude.{◌≡◌, ℕ, ◌≤◌, ◌^◌, List, [], Err, false, OnOk, IsSome};
 ghost use Rattle.std.specs.Option.{ForSome};
-ghost use Rattle.mg_dev.specs.Causes.{Rose};
 ghost use Rattle.mg_dev.specs.Files.{bytes_at};
-ghost use Rattle.mg_dev.specs.Moments.{SinkAt};
 ghost use Rattle.mg_dev.specs.Names.{full_name};
-ghost use Rattle.mg_dev.specs.Runs.{RefusedFor, status_of};
-ghost use Rattle.mg_dev.specs.Streams.{appended, GrewByPrefix};
+ghost use Rattle.mg_dev.specs.Runs.{RefusedFor};
 ghost use Rattle.mg_dev.specs.declared.part.Part.{Part};
 ghost use Rattle.mg_dev.specs.declared.part.Part.TheVariants as part;
 ghost use Rattle.mg_dev.specs.declared.fault.Fault.TheVariants.{NotBuilt};
-ghost use Rattle.mg_defs.specs.CodedText.{TextCode};
-ghost use Rattle.mg_defs.specs.Limit.{is_too_much, input_limit};
+ghost use Rattle.mg_defs.specs.InputLimit.{is_too_much};
+ghost use Rattle.mg_defs.specs.Limits.{input_limit};
 ghost use Rattle.mg_defs.specs.Replies.{session};
 ghost use Rattle.mg_defs.specs.Session.{questions_of};
-ghost use Rattle.mg_layout.specs.Stands.{Stands, StandsBy};
+ghost use Rattle.mg_layout.specs.Stands.{Stands};
 ghost use Rattle.mg_layout.specs.declared.head.Head.{Head};
+ghost use Rattle.mg_reply.specs.Printed.{ForEach, PrintsAll, PrintsPrefix, Runs, StopsBy};
 ghost use Rattle.mg_reply.specs.Served.{LeftEnough};
-ghost use Rattle.mg_session.specs.Parts.{NeverRead, is_of_text};
+ghost use Rattle.mg_session.specs.Parts.{NeverRead};
 ghost use Rattle.mg_session.specs.Queried.{Queried};
-ghost use Rattle.mg_session.specs.Searching.{AskForNoText, OpenedOver, SearchFits};
-ghost use Rattle.mg_session.specs.Serves.{ReadsWithin, Stops, StopsFor, fault_of_serve};
+ghost use Rattle.mg_session.specs.Searching.{AskForNoText, SearchFits};
+ghost use Rattle.mg_session.specs.Serves.{OpenedStops, ReadsWithin, SetStops, StopsFor, fault_of_serve};
+ghost use Rattle.mg_session.specs.Sessions.{ForOpened, ForSet, ReadBy, ReadsNoDocument};
 
 use crate::searcher::Searcher;
 use mg_dev::{Fault, Sink, Source, Store};
@@ -49,20 +48,19 @@ fn serve_searcher<S: Store, I: Source, O: Sink>(
 ) -> Result<(), Fault>
     requires fits { SearchFits (S.files store.old) searcher.old }
     ensures files { S.files store.new ≡ S.files store.old }
-    ensures all { (code : TextCode) (collection : List ℕ) → OpenedOver (S.files store.old) searcher.old code collection →
-        ForSome (I.left input.old) (λ given. OnOk result (O.written out.new ≡ appended (O.written out.old) (session collection given))) }
-    ensures prefix { (code : TextCode) (collection : List ℕ) → OpenedOver (S.files store.old) searcher.old code collection →
-        ForSome (I.left input.old) (λ given. GrewByPrefix (O.written out.old) (O.written out.new) (session collection given)) }
-    ensures pages { (code : TextCode) (collection : List ℕ) → OpenedOver (S.files store.old) searcher.old code collection →
-        ForSome (I.left input.old) (λ given. ReadsWithin code collection given (S.reads store.old) (S.reads store.new)) }
+    ensures all { ForOpened (S.files store.old) searcher.old
+        (λ code. PrintsAll I.left O.written input.old out.old out.new result session) }
+    ensures prefix { ForOpened (S.files store.old) searcher.old
+        (λ code. PrintsPrefix I.left O.written input.old out.old out.new session) }
+    ensures pages { ForOpened (S.files store.old) searcher.old
+        (ReadBy I.left S.reads input.old store.old store.new ReadsWithin) }
     ensures unread { (p : Part) → NeverRead p → S.reads store.new p ≡ S.reads store.old p }
-    ensures texts_unread { ForSome (I.left input.old) (λ given. AskForNoText (questions_of given) →
-        (p : Part) → is_of_text p ≡ true → S.reads store.new p ≡ S.reads store.old p) }
+    ensures texts_unread { ForSome (I.left input.old)
+        (λ given. AskForNoText (questions_of given) → ReadsNoDocument (S.reads store.old) (S.reads store.new)) }
     ensures left { ForSome (I.left input.old) (λ given. OnOk result (LeftEnough given (I.left input.new))) }
     ensures within { ForSome (I.left input.old) (λ given. OnOk result (is_too_much input_limit given ≡ false)) }
-    ensures cause { IfErr result (Stops
-        (Rose (S.faults store.old) (S.faults store.new)) (Rose (I.faults input.old) (I.faults input.new)) (Rose (O.faults out.old) (O.faults out.new))
-        ⊥ ((code : TextCode) (collection : List ℕ) → OpenedOver (S.files store.old) searcher.old code collection → ⊥) (I.left input.old)) }
+    ensures cause { StopsBy S.files S.faults I.left I.faults O.faults
+        store.old store.new input.old input.new out.old out.new result (OpenedStops searcher.old) }
     ensures later { S.faults store.old ≤ S.faults store.new }
 {
     match serve_lines(Hearing::Commands, searcher, store, input, out) {
@@ -83,20 +81,19 @@ fn serve_set<S: Store, I: Source, O: Sink>(
     requires words { head.now.words ≤ 2 ^ 22 }
     requires others { head.now.others ≤ 2 ^ 22 }
     ensures files { S.files store.new ≡ S.files store.old }
-    ensures all { (code : TextCode) (collection : List ℕ) → StandsBy head.now code (S.files store.old) base.now collection →
-        ForSome (I.left input.old) (λ given. OnOk result (O.written out.new ≡ appended (O.written out.old) (session collection given))) }
-    ensures prefix { (code : TextCode) (collection : List ℕ) → StandsBy head.now code (S.files store.old) base.now collection →
-        ForSome (I.left input.old) (λ given. GrewByPrefix (O.written out.old) (O.written out.new) (session collection given)) }
-    ensures pages { (code : TextCode) (collection : List ℕ) → StandsBy head.now code (S.files store.old) base.now collection →
-        ForSome (I.left input.old) (λ given. ReadsWithin code collection given (S.reads store.old) (S.reads store.new)) }
+    ensures all { ForSet head.now (S.files store.old) base.now
+        (λ code. PrintsAll I.left O.written input.old out.old out.new result session) }
+    ensures prefix { ForSet head.now (S.files store.old) base.now
+        (λ code. PrintsPrefix I.left O.written input.old out.old out.new session) }
+    ensures pages { ForSet head.now (S.files store.old) base.now
+        (ReadBy I.left S.reads input.old store.old store.new ReadsWithin) }
     ensures unread { (p : Part) → NeverRead p → S.reads store.new p ≡ S.reads store.old p }
-    ensures texts_unread { ForSome (I.left input.old) (λ given. AskForNoText (questions_of given) →
-        (p : Part) → is_of_text p ≡ true → S.reads store.new p ≡ S.reads store.old p) }
+    ensures texts_unread { ForSome (I.left input.old)
+        (λ given. AskForNoText (questions_of given) → ReadsNoDocument (S.reads store.old) (S.reads store.new)) }
     ensures left { ForSome (I.left input.old) (λ given. OnOk result (LeftEnough given (I.left input.new))) }
     ensures within { ForSome (I.left input.old) (λ given. OnOk result (is_too_much input_limit given ≡ false)) }
-    ensures cause { IfErr result (Stops
-        (Rose (S.faults store.old) (S.faults store.new)) (Rose (I.faults input.old) (I.faults input.new)) (Rose (O.faults out.old) (O.faults out.new))
-        ⊥ ((code : TextCode) (collection : List ℕ) → StandsBy head.now code (S.files store.old) base.now collection → ⊥) (I.left input.old)) }
+    ensures cause { StopsBy S.files S.faults I.left I.faults O.faults
+        store.old store.new input.old input.new out.old out.new result (SetStops head.now base.now) }
     ensures later { S.faults store.old ≤ S.faults store.new }
 {
     let lex = match Lex::load(alloc, store, base, head) {
@@ -116,25 +113,24 @@ fn serve_files<S: Store, I: Source, O: Sink>(
     out: &mut O,
 ) -> Result<(), Fault>
     // Where the files stand for a collection: the whole session is printed, or a prefix of it.
-    ensures all { (collection : List ℕ) → Stands (S.files store.old) base.now collection →
-        ForSome (I.left input.old) (λ given. OnOk result (O.written out.new ≡ appended (O.written out.old) (session collection given))) }
-    ensures prefix { (collection : List ℕ) → Stands (S.files store.old) base.now collection →
-        ForSome (I.left input.old) (λ given. GrewByPrefix (O.written out.old) (O.written out.new) (session collection given)) }
+    ensures all { ForEach (Stands (S.files store.old) base.now)
+        (PrintsAll I.left O.written input.old out.old out.new result session) }
+    ensures prefix { ForEach (Stands (S.files store.old) base.now)
+        (PrintsPrefix I.left O.written input.old out.old out.new session) }
     // The input is read to its end, or to a line that ends the session.
     ensures left { ForSome (I.left input.old) (λ given. OnOk result (LeftEnough given (I.left input.new))) }
     ensures within { ForSome (I.left input.old) (λ given. OnOk result (is_too_much input_limit given ≡ false)) }
     // What is read of the lists and of the text is bounded by the query lines; some parts are never read,
     // and the models and the text not where no query line asks for texts.
-    ensures pages { (head : Head) (code : TextCode) (collection : List ℕ) → StandsBy head code (S.files store.old) base.now collection →
-        ForSome (I.left input.old) (λ given. ReadsWithin code collection given (S.reads store.old) (S.reads store.new)) }
+    ensures pages { (head : Head) → ForSet head (S.files store.old) base.now
+        (ReadBy I.left S.reads input.old store.old store.new ReadsWithin) }
     ensures unread { (p : Part) → NeverRead p → S.reads store.new p ≡ S.reads store.old p }
-    ensures texts_unread { ForSome (I.left input.old) (λ given. AskForNoText (questions_of given) →
-        (p : Part) → is_of_text p ≡ true → S.reads store.new p ≡ S.reads store.old p) }
+    ensures texts_unread { ForSome (I.left input.old)
+        (λ given. AskForNoText (questions_of given) → ReadsNoDocument (S.reads store.old) (S.reads store.new)) }
     ensures files { S.files store.new ≡ S.files store.old }
     // The cause of each refusal.
-    ensures cause { IfErr result (StopsFor
-        (Rose (S.faults store.old) (S.faults store.new)) (Rose (I.faults input.old) (I.faults input.new)) (Rose (O.faults out.old) (O.faults out.new))
-        (S.files store.old) base.now (I.left input.old)) }
+    ensures cause { StopsBy S.files S.faults I.left I.faults O.faults
+        store.old store.new input.old input.new out.old out.new result (StopsFor base.now) }
     ensures silent { result ≡ Err NotBuilt → O.written out.new ≡ O.written out.old }
     ensures not_built { IsSome (S.files store.old) → bytes_at (S.files store.old) (full_name base.now part.Head) ≡ [] → RefusedFor result NotBuilt }
     ensures later { S.faults store.old ≤ S.faults store.new }
@@ -171,17 +167,8 @@ pub fn serve<S: Store, I: Source, O: Sink>(
     out: &mut O,
 ) -> Result<(), Fault>
     // What a run does that asks a session, whatever its error output is.
-    ensures queried { (err err_now : SinkAt) → Queried base.now (record {
-      store = record { files = S.files store.old; reads = S.reads store.old; faults = S.faults store.old };
-      store_now = record { files = S.files store.new; reads = S.reads store.new; faults = S.faults store.new };
-      input = record { left = I.left input.old; faults = I.faults input.old };
-      input_now = record { left = I.left input.new; faults = I.faults input.new };
-      out = record { written = O.written out.old; faults = O.faults out.old; lacks = O.lacks out.old };
-      out_now = record { written = O.written out.new; faults = O.faults out.new; lacks = O.lacks out.new };
-      err = err;
-      err_now = err_now;
-      status = status_of result;
-    }) }
+    ensures queried { Runs S.files S.reads S.faults I.left I.faults O.written O.faults O.lacks
+        store.old store.new input.old input.new out.old out.new result (Queried base.now) }
     ensures later { S.faults store.old ≤ S.faults store.new }
 {
     serve_files(alloc, store, base, input, out)

@@ -3,17 +3,17 @@
 //! A reader of the text keeps both models whole, and loading them takes longer than a line that
 //! names documents is worth. So a session that shows no text never loads them; one that does loads
 //! them once.
-ghost use Rattle.std.specs.Prelude.{◌≡◌, ◌+◌, ◌≤◌, ◌^◌, ℕ, List, None};
-ghost use Rattle.mg_defs.specs.CodedText.{TextCode};
+ghost use Rattle.std.specs.Prelude.{◌≡◌, ◌≤◌, None};
 ghost use Rattle.mg_defs.specs.Terms.{document};
-ghost use Rattle.mg_defs.specs.TextBounds.{doc_pages};
 ghost use Rattle.mg_defs.specs.declared.session.Mode.TheVariants as mode;
-ghost use Rattle.mg_dev.specs.Streams.{AfterPut};
-ghost use Rattle.mg_dev.specs.declared.part.Part.TheVariants as part;
+ghost use Rattle.mg_dev.specs.Moments.{Between};
+ghost use Rattle.mg_reply.specs.Printed.{Puts};
 ghost use Rattle.mg_text.specs.Reading.{ShowIsNotBad};
-ghost use Rattle.mg_session.specs.Answering.{HasShowCause, at_score};
+ghost use Rattle.mg_session.specs.Answering.{HasShowCause, HasShowLack};
 ghost use Rattle.mg_session.specs.Parts.{ShownIn};
-ghost use Rattle.mg_session.specs.Texts.{SameTexts, TextsFit, TextsStand};
+ghost use Rattle.mg_session.specs.Sessions.{ForText};
+ghost use Rattle.mg_session.specs.Showing.{ReadsShown};
+ghost use Rattle.mg_session.specs.Texts.{SameTexts, TextsFit};
 
 use mg_dev::{ShowErr, Sink, Store};
 use mg_layout::Head;
@@ -65,14 +65,13 @@ impl<'a, S: Store> Texts<'a, S> {
         requires within { number ≤ self.old.head.documents }
         ensures fits { TextsFit (S.files store.new) self.new }
         ensures same { SameTexts self.old self.new }
-        ensures content { (code : TextCode) (collection : List ℕ) → TextsStand self.old (S.files store.old) code collection →
-            AfterPut (O.written out.old) (O.written out.new) (document collection number) result }
-        ensures pages { (code : TextCode) (collection : List ℕ) → TextsStand self.old (S.files store.old) code collection →
-            S.reads store.new part.Text ≤ S.reads store.old part.Text + doc_pages code collection (at_score number None) }
-        ensures sound { (code : TextCode) (collection : List ℕ) → TextsStand self.old (S.files store.old) code collection → ShowIsNotBad result }
-        ensures looked { ShownIn mode.Text (S.files store.old) (S.files store.new)
-            (S.reads store.old) (S.reads store.new) (S.faults store.old) (S.faults store.new) }
+        ensures content { ForText self.old (S.files store.old)
+            (λ code collection. Puts O.written out.old out.new result (document collection number)) }
+        ensures pages { ForText self.old (S.files store.old) (ReadsShown S.reads store.old store.new mode.Text number None) }
+        ensures sound { ForText self.old (S.files store.old) (λ code collection. ShowIsNotBad result) }
+        ensures looked { Between S.files S.reads S.faults store.old store.new (ShownIn mode.Text) }
         ensures cause { HasShowCause result (S.faults store.old) (S.faults store.new) (O.faults out.old) (O.faults out.new) }
+        ensures lack { HasShowLack (O.lacks out.old) (O.lacks out.new) result }
     {
         match &mut self.reader {
             Some(reader) => reader.doc(store, number, out),

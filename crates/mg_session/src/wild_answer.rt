@@ -1,22 +1,21 @@
 //! The answer to a pattern: the terms that match it, and the documents that have one of them.
 ghost use Rattle.std.specs.Prelude.{◌≡◌, ◌≢◌, ℕ, ◌+◌, ◌-◌, ◌^◌, ◌<◌, List, [], ◌∷◌, All, Err, IfOk, IfSome, OnOk, length};
-ghost use Rattle.mg_dev.specs.Causes.{HasPutCause};
+ghost use Rattle.mg_dev.specs.Causes.{HasPutCause, HasLack};
+ghost use Rattle.mg_dev.specs.Moments.{Between};
 ghost use Rattle.mg_dev.specs.PartCauses.{HasPartCause};
-ghost use Rattle.mg_defs.specs.Lists.{postings};
-ghost use Rattle.mg_defs.specs.PageBounds.{numbers_in};
 ghost use Rattle.mg_defs.specs.Split.{documents};
 ghost use Rattle.mg_defs.specs.WildSession.{numbers_text, term_row};
-ghost use Rattle.mg_post.specs.Answers.{AnswersList};
 ghost use Rattle.mg_post.specs.Cursor.{CursorFits, IsFrom, SameList};
-ghost use Rattle.mg_post.specs.TermLists.{AnswersAsk, IsInfoOf, ListsStand, ReadsLists};
-ghost use Rattle.mg_rank.specs.Ranked.{AnswersOr, ListFor};
-ghost use Rattle.mg_reply.specs.Pending.{AfterPass};
+ghost use Rattle.mg_post.specs.TermLists.{IsInfoOf, ListsStand, ReadsLists};
+ghost use Rattle.mg_rank.specs.Ranked.{ListFor};
+ghost use Rattle.mg_reply.specs.Printed.{ForEach, Passes};
 ghost use Rattle.mg_wild.specs.Loading.{HasTermsOf, TellsOf};
 ghost use Rattle.mg_wild.specs.Patterns.{sides_of};
-ghost use Rattle.mg_session.specs.Answering.{HasShowCause};
+ghost use Rattle.mg_session.specs.Answering.{HasShowCause, HasShowLack};
 ghost use Rattle.mg_session.specs.DocumentSets.{marked_to};
-ghost use Rattle.mg_session.specs.WildAnswers.{ReadsNoText, WildAnswered, WildSources};
-ghost use Rattle.mg_session.specs.WildMarks.{AddsLists, term_rows, terms_at};
+ghost use Rattle.mg_session.specs.Replying.{AnswersPattern};
+ghost use Rattle.mg_session.specs.WildAnswers.{ReadsNoText, WildSources};
+ghost use Rattle.mg_session.specs.WildMarks.{AnswersBehind, MarksLists, MarksTerms, rows_at};
 
 use crate::document_set::DocumentSet;
 use mg_defs::Posting;
@@ -38,7 +37,7 @@ fn next_posting<S: Store>(
     ensures fits { OnOk result (CursorFits cursor.new (S.files store.new)) }
     ensures same { SameList cursor.old cursor.new }
     ensures answer { (base collection t : List ℕ) → ListsStand base (S.files store.old) collection → ListFor base collection t last cursor.old →
-        AnswersList result (λ found. AnswersAsk base collection (numbers_in (postings collection t)) t (last + 1) found cursor.new) }
+        AnswersBehind base collection t last cursor.new result }
     ensures sound { IfOk result (λ found. IfSome found (IsFrom (last + 1) cursor.old.all)) }
     ensures reads { ReadsLists (S.reads store.old) (S.reads store.new) }
     ensures files { S.files store.new ≡ S.files store.old }
@@ -60,7 +59,7 @@ fn mark_list<S: Store>(
     requires room { marked.old.all ≡ all }
     ensures room { marked.new.all ≡ all }
     ensures answer { (collection t : List ℕ) → ListsStand base.now (S.files store.old) collection → IsInfoOf collection t info.now →
-        all ≡ length (documents collection) → AnswersOr result (λ _. AddsLists collection (t ∷ []) marked.old marked.new) }
+        all ≡ length (documents collection) → MarksLists (t ∷ []) marked.old marked.new result collection }
     ensures reads { ReadsLists (S.reads store.old) (S.reads store.new) }
     ensures files { S.files store.new ≡ S.files store.old }
     ensures cause { HasPartCause (S.faults store.old) (S.faults store.new) result }
@@ -96,8 +95,7 @@ fn mark_all<S: Store>(
     requires terms { All (λ n. n < length terms.now.terms) numbers.now }
     requires room { marked.old.all ≡ all }
     ensures room { marked.new.all ≡ all }
-    ensures answer { (collection : List ℕ) → WildSources base.now (S.files store.old) terms.now all collection →
-        AnswersOr result (λ _. AddsLists collection (terms_at collection numbers.now) marked.old marked.new) }
+    ensures answer { ForEach (WildSources base.now (S.files store.old) terms.now all) (MarksTerms numbers.now marked.old marked.new result) }
     ensures reads { ReadsLists (S.reads store.old) (S.reads store.new) }
     ensures files { S.files store.new ≡ S.files store.old }
     ensures cause { HasPartCause (S.faults store.old) (S.faults store.new) result }
@@ -119,8 +117,9 @@ fn pass_term<O: Sink>(
     term: &[u8],
     docs: u32,
 ) -> Result<(), PutErr>
-    ensures content { AfterPass (O.written out.old) (O.written out.new) pending.old pending.new (term_row term.now docs) result }
+    ensures content { Passes O.written out.old out.new pending.old pending.new result (term_row term.now docs) }
     ensures cause { HasPutCause (O.faults out.old) (O.faults out.new) result }
+    ensures lack { HasLack (O.lacks out.old) (O.lacks out.new) result }
 {
     match pending.put(out, b"+ ") {
         Ok(()) => {}
@@ -146,8 +145,9 @@ fn pass_terms<O: Sink>(
     requires each { length terms.now.infos ≡ length terms.now.terms }
     requires terms { All (λ n. n < length terms.now.terms) numbers.now }
     ensures content { (collection : List ℕ) → HasTermsOf terms.now collection → TellsOf terms.now collection →
-        AfterPass (O.written out.old) (O.written out.new) pending.old pending.new (term_rows collection (terms_at collection numbers.now)) result }
+        Passes O.written out.old out.new pending.old pending.new result (rows_at numbers.now collection) }
     ensures cause { HasPutCause (O.faults out.old) (O.faults out.new) result }
+    ensures lack { HasLack (O.lacks out.old) (O.lacks out.new) result }
 {
     for number in numbers {
         let info = terms.info(*number);
@@ -165,9 +165,9 @@ fn pass_marked<O: Sink>(
     out: &mut O,
     marked: &DocumentSet,
 ) -> Result<(), PutErr>
-    ensures content { AfterPass (O.written out.old) (O.written out.new) pending.old pending.new
-        (numbers_text (marked_to marked.now marked.now.all)) result }
+    ensures content { Passes O.written out.old out.new pending.old pending.new result (numbers_text (marked_to marked.now marked.now.all)) }
     ensures cause { HasPutCause (O.faults out.old) (O.faults out.new) result }
+    ensures lack { HasLack (O.lacks out.old) (O.lacks out.new) result }
 {
     let mut last = 0;
     let mut total = 0u32;
@@ -198,10 +198,11 @@ pub(crate) fn answer_pattern<S: Store, O: Sink>(
 ) -> Result<(), ShowErr>
     requires room { marked.old.all ≡ all }
     ensures room { marked.new.all ≡ all }
-    ensures answer { (collection : List ℕ) → WildSources base.now (S.files store.old) terms.now all collection →
-        WildAnswered collection (sides_of pattern.now) (O.written out.old) (O.written out.new) result }
-    ensures step { ReadsNoText (S.files store.old) (S.files store.new) (S.reads store.old) (S.reads store.new) (S.faults store.old) (S.faults store.new) }
+    ensures answer { ForEach (WildSources base.now (S.files store.old) terms.now all)
+        (AnswersPattern O.written out.old out.new result (sides_of pattern.now)) }
+    ensures step { Between S.files S.reads S.faults store.old store.new ReadsNoText }
     ensures cause { HasShowCause result (S.faults store.old) (S.faults store.new) (O.faults out.old) (O.faults out.new) }
+    ensures lack { HasShowLack (O.lacks out.old) (O.lacks out.new) result }
 {
     // For the proof: something is told of each term.
     let _ = terms.len();

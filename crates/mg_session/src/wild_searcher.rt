@@ -1,12 +1,12 @@
 //! An answerer of patterns over the open parts of a set.
-ghost use Rattle.std.specs.Prelude.{◌≡◌, ◌≤◌, ℕ, List, [], ◌∷◌, IfErr, IsErrOf, length};
+ghost use Rattle.std.specs.Prelude.{◌≡◌, ◌≤◌, length};
 ghost use Rattle.mg_defs.specs.WildSession.{bad_pattern};
-ghost use Rattle.mg_dev.specs.Causes.{HasPutCause, Rose};
-ghost use Rattle.mg_dev.specs.Streams.{AfterPut};
-ghost use Rattle.mg_dev.specs.declared.show_err.ShowErr.TheVariants.{Write};
-ghost use Rattle.mg_reply.specs.Served.{PartStops};
-ghost use Rattle.mg_session.specs.Answering.{HasShowCause};
-ghost use Rattle.mg_session.specs.WildAnswers.{ReadsNoText, WildReplied};
+ghost use Rattle.mg_dev.specs.Causes.{HasPutCause, HasLack};
+ghost use Rattle.mg_dev.specs.Moments.{Between};
+ghost use Rattle.mg_reply.specs.Printed.{ForEach, Puts};
+ghost use Rattle.mg_session.specs.Answering.{HasShowCause, HasShowLack};
+ghost use Rattle.mg_session.specs.WildAnswers.{ReadsNoText};
+ghost use Rattle.mg_session.specs.Replying.{RepliesToPattern};
 ghost use Rattle.mg_session.specs.WildSearching.{HasRoom, PartsAreOf, WildAsked, WildBy, WildFits, WildMayStop, WildState, wild_state};
 ghost use Rattle.mg_session.specs.WildSearchLaws.{wild_later, wild_more, wild_none, wild_stop};
 
@@ -43,8 +43,9 @@ impl<'a, S: Store> Model for WildSearcher<'a, S> {
 
 /// Writes that a line is no pattern, and from which place on.
 fn put_bad_pattern<O: Sink>(out: &mut O, at: u32) -> Result<(), PutErr>
-    ensures content { AfterPut (O.written out.old) (O.written out.new) (bad_pattern at) result }
+    ensures content { Puts O.written out.old out.new result (bad_pattern at) }
     ensures cause { HasPutCause (O.faults out.old) (O.faults out.new) result }
+    ensures lack { HasLack (O.lacks out.old) (O.lacks out.new) result }
 {
     let mut pending = Pending::new();
     match pending.put(out, b"? bad pattern at ") {
@@ -89,10 +90,10 @@ impl<'a, S: Store> WildSearcher<'a, S> {
         requires short { length line.now ≤ 1024 }
         requires fits { HasRoom self.old }
         ensures same { self.new ≡ self.old }
-        ensures replied { (collection : List ℕ) → PartsAreOf (S.files store.old) self.old collection →
-            WildReplied collection line.now (O.written out.old) (O.written out.new) result }
-        ensures step { ReadsNoText (S.files store.old) (S.files store.new) (S.reads store.old) (S.reads store.new) (S.faults store.old) (S.faults store.new) }
+        ensures replied { ForEach (PartsAreOf (S.files store.old) self.old) (RepliesToPattern O.written out.old out.new result line.now) }
+        ensures step { Between S.files S.reads S.faults store.old store.new ReadsNoText }
         ensures cause { HasShowCause result (S.faults store.old) (S.faults store.new) (O.faults out.old) (O.faults out.new) }
+        ensures lack { HasShowLack (O.lacks out.old) (O.lacks out.new) result }
     {
         let pattern = match read_pattern(self.alloc, line) {
             Ok(pattern) => pattern,

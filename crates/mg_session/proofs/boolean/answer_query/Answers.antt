@@ -27,6 +27,7 @@ matches-init g c = record {
   within = omega (arith, c.in-Ok.ensures.before);
   step = stepped_none _ _ _ _;
   output = omega arith;
+  lacks = omega arith;
   walked = λ code collection stands told. walked_start _ _ _ _ _ _ _ _ _ c.new-pending.ensures (ap query_of c.in-Ok.ensures.asks) c.in-Ok.ensures.before (c.in-Ok.ensures.over collection told stands.all_is);
 }
 
@@ -79,6 +80,7 @@ matches-preserved g c =
       within = omega (arith, range, kept.all);
       step = stepped_then _ _ _ _ _ _ _ _ _ _ (stepped_then _ _ _ _ _ _ _ _ _ _ inv.step (lists_step _ _ _ _ _ _ _ c.in-Ok-Some.ensures.files c.in-Ok-Some.ensures.cause.later c.in-Ok-Some.ensures.reads)) (shown_step _ _ _ _ _ _ _ c.in-Ok-show_hit.ensures.looked);
       output = omega (arith, inv.output, c.in-Ok-show_hit.ensures.cause.output);
+      lacks = omega (arith, inv.lacks, c.in-Ok-show_hit.ensures.lack.later);
       walked = λ code collection stands told.
           let walked = inv.walked code collection stands told in
           let lists = (weights_later c.args.base.now c.args.base.now _ _ collection refl inv.step.files stands.weights).lists in

@@ -20,6 +20,7 @@ invariant-matches g l = record {
   within : l.matches.decided ≤ l.matches.all;
   step : Stepped l.fn.now.mode (g.S.Store.files l.fn.store) (g.S.Store.files l.store) (g.S.Store.reads l.fn.store) (g.S.Store.reads l.store) (g.S.Store.faults l.fn.store) (g.S.Store.faults l.store);
   output : g.O.Sink.faults l.fn.out ≤ g.O.Sink.faults l.out;
+  lacks : g.O.Sink.lacks l.fn.out ≤ g.O.Sink.lacks l.out;
   walked : (code : TextCode) (collection : List ℕ) → AnswersFor l.fn.base (g.S.Store.files l.fn.store) l.fn.texts l.fn.all code collection → AreInfos collection (query_terms (query_of l.fn.query)) l.fn.infos →
       Walked l.fn.base code collection (query_of l.fn.query) l.fn.now (g.O.Sink.written l.fn.out) (g.O.Sink.written l.out) l.pending l.total l.matches (g.S.Store.reads l.fn.store) (g.S.Store.reads l.store);
 }

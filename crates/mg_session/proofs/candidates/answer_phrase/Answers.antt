@@ -1,11 +1,12 @@
 use Rattle.std.specs.Prelude.{IfSome}
-use Rattle.std.proofs.Common.{arith, ◌≡◌, ◌+◌, ◌<◌, ◌≤◌, ℕ, refl, ◌∙◌, ap, subst}
+use Rattle.std.proofs.Common.{arith, ◌≡◌, ◌+◌, ◌<◌, ◌≤◌, ℕ, Result, Err, refl, ◌∙◌, ap, subst}
 use Rattle.std.specs.declared.option.Option.{Option}
 use Rattle.mg_dev.specs.declared.part.Part.TheVariants as part
+use Rattle.mg_dev.specs.declared.show_err.ShowErr.{ShowErr}
 use Rattle.mg_defs.specs.CodedText.{TextCode}
 use Rattle.mg_defs.specs.PageBounds.{boolean_bound}
 use Rattle.mg_defs.specs.Phrases.{phrase_places}
-use Rattle.mg_defs.specs.Reply.{plain}
+use Rattle.mg_defs.specs.ShownAnswers.{plain}
 use Rattle.mg_defs.specs.TextBounds.{doc_pages}
 use Rattle.mg_bool.specs.Matches.{GoesOn, left_of}
 use Rattle.mg_bool.specs.Places.{pages_read}
@@ -13,7 +14,7 @@ use Rattle.mg_post.specs.TermLists.{PagesWithin}
 use Rattle.mg_query.specs.QueryOf.{query_of}
 use Rattle.mg_query.specs.declared.query.Query.{Query}
 use Rattle.mg_session.specs.PhraseSearchLaws.{lists_stay, reads_none, reads_then, text_kept, text_kept_then, text_stays}
-use Rattle.mg_session.proofs.PhraseReplyLaws.{none_answered}
+use Rattle.mg_session.proofs.PhraseReplyLaws.{no_lack, none_answered}
 use Rattle.mg_session.proofs.PhraseStepLaws.{decoded_post, lists_reads, looked_reads}
 use Rattle.mg_session.proofs.PhraseWalkLaws.{joined, size_none, size_some, walked_cut, walked_end, walked_searched, walked_start, walked_stop, walked_uncounted, walked_unread}
 use Rattle.mg_session.proofs.ReplyLaws.{list_sound, put_sound}
@@ -38,6 +39,7 @@ matches-init g c = record {
   within = omega (arith, c.in-Ok.ensures.before);
   step = reads_none _ _ _;
   output = omega arith;
+  lacks = omega arith;
   walked = λ collection stands told. walked_start _ _ collection c.args.phrase.now _ _ _ _ _ c.new-pending.ensures (ap query_of c.in-Ok.ensures.asks) c.in-Ok.ensures.before (c.in-Ok.ensures.over collection told stands.all_is);
 }
 
@@ -73,6 +75,12 @@ returns-in-Err-hold-clause-answer g c = λ collection stands told.
 
 pub returns-in-Err-hold-clause-cause : goal.returns-in-Err-hold-clause-cause
 returns-in-Err-hold-clause-cause g c = cause_after _ _ (g.S.Store.faults c.next.new.store) _ _ (g.O.Sink.faults c.matches.out) _ (omega (arith, c.matches.invariant.step.faults, c.in-Ok-Some.ensures.cause.later)) c.matches.invariant.output (c.in-Err-hold.ensures.cause (g.O.Sink.faults c.matches.out))
+
+abbrev not_held : ShowErr → Result (Unit {0}) ShowErr
+not_held error = Err error
+
+pub returns-in-Err-hold-clause-lack : goal.returns-in-Err-hold-clause-lack
+returns-in-Err-hold-clause-lack g c = no_lack c.in-Err-hold.refusal _ _ c.matches.invariant.lacks (λ is. c.in-Err-hold.ensures.memory (ap not_held is))
 
 pub returns-in-Err-hold-clause-step : goal.returns-in-Err-hold-clause-step
 returns-in-Err-hold-clause-step g c = reads_then _ _ _ _ _ _ _ _ _ (reads_then _ _ _ _ _ _ _ _ _ c.matches.invariant.step (lists_reads _ _ _ _ _ _ c.in-Ok-Some.ensures.files c.in-Ok-Some.ensures.cause.later c.in-Ok-Some.ensures.reads)) (looked_reads part.Text part.Places _ _ _ _ _ _ (omega arith) (omega arith) c.in-Err-hold.ensures.looked)
@@ -114,6 +122,7 @@ matches-preserved-then-places-gt0 g c =
       within = omega (arith, range, kept.all);
       step = reads_then _ _ _ _ _ _ _ _ _ (reads_then _ _ _ _ _ _ _ _ _ c.matches.invariant.step (lists_reads _ _ _ _ _ _ c.in-Ok-Some.ensures.files c.in-Ok-Some.ensures.cause.later c.in-Ok-Some.ensures.reads)) (looked_reads part.Text part.Places _ _ _ _ _ _ (omega arith) (omega arith) c.in-Ok-hold.ensures.looked);
       output = omega (arith, inv.output, c.in-Ok-pass_places.ensures.cause.later);
+      lacks = omega (arith, inv.lacks, c.in-Ok-pass_places.ensures.lack.later);
       walked = λ collection stands told.
           let walked = inv.walked collection stands told in
           let lists = lists_stay c.args.base.now c.args.base.now _ _ collection refl inv.step.files stands.lists in
@@ -146,6 +155,7 @@ matches-preserved g c =
       within = omega (arith, range, kept.all);
       step = reads_then _ _ _ _ _ _ _ _ _ (reads_then _ _ _ _ _ _ _ _ _ c.matches.invariant.step (lists_reads _ _ _ _ _ _ c.in-Ok-Some.ensures.files c.in-Ok-Some.ensures.cause.later c.in-Ok-Some.ensures.reads)) (looked_reads part.Text part.Places _ _ _ _ _ _ (omega arith) (omega arith) c.in-Ok-hold.ensures.looked);
       output = omega (arith, inv.output, c.in-Ok-pass_places.ensures.cause.later);
+      lacks = omega (arith, inv.lacks, c.in-Ok-pass_places.ensures.lack.later);
       walked = λ collection stands told.
           let walked = inv.walked collection stands told in
           let lists = lists_stay c.args.base.now c.args.base.now _ _ collection refl inv.step.files stands.lists in

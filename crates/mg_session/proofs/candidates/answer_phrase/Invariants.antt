@@ -19,6 +19,7 @@ invariant-matches g l = record {
   within : l.matches.decided ≤ l.matches.all;
   step : OnlyReads (g.S.Store.files l.fn.store) (g.S.Store.files l.store) (g.S.Store.reads l.fn.store) (g.S.Store.reads l.store) (g.S.Store.faults l.fn.store) (g.S.Store.faults l.store);
   output : g.O.Sink.faults l.fn.out ≤ g.O.Sink.faults l.out;
+  lacks : g.O.Sink.lacks l.fn.out ≤ g.O.Sink.lacks l.out;
   walked : (collection : List ℕ) → PhraseSources l.fn.base (g.S.Store.files l.fn.store) l.fn.text l.fn.all collection → AreInfos collection (query_terms (query_of l.fn.query)) l.fn.infos →
       PhraseWalked l.fn.base l.fn.text.code collection l.fn.phrase (query_of l.fn.query) (g.O.Sink.written l.fn.out) (g.O.Sink.written l.out) l.pending l.total l.matches (g.S.Store.reads l.fn.store) (g.S.Store.reads l.store);
 }

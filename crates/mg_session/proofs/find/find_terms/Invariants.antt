@@ -1,6 +1,6 @@
 use Rattle.std.proofs.Common.{◌≡◌, ℕ, List, length}
 use Rattle.mg_dev.specs.declared.part.Part.TheVariants as part
-use Rattle.mg_defs.specs.Limits.{IsWithinLimits}
+use Rattle.mg_defs.specs.WithinLimits.{IsWithinLimits}
 use Rattle.mg_front.specs.Reading.{FrontFits, LookedAt, SameParts}
 use Rattle.mg_lex.specs.Reading.{LexStands}
 use Rattle.mg_session.specs.Answering.{FirstInfos}

@@ -10,17 +10,17 @@ use Rattle.mg_session.proofs.StepLaws.{ranked_text, shown_post}
 use Rattle.mg_session.proofs.ranked.answer_terms.Goals as goal
 
 pub returns-in-Err-clause-answer : goal.returns-in-Err-clause-answer
-returns-in-Err-clause-answer g c = λ code collection terms stands told apart. none_answered _ _ _ _ _ _ _
+returns-in-Err-clause-answer g c = λ code collection stands terms told apart. none_answered _ _ _ _ _ _ _
 
 pub returns-in-Err-rank-clause-answer : goal.returns-in-Err-rank-clause-answer
-returns-in-Err-rank-clause-answer g c = λ code collection terms stands told apart.
+returns-in-Err-rank-clause-answer g c = λ code collection stands terms told apart.
     let kept = known_terms terms c.args.infos.now in
     let is_told : AreTold collection kept c.deref.result.now = subst (λ (xs : List TermInfo). AreTold collection kept xs) (sym (c.deref.ensures.value ∙ c.in-Ok.ensures.known)) (known_told collection terms c.args.infos.now told apart) in
     terms_stop _ _ _ terms _ _ _ _ _ _ (known_bound collection terms c.args.infos.now told.size) (c.in-Err-rank.ensures.pages collection kept stands.weights.lists is_told stands.all_is) (ranked_text _ _ c.in-Err-rank.ensures.reads)
     (top_sound c.in-Err-rank.refusal _ collection kept _ c.from.ensures (c.in-Err-rank.ensures.answer collection kept stands.weights is_told stands.all_is))
 
 pub returns-in-Err-show_rows-clause-answer : goal.returns-in-Err-show_rows-clause-answer
-returns-in-Err-show_rows-clause-answer g c = λ code collection terms stands told apart.
+returns-in-Err-show_rows-clause-answer g c = λ code collection stands terms told apart.
     let kept = known_terms terms c.args.infos.now in
     let is_told : AreTold collection kept c.deref.result.now = subst (λ (xs : List TermInfo). AreTold collection kept xs) (sym (c.deref.ensures.value ∙ c.in-Ok.ensures.known)) (known_told collection terms c.args.infos.now told apart) in
     let top = c.in-Ok-rank.ensures.answer collection kept stands.weights is_told stands.all_is in
@@ -30,7 +30,7 @@ returns-in-Err-show_rows-clause-answer g c = λ code collection terms stands tol
     c.new-pending.ensures (c.in-Err-show_rows.ensures.content code collection text) (shown_post _ _ _ _ _ _ _ c.in-Err-show_rows.ensures.looked) (c.in-Err-show_rows.ensures.pages code collection text) (c.in-Err-show_rows.ensures.sound code collection text)
 
 pub returns-in-Err-count-clause-answer : goal.returns-in-Err-count-clause-answer
-returns-in-Err-count-clause-answer g c = λ code collection terms stands told apart.
+returns-in-Err-count-clause-answer g c = λ code collection stands terms told apart.
     let kept = known_terms terms c.args.infos.now in
     let is_told : AreTold collection kept c.deref.result.now = subst (λ (xs : List TermInfo). AreTold collection kept xs) (sym (c.deref.ensures.value ∙ c.in-Ok.ensures.known)) (known_told collection terms c.args.infos.now told apart) in
     let top = c.in-Ok-rank.ensures.answer collection kept stands.weights is_told stands.all_is in
@@ -41,7 +41,7 @@ returns-in-Err-count-clause-answer g c = λ code collection terms stands told ap
     c.in-Err-count.ensures.content (put_sound c.in-Err-count.refusal _ c.from-in-Err-count.ensures)
 
 pub returns-in-Ok-flush-clause-answer : goal.returns-in-Ok-flush-clause-answer
-returns-in-Ok-flush-clause-answer g c = λ code collection terms stands told apart.
+returns-in-Ok-flush-clause-answer g c = λ code collection stands terms told apart.
     let kept = known_terms terms c.args.infos.now in
     let is_told : AreTold collection kept c.deref.result.now = subst (λ (xs : List TermInfo). AreTold collection kept xs) (sym (c.deref.ensures.value ∙ c.in-Ok.ensures.known)) (known_told collection terms c.args.infos.now told apart) in
     let top = c.in-Ok-rank.ensures.answer collection kept stands.weights is_told stands.all_is in
@@ -52,7 +52,7 @@ returns-in-Ok-flush-clause-answer g c = λ code collection terms stands told apa
     c.in-Ok-count.ensures.content c.in-Ok-flush.ensures.content tt
 
 pub returns-clause-answer : goal.returns-clause-answer
-returns-clause-answer g c = λ code collection terms stands told apart.
+returns-clause-answer g c = λ code collection stands terms told apart.
     let kept = known_terms terms c.args.infos.now in
     let is_told : AreTold collection kept c.deref.result.now = subst (λ (xs : List TermInfo). AreTold collection kept xs) (sym (c.deref.ensures.value ∙ c.in-Ok.ensures.known)) (known_told collection terms c.args.infos.now told apart) in
     let top = c.in-Ok-rank.ensures.answer collection kept stands.weights is_told stands.all_is in

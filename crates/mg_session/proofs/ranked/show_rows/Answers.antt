@@ -12,6 +12,7 @@ loop-place-init g c = record {
   same = same_texts _;
   looked = shown_none _ _ _ _;
   output = omega arith;
+  lacks = omega arith;
   shown = λ code collection is. rows_start _ _ _ _ _ _ _;
 }
 
@@ -29,6 +30,7 @@ loop-place-preserved g c =
       same = texts_then _ _ _ inv.same c.in-Ok.ensures.same;
       looked = shown_then _ _ _ _ _ _ _ _ _ _ inv.looked c.in-Ok.ensures.looked;
       output = omega (arith, inv.output, c.in-Ok.ensures.cause.output);
+      lacks = omega (arith, inv.lacks, c.in-Ok.ensures.lack.later);
       shown = λ code collection is.
           let text = texts_later _ _ _ _ code collection inv.same inv.looked.files is in
           rows_more code collection c.args.mode c.args.rows.now c.loop-place.place c.row-row.result.number c.row-row.result.score _ _ _ _ _ _ _ (g.S.Store.reads c.loop-place.store) _ (omega arith) c.row-row.ensures.number c.row-row.ensures.score (inv.shown code collection is) (c.in-Ok.ensures.content code collection text)

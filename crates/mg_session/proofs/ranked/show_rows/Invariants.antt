@@ -11,6 +11,7 @@ invariant-loop-place g l = record {
   same : SameTexts l.fn.texts l.texts;
   looked : ShownIn l.mode (g.S.Store.files l.fn.store) (g.S.Store.files l.store) (g.S.Store.reads l.fn.store) (g.S.Store.reads l.store) (g.S.Store.faults l.fn.store) (g.S.Store.faults l.store);
   output : g.O.Sink.faults l.fn.out ≤ g.O.Sink.faults l.out;
+  lacks : g.O.Sink.lacks l.fn.out ≤ g.O.Sink.lacks l.out;
   shown : (code : TextCode) (collection : List ℕ) → TextsStand l.fn.texts (g.S.Store.files l.fn.store) code collection →
       RowsShown code collection l.mode l.rows l.place (g.O.Sink.written l.fn.out) (g.O.Sink.written l.out) l.fn.pending l.pending (g.S.Store.reads l.fn.store) (g.S.Store.reads l.store);
 }

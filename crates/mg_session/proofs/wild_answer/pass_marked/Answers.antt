@@ -8,6 +8,7 @@ rows-init g c = record {
   few = omega arith;
   size = size_start c.args.marked.now;
   output = omega arith;
+  lacks = omega arith;
   passed = rows_start c.args.marked.now _ _;
 }
 
@@ -20,6 +21,7 @@ rows-preserved g c =
       few = omega (arith, inv.few, next.behind);
       size = size_next c.args.marked.now c.rows.last c.in-Some.number next ∙ ap (λ n. n + 1) inv.size;
       output = omega (arith, inv.output, c.in-Ok.ensures.cause.later);
+      lacks = omega (arith, inv.lacks, c.in-Ok.ensures.lack.later);
       passed = rows_passed c.args.marked.now c.rows.last c.in-Some.number _ _ _ _ _ _ next inv.passed c.in-Ok.ensures.content;
     }
 

@@ -10,6 +10,7 @@ invariant-rows g l = record {
   few : l.total ≤ l.last;
   size : length (marked_to l.marked l.last) ≡ l.total;
   output : g.O.Sink.faults l.fn.out ≤ g.O.Sink.faults l.out;
+  lacks : g.O.Sink.lacks l.fn.out ≤ g.O.Sink.lacks l.out;
   passed : Passed (g.O.Sink.written l.fn.out) (g.O.Sink.written l.out) l.fn.pending l.pending (rows_to l.marked l.last);
 }
 

@@ -3,7 +3,7 @@ use Rattle.mg_session.proofs.WildTextLaws.{terms_all, terms_cut, terms_passed, t
 use Rattle.mg_session.proofs.wild_answer.pass_terms.Goals as goal
 
 pub loop-number-init : goal.loop-number-init
-loop-number-init g c = record { output = omega arith; passed = λ collection has tells. terms_start collection c.args.numbers.now _ _ }
+loop-number-init g c = record { output = omega arith; lacks = omega arith; passed = λ collection has tells. terms_start collection c.args.numbers.now _ _ }
 
 pub info-info-requires : goal.info-info-requires
 info-info-requires g c = omega (arith, c.requires.terms c.loop-number.number-index 0 c.loop-number-test.true, c.requires.each)
@@ -14,6 +14,7 @@ loop-number-preserved g c =
     let n = (get_or c.args.numbers.now c.loop-number.number-index 0) in
     record {
       output = omega (arith, inv.output, c.in-Ok.ensures.cause.later);
+      lacks = omega (arith, inv.lacks, c.in-Ok.ensures.lack.later);
       passed = λ collection has tells.
           let told = told_info collection c.args.terms.now n c.info-info.result has tells (c.requires.terms c.loop-number.number-index 0 c.loop-number-test.true) c.info-info.ensures.info c.info-info.ensures.number in
           let named = c.term.ensures ∙ ap (λ ts. get_or ts n []) has.terms in

@@ -9,17 +9,20 @@ use Rattle.mg_query.specs.QueryOf.{query_of}
 use Rattle.mg_session.specs.PhraseAnswers.{PhraseReplied}
 use Rattle.mg_session.specs.PhraseSearching.{PartsOver, PhraseParts}
 use Rattle.mg_session.specs.PhraseSearchLaws.{sources_stay}
-use Rattle.mg_session.proofs.PhraseReplyLaws.{line_answered, line_counted, line_refused, line_unput, line_words, nothing_replied}
+use Rattle.mg_session.proofs.PhraseReplyLaws.{line_answered, line_counted, line_refused, line_words, nothing_replied}
 use Rattle.mg_session.proofs.PhraseWalkLaws.{terms_joined}
-use Rattle.mg_session.proofs.ReplyLaws.{part_sound, put_sound}
+use Rattle.mg_session.proofs.ReplyLaws.{part_sound, put_sound, refused_cause, refused_lack}
 use Rattle.mg_session.proofs.StepLaws.{lex_post, lex_text}
 use Rattle.mg_session.proofs.phrase_searcher.PhraseSearcher.answer_question.Goals as goal
 
-pub returns-in-Ok-put_refused-clause-replied : goal.returns-in-Ok-put_refused-clause-replied
-returns-in-Ok-put_refused-clause-replied g c = λ collection over. line_refused c.in-Err.why _ collection _ _ _ _ c.in-Err.ensures.refused c.in-Ok-put_refused.ensures.content c.in-Ok-put_refused.ensures.memory
+pub returns-in-Err-clause-replied : goal.returns-in-Err-clause-replied
+returns-in-Err-clause-replied g c = λ collection over. line_refused c.in-Err.why _ collection _ _ _ _ _ _ _ c.in-Err.ensures.refused c.answer_refused.ensures.content c.answer_refused.ensures.cause
 
-pub returns-in-Err-put_refused-clause-replied : goal.returns-in-Err-put_refused-clause-replied
-returns-in-Err-put_refused-clause-replied g c = λ collection over. line_unput c.in-Err.why _ collection _ _ _ _ c.in-Err-put_refused.refusal _ c.in-Err.ensures.refused c.in-Err-put_refused.ensures.content c.in-Err-put_refused.ensures.memory c.from.ensures
+pub returns-in-Err-clause-cause : goal.returns-in-Err-clause-cause
+returns-in-Err-clause-cause g c = refused_cause _ _ _ _ _ c.answer_refused.ensures.later c.answer_refused.ensures.cause
+
+pub returns-in-Err-clause-lack : goal.returns-in-Err-clause-lack
+returns-in-Err-clause-lack g c = refused_lack _ _ _ _ c.answer_refused.ensures.lacks c.answer_refused.ensures.cause
 
 pub returns-in-Err-all_of-clause-replied : goal.returns-in-Err-all_of-clause-replied
 returns-in-Err-all_of-clause-replied g c = λ collection over. nothing_replied _ collection _ _ _ _ _ tt refl refl
@@ -28,7 +31,7 @@ pub returns-in-Ok-put_count-clause-replied : goal.returns-in-Ok-put_count-clause
 returns-in-Ok-put_count-clause-replied g c = λ collection over. line_counted _ collection _ c.in-Ok.phrase _ _ _ _ c.in-Ok.ensures.reads (subst (IsAllOf c.in-Ok.phrase) c.in-None.is c.in-Ok-all_of.ensures) c.in-Ok-put_count.ensures.content tt
 
 pub returns-in-Err-put_count-clause-replied : goal.returns-in-Err-put_count-clause-replied
-returns-in-Err-put_count-clause-replied g c = λ collection over. line_counted _ collection _ c.in-Ok.phrase _ _ _ _ c.in-Ok.ensures.reads (subst (IsAllOf c.in-Ok.phrase) c.in-None.is c.in-Ok-all_of.ensures) c.in-Err-put_count.ensures.content (put_sound c.in-Err-put_count.refusal _ c.from-in-Err-put_count.ensures)
+returns-in-Err-put_count-clause-replied g c = λ collection over. line_counted _ collection _ c.in-Ok.phrase _ _ _ _ c.in-Ok.ensures.reads (subst (IsAllOf c.in-Ok.phrase) c.in-None.is c.in-Ok-all_of.ensures) c.in-Err-put_count.ensures.content (put_sound c.in-Err-put_count.refusal _ c.from.ensures)
 
 pub returns-in-Err-find_terms-clause-replied : goal.returns-in-Err-find_terms-clause-replied
 returns-in-Err-find_terms-clause-replied g c = λ collection over.
