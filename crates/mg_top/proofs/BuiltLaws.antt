@@ -1,5 +1,5 @@
 -- What a build answered, and the put of its summary, is what the run did.
-use Rattle.std.proofs.Common.{◌≡◌, ◌∙◌, ◌⊎◌, ℕ, List, [], Ok, Err, IsSome, Option, refl, sym, ap, subst, inl, inr}
+use Rattle.std.proofs.Common.{◌≡◌, ◌∙◌, ◌⊎◌, ℕ, List, Ok, Err, IsSome, Option, refl, sym, ap, subst, inl, inr}
 use Rattle.std.specs.Prelude.{Result}
 use Rattle.mg_dev.specs.Causes.{HasPutCause, Rose}
 use Rattle.mg_dev.specs.Faults.{fault_of_output}

@@ -5,25 +5,25 @@ use Rattle.mg_dev.specs.Causes.{HasPutCause, Rose}
 use Rattle.mg_dev.specs.Files.{Files, bytes_at}
 use Rattle.mg_dev.specs.Names.{full_name}
 use Rattle.mg_dev.specs.StreamLaws.{grew_nothing}
-use Rattle.mg_dev.specs.Streams.{appended, AfterPut, GrewByPrefix}
+use Rattle.mg_dev.specs.Streams.{AfterPut, GrewByPrefix}
 use Rattle.mg_dev.specs.declared.device.PutErr.{PutErr}
 use Rattle.mg_dev.specs.declared.device.PutErr.TheVariants as put
 use Rattle.mg_dev.specs.declared.fault.Fault.{Fault}
 use Rattle.mg_dev.specs.declared.fault.Fault.TheVariants.{Usage, StoreFault, ReadFault, WriteFault, NotBuilt, Damaged, NoCollection, TooLarge, TooManyDocuments, TooManyPieces, Changed, Memory, NameClash, InputTooLong, SameName, TooManyRotations}
 use Rattle.mg_dev.specs.declared.part.Part.TheVariants as part
 use Rattle.mg_dev.specs.declared.status.Status.{Status}
-use Rattle.mg_dev.specs.declared.status.Status.TheVariants.{Done, Stopped}
+use Rattle.mg_dev.specs.declared.status.Status.TheVariants.{Stopped}
 use Rattle.mg_dev.specs.Runs.{IfStopped, KeepsFiles, Run, SaysNothing, StoreFailed, OutputFailed, Stops, StopsUnless}
 use Rattle.mg_defs.specs.Split.{documents}
 use Rattle.mg_defs.specs.Stands.{Parts, Stand}
-use Rattle.mg_layout.specs.Stands.{Stands, StandsForNone, parts_at}
+use Rattle.mg_layout.specs.Stands.{Stands, parts_at}
 use Rattle.mg_dev.proofs.CallerLemmas.{put_grew}
 use Rattle.mg_check.specs.Found as found
-use Rattle.mg_check.specs.Found.{IsDamagedSet, StandsWith}
+use Rattle.mg_check.specs.Found.{StandsWith}
 use Rattle.mg_check.specs.Reads.{ReadsSet}
 use Rattle.mg_top.specs.Checked.{Checked, CheckStops, TellsDamage, standing_line}
 use Rattle.mg_top.specs.Lines.{stands_line}
-use Rattle.mg_top.proofs.BuiltLaws.{same_fault, not_done, put_done_or, put_when_done, status_of_put}
+use Rattle.mg_top.proofs.BuiltLaws.{not_done, put_done_or, put_when_done, status_of_put}
 
 -- ---- what the call answered
 

@@ -1,5 +1,5 @@
 -- What a migration answered, and the put of its line, is what the run did.
-use Rattle.std.proofs.Common.{◌≡◌, ℕ, List, [], length, Ok, Err, Option, refl, sym, ap, subst, inl}
+use Rattle.std.proofs.Common.{◌≡◌, ℕ, List, length, Ok, Err, Option, refl, sym, ap, subst, inl}
 use Rattle.std.specs.Prelude.{Result, codes}
 use Rattle.mg_dev.specs.Causes.{HasPutCause, Rose}
 use Rattle.mg_dev.specs.Files.{Files}

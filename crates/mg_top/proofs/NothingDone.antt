@@ -71,7 +71,7 @@ module _ (run : Run) (stops : Stops run Memory) (store : run.store_now ≡ run.s
     prefix = λ told given some. prefix (session (bytes_at run.store.files n) given);
     silent = λ is. silent;
     silent_large = λ size most is. silent;
-    cause = caused (ScanStops (StoreFailed run) (InputFailed run) (OutputFailed run) run.store.files n run.input.left) tt;
+    cause = caused (ScanStops n (StoreFailed run) (InputFailed run) (OutputFailed run) run.store.files run.input.left) tt;
     missing = λ told none. inr (inr stops);
     large = λ told more. inr (inr stops);
     complete = λ bytes given there small some short no_store no_input no_output. inr stops;
@@ -112,7 +112,7 @@ module _ (run : Run) (stops : Stops run Memory) (store : run.store_now ≡ run.s
     within = λ given some is. absurd (not_done is);
     prefix = λ c given stands some. prefix (session c given);
     silent = λ is. silent;
-    cause = caused (serves.StopsFor (StoreFailed run) (InputFailed run) (OutputFailed run) run.store.files n run.input.left) tt;
+    cause = caused (serves.StopsFor n (StoreFailed run) (InputFailed run) (OutputFailed run) run.store.files run.input.left) tt;
     not_built = λ told none. inr (inr stops);
     complete = λ c given stands some short no_store no_input no_output. inr stops;
     files = files;
@@ -128,7 +128,7 @@ module _ (run : Run) (stops : Stops run Memory) (store : run.store_now ≡ run.s
     within = λ given some is. absurd (not_done is);
     prefix = λ c given stands some. prefix (phrase_session c given);
     silent = λ is. silent;
-    cause = caused (serves.StopsFor (StoreFailed run) (InputFailed run) (OutputFailed run) run.store.files n run.input.left) tt;
+    cause = caused (serves.StopsFor n (StoreFailed run) (InputFailed run) (OutputFailed run) run.store.files run.input.left) tt;
     not_built = λ told none. inr (inr stops);
     complete = λ c given stands some short no_store no_input no_output. inr stops;
     files = files;
@@ -144,7 +144,7 @@ module _ (run : Run) (stops : Stops run Memory) (store : run.store_now ≡ run.s
     prefix = λ c given stands some. prefix (wild_session c given);
     silent = λ fault first is. silent;
     untouched = λ fault first is. ap (λ s. s.left) input;
-    cause = caused (WildStops (StoreFailed run) (InputFailed run) (OutputFailed run) run.store.files n run.input.left) tt;
+    cause = caused (WildStops n (StoreFailed run) (InputFailed run) (OutputFailed run) run.store.files run.input.left) tt;
     not_built = λ told none. inr (inr stops);
     many = λ c stands more. inr (inr stops);
     complete = λ c given stands few some short no_store no_input no_output. inr stops;

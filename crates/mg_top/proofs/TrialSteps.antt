@@ -13,7 +13,8 @@ use Rattle.mg_dev.specs.declared.fault.Fault.{Fault}
 use Rattle.mg_dev.specs.declared.fault.Fault.TheVariants.{Usage, StoreFault, ReadFault, WriteFault, NotBuilt, Damaged, NoCollection, TooLarge, TooManyDocuments, TooManyPieces, Changed, Memory, NameClash, InputTooLong, SameName, TooManyRotations}
 use Rattle.mg_defs.specs.Heads.{first_damage}
 use Rattle.mg_defs.specs.Replies.{session}
-use Rattle.mg_defs.specs.Limit.{has_quit, input_limit, is_too_much}
+use Rattle.mg_defs.specs.InputLimit.{has_quit, is_too_much}
+use Rattle.mg_defs.specs.Limits.{input_limit}
 use Rattle.mg_defs.proofs.HeadLaws.{no_damage}
 use Rattle.mg_defs.proofs.StandLaws.{stand-tells}
 use Rattle.mg_dev.specs.Names.{full_name}
@@ -102,7 +103,7 @@ module _ (s i o : Type 0) (files : Option Files) (collection given : List ℕ) (
   bytes_are : bytes_at files text_name ≡ collection
   bytes_are = bytes_there files collection built.text
 
-  pub serve_lacks : (f : Fault) → serves.StopsFor s i o files set_name left f → Lacks s f
+  pub serve_lacks : (f : Fault) → serves.StopsFor set_name s i o files left f → Lacks s f
   serve_lacks StoreFault cause = cause
   serve_lacks ReadFault cause = no_input cause
   serve_lacks WriteFault cause = no_output cause
@@ -120,7 +121,7 @@ module _ (s i o : Type 0) (files : Option Files) (collection given : List ℕ) (
   serve_lacks SameName cause = cause
   serve_lacks (TooManyRotations count) cause = cause
 
-  pub scan_lacks : (f : Fault) → ScanStops s i o files text_name left f → Lacks s f
+  pub scan_lacks : (f : Fault) → ScanStops text_name s i o files left f → Lacks s f
   scan_lacks StoreFault cause = cause
   scan_lacks ReadFault cause = no_input cause
   scan_lacks WriteFault cause = no_output cause

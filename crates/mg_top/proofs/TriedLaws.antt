@@ -12,7 +12,8 @@ use Rattle.mg_dev.specs.declared.status.Status.{Status}
 use Rattle.mg_dev.specs.declared.status.Status.TheVariants.{Done, Stopped}
 use Rattle.mg_defs.specs.declared.Stream.{Stream}
 use Rattle.mg_defs.specs.Generator.{made_collection}
-use Rattle.mg_defs.specs.Limits.{IsWithinLimits, held_bytes, version_2}
+use Rattle.mg_defs.specs.Limits.{held_bytes, version_2}
+use Rattle.mg_defs.specs.WithinLimits.{IsWithinLimits}
 use Rattle.mg_defs.specs.Marks.{PassesFirst, start, piece}
 use Rattle.mg_defs.specs.Summaries.{trial_lines, trial_text}
 use Rattle.mg_top.specs.Lines.{bytes_line, compared_line, trial_summary_lines}

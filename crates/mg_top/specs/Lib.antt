@@ -5,5 +5,6 @@ pub mod Trials
 pub mod Tried
 pub mod Checked
 pub mod Does
+pub mod Running
 pub mod Migrated
 pub mod Merged

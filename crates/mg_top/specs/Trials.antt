@@ -7,8 +7,10 @@ use Rattle.mg_dev.specs.Files.{Files, file_at}
 use Rattle.mg_dev.specs.declared.fault.Fault.{Fault}
 use Rattle.mg_dev.specs.declared.fault.Fault.TheVariants.{StoreFault, WriteFault, TooLarge, TooManyDocuments, TooManyPieces, Memory}
 use Rattle.mg_defs.specs.declared.Stream.{Stream}
-use Rattle.mg_defs.specs.Limits.{IsWithinLimits, held_bytes, version_2}
-use Rattle.mg_defs.specs.Marks.{PassesFirst, start, piece}
+use Rattle.mg_defs.specs.Limits.{held_bytes, version_2}
+use Rattle.mg_defs.specs.WithinLimits.{IsWithinLimits}
+use Rattle.mg_defs.specs.Generator.{made_collection}
+use Rattle.mg_defs.specs.Marks.{Mark, PassesFirst, start, piece}
 use Rattle.mg_defs.specs.Occurrences.{occurrences}
 use Rattle.mg_defs.specs.Replies.{session}
 use Rattle.mg_defs.specs.Terms.{dictionary}
@@ -67,6 +69,29 @@ abbrev pub SilentAfter : Option (List ℕ) → Option (List ℕ) → ℕ → ℕ
 SilentAfter before now lacks lacks_now WriteFault = Unit {0}
 SilentAfter before now lacks lacks_now Memory = (now ≡ before) ⊎ Rose lacks lacks_now
 SilentAfter before now lacks lacks_now _ = now ≡ before
+
+-- why a trial stops, by how often the store and the output failed before it and after it
+abbrev pub TrialStopsBy : {X Z T : Type 0} → (X → ℕ) → (Z → ℕ) → X → X → Z → Z → Result T Fault → List ℕ → Type 0
+TrialStopsBy store_faults output_faults store store_now out out_now result collection =
+    IfErr result (TrialStops (Rose (store_faults store) (store_faults store_now)) (Rose (output_faults out) (output_faults out_now)) collection)
+
+-- what is answered is a sink that holds these bytes
+abbrev pub HoldsText : {Z : Type 0} → (Z → Option (List ℕ)) → Result Z Fault → List ℕ → Type 0
+HoldsText written result bytes = IfOk result (λ out. written out ≡ Some bytes)
+
+-- ---- the collection that is made from these numbers
+
+-- its text can be held in memory
+abbrev pub IsHeld : ℕ → ℕ → Type 0
+IsHeld seed docs = length (made_collection seed docs) ≤ held_bytes
+
+-- it is within the limits of a set
+abbrev pub IsAllowed : ℕ → ℕ → Type 0
+IsAllowed seed docs = IsWithinLimits 2 (made_collection seed docs)
+
+-- at this mark it first goes beyond one of them
+abbrev pub IsBeyondAt : ℕ → ℕ → Mark → Type 0
+IsBeyondAt seed docs mark = PassesFirst version_2 (made_collection seed docs) mark
 
 -- How the work before the first line ends, by whether the store failed, and by what was made.
 pub record WorkEnds (store_rose : Type 0) (docs : ℕ) (collection input : List ℕ) (result : Result TrialSummary Fault) : Type 0 where

@@ -5,7 +5,8 @@ use Rattle.mg_dev.specs.declared.fault.Fault.TheVariants.{TooLarge, TooManyDocum
 use Rattle.mg_dev.specs.declared.status.Status.TheVariants.{Done}
 use Rattle.mg_defs.specs.declared.Stream.{Stream}
 use Rattle.mg_defs.specs.Generator.{made_collection}
-use Rattle.mg_defs.specs.Limits.{IsWithinLimits, held_bytes, version_2}
+use Rattle.mg_defs.specs.Limits.{held_bytes, version_2}
+use Rattle.mg_defs.specs.WithinLimits.{IsWithinLimits}
 use Rattle.mg_defs.specs.Marks.{PassesFirst, start, piece}
 use Rattle.mg_defs.specs.Summaries.{trial_text}
 use Rattle.mg_dev.specs.Runs.{IfStopped, Run, OutputFailed, Stops}

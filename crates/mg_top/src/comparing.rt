@@ -1,10 +1,11 @@
 // What a set and the collection's text tell, compared.
-ghost use Rattle.std.specs.Prelude.{◌≡◌, ◌≤◌, ℕ, List, true, length, IfErr, IfOk, OnOk, Ok, Some};
+ghost use Rattle.std.specs.Prelude.{◌≡◌, ◌≤◌, true, length, IfErr, IfOk, OnOk, Ok};
 ghost use Rattle.mg_dev.specs.Causes.{Rose};
 ghost use Rattle.mg_layout.specs.Stands.{Stands};
 ghost use Rattle.mg_defs.specs.Generator.{made_session};
 ghost use Rattle.mg_defs.specs.Replies.{session};
-ghost use Rattle.mg_top.specs.Trials.{IsBuilt, Lacks, replies_of, set_name};
+ghost use Rattle.mg_reply.specs.Printed.{ForEach};
+ghost use Rattle.mg_top.specs.Trials.{HoldsText, IsBuilt, Lacks, replies_of, set_name};
 
 use crate::trials::{SET, TEXT};
 use mg_build::decode;
@@ -35,9 +36,9 @@ pub(crate) fn is_decoded<S: Store>(alloc: Global, store: &mut S, text: &[u8]) ->
 /// The replies of the set.
 fn served<S: Store>(alloc: Global, store: &mut S, questions: &[u8]) -> Result<SureSink, Fault>
     requires short { length questions.now ≤ 1670 }
-    ensures replies { (collection : List ℕ) → IsBuilt (S.files store.old) collection →
-        IfOk result (λ out. ⟦<SureSink as Sink>⟧.written out ≡ Some (session collection questions.now)) }
-    ensures cause { (collection : List ℕ) → IsBuilt (S.files store.old) collection → IfErr result (Lacks (Rose (S.faults store.old) (S.faults store.new))) }
+    ensures replies { ForEach (IsBuilt (S.files store.old))
+        (λ collection. HoldsText ⟦<SureSink as Sink>⟧.written result (session collection questions.now)) }
+    ensures cause { ForEach (IsBuilt (S.files store.old)) (λ collection. IfErr result (Lacks (Rose (S.faults store.old) (S.faults store.new)))) }
     ensures files { S.files store.new ≡ S.files store.old }
     ensures later { S.faults store.old ≤ S.faults store.new }
 {
@@ -55,9 +56,9 @@ fn served<S: Store>(alloc: Global, store: &mut S, questions: &[u8]) -> Result<Su
 /// The replies of the collection's text.
 fn scanned<S: Store>(alloc: Global, store: &mut S, questions: &[u8]) -> Result<SureSink, Fault>
     requires short { length questions.now ≤ 1670 }
-    ensures replies { (collection : List ℕ) → IsBuilt (S.files store.old) collection →
-        IfOk result (λ out. ⟦<SureSink as Sink>⟧.written out ≡ Some (session collection questions.now)) }
-    ensures cause { (collection : List ℕ) → IsBuilt (S.files store.old) collection → IfErr result (Lacks (Rose (S.faults store.old) (S.faults store.new))) }
+    ensures replies { ForEach (IsBuilt (S.files store.old))
+        (λ collection. HoldsText ⟦<SureSink as Sink>⟧.written result (session collection questions.now)) }
+    ensures cause { ForEach (IsBuilt (S.files store.old)) (λ collection. IfErr result (Lacks (Rose (S.faults store.old) (S.faults store.new)))) }
     ensures files { S.files store.new ≡ S.files store.old }
     ensures later { S.faults store.old ≤ S.faults store.new }
 {
@@ -74,7 +75,7 @@ fn scanned<S: Store>(alloc: Global, store: &mut S, questions: &[u8]) -> Result<S
 
 /// The questions of a trial.
 fn made_questions(alloc: Global, seed: u64) -> Result<SureSink, Fault>
-    ensures text { IfOk result (λ out. ⟦<SureSink as Sink>⟧.written out ≡ Some (made_session seed)) }
+    ensures text { HoldsText ⟦<SureSink as Sink>⟧.written result (made_session seed) }
     ensures short { length (made_session seed) ≤ 1670 }
     ensures cause { IfErr result (Lacks ⊥) }
 {
@@ -96,9 +97,9 @@ pub(crate) struct Replies {
 
 /// Asks the questions of a trial of the set and of the collection's text.
 pub(crate) fn ask_both<S: Store>(alloc: Global, store: &mut S, seed: u64) -> Result<Replies, Fault>
-    ensures replies { (collection : List ℕ) → IsBuilt (S.files store.old) collection →
-        IfOk result (λ replies. replies ≡ replies_of collection (made_session seed)) }
-    ensures cause { (collection : List ℕ) → IsBuilt (S.files store.old) collection → IfErr result (Lacks (Rose (S.faults store.old) (S.faults store.new))) }
+    ensures replies { ForEach (IsBuilt (S.files store.old))
+        (λ collection. IfOk result (λ replies. replies ≡ replies_of collection (made_session seed))) }
+    ensures cause { ForEach (IsBuilt (S.files store.old)) (λ collection. IfErr result (Lacks (Rose (S.faults store.old) (S.faults store.new)))) }
     ensures later { S.faults store.old ≤ S.faults store.new }
 {
     let questions = match made_questions(alloc, seed) {

@@ -1,6 +1,6 @@
 // The tool `query`.
 ghost use Rattle.std.specs.Prelude.{◌≡◌, ◌⊎◌};
-ghost use Rattle.mg_dev.specs.Runs.{Run};
+ghost use Rattle.mg_top.specs.Running.{RunsBy};
 ghost use Rattle.mg_session.specs.Queried.{Queried};
 ghost use Rattle.mg_top.specs.Ends.{ToldWhy};
 
@@ -18,17 +18,8 @@ pub fn run_query<S: Store, I: Source, O: Sink, E: Sink>(
     out: &mut O,
     err: &mut E,
 ) -> Status
-    ensures does { Queried name.now (record {
-      store = record { files = S.files store.old; reads = S.reads store.old; faults = S.faults store.old };
-      store_now = record { files = S.files store.new; reads = S.reads store.new; faults = S.faults store.new };
-      input = record { left = I.left input.old; faults = I.faults input.old };
-      input_now = record { left = I.left input.new; faults = I.faults input.new };
-      out = record { written = O.written out.old; faults = O.faults out.old; lacks = O.lacks out.old };
-      out_now = record { written = O.written out.new; faults = O.faults out.new; lacks = O.lacks out.new };
-      err = record { written = E.written err.old; faults = E.faults err.old; lacks = E.lacks err.old };
-      err_now = record { written = E.written err.new; faults = E.faults err.new; lacks = E.lacks err.new };
-      status = result;
-    }) }
+    ensures does { RunsBy S.files S.reads S.faults I.left I.faults O.written O.faults O.lacks E.written E.faults E.lacks
+        store.old store.new input.old input.new out.old out.new err.old err.new result (Queried name.now) }
     ensures told { ToldWhy result (E.written err.old) (E.written err.new) (E.faults err.old) (E.faults err.new) (E.lacks err.old) (E.lacks err.new) }
 {
     match serve(alloc, store, name, input, out) {

@@ -6,11 +6,11 @@ ghost use Rattle.mg_dev.specs.Streams.{AfterPut};
 ghost use Rattle.mg_dev.specs.declared.fault.Fault.TheVariants as fault;
 ghost use Rattle.mg_defs.specs.declared.Stream.{Stream as Kind};
 ghost use Rattle.mg_defs.specs.Generator.{made_collection, made_session};
-ghost use Rattle.mg_defs.specs.Limits.{IsWithinLimits, held_bytes, version_2};
-ghost use Rattle.mg_defs.specs.Marks.{PassesFirst, start as start_mark, piece as piece_mark};
+ghost use Rattle.mg_defs.specs.Limits.{held_bytes};
+ghost use Rattle.mg_defs.specs.Marks.{start as start_mark, piece as piece_mark};
 ghost use Rattle.mg_defs.specs.Summaries.{trial_text};
 ghost use Rattle.mg_dev.specs.Runs.{IsDone, RefusedFor};
-ghost use Rattle.mg_top.specs.Trials.{Lacks, SilentAfter, TrialStops, WorkEnds, text_name};
+ghost use Rattle.mg_top.specs.Trials.{HoldsText, IsAllowed, IsBeyondAt, IsHeld, Lacks, SilentAfter, TrialStopsBy, WorkEnds, text_name};
 
 use crate::comparing::{ask_both, is_decoded};
 use crate::lines::put_trial_summary;
@@ -34,7 +34,7 @@ const MOST_BYTES: u64 = 268_435_456;
 
 /// The collection of a trial.
 fn made_text(alloc: Global, seed: u64, docs: u32) -> Result<SureSink, Fault>
-    ensures text { IfOk result (λ out. ⟦<SureSink as Sink>⟧.written out ≡ Some (made_collection seed docs)) }
+    ensures text { HoldsText ⟦<SureSink as Sink>⟧.written result (made_collection seed docs) }
     ensures cause { IfErr result (Lacks ⊥) }
 {
     let mut out = SureSink::new(alloc);
@@ -132,17 +132,15 @@ pub fn trial<S: Store, O: Sink>(
     ensures text { AfterPut (O.written out.old) (O.written out.new) (trial_text seed docs) result }
     ensures silent { IfErr result (SilentAfter (O.written out.old) (O.written out.new) (O.lacks out.old) (O.lacks out.new)) }
     // The cause of each refusal.
-    ensures cause { IfErr result
-        (TrialStops (Rose (S.faults store.old) (S.faults store.new)) (Rose (O.faults out.old) (O.faults out.new)) (made_collection seed docs)) }
+    ensures cause { TrialStopsBy S.faults O.faults store.old store.new out.old out.new result (made_collection seed docs) }
     ensures later { S.faults store.old ≤ S.faults store.new }
     // What the collection has too much of is told, in this order.
     ensures large { held_bytes < length (made_collection seed docs) → RefusedFor result (fault.TooLarge (length (made_collection seed docs)) held_bytes) }
-    ensures documents { length (made_collection seed docs) ≤ held_bytes → PassesFirst version_2 (made_collection seed docs) start_mark →
-        RefusedFor result fault.TooManyDocuments }
-    ensures pieces { (stream : Kind) (piece : List ℕ) → length (made_collection seed docs) ≤ held_bytes →
-        PassesFirst version_2 (made_collection seed docs) (piece_mark stream piece) → RefusedFor result (fault.TooManyPieces stream) }
+    ensures documents { IsHeld seed docs → IsBeyondAt seed docs start_mark → RefusedFor result fault.TooManyDocuments }
+    ensures pieces { (stream : Kind) (piece : List ℕ) → IsHeld seed docs → IsBeyondAt seed docs (piece_mark stream piece) →
+        RefusedFor result (fault.TooManyPieces stream) }
     // Within the limits it is done, or memory lacks.
-    ensures complete { length (made_collection seed docs) ≤ held_bytes → IsWithinLimits 2 (made_collection seed docs) →
+    ensures complete { IsHeld seed docs → IsAllowed seed docs →
         ¬ Rose (S.faults store.old) (S.faults store.new) → ¬ Rose (O.faults out.old) (O.faults out.new) → IsDone result }
 {
     match try_all(alloc, store, seed, docs) {

@@ -1,7 +1,6 @@
 // The tool `trial`.
 ghost use Rattle.std.specs.Prelude.{◌≡◌, ◌≤◌, ◌⊎◌};
-ghost use Rattle.mg_dev.specs.Moments.{SourceAt, StoreAt};
-ghost use Rattle.mg_dev.specs.Runs.{Run};
+ghost use Rattle.mg_top.specs.Running.{RunsAlone};
 ghost use Rattle.mg_top.specs.Tried.{Tried};
 ghost use Rattle.mg_top.specs.Ends.{ToldWhy};
 
@@ -21,17 +20,7 @@ pub fn run_trial<O: Sink, E: Sink>(
     requires some { 1 ≤ docs }
     requires most { docs ≤ 20000 }
     // Whatever the store and the input are, which are not touched.
-    ensures does { (store : StoreAt) (input : SourceAt) → Tried seed docs (record {
-      store = store;
-      store_now = store;
-      input = input;
-      input_now = input;
-      out = record { written = O.written out.old; faults = O.faults out.old; lacks = O.lacks out.old };
-      out_now = record { written = O.written out.new; faults = O.faults out.new; lacks = O.lacks out.new };
-      err = record { written = E.written err.old; faults = E.faults err.old; lacks = E.lacks err.old };
-      err_now = record { written = E.written err.new; faults = E.faults err.new; lacks = E.lacks err.new };
-      status = result;
-    }) }
+    ensures does { RunsAlone O.written O.faults O.lacks E.written E.faults E.lacks out.old out.new err.old err.new result (Tried seed docs) }
     ensures told { ToldWhy result (E.written err.old) (E.written err.new) (E.faults err.old) (E.faults err.new) (E.lacks err.old) (E.lacks err.new) }
 {
     let mut store = SureStore::new(alloc);
