@@ -97,22 +97,27 @@ fn write<S: Store>(alloc: Global, store: &mut S) -> Result<u64, PutErr> {
     Ok(writer.place())
 }
 
+/// Times these bytes, which stand in the store too.
+fn time_bytes(
+    rt: &(impl Clock + Print),
+    alloc: Global,
+    store: &mut SureStore,
+    bytes: &[u8],
+) -> Result<()> {
+    print_head(rt)?;
+    print_times(rt, "bit of a slice", BITS, || or_refusal(slice_ones(bytes)))?;
+    print_times(rt, "bit through pages", BITS, || page_ones(alloc, store))?;
+    print_times(rt, "bit in a number, through pages", BITS, || {
+        page_sum(alloc, store)
+    })?;
+    print_times(rt, "bit in a number, written", BITS, || {
+        or_refusal(write(alloc, store))
+    })
+}
+
 pub fn time(rt: &(impl Clock + Print), alloc: Global) -> Result<()> {
     let bytes = random_bytes(alloc, BYTES)?;
-    let bytes = bytes.as_slice();
     let mut store = SureStore::new(alloc);
-    store.put_file("read.text", bytes)?;
-    print_head(rt)?;
-    print_times(rt, alloc, "bit of a slice", BITS, || {
-        or_refusal(slice_ones(bytes))
-    })?;
-    print_times(rt, alloc, "bit through pages", BITS, || {
-        page_ones(alloc, &mut store)
-    })?;
-    print_times(rt, alloc, "bit in a number, through pages", BITS, || {
-        page_sum(alloc, &mut store)
-    })?;
-    print_times(rt, alloc, "bit in a number, written", BITS, || {
-        or_refusal(write(alloc, &mut store))
-    })
+    store.put_file("read.text", bytes.as_slice())?;
+    time_bytes(rt, alloc, &mut store, bytes.as_slice())
 }

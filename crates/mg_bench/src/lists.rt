@@ -91,8 +91,18 @@ fn start(alloc: Global, term: &TermInfo, all: u32) -> Result<u64, AllocError> {
     Ok(u64::from(SEEKS))
 }
 
-/// Times a list of this mean gap.
-fn time_gap(rt: &(impl Clock + Print), alloc: Global, mean_gap: u64) -> Result<()>
+/// A set of one list: what the lexicon has of it, how many documents there are, and the bytes and the
+/// skip entries of the list.
+#[derive(Clone, Copy)]
+struct OneList {
+    term: TermInfo,
+    all: u32,
+    bytes: u64,
+    entries: u64,
+}
+
+/// A list of this mean gap, written.
+fn put_one(alloc: Global, store: &mut SureStore, mean_gap: u64) -> Result<OneList>
     requires some { 1 ≤ mean_gap }
     requires few { mean_gap < 2 ^ 20 }
 {
@@ -101,27 +111,56 @@ fn time_gap(rt: &(impl Clock + Print), alloc: Global, mean_gap: u64) -> Result<(
         Some(posting) => posting.doc,
         None => 0,
     };
-    let mut store = SureStore::new(alloc);
-    let lists = put_lists(alloc, &mut store, all, &[list.as_slice()])?;
-    let Some(term) = lists.terms.first().copied() else {
-        bail!("no list was written");
-    };
-    let (bytes, entries) = (lists.bytes, lists.entries);
-    println!(rt; "mean gap {mean_gap}: {bytes} bytes of postings, {entries} skip entries")?;
-    print_head(rt)?;
+    let lists = put_lists(alloc, store, all, &[list.as_slice()])?;
+    match lists.terms.first().copied() {
+        Some(term) => Ok(OneList {
+            term,
+            all,
+            bytes: lists.bytes,
+            entries: lists.entries,
+        }),
+        None => bail!("no list was written"),
+    }
+}
+
+/// Times this list.
+fn time_list(
+    rt: &(impl Clock + Print),
+    alloc: Global,
+    store: &mut SureStore,
+    term: &TermInfo,
+    all: u32,
+) -> Result<()> {
     let (postings, seeks) = (u64::from(term.docs), u64::from(SEEKS));
-    print_times(rt, alloc, "posting by next", postings, || {
-        or_refusal(walk(alloc, &mut store, &term, all))
+    print_head(rt)?;
+    print_times(rt, "posting by next", postings, || {
+        or_refusal(walk(alloc, store, term, all))
     })?;
-    print_times(rt, alloc, "cursor started", seeks, || {
-        or_refusal(start(alloc, &term, all))
+    print_times(rt, "cursor started", seeks, || {
+        or_refusal(start(alloc, term, all))
     })?;
-    print_times(rt, alloc, "document sought by a new cursor", seeks, || {
-        or_refusal(seek_random(alloc, &mut store, &term, all))
+    print_times(rt, "document sought by a new cursor", seeks, || {
+        or_refusal(seek_random(alloc, store, term, all))
     })?;
-    print_times(rt, alloc, "rising document sought", seeks, || {
-        or_refusal(seek_rising(alloc, &mut store, &term, all))
+    print_times(rt, "rising document sought", seeks, || {
+        or_refusal(seek_rising(alloc, store, term, all))
     })
+}
+
+/// Times a list of this mean gap.
+fn time_gap(rt: &(impl Clock + Print), alloc: Global, mean_gap: u64) -> Result<()>
+    requires some { 1 ≤ mean_gap }
+    requires few { mean_gap < 2 ^ 20 }
+{
+    let mut store = SureStore::new(alloc);
+    let OneList {
+        term,
+        all,
+        bytes,
+        entries,
+    } = put_one(alloc, &mut store, mean_gap)?;
+    println!(rt; "mean gap {mean_gap}: {bytes} bytes of postings, {entries} skip entries")?;
+    time_list(rt, alloc, &mut store, &term, all)
 }
 
 pub fn time(rt: &(impl Clock + Print), alloc: Global) -> Result<()> {

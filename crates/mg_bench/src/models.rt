@@ -3,7 +3,7 @@ ghost use Rattle.std.specs.Prelude.{◌≡◌, ◌+◌, ◌-◌, ◌<◌, ◌≤
 ghost use Rattle.mg_defs.specs.Vocabulary.{total};
 
 use crate::random::Random;
-use crate::table::{TURNS, Times, or_refusal, print_head, print_times};
+use crate::table::{Turn, or_refusal, print_head, print_times, print_turns};
 use anyhow::Result;
 use mg_dev::{PartErr, SureStore};
 use mg_model::{Stream, TermTable, TextModel, Vocab, VocabErr};
@@ -64,16 +64,32 @@ fn count_again(vocab: &mut Vocab) -> Result<(), VocabErr>
     Ok(())
 }
 
-/// Two vocabularies, of so many words and of one other.
-fn filled(alloc: Global, count: u32) -> Result<(Vocab, Vocab), VocabErr>
+/// A vocabulary of so many words.
+fn filled(alloc: Global, count: u32) -> Result<Vocab, VocabErr>
     requires { count ≤ 2 ^ 24 }
-    ensures { IfOk result (λ two. total two.0 ≤ 2 ^ 25) }
+    ensures { IfOk result (λ words. total words ≤ 2 ^ 25) }
 {
     let mut words = Vocab::new(alloc);
-    let mut others = Vocab::new(alloc);
     count_words(&mut words, count)?;
+    Ok(words)
+}
+
+/// A vocabulary of one other.
+fn one_other(alloc: Global) -> Result<Vocab, VocabErr>
+    ensures { IfOk result (λ others. total others ≡ 1) }
+{
+    let mut others = Vocab::new(alloc);
     others.count(b" ")?;
-    Ok((words, others))
+    Ok(others)
+}
+
+/// A model of so many words and of one other.
+fn model_of(alloc: Global, count: u32) -> Result<TextModel, VocabErr>
+    requires { count ≤ 2 ^ 24 }
+{
+    let words = filled(alloc, count)?;
+    let model = TextModel::of(alloc, words, one_other(alloc)?)?;
+    Ok(model)
 }
 
 /// Looks each word up once, in no order; answers the sum of their symbols.
@@ -164,136 +180,92 @@ fn count_text(alloc: Global, text: &[u8]) -> Result<u64, VocabErr> {
 }
 
 /// Times the counting of the words.
-fn time_counted(rt: &impl Clock, alloc: Global, times: &mut Times) -> Result<(Vocab, Vocab)>
-    ensures { IfOk result (λ two. total two.0 ≤ 2 ^ 25) }
-{
+fn time_counted(rt: &impl Clock, alloc: Global) -> Result<Turn> {
     let begun = Instant::now(rt)?;
-    let (words, others) = filled(alloc, WORDS)?;
-    times.add(rt, begun, u64::from(words.len()))?;
-    Ok((words, others))
+    let words = filled(alloc, WORDS)?;
+    Turn::since(rt, begun, u64::from(words.len()))
 }
 
 /// Times the counting of words that are there.
-fn time_counted_again(rt: &impl Clock, words: &mut Vocab, times: &mut Times) -> Result<()>
+fn time_again(rt: &impl Clock, words: &mut Vocab) -> Result<Turn>
     requires { total words.old ≤ 2 ^ 25 }
 {
     let begun = Instant::now(rt)?;
     count_again(words)?;
-    times.add(rt, begun, u64::from(words.len()))
+    Turn::since(rt, begun, u64::from(words.len()))
 }
 
-/// Times the making of a model.
-fn time_made(
-    rt: &impl Clock,
-    alloc: Global,
-    words: Vocab,
-    others: Vocab,
-    times: &mut Times,
-) -> Result<TextModel> {
+/// Counts the words, and times the counting of them once more.
+fn time_counted_again(rt: &impl Clock, alloc: Global) -> Result<Turn> {
+    let mut words = filled(alloc, WORDS)?;
+    time_again(rt, &mut words)
+}
+
+/// Times the making of a model of these.
+fn time_model(rt: &impl Clock, alloc: Global, words: Vocab, others: Vocab) -> Result<Turn> {
     let begun = Instant::now(rt)?;
-    let model = TextModel::of(alloc, words, others)?;
-    times.add(rt, begun, 0)?;
-    Ok(model)
+    let _model = TextModel::of(alloc, words, others)?;
+    Turn::since(rt, begun, 0)
 }
 
-/// The times of the steps by which a model is made.
-#[derive(Drop)]
-struct Steps {
-    counted: Times,
-    counted_again: Times,
-    made: Times,
+/// Counts the words, and times the making of their model.
+fn time_made(rt: &impl Clock, alloc: Global) -> Result<Turn> {
+    let words = filled(alloc, WORDS)?;
+    time_model(rt, alloc, words, one_other(alloc)?)
 }
 
-/// Times a turn of these steps, and answers the model.
-fn time_steps(rt: &impl Clock, alloc: Global, steps: &mut Steps) -> Result<TextModel> {
-    let (mut words, others) = time_counted(rt, alloc, &mut steps.counted)?;
-    time_counted_again(rt, &mut words, &mut steps.counted_again)?;
-    time_made(rt, alloc, words, others, &mut steps.made)
-}
-
-/// Prints the rows of these steps.
-fn print_steps(rt: &impl Print, steps: Steps) -> Result<()> {
+/// Times the steps by which a model is made.
+fn time_steps(rt: &(impl Clock + Print), alloc: Global) -> Result<()> {
     let words = u64::from(WORDS);
-    let Steps {
-        counted,
-        counted_again,
-        made,
-    } = steps;
-    counted.print(rt, "new word counted", words)?;
-    counted_again.print(rt, "word counted again", words)?;
-    made.print(rt, "word of a model made", words)
-}
-
-/// Times the turns in which models are made, and answers the last model.
-fn time_models(rt: &(impl Clock + Print), alloc: Global) -> Result<TextModel> {
-    let mut steps = Steps {
-        counted: Times::new(alloc),
-        counted_again: Times::new(alloc),
-        made: Times::new(alloc),
-    };
-    for _turn in 1..TURNS {
-        let _model = time_steps(rt, alloc, &mut steps)?;
-    }
-    let model = time_steps(rt, alloc, &mut steps)?;
-    print_steps(rt, steps)?;
-    Ok(model)
+    print_turns(rt, "new word counted", words, || time_counted(rt, alloc))?;
+    print_turns(rt, "word counted again", words, || {
+        time_counted_again(rt, alloc)
+    })?;
+    print_turns(rt, "word of a model made", words, || time_made(rt, alloc))
 }
 
 /// Times look-ups in a model.
-fn time_look_ups(
-    rt: &(impl Clock + Print),
-    alloc: Global,
-    work: &str,
-    model: &TextModel,
-) -> Result<()> {
-    print_times(rt, alloc, work, u64::from(WORDS), || Ok(look_up(model)))
-}
-
-/// Times the writing and the loading of a model.
-fn time_parts(
-    rt: &(impl Clock + Print),
-    alloc: Global,
-    store: &mut SureStore,
-    model: &TextModel,
-) -> Result<()> {
-    let words = u64::from(WORDS);
-    print_times(
-        rt,
-        alloc,
-        "word written",
-        words,
-        || write(alloc, store, model),
-    )?;
-    print_times(rt, alloc, "word loaded", words, || load(alloc, store))
+fn time_look_ups(rt: &(impl Clock + Print), work: &str, model: &TextModel) -> Result<()> {
+    print_times(rt, work, u64::from(WORDS), || Ok(look_up(model)))
 }
 
 /// Times the counting of the pieces of a text.
 fn time_text(rt: &(impl Clock + Print), alloc: Global) -> Result<()> {
     let text = made_text(alloc, BYTES)?;
     let text = text.as_slice();
-    print_times(rt, alloc, "byte of a text counted", BYTES as u64, || {
+    print_times(rt, "byte of a text counted", BYTES as u64, || {
         or_refusal(count_text(alloc, text))
     })
 }
 
-/// Times look-ups in the model of these parts.
-fn time_loaded(rt: &(impl Clock + Print), alloc: Global, store: &mut SureStore) -> Result<()> {
-    let model = or_refusal(load_model(alloc, store, WORDS))?;
-    time_look_ups(rt, alloc, "symbol of a loaded model", &model)
+/// Makes a model of the words; times look-ups in it, and its writing.
+fn time_written(rt: &(impl Clock + Print), alloc: Global, store: &mut SureStore) -> Result<()> {
+    let model = model_of(alloc, WORDS)?;
+    let model = &model;
+    time_look_ups(rt, "symbol of a made model", model)?;
+    print_times(rt, "word written", u64::from(WORDS), || {
+        write(alloc, store, model)
+    })
 }
 
-/// Times a model of the words: made, looked up in, written and loaded.
+/// Times the loading of the model of these parts, and look-ups in it.
+fn time_loaded(rt: &(impl Clock + Print), alloc: Global, store: &mut SureStore) -> Result<()> {
+    print_times(rt, "word loaded", u64::from(WORDS), || load(alloc, store))?;
+    let model = or_refusal(load_model(alloc, store, WORDS))?;
+    time_look_ups(rt, "symbol of a loaded model", &model)
+}
+
+/// Times a model of the words in a store: looked up in, written and loaded.
 fn time_words(rt: &(impl Clock + Print), alloc: Global) -> Result<()> {
-    let model = time_models(rt, alloc)?;
     let mut store = SureStore::new(alloc);
-    time_look_ups(rt, alloc, "symbol of a made model", &model)?;
-    time_parts(rt, alloc, &mut store, &model)?;
+    time_written(rt, alloc, &mut store)?;
     time_loaded(rt, alloc, &mut store)
 }
 
 pub fn time(rt: &(impl Clock + Print), alloc: Global) -> Result<()> {
     print_head(rt)?;
     time_text(rt, alloc)?;
+    time_steps(rt, alloc)?;
     time_words(rt, alloc)
 }
 
@@ -307,13 +279,6 @@ pub fn hold(rt: &impl Print, alloc: Global, count: u32) -> Result<()> {
     Ok(())
 }
 
-/// A model of a few words.
-fn small_model(alloc: Global) -> Result<TextModel, VocabErr> {
-    let (words, others) = filled(alloc, FEW)?;
-    let model = TextModel::of(alloc, words, others)?;
-    Ok(model)
-}
-
 /// The number of terms of those words, once their model is loaded.
 fn small_terms(alloc: Global, store: &mut SureStore) -> Result<u32, PartErr> {
     let model = load_model(alloc, store, FEW)?;
@@ -321,11 +286,17 @@ fn small_terms(alloc: Global, store: &mut SureStore) -> Result<u32, PartErr> {
     Ok(table.count())
 }
 
+/// Writes a model of a few words.
+fn write_small(alloc: Global, store: &mut SureStore) -> Result<u64> {
+    let model = model_of(alloc, FEW)?;
+    write(alloc, store, &model)
+}
+
 /// Tells the terms of a small model, for runs in which each allocation is refused in turn: such a run
 /// ends with an error that says that memory lacks, or as if none had been refused.
 pub fn print_small(rt: &impl Print, alloc: Global) -> Result<()> {
     let mut store = SureStore::new(alloc);
-    write(alloc, &mut store, &small_model(alloc)?)?;
+    write_small(alloc, &mut store)?;
     let terms = or_refusal(small_terms(alloc, &mut store))?;
     println!(rt; "{terms} terms")?;
     Ok(())

@@ -2,63 +2,73 @@
 ghost use Rattle.std.specs.Prelude.{◌<◌};
 
 use anyhow::{Result, bail, ensure};
-use std::alloc::Global;
 use std::fmt::Debug;
 use std::rt::Clock;
 use std::time::Instant;
 
 /// How many turns of each work are timed.
-pub const TURNS: u32 = 7;
+pub const TURNS: usize = 7;
 
-/// The times of a work's turns.
-#[derive(Drop)]
-pub struct Times {
-    nanoseconds: Vec<u64>,
+/// A turn of a work: how long it took, and a sum over what its calls answered.
+#[derive(Clone, Copy)]
+pub struct Turn {
+    nanoseconds: u64,
+    sum: u64,
+}
+
+impl Turn {
+    /// The turn that began then and ends now.
+    pub fn since(rt: &impl Clock, begun: Instant, sum: u64) -> Result<Turn> {
+        let time = begun.elapsed(rt)?;
+        let nanoseconds = time.as_nanos().min(u128::from(u64::MAX)) as u64;
+        Ok(Turn { nanoseconds, sum })
+    }
+}
+
+/// The turns of a work.
+#[derive(Clone, Copy)]
+struct Turns {
+    nanoseconds: [u64; TURNS],
     sum: Option<u64>,
 }
 
-impl Times {
+impl Turns {
     /// No turn yet.
-    pub fn new(alloc: Global) -> Self {
-        Times {
-            nanoseconds: Vec::new(alloc),
+    fn new() -> Self {
+        Turns {
+            nanoseconds: [0; TURNS],
             sum: None,
         }
     }
 
-    /// Adds a turn that began then and ends now, and a sum over what its calls answered, which has to
-    /// be the same in each turn: so each turn is seen to have done the work, and no compiler leaves one
-    /// out.
-    pub fn add(&mut self, rt: &impl Clock, begun: Instant, sum: u64) -> Result<()> {
-        let time = begun.elapsed(rt)?;
+    /// Puts a turn in its place. Its sum has to be that of the others: so each turn is seen to have
+    /// done the work, and no compiler leaves one out.
+    fn put(&mut self, place: usize, turn: Turn) -> Result<()>
+        requires { place < 7 }
+    {
+        let Turn { nanoseconds, sum } = turn;
         let first = self.sum.unwrap_or(sum);
         ensure!(sum == first, "a turn gave {sum}, and the first one {first}");
         self.sum = Some(first);
-        let nanoseconds = time.as_nanos().min(u128::from(u64::MAX));
-        self.nanoseconds.push(nanoseconds as u64)?;
+        self.nanoseconds[place] = nanoseconds;
         Ok(())
-    }
-
-    /// The time at a place among the sorted ones, or 0 behind the last one.
-    fn at(&self, place: usize) -> u64 {
-        self.nanoseconds.get(place).copied().unwrap_or(0)
     }
 
     /// Prints the row of a work on so many things: the best and the median turn, in nanoseconds a
     /// thing, and the best one as a whole, in microseconds.
-    pub fn print(mut self, rt: &impl Print, work: &str, count: u64) -> Result<()> {
-        self.nanoseconds.sort_unstable();
+    fn print(&self, rt: &impl Print, work: &str, count: u64) -> Result<()> {
+        let mut sorted = self.nanoseconds;
+        sorted.sort_unstable();
         let count = count.max(1);
-        let whole = self.at(0);
-        let best = thousandths(whole, count);
-        let median = thousandths(self.at(self.nanoseconds.len() / 2), count);
+        let best = thousandths(sorted[0], count);
+        let median = thousandths(sorted[TURNS / 2], count);
         println!(rt;
             "{work:<42} {count:>9} {:>10}.{:03} {:>10}.{:03} {:>10}",
             best / 1000,
             best % 1000,
             median / 1000,
             median % 1000,
-            whole / 1000
+            sorted[0] / 1000
         )?;
         Ok(())
     }
@@ -80,24 +90,39 @@ pub fn print_head(rt: &impl Print) -> Result<()> {
     Ok(())
 }
 
-/// Times the turns of a work on so many things, which answers a sum that is the same in each turn,
-/// and prints its row.
-pub fn print_times<W: FnMut() -> Result<u64>>(
-    rt: &(impl Clock + Print),
-    alloc: Global,
+/// Prints the row of a work on so many things, each of whose turns is timed by a call.
+pub fn print_turns<W: FnMut() -> Result<Turn>>(
+    rt: &impl Print,
     work: &str,
     count: u64,
     mut turn: W,
 ) -> Result<()>
     requires { W.IsAlwaysCallable turn }
 {
-    let mut times = Times::new(alloc);
-    for _number in 0..TURNS {
-        let begun = Instant::now(rt)?;
-        let sum = turn()?;
-        times.add(rt, begun, sum)?;
+    let mut turns = Turns::new();
+    for place in 0..TURNS {
+        turns.put(place, turn()?)?;
     }
-    times.print(rt, work, count)
+    turns.print(rt, work, count)
+}
+
+/// Times the turns of a work on so many things, a call each, which answers a sum that is the same in
+/// each turn, and prints its row.
+pub fn print_times<W: FnMut() -> Result<u64>>(
+    rt: &(impl Clock + Print),
+    work: &str,
+    count: u64,
+    mut call: W,
+) -> Result<()>
+    requires { W.IsAlwaysCallable call }
+{
+    let mut turns = Turns::new();
+    for place in 0..TURNS {
+        let begun = Instant::now(rt)?;
+        let sum = call()?;
+        turns.put(place, Turn::since(rt, begun, sum)?)?;
+    }
+    turns.print(rt, work, count)
 }
 
 /// A refusal of a part of mg as the program's error.

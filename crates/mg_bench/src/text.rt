@@ -1,6 +1,7 @@
 //! A coded text of 4,000 documents: written, and shown.
 ghost use Rattle.std.specs.Prelude.{◌≡◌, ◌+◌, ◌%◌, ◌<◌, ◌≤◌, ◌^◌, List, [], false, OnOk};
 ghost use Rattle.mg_defs.specs.Bits.{Bits};
+ghost use Rattle.mg_text.specs.Reading.{TextFits};
 ghost use Rattle.mg_text.specs.Writing.{IsOnText, PutOne, turn};
 
 use crate::random::Random;
@@ -192,6 +193,28 @@ fn put_doc<S: Store>(
     writer.end_doc(store)
 }
 
+/// Writes all documents.
+fn put_docs<S: Store>(
+    writer: &mut TextWriter<'_>,
+    store: &mut S,
+    model: &TextModel,
+    pairs: &Pairs,
+) -> Result<(), PutErr>
+    requires took { (docs : List Bits) × IsOnText writer.old (S.files store.old) docs [] }
+    requires closed { writer.old.is_open ≡ false }
+    requires docs { writer.old.docs ≡ 0 }
+    requires pairs { writer.old.pairs ≡ 0 }
+    ensures took { OnOk result ((docs : List Bits) × IsOnText writer.new (S.files store.new) docs []) }
+    ensures closed { OnOk result (writer.new.is_open ≡ false) }
+    ensures docs { OnOk result (writer.new.docs ≡ 4000) }
+    ensures pairs { OnOk result (writer.new.pairs ≡ 4000000) }
+{
+    for number in 0..DOCUMENTS {
+        put_doc(writer, store, model, pairs)?;
+    }
+    Ok(())
+}
+
 /// Writes the text; answers its bytes.
 fn write<S: Store>(
     alloc: Global,
@@ -200,22 +223,44 @@ fn write<S: Store>(
     pairs: &Pairs,
 ) -> Result<u64, PutErr> {
     let mut writer = TextWriter::start(alloc, store, "set")?;
-    for number in 0..DOCUMENTS {
-        put_doc(&mut writer, store, model, pairs)?;
-    }
+    put_docs(&mut writer, store, model, pairs)?;
     writer.finish(store)
+}
+
+/// Shows so many documents.
+fn show_docs<S: Store>(
+    reader: &mut TextReader<'_, S>,
+    store: &mut S,
+    documents: u32,
+    sink: &mut SureSink,
+) -> Result<(), ShowErr>
+    requires fits { TextFits reader.old (S.files store.old) }
+    requires documents { documents ≤ reader.old.documents }
+{
+    for before in 0..documents {
+        reader.doc(store, before + 1, sink)?;
+    }
+    Ok(())
+}
+
+/// Shows the documents of a set into a sink.
+fn show_into<S: Store>(
+    alloc: Global,
+    store: &mut S,
+    head: &Head,
+    sink: &mut SureSink,
+) -> Result<(), ShowErr> {
+    if head.words > 1 << 22 || head.others > 1 << 22 {
+        return Ok(());
+    }
+    let mut reader = TextReader::load(alloc, store, "set", head)?;
+    show_docs(&mut reader, store, head.documents, sink)
 }
 
 /// Shows the documents of a set; answers how many bytes they have.
 fn show<S: Store>(alloc: Global, store: &mut S, head: &Head) -> Result<u64, ShowErr> {
-    if head.words > 1 << 22 || head.others > 1 << 22 {
-        return Ok(0);
-    }
     let mut sink = SureSink::new(alloc);
-    let mut reader = TextReader::load(alloc, store, "set", head)?;
-    for before in 0..head.documents {
-        reader.doc(store, before + 1, &mut sink)?;
-    }
+    show_into(alloc, store, head, &mut sink)?;
     Ok(sink.bytes().len() as u64)
 }
 
@@ -238,22 +283,54 @@ fn head_of(model: &TextModel, text_bytes: u64) -> Head {
     }
 }
 
-pub fn time(rt: &(impl Clock + Print), alloc: Global) -> Result<()> {
-    let pairs = Pairs::random(alloc)?;
-    let words = count_words(alloc, &pairs)?;
-    let others = count_others(alloc, &pairs)?;
-    let model = TextModel::of(alloc, words, others)?;
-    let mut store = SureStore::new(alloc);
-    or_refusal(model.write(alloc, &mut store, "set"))?;
-    let text_bytes = or_refusal(write(alloc, &mut store, &model, &pairs))?;
-    let head = head_of(&model, text_bytes);
-    let bytes = or_refusal(show(alloc, &mut store, &head))?;
+/// A model of the pieces of these pairs.
+fn model_of(alloc: Global, pairs: &Pairs) -> Result<TextModel, VocabErr> {
+    let words = count_words(alloc, pairs)?;
+    let model = TextModel::of(alloc, words, count_others(alloc, pairs)?)?;
+    Ok(model)
+}
+
+/// Writes the model and the text; answers the head of the set.
+fn put_set(
+    alloc: Global,
+    store: &mut SureStore,
+    model: &TextModel,
+    pairs: &Pairs,
+) -> Result<Head, PutErr> {
+    model.write(alloc, store, "set")?;
+    let text_bytes = write(alloc, store, model, pairs)?;
+    Ok(head_of(model, text_bytes))
+}
+
+/// Times this model and these pairs.
+fn time_pairs(
+    rt: &(impl Clock + Print),
+    alloc: Global,
+    store: &mut SureStore,
+    model: &TextModel,
+    pairs: &Pairs,
+) -> Result<()> {
+    let head = or_refusal(put_set(alloc, store, model, pairs))?;
+    let bytes = or_refusal(show(alloc, store, &head))?;
+    let text_bytes = head.text_bytes;
     println!(rt; "{DOCUMENTS} documents of {bytes} bytes, in {text_bytes} bytes of codes")?;
     print_head(rt)?;
-    print_times(rt, alloc, "byte written", bytes, || {
-        or_refusal(write(alloc, &mut store, &model, &pairs))
+    print_times(rt, "byte written", bytes, || {
+        or_refusal(write(alloc, store, model, pairs))
     })?;
-    print_times(rt, alloc, "byte shown", bytes, || {
-        or_refusal(show(alloc, &mut store, &head))
+    print_times(rt, "byte shown", bytes, || {
+        or_refusal(show(alloc, store, &head))
     })
+}
+
+/// Times a model of these pairs.
+fn time_model(rt: &(impl Clock + Print), alloc: Global, pairs: &Pairs) -> Result<()> {
+    let model = model_of(alloc, pairs)?;
+    let mut store = SureStore::new(alloc);
+    time_pairs(rt, alloc, &mut store, &model, pairs)
+}
+
+pub fn time(rt: &(impl Clock + Print), alloc: Global) -> Result<()> {
+    let pairs = Pairs::random(alloc)?;
+    time_model(rt, alloc, &pairs)
 }

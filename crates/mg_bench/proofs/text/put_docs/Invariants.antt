@@ -1,7 +1,7 @@
 use Rattle.std.proofs.Common.{◌≡◌, ◌*◌, List, [], false}
 use Rattle.mg_defs.specs.Bits.{Bits}
 use Rattle.mg_text.specs.Writing.{IsOnText}
-use Rattle.mg_bench.proofs.text.write.Given as goal
+use Rattle.mg_bench.proofs.text.put_docs.Given as goal
 
 abbrev pub invariant-loop-number : goal.invariant-loop-number
 invariant-loop-number g l = record {
