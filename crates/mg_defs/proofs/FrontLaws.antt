@@ -1,7 +1,7 @@
 -- Laws of fronts of lists of bits, and of what a reader of a code answers.
-use Rattle.std.proofs.Common.{rules, arith, suc, zero, ◌≡◌, ◌+◌, ◌≤◌, ◌<◌, ◌-◌, ℕ, Bool, true, false, List, [], ◌∷◌, ◌++◌, length, take, drop, refl, sym, ◌∙◌, ap, subst, ◌⊎◌, inl, inr, length-append, length-take}
-use Rattle.std.proofs.lemmas.Grind.{common_steps}
-use Rattle.mg_defs.specs.Bits.{Bits, Begins}
+use Rattle.std.proofs.Common.{arith, ◌≡◌, ◌+◌, ◌≤◌, ◌<◌, ℕ, List, [], ◌∷◌, ◌++◌, length, take, drop, Option, Some, None, refl, sym, ap, ◌⊎◌, inl, inr}
+use Rattle.std.proofs.lemmas.List.{drop-drop}
+use Rattle.mg_defs.specs.Bits.{Bits, Begins, Shows}
 use Rattle.mg_defs.specs.Answers.{Answer, value, end, over, Answers, CutShort, Ends, IsNone, IsPrefixFree}
 
 pub begins_self : (a : Bits) → Begins a a
@@ -53,6 +53,15 @@ pub begins_second : (a b s : Bits) → Begins (a ++ b) s → Begins b (drop (len
 begins_second [] b s h = h
 begins_second (x ∷ a) b [] h = absurd cc
 begins_second (x ∷ a) b (y ∷ s) h = begins_second a b s (let e : take (length (a ++ b)) s ≡ a ++ b = cc in e)
+
+-- bits that stand at a place of told bytes, in two parts
+pub shows_left : (told : Option (List ℕ)) (place : ℕ) (a b : Bits) → Shows told place (a ++ b) → Shows told place a
+shows_left None place a b h = h
+shows_left (Some bytes) place a b h = begins_first a b _ h
+
+pub shows_right : (told : Option (List ℕ)) (place next : ℕ) (a b : Bits) → next ≡ place + length a → Shows told place (a ++ b) → Shows told next b
+shows_right None place next a b e h = h
+shows_right (Some bytes) place next a b e h = rw e (rw drop-drop at (begins_second a b _ h))
 
 -- parts before and behind
 pub begins_behind : (a b c : Bits) → Begins b c → Begins (a ++ b) (a ++ c)

@@ -1,5 +1,5 @@
 -- Laws of the lexicon.
-use Rattle.std.proofs.Common.{arith, ◌≡◌, ◌≤◌, ◌<◌, ◌+◌, ◌==◌, ◌||◌, ◌⊎◌, ℕ, Bool, true, false, not, List, [], ◌∷◌, ◌++◌, length, length-append, map, get_or, refl, sym, ◌∙◌, ap, inl, inr, Some, None, slice_get, zero, suc}
+use Rattle.std.proofs.Common.{arith, ◌≡◌, ◌≤◌, ◌<◌, ◌+◌, ◌==◌, ◌||◌, ℕ, Bool, true, List, [], ◌∷◌, ◌++◌, length, length-append, map, get_or, refl, sym, ◌∙◌, ap, inl, inr, Some, slice_get, zero, suc}
 use Rattle.std.specs.List.{AllByRecursion, enumerate_from, flat_map, list_any}
 use Rattle.std.specs.List.Sorted.{IsStrictlySortedBy}
 use Rattle.std.specs.Ordering.{nat_cmp, is_lt}
@@ -15,7 +15,7 @@ use Rattle.mg_defs.specs.Numbers.{four, eight}
 use Rattle.mg_defs.specs.Split.{documents}
 use Rattle.mg_defs.specs.Parse.{Pair, ArePairs, parse}
 use Rattle.mg_defs.specs.Terms.{folded, is_empty, terms_of_words, terms, all_terms, dictionary}
-use Rattle.mg_defs.specs.Front.{Entry, IsEntry, AreEntries, is_below}
+use Rattle.mg_defs.specs.Front.{Entry, AreEntries, is_below}
 use Rattle.mg_defs.specs.Lexicon.{TermInfo, info_bytes, info_of, lexicon}
 use Rattle.mg_defs.proofs.SortedLaws.{same-is, same-refl, has-sorted, sorted-rising}
 use Rattle.mg_defs.proofs.ParseLaws.{parse-is}

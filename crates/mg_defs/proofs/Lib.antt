@@ -3,6 +3,7 @@ pub mod ClosedLaws
 pub mod SortedLaws
 pub mod TermLaws
 pub mod VocabularyLaws
+pub mod FirstLaws
 pub mod ParseLaws
 pub mod TextExamples
 pub mod CollectionExamples

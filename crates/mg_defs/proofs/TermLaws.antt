@@ -1,15 +1,15 @@
 -- Laws of terms.
-use Rattle.std.proofs.Common.{arith, ◌≡◌, ℕ, ◌<◌, ◌≤◌, Bool, true, false, not, List, [], ◌∷◌, ◌++◌, length, get_or, refl, sym, ◌∙◌, ap, inl, inr, Contains, map, filter}
+use Rattle.std.proofs.Common.{arith, ◌≡◌, ◌==◌, ℕ, suc, ◌<◌, ◌≤◌, Bool, true, false, not, List, [], ◌∷◌, ◌++◌, length, get_or, refl, sym, ◌∙◌, ap, inl, inr, Contains, map, filter}
 use Rattle.std.specs.List.{list_any, flat_map}
 use Rattle.std.specs.Str.{bytes_eq}
-use Rattle.std.proofs.lemmas.Bool.{or_cases, or_left, or_right, false≢true, cases_Bool}
+use Rattle.std.proofs.lemmas.Bool.{and_right, or_cases, or_left, or_right, false≢true, cases_Bool}
 use Rattle.std.proofs.lemmas.List.{length-map, map-append}
 use Rattle.std.proofs.lemmas.List.Sums.{count_by-le-length, length-filter}
 use Rattle.std.proofs.lemmas.List.Elements.{filter-append}
 use Rattle.mg_defs.specs.declared.Stream.TheVariants.{Words}
 use Rattle.mg_defs.specs.Split.{documents}
 use Rattle.mg_defs.specs.Sorted.{IsSortedDistinct, sorted_distinct}
-use Rattle.mg_defs.specs.Terms.{folded, is_empty, terms_of_words, terms, all_terms, dictionary, term_number}
+use Rattle.mg_defs.specs.Terms.{folded, is_empty, same_term, terms_of_words, terms, all_terms, dictionary, term_number}
 use Rattle.mg_defs.specs.Vocabulary.{pieces_in, all_pieces, sorted_pieces}
 use Rattle.mg_defs.proofs.SortedLaws.{distinct_short, same-is, same-refl, sorted-is, sorted-rising, rising-unique, has-sorted, has-from, contains-from, number-found, number-missing, number-at}
 
@@ -90,3 +90,18 @@ no-term collection t isnt =
       | inl is ↦ absurd (isnt (contains-from (all_terms collection) t (sym (has-sorted (all_terms collection) t) ∙ is)))
       | inr none ↦ number-missing (dictionary collection) t none
     ]
+
+-- ---- a word and a term
+
+pub other_lengths : (a b : List ℕ) → (length a ≡ length b → ⊥) → same_term a b ≡ false
+other_lengths [] [] ne = absurd (ne refl)
+other_lengths [] (c ∷ b) ne = refl
+other_lengths (d ∷ a) [] ne = refl
+other_lengths (d ∷ a) (c ∷ b) ne = and_right (d == c) (same_term a b) (other_lengths a b (λ e. ne (ap suc e)))
+
+length-folded : (w : List ℕ) → length (folded w) ≡ length w
+length-folded [] = refl
+length-folded (b ∷ w) = ap suc (length-folded w)
+
+pub other_word : (word t : List ℕ) → (length word ≡ length t → ⊥) → same_term t (folded word) ≡ false
+other_word word t ne = other_lengths t (folded word) (λ e. ne (sym (e ∙ length-folded word)))

@@ -7,7 +7,7 @@ use Rattle.std.proofs.lemmas.List.Sums.{sum_by-cons}
 use Rattle.std.proofs.lemmas.List.Sorted.{sum_by-IsPermutation, IsPermutation-refl, IsPermutation-sym, IsPermutation-trans, IsPermutation-cons, IsPermutation-middle}
 use Rattle.std.proofs.lemmas.Bool.{cases_order, cases_lt, ne_eqb, eq-eqb, and_from, and_left, and_right, cond-true, cond-false, cond_both, leb-true, leb-false}
 use Rattle.mg_defs.specs.Split.{documents}
-use Rattle.mg_defs.specs.Weights.{Hit, inserted, by_score, hits, has_term, score}
+use Rattle.mg_defs.specs.Weights.{Hit, inserted, by_score, scored_by, hits, has_term, score}
 pub use Rattle.mg_defs.specs.Order.{RanksBefore, AreSorted, AreRisingByNumber}
 
 abbrev pub is_hit : Hit → Hit → Bool
@@ -155,32 +155,35 @@ by_score_permutes (h ∷ hs) =
     IsPermutation-trans (h ∷ hs) (h ∷ by_score hs) (inserted h (by_score hs))
     (IsPermutation-cons h hs (by_score hs) (by_score_permutes hs)) (placed_permutes h (by_score hs))
 
-abbrev hit_of : List ℕ → List (List ℕ) → ℕ × List ℕ → Hit
-hit_of collection query d = record { number = d.0; score = score collection query d.1 }
+abbrev hit_of : (List ℕ → ℕ) → ℕ × List ℕ → Hit
+hit_of score d = record { number = d.0; score = score d.1 }
 
 abbrev is_met : List (List ℕ) → ℕ × List ℕ → Bool
 is_met query d = list_any (has_term d.1) query
 
 -- the numbers of what is met from document n on lie above m, and rise
-hits_above : (collection : List ℕ) (query : List (List ℕ)) (m n : ℕ) (docs : List (List ℕ)) → m < n →
-    AllByRecursion (λ (x : Hit). m < x.number) (map (hit_of collection query) (filter (is_met query) (enumerate_from n docs)))
-hits_above collection query m n [] lt = tt
-hits_above collection query m n (doc ∷ docs) lt =
+hits_above : (score : List ℕ → ℕ) (query : List (List ℕ)) (m n : ℕ) (docs : List (List ℕ)) → m < n →
+    AllByRecursion (λ (x : Hit). m < x.number) (map (hit_of score) (filter (is_met query) (enumerate_from n docs)))
+hits_above score query m n [] lt = tt
+hits_above score query m n (doc ∷ docs) lt =
     let rest = filter (is_met query) (enumerate_from (n + 1) docs) in
-    let more = hits_above collection query m (n + 1) docs (omega (arith, lt)) in
-    cond_both (is_met query (n, doc)) ((n, doc) ∷ rest) rest (λ l. AllByRecursion (λ (x : Hit). m < x.number) (map (hit_of collection query) l))
+    let more = hits_above score query m (n + 1) docs (omega (arith, lt)) in
+    cond_both (is_met query (n, doc)) ((n, doc) ∷ rest) rest (λ l. AllByRecursion (λ (x : Hit). m < x.number) (map (hit_of score) l))
     (λ _. (lt, more)) (λ _. more)
 
-hits_rise_from : (collection : List ℕ) (query : List (List ℕ)) (n : ℕ) (docs : List (List ℕ)) → AreRisingByNumber (map (hit_of collection query) (filter (is_met query) (enumerate_from n docs)))
-hits_rise_from collection query n [] = tt
-hits_rise_from collection query n (doc ∷ docs) =
+hits_rise_from : (score : List ℕ → ℕ) (query : List (List ℕ)) (n : ℕ) (docs : List (List ℕ)) → AreRisingByNumber (map (hit_of score) (filter (is_met query) (enumerate_from n docs)))
+hits_rise_from score query n [] = tt
+hits_rise_from score query n (doc ∷ docs) =
     let rest = filter (is_met query) (enumerate_from (n + 1) docs) in
-    let more = hits_rise_from collection query (n + 1) docs in
-    cond_both (is_met query (n, doc)) ((n, doc) ∷ rest) rest (λ l. AreRisingByNumber (map (hit_of collection query) l))
-    (λ _. (hits_above collection query n (n + 1) docs (omega arith), more)) (λ _. more)
+    let more = hits_rise_from score query (n + 1) docs in
+    cond_both (is_met query (n, doc)) ((n, doc) ∷ rest) rest (λ l. AreRisingByNumber (map (hit_of score) l))
+    (λ _. (hits_above score query n (n + 1) docs (omega arith), more)) (λ _. more)
+
+pub scored_rise : (score : List ℕ → ℕ) (collection : List ℕ) (terms : List (List ℕ)) → AreRisingByNumber (scored_by score collection terms)
+scored_rise score collection terms = hits_rise_from score terms 1 (documents collection)
 
 pub hits_rise : (collection : List ℕ) (query : List (List ℕ)) → AreRisingByNumber (hits collection query)
-hits_rise collection query = hits_rise_from collection query 1 (documents collection)
+hits_rise collection query = scored_rise (score collection query) collection query
 
 pub ranking_sorted : (collection : List ℕ) (query : List (List ℕ)) → AreSorted (by_score (hits collection query))
 ranking_sorted collection query = by_score_sorted (hits collection query) (hits_rise collection query)

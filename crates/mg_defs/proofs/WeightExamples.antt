@@ -37,6 +37,11 @@ k_top : (by_score (hits k (codes "cat" ∷ [])) ≡ record { number = 3; score =
 unfolding parse weight_of_term weight_in_doc weight lg digits_of digit next isqrt root_from score_of
 k_top = (refl, refl)
 
+-- a term counts once
+k_twice : hits k (codes "cat" ∷ codes "cat" ∷ []) ≡ hits k (codes "cat" ∷ [])
+unfolding parse weight_of_term weight_in_doc weight lg digits_of digit next isqrt root_from score_of
+k_twice = refl
+
 k_ranked : answer_text k first_settings (ranking k (codes "cat" ∷ [])) ≡ codes "3 77451\n1 50002\n= 2\n"
 unfolding parse weight_of_term weight_in_doc weight lg digits_of digit next isqrt root_from score_of answer_text row count digits
 k_ranked = refl

@@ -41,3 +41,7 @@ Answers within code bits over = IsNone within code bits
 -- Where the code of one value is the front of that of another, the two are one value: no code is a proper front of another.
 pub record IsPrefixFree (within : ℕ → Type 0) (code : ℕ → Bits) : Type 0 where
   pub one : (x y : ℕ) → within x → within y → Begins (code x) (code y) → x ≡ y
+
+-- two answers to the same bits are one
+abbrev pub OneAnswer : (ℕ → Type 0) → (ℕ → Bits) → Bits → Answer → Answer → Type 0
+OneAnswer within code bits a b = Answers within code bits a → Answers within code bits b → a ≡ b

@@ -1,5 +1,5 @@
 -- Bits and numbers: the highest bit first.
-use Rattle.std.specs.Prelude.{◌≡◌, ◌+◌, ◌-◌, ◌/◌, ◌%◌, ◌^◌, ◌==◌, ◌++◌, ℕ, zero, suc, Bool, true, false, List, [], ◌∷◌, length, take, drop, Option, IfSome, replicate}
+use Rattle.std.specs.Prelude.{◌≡◌, ◌+◌, ◌-◌, ◌/◌, ◌%◌, ◌^◌, ◌==◌, ◌++◌, ℕ, zero, suc, Bool, true, false, List, [], ◌∷◌, length, take, drop, Option, Some, None, IfSome, replicate}
 
 abbrev pub Bits : Type 0
 Bits = List Bool
@@ -39,6 +39,11 @@ FromPlace told place fact = IfSome told (λ bytes. fact (drop place (bits_of byt
 -- these bits stand first
 abbrev pub Begins : List Bool → List Bool → Type 0
 Begins code bits = take (length code) bits ≡ code
+
+-- these bits stand at this place of bytes that are told
+abbrev pub Shows : Option (List ℕ) → ℕ → Bits → Type 0
+Shows None place bits = ⊥
+Shows (Some bytes) place bits = Begins bits (drop place (bits_of bytes))
 
 -- bits in bytes, the highest first; zero-bits fill the last byte
 abbrev pub bytes_upto : ℕ → Bits → List ℕ

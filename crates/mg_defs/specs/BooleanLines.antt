@@ -35,6 +35,10 @@ IsRefusedAfter before t (too_deep at) = (at ≡ t.at) × (t.token ≡ opening) �
 IsRefusedAfter before t (too_long at) = (at ≡ t.at) × IsLongWord t.token
 IsRefusedAfter before t (too_many at) = ⊥
 
+-- none of the tokens is refused after those before it
+abbrev pub AreAllowed : List PlacedToken → Type 0
+AreAllowed ts = NoneRefused IsRefusedAfter [] ts
+
 -- The line's tokens read as the query, and none of them is refused.
 pub record IsAccepted (line : List ℕ) (q : Query) : Type 0 where
   pub reads : ReadsAs (bare (tokens line)) q

@@ -1,5 +1,5 @@
 -- Documents as bits: the number of pairs plus 1, and then the codewords of words and others in turn.
-use Rattle.std.specs.Prelude.{◌≡◌, ℕ, ◌+◌, ◌*◌, ◌-◌, ◌==◌, if◌then◌else◌, List, [], ◌∷◌, ◌++◌, length, map, take, sum_by}
+use Rattle.std.specs.Prelude.{◌≡◌, ℕ, ◌+◌, ◌*◌, ◌-◌, ◌==◌, if◌then◌else◌, List, [], ◌∷◌, ◌++◌, length, map, take, drop, get_or, sum_by}
 use Rattle.std.specs.List.{flat_map, zip}
 use Rattle.mg_defs.specs.declared.Stream.{Stream}
 use Rattle.mg_defs.specs.declared.Stream.TheVariants.{Words, Others}
@@ -61,9 +61,17 @@ coded_pair code p = codeword_of code.words p.word ++ codeword_of code.others p.o
 abbrev pub coded_doc : TextCode → List ℕ → Bits
 coded_doc code doc = gamma (length (parse doc) + 1) ++ flat_map (coded_pair code) (parse doc)
 
+-- its bytes: the bits, and zero-bits up to a byte
+abbrev pub coded_bytes : TextCode → List ℕ → List ℕ
+coded_bytes code doc = as_bytes (coded_doc code doc)
+
 -- the documents in order, each from a byte on
 abbrev pub text_part : TextCode → List ℕ → List ℕ
 text_part code collection = flat_map (λ doc. as_bytes (coded_doc code doc)) (documents collection)
+
+-- how many bits all documents have
+abbrev pub coded_bits : TextCode → List ℕ → ℕ
+coded_bits code collection = sum_by (λ doc. length (coded_doc code doc)) (documents collection)
 
 -- ---- places
 
@@ -83,6 +91,16 @@ running at (size ∷ sizes) = at ∷ running (at + size) sizes
 -- where each document begins, and last the size of the text
 abbrev pub places : TextCode → List ℕ → List ℕ
 places code collection = running 0 (map (coded_size code) (documents collection))
+
+-- one of these: where the document after the first d begins
+abbrev pub place_at : TextCode → List ℕ → ℕ → ℕ
+place_at code collection d = get_or (places code collection) d 0
+
+-- the bytes of the document after the first d stand in the text from its place on
+abbrev pub StandsInText : TextCode → List ℕ → ℕ → Type 0
+StandsInText code collection d =
+    let doc = get_or (documents collection) d [] in
+    take (coded_size code doc) (drop (place_after code collection d) (text_part code collection)) ≡ coded_bytes code doc
 
 -- a place in the bytes of a version: 4 in version 1, 8 in version 2
 abbrev pub place_bytes : ℕ → ℕ → List ℕ

@@ -16,3 +16,7 @@ pub record IsFirstRefusal (Refuses : List PlacedToken → PlacedToken → Refusa
   pub whole : ts ≡ before ++ token ∷ after
   pub none : NoneRefused Refuses [] before
   pub refused : Refuses before token why
+
+-- two causes for which a token is refused are one
+abbrev pub OneCause : (List PlacedToken → PlacedToken → Refusal → Type 0) → List PlacedToken → PlacedToken → Refusal → Refusal → Type 0
+OneCause Refuses before t why other = Refuses before t why → Refuses before t other → why ≡ other

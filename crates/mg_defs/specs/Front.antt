@@ -1,5 +1,5 @@
 -- Strings that rise, front-coded, each with a field.
-use Rattle.std.specs.Prelude.{◌≡◌, ◌≢◌, ◌≤◌, ◌+◌, ◌-◌, ◌%◌, ◌==◌, ◌&&◌, ◌||◌, ◌++◌, ℕ, Bool, true, false, List, [], ◌∷◌, length, take, drop, nat_lt, nat_le, if◌then◌else◌, None, Some}
+use Rattle.std.specs.Prelude.{◌≡◌, ◌≢◌, ◌<◌, ◌≤◌, ◌+◌, ◌-◌, ◌%◌, ◌==◌, ◌&&◌, ◌||◌, ◌++◌, ℕ, Bool, true, false, List, [], ◌∷◌, length, take, drop, slice_get, nat_lt, nat_le, if◌then◌else◌, None, Some}
 use Rattle.std.specs.declared.option.Option.{Option}
 use Rattle.std.specs.Ordering.{nat_cmp, is_lt}
 use Rattle.std.specs.Cmp.Lexicographic.{slice_cmp}
@@ -104,3 +104,11 @@ pub record StandsFirst (width i : ℕ) (before bytes : List ℕ) (it : Found) : 
 -- the bytes do not begin with an entry of this number, for any string above the one before and any field
 abbrev pub NoEntry : ℕ → ℕ → List ℕ → List ℕ → Type 0
 NoEntry width i before bytes = (e : Entry) (rest : List ℕ) → IsEntry width i before e → bytes ≢ entry_bytes i before e ++ rest
+
+-- an entry that was written before a rest is read, with its size
+abbrev pub IsReadBack : ℕ → ℕ → List ℕ → Entry → List ℕ → Type 0
+IsReadBack width i before e rest = read_entry width i before (entry_bytes i before e ++ rest) ≡ Some (record { entry = e; size = length (entry_bytes i before e) })
+
+-- where the one entry stands at a place, and the other at a later one
+abbrev pub WhereInOrder : List Entry → ℕ → ℕ → Entry → Entry → Type 0 → Type 0
+WhereInOrder es j k d e fact = j < k → slice_get es j ≡ Some d → slice_get es k ≡ Some e → fact

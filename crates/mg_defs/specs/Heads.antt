@@ -1,5 +1,5 @@
 -- The head of a set: the bytes of each version, and what is damaged first in bytes that are no head.
-use Rattle.std.specs.Prelude.{◌≡◌, ◌≤◌, ◌<◌, ◌+◌, ◌-◌, ◌^◌, ◌==◌, ◌||◌, ◌++◌, ℕ, Bool, List, [], ◌∷◌, length, slice_index, nat_lt, find, codes, if◌then◌else◌, Some}
+use Rattle.std.specs.Prelude.{◌≡◌, ◌≤◌, ◌<◌, ◌+◌, ◌-◌, ◌^◌, ◌==◌, ◌||◌, ◌++◌, ℕ, Bool, List, [], ◌∷◌, length, slice_index, nat_lt, find, codes, if◌then◌else◌, None, Some}
 use Rattle.std.specs.declared.option.Option.{Option}
 use Rattle.std.specs.Int.{div_ceil}
 use Rattle.mg_defs.specs.Limits.{Limits, limits, version_1, version_2, least_cap, greatest_cap}
@@ -28,6 +28,7 @@ pub record Head : Type 0 where
 abbrev pub magic : ℕ → List ℕ
 magic version = codes "MGROWv" ++ ((48 + version) ∷ 10 ∷ [])
 
+-- a truth value as a number
 abbrev pub as_number : Bool → ℕ
 as_number b = if b then 1 else 0
 
@@ -160,6 +161,14 @@ wide_head bytes = record {
   post_bytes = eight_at bytes 64;
   skip_count = eight_at bytes 72;
 }
+
+-- the bytes have no damage as a head of a version from low to high
+abbrev pub HasNoDamage : ℕ → ℕ → List ℕ → Type 0
+HasNoDamage low high bytes = first_damage low high bytes ≡ None
+
+-- what stands at each place is a byte
+abbrev pub IsOfBytes : List ℕ → Type 0
+IsOfBytes bytes = (i : ℕ) → slice_index bytes i < 256
 
 unfoldable pub read_head : List ℕ → Head
 read_head bytes = if slice_index bytes 6 == 49 then narrow_head bytes else wide_head bytes

@@ -47,6 +47,7 @@ pub mod Heads
 pub mod Lexicon
 pub mod Stands
 pub mod Means
+pub mod StandFacts
 pub mod PostingLists
 pub mod Marks
 pub mod Squares

@@ -1,10 +1,10 @@
 -- Inverted lists: their bits, their blocks of 64 postings, and the skip entries that lead to a block.
-use Rattle.std.specs.Prelude.{ℕ, zero, suc, ◌+◌, ◌-◌, ◌*◌, ◌/◌, ◌^◌, ◌<◌, ◌≤◌, nat_lt, List, [], ◌∷◌, ◌++◌, length, filter, map, flat_map, take, drop, if◌then◌else◌}
+use Rattle.std.specs.Prelude.{◌≡◌, ℕ, zero, suc, ◌+◌, ◌-◌, ◌*◌, ◌/◌, ◌^◌, ◌<◌, ◌≤◌, nat_lt, List, [], ◌∷◌, ◌++◌, length, filter, map, flat_map, take, drop, if◌then◌else◌}
 use Rattle.std.specs.List.{enumerate_from}
 use Rattle.mg_defs.specs.declared.Posting.{Posting}
 use Rattle.mg_defs.specs.Split.{documents}
 use Rattle.mg_defs.specs.Terms.{freq_in, dictionary}
-use Rattle.mg_defs.specs.Bits.{Bits, digits, filled}
+use Rattle.mg_defs.specs.Bits.{Begins, Bits, as_bytes, digits, filled}
 use Rattle.mg_defs.specs.Codes.{golomb, gamma, golomb_parameter}
 use Rattle.mg_defs.specs.PagesOf.{pages}
 
@@ -105,6 +105,24 @@ lists_bits all lists = flat_map (λ ps. filled (bits_of_list all ps)) lists
 
 unfoldable pub lists_entries : ℕ → List (List Posting) → List SkipEntry
 lists_entries all lists = flat_map (entries_of_list all) lists
+
+-- the bytes of all skip entries
+abbrev pub entries_bytes : ℕ → List (List Posting) → List ℕ
+entries_bytes all lists = as_bytes (flat_map entry_bits (lists_entries all lists))
+
+-- ---- what stands at a block's first bit
+
+-- the bits of these postings, the first gap counted from the last document before block k
+abbrev pub BlockBegins : ℕ → ℕ → List Posting → List Posting → Bits → Type 0
+BlockBegins b k ps qs bits = Begins (bits_after b (doc_before (64 * k) ps) qs) (drop (bits_before b (64 * k) ps) bits)
+
+-- where a list with this parameter begins
+abbrev pub WhereListBegins : ℕ → ℕ → List Posting → Bits → Type 0 → Type 0
+WhereListBegins b all ps bits fact = 1 ≤ b → b ≤ 2 ^ 64 → Rises all 0 ps → Begins (bits_after b 0 ps) bits → fact
+
+-- where postings that rise there, as many as the block has, begin
+abbrev pub WhereBlockBegins : ℕ → ℕ → ℕ → List Posting → List Posting → Bits → Type 0 → Type 0
+WhereBlockBegins b all k ps qs bits fact = Rises all (doc_before (64 * k) ps) qs → length qs ≡ length (block_of k ps) → BlockBegins b k ps qs bits → fact
 
 -- ---- of a collection
 

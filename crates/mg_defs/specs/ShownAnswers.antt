@@ -25,8 +25,12 @@ found q number docs = map (λ (d : ℕ × List ℕ). plain d.0) (filter (λ (d :
 abbrev pub satisfying : List ℕ → Query → List Shown
 satisfying collection q = found q 1 (documents collection)
 
+-- hits by falling score, as they are shown
+abbrev pub ranked_as : List Hit → List Shown
+ranked_as hits = map (λ (h : Hit). record { number = h.number; score = Some h.score }) (by_score hits)
+
 abbrev pub ranking : List ℕ → List (List ℕ) → List Shown
-ranking collection query = map (λ (h : Hit). record { number = h.number; score = Some h.score }) (by_score (hits collection query))
+ranking collection query = ranked_as (hits collection query)
 
 -- how a document with these bytes is shown
 abbrev pub shown_as : List ℕ → Mode → Shown → List ℕ

@@ -1,8 +1,8 @@
 // Laws of the codes and of the pages on which bits lie.
-ghost use Rattle.std.specs.Prelude.{◌≡◌, ◌↔◌, ℕ, ◌-◌, ◌^◌, ◌<◌, ◌≤◌};
+ghost use Rattle.std.specs.Prelude.{◌↔◌, ℕ, ◌-◌, ◌^◌, ◌<◌, ◌≤◌};
 ghost use Rattle.mg_defs.specs.Bits.{Bits};
 ghost use Rattle.mg_defs.specs.Codes.{unary, gamma, short, golomb};
-ghost use Rattle.mg_defs.specs.Answers.{Answer, Answers, UpTo, Below, IsPrefixFree};
+ghost use Rattle.mg_defs.specs.Answers.{Answer, OneAnswer, UpTo, Below, IsPrefixFree};
 ghost use Rattle.mg_defs.specs.PagesOf.{page_at, HasBit};
 
 /// Where a code stands at the front of a code of its kind, the two are codes of one number: none
@@ -16,12 +16,10 @@ pub fn no_code_is_a_front()
 
 /// A reader of such a code has at most one answer.
 pub fn one_answer()
-    ensures unary { (limit : ℕ) (bits : Bits) (a b : Answer) → Answers (UpTo limit) unary bits a → Answers (UpTo limit) unary bits b → a ≡ b }
-    ensures gamma { (limit : ℕ) (bits : Bits) (a b : Answer) → limit < 2 ^ 64 → Answers (UpTo limit) gamma bits a → Answers (UpTo limit) gamma bits b → a ≡ b }
-    ensures short { (p : ℕ) (bits : Bits) (a b : Answer) → 1 ≤ p → p ≤ 2 ^ 64 → Answers (Below p) (short p) bits a →
-        Answers (Below p) (short p) bits b → a ≡ b }
-    ensures golomb { (p limit : ℕ) (bits : Bits) (a b : Answer) → 1 ≤ p → p ≤ 2 ^ 64 → Answers (UpTo limit) (golomb p) bits a →
-        Answers (UpTo limit) (golomb p) bits b → a ≡ b }
+    ensures unary { (limit : ℕ) (bits : Bits) (a b : Answer) → OneAnswer (UpTo limit) unary bits a b }
+    ensures gamma { (limit : ℕ) (bits : Bits) (a b : Answer) → limit < 2 ^ 64 → OneAnswer (UpTo limit) gamma bits a b }
+    ensures short { (p : ℕ) (bits : Bits) (a b : Answer) → 1 ≤ p → p ≤ 2 ^ 64 → OneAnswer (Below p) (short p) bits a b }
+    ensures golomb { (p limit : ℕ) (bits : Bits) (a b : Answer) → 1 ≤ p → p ≤ 2 ^ 64 → OneAnswer (UpTo limit) (golomb p) bits a b }
 {}
 
 /// The pages with a bit of a range go from the page of its first bit to that of its last.

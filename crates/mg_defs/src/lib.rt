@@ -46,7 +46,7 @@ pub use texts::{
     one_order, one_parse, one_split, terms_have_numbers, test_decides, text_has_its_bits,
     vocabulary_grows, vocabulary_has_each_once, vocabulary_tells,
 };
-pub use weights::{logarithm_rises, one_ranking, one_root, weight_is_root};
+pub use weights::{logarithm_rises, one_ranking, one_root, terms_count_once, weight_is_root};
 
 /// The two kinds of pieces of a document.
 #[derive(Clone, Copy, Debug, PartialEq, Eq)]

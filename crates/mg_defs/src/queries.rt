@@ -1,24 +1,25 @@
 // Laws of query lines.
-ghost use Rattle.std.specs.Prelude.{◌≡◌, ◌+◌, ◌↔◌, ◌⊎◌, ℕ, true, false, List, [], ◌∷◌, ◌++◌, length, Some};
-ghost use Rattle.std.specs.List.{AllByRecursion, IsDistinct};
+ghost use Rattle.std.specs.Prelude.{◌≡◌, ◌+◌, ◌↔◌, ◌⊎◌, ℕ, false, List, [], ◌∷◌, ◌++◌, Some};
+ghost use Rattle.std.specs.List.{IsDistinct};
 ghost use Rattle.std.specs.Str.{bytes_eq};
 ghost use Rattle.mg_defs.specs.declared.Stream.TheVariants.{Words};
 ghost use Rattle.mg_defs.specs.Parse.{is_word_byte, EndsBefore};
-ghost use Rattle.mg_defs.specs.Tokens.{Token, word, PlacedToken, placed, tokens_from, onto_sign, sign_of};
+ghost use Rattle.mg_defs.specs.Tokens.{Token, PlacedToken, tokens_from, word_and_rest, onto_sign, sign_of};
 ghost use Rattle.mg_defs.specs.Grammar.{BeginsQuery, ReadsAs};
 ghost use Rattle.mg_defs.specs.Sat.{Query};
+ghost use Rattle.mg_defs.specs.Patterns.{AreWordBytes};
 ghost use Rattle.mg_defs.specs.Walk.{Spot, walk, start_spot};
 ghost use Rattle.mg_defs.specs.Read.{boolean, ranked};
 ghost use Rattle.mg_defs.specs.Refusals.{Refusal, reads, refused};
-ghost use Rattle.mg_defs.specs.FirstRefusal.{NoneRefused};
-ghost use Rattle.mg_defs.specs.BooleanLines.{IsRefusedAfter, IsAccepted, IsRefusal};
+ghost use Rattle.mg_defs.specs.FirstRefusal.{OneCause};
+ghost use Rattle.mg_defs.specs.BooleanLines.{AreAllowed, IsRefusedAfter, IsAccepted, IsRefusal};
 ghost use Rattle.mg_defs.specs.RankedLines.{IsTermRefusedAfter, IsTermList, IsTermRefusal};
 
 /// The tokens of a line are its longest runs of word bytes and its signs, from the front.
 pub fn token_runs()
     ensures none { (at : ℕ) → tokens_from at [] ≡ [] }
-    ensures run { (at b : ℕ) (w rest : List ℕ) → AllByRecursion (λ c. is_word_byte c ≡ true) (b ∷ w) → EndsBefore Words rest →
-        tokens_from at (b ∷ (w ++ rest)) ≡ placed at (word (b ∷ w)) ∷ tokens_from (at + length (b ∷ w)) rest }
+    ensures run { (at b : ℕ) (w rest : List ℕ) → AreWordBytes (b ∷ w) → EndsBefore Words rest →
+        tokens_from at (b ∷ (w ++ rest)) ≡ word_and_rest at (b ∷ w) rest }
     ensures other { (at b : ℕ) (rest : List ℕ) → is_word_byte b ≡ false → tokens_from at (b ∷ rest) ≡ onto_sign at (sign_of b) (tokens_from (at + 1) rest) }
 {}
 
@@ -35,10 +36,8 @@ pub fn one_query()
 
 /// Where none of the tokens before it is refused, a token meets at most one cause.
 pub fn one_cause()
-    ensures boolean { (before : List PlacedToken) (t : PlacedToken) (why other : Refusal) → NoneRefused IsRefusedAfter [] before → IsRefusedAfter before t why →
-        IsRefusedAfter before t other → why ≡ other }
-    ensures ranked { (before : List PlacedToken) (t : PlacedToken) (why other : Refusal) → IsTermRefusedAfter before t why →
-        IsTermRefusedAfter before t other → why ≡ other }
+    ensures boolean { (before : List PlacedToken) (t : PlacedToken) (why other : Refusal) → AreAllowed before → OneCause IsRefusedAfter before t why other }
+    ensures ranked { (before : List PlacedToken) (t : PlacedToken) (why other : Refusal) → OneCause IsTermRefusedAfter before t why other }
 {}
 
 /// A line has one query or one refusal, and not both.

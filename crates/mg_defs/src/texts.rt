@@ -1,24 +1,25 @@
 // Laws of collections, documents, pieces and terms.
-ghost use Rattle.std.specs.Prelude.{◌≡◌, ◌≢◌, ℕ, ◌+◌, ◌*◌, ◌/◌, ◌<◌, ◌≤◌, ◌↔◌, Bool, IsTrue, if◌then◌else◌, List, [], ◌∷◌, ◌++◌, length, get_or, map, sum_by, take, drop, Contains, All};
+ghost use Rattle.std.specs.Prelude.{◌≡◌, ◌≢◌, ℕ, ◌+◌, ◌*◌, ◌<◌, ◌≤◌, ◌↔◌, Bool, IsTrue, if◌then◌else◌, List, [], ◌∷◌, ◌++◌, length, get_or, map, Contains, All};
 ghost use Rattle.std.specs.List.{IsDistinct};
 ghost use Rattle.std.specs.Str.{bytes_eq};
 ghost use Rattle.mg_defs.specs.Bits.{Bits, bits_of, filled, to_byte, as_bytes};
-ghost use Rattle.mg_defs.specs.CodedText.{IsTextCode, TextCode, coded_doc, coded_size, place_after, places, text_part};
+ghost use Rattle.mg_defs.specs.CodedText.{IsTextCode, StandsInText, TextCode, coded_bits, place_after, place_at, places, text_part};
 ghost use Rattle.mg_defs.specs.Parse.{Pair, IsParse, parse};
 ghost use Rattle.mg_defs.specs.Sat.{Query, Sat, satisfies};
 ghost use Rattle.mg_defs.specs.Sorted.{IsSortedDistinct, sorted_distinct};
-ghost use Rattle.mg_defs.specs.Split.{IsSplit, documents, has_open_end, closed_count, closed_documents, open_part};
-ghost use Rattle.mg_defs.specs.TextBits.{text_bits};
-ghost use Rattle.mg_defs.specs.Terms.{all_terms, dictionary, term_number, terms_of_words};
-ghost use Rattle.mg_defs.specs.Vocabulary.{vocabulary, counted, count_in, entry_count, has_piece, total, sorted_of, counts_of, all_pieces, sorted_pieces, piece_counts};
+ghost use Rattle.mg_defs.specs.Split.{IsSplit, document_count, documents, has_open_end, closed_count, closed_documents, open_part};
+ghost use Rattle.mg_defs.specs.TextBits.{most_text_bytes, text_bits};
+ghost use Rattle.mg_defs.specs.Terms.{all_terms, dictionary, term_count, term_number, terms_of_words};
+ghost use Rattle.mg_defs.specs.Vocabulary.{all_pieces, count_in, counted, counts_of, entry_count, has_piece};
+ghost use Rattle.mg_defs.specs.Vocabulary.{piece_counts, sorted_of, sorted_pieces, total, vocabulary};
 ghost use Rattle.mg_defs.specs.declared.Stream.{Stream};
 ghost use Rattle.mg_defs.specs.declared.Stream.TheVariants.{Words};
 
 /// A collection has one split, and it is the computed one.
 pub fn one_split()
     ensures is { (bytes : List ℕ) → IsSplit bytes (documents bytes) (has_open_end bytes) }
-    ensures only { (bytes : List ℕ) (docs : List (List ℕ)) (open_end : Bool) → IsSplit bytes docs open_end →
-        (docs ≡ documents bytes) × (open_end ≡ has_open_end bytes) }
+    ensures only { (bytes : List ℕ) (docs : List (List ℕ)) (ending : Bool) → IsSplit bytes docs ending →
+        (docs ≡ documents bytes) × (ending ≡ has_open_end bytes) }
 {}
 
 /// The documents are the closed ones, and where the end is open one more that is not empty.
@@ -67,13 +68,13 @@ pub fn one_dictionary()
 /// A term has the number of its place in the dictionary, and every number is that of one term.
 pub fn terms_have_numbers()
     ensures within { (collection t : List ℕ) → Contains (all_terms collection) t →
-        term_number collection t < length (dictionary collection) }
+        term_number collection t < term_count collection }
     ensures place { (collection t : List ℕ) → Contains (all_terms collection) t →
         get_or (dictionary collection) (term_number collection t) t ≡ t }
-    ensures back { (collection : List ℕ) (k : ℕ) (d : List ℕ) → k < length (dictionary collection) →
+    ensures back { (collection : List ℕ) (k : ℕ) (d : List ℕ) → k < term_count collection →
         term_number collection (get_or (dictionary collection) k d) ≡ k }
     ensures none { (collection t : List ℕ) → (Contains (all_terms collection) t → ⊥) →
-        term_number collection t ≡ length (dictionary collection) }
+        term_number collection t ≡ term_count collection }
 {}
 
 /// The test of a query answers true exactly where the document satisfies it.
@@ -128,21 +129,19 @@ pub fn bits_fill_bytes()
 /// stand in the text from its place on.
 pub fn documents_have_places()
     ensures count { (code : TextCode) (collection : List ℕ) →
-        length (places code collection) ≡ length (documents collection) + 1 }
-    ensures place { (code : TextCode) (collection : List ℕ) (d : ℕ) → d ≤ length (documents collection) →
-        get_or (places code collection) d 0 ≡ place_after code collection d }
+        length (places code collection) ≡ document_count collection + 1 }
+    ensures place { (code : TextCode) (collection : List ℕ) (d : ℕ) → d ≤ document_count collection →
+        place_at code collection d ≡ place_after code collection d }
     ensures size { (code : TextCode) (collection : List ℕ) →
-        length (text_part code collection) ≡ place_after code collection (length (documents collection)) }
-    ensures bytes { (code : TextCode) (collection : List ℕ) (d : ℕ) → d < length (documents collection) →
-        let doc = get_or (documents collection) d [] in
-        take (coded_size code doc) (drop (place_after code collection d) (text_part code collection)) ≡ as_bytes (coded_doc code doc) }
+        length (text_part code collection) ≡ place_after code collection (document_count collection) }
+    ensures bytes { (code : TextCode) (collection : List ℕ) (d : ℕ) → d < document_count collection → StandsInText code collection d }
 {}
 
 /// All documents have the bits of Huffman's cost of the words and of the others, and of their heads;
 /// the text takes at most one byte a document more.
 pub fn text_has_its_bits()
     ensures bits { (code : TextCode) (collection : List ℕ) → IsTextCode collection code →
-        sum_by (λ doc. length (coded_doc code doc)) (documents collection) ≡ text_bits collection }
+        coded_bits code collection ≡ text_bits collection }
     ensures bytes { (code : TextCode) (collection : List ℕ) → IsTextCode collection code →
-        length (text_part code collection) ≤ text_bits collection / 8 + length (documents collection) }
+        length (text_part code collection) ≤ most_text_bytes collection }
 {}
