@@ -1,8 +1,8 @@
 -- Bounds of worked rows, computed.
 use Rattle.std.proofs.Common.{◌≡◌, ℕ, List, [], ◌∷◌, ◌++◌, refl}
-use Rattle.std.specs.Prelude.{codes, Some}
+use Rattle.std.specs.Prelude.{codes}
 use Rattle.std.specs.List.{repeat}
-use Rattle.mg_defs.specs.Sat.{Query, term, both, either, without}
+use Rattle.mg_defs.specs.Sat.{Query, term, both, without}
 use Rattle.mg_defs.specs.Codes.{gamma, golomb, unary, ones, short, shorter, ceil_log2}
 use Rattle.mg_defs.specs.Parse.{parse}
 use Rattle.mg_defs.specs.Bits.{digits, filled}

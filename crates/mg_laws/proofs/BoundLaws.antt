@@ -1,16 +1,14 @@
 -- Laws of the pages of blocks.
-use Rattle.std.proofs.Common.{arith, ◌≡◌, ◌+◌, ◌*◌, ◌-◌, ◌/◌, ◌≤◌, ◌<◌, ◌^◌, ℕ, zero, suc, Bool, true, false, List, [], ◌∷◌, ◌++◌, length, map, take, drop, sum_by, refl, sym, ap, subst, ◌∙◌, ◌⊎◌, inl, inr, add-one, add-zero, Some, nat_lt, nat_le, length-append}
-use Rattle.std.specs.Prelude.{filter, ◌&&◌}
-use Rattle.std.specs.List.{list_any}
-use Rattle.std.proofs.lemmas.Bool.{cases_Bool, cases_lt, and_from, lt-ltb, le-leb, or_left, or_right, cond_both}
+use Rattle.std.proofs.Common.{arith, ◌≡◌, ◌+◌, ◌*◌, ◌-◌, ◌/◌, ◌≤◌, ◌<◌, ◌^◌, ℕ, zero, suc, true, false, List, [], ◌∷◌, ◌++◌, length, take, drop, sum_by, refl, sym, ap, ◌∙◌, inl, inr, add-one, nat_lt, nat_le, length-append}
+use Rattle.std.specs.Prelude.{filter}
+use Rattle.std.proofs.lemmas.Bool.{cases_Bool, cases_lt, and_from, lt-ltb, le-leb, cond_both}
 use Rattle.std.proofs.lemmas.List.{take-append-drop}
 use Rattle.std.proofs.lemmas.List.Elements.{filter-append}
 use Rattle.std.proofs.lemmas.List.Sums.{sum_by-append, sum_by-cons}
 use Rattle.std.proofs.Math.Seq.{take-add}
 use Rattle.mg_defs.specs.declared.Posting.{Posting}
-use Rattle.mg_defs.specs.Bits.{Bits}
 use Rattle.mg_defs.specs.PagesOf.{pages}
-use Rattle.mg_defs.specs.Lists.{bits_after, bits_before, last_doc, doc_before, block_pages, block_count, InRange, Rises}
+use Rattle.mg_defs.specs.Lists.{bits_after, bits_before, last_doc, doc_before, block_pages, InRange}
 use Rattle.mg_defs.proofs.ListLaws.{bits_append}
 use Rattle.mg_defs.specs.PageBounds.{numbers, in_range, is_met, met_pages, whole_pages}
 

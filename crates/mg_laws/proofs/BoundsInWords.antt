@@ -1,6 +1,6 @@
 -- What the bounds on pages come to.
-use Rattle.std.proofs.Common.{arith, ◌≡◌, ◌+◌, ◌-◌, ◌*◌, ◌/◌, ◌≤◌, ◌<◌, ◌^◌, ℕ, zero, suc, Bool, true, false, List, [], ◌∷◌, ◌++◌, length, map, take, drop, sum_by, refl, sym, ap, subst, ◌∙◌, ◌⊎◌, inl, inr, add-one, Some, None}
-use Rattle.std.specs.Prelude.{nat_le, if◌then◌else◌}
+use Rattle.std.proofs.Common.{arith, ◌≡◌, ◌+◌, ◌-◌, ◌*◌, ◌≤◌, ◌<◌, ◌^◌, ℕ, zero, suc, Bool, true, false, List, [], ◌∷◌, length, map, take, drop, sum_by, refl, sym, ap, subst, ◌∙◌, inl, inr, Some}
+use Rattle.std.specs.Prelude.{nat_le}
 use Rattle.std.specs.List.{list_any, enumerate_from}
 use Rattle.std.proofs.lemmas.Bool.{cases_lt, or_left, or_right, le-leb}
 use Rattle.std.proofs.lemmas.List.{take-append-drop, length-take, length-drop}
@@ -10,8 +10,8 @@ use Rattle.mg_defs.specs.Split.{documents}
 use Rattle.mg_defs.specs.Terms.{docs}
 use Rattle.mg_defs.specs.Sat.{Query, term, both}
 use Rattle.mg_defs.specs.QueryTerms.{query_terms}
-use Rattle.mg_defs.specs.Lists.{Follows, InRange, Rises, block_count, block_of, block_pages, doc_before, last_doc, postings}
-use Rattle.mg_defs.specs.PageBounds.{all_numbers, asked_by_leader, asked_of, boolean_bound, fewer, in_range, is_met, leading, leftmost_fewest, list_bit, list_pages, met_pages, numbers_in, pages_for, parameter_of, whole_pages}
+use Rattle.mg_defs.specs.Lists.{InRange, Rises, block_count, block_of, doc_before, last_doc, postings}
+use Rattle.mg_defs.specs.PageBounds.{all_numbers, asked_by_leader, asked_of, boolean_bound, in_range, is_met, leading, leftmost_fewest, list_bit, list_pages, met_pages, numbers_in, pages_for, parameter_of, whole_pages}
 use Rattle.mg_defs.proofs.ListLaws.{block_last, last_above, last_within, list_rises, rises_left, rises_right}
 use Rattle.mg_laws.proofs.BoundLaws.{met_hit, met_none, range_true, whole_more, whole_none}
 use Rattle.mg_laws.proofs.MetBlocks.{own_met}

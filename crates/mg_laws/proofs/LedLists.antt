@@ -1,21 +1,18 @@
 -- Laws of the list of a term and the documents that have it.
-use Rattle.std.proofs.Common.{arith, ◌≡◌, ◌+◌, ◌-◌, ◌≤◌, ◌<◌, ℕ, zero, suc, Bool, true, false, cond, List, [], ◌∷◌, ◌++◌, length, map, take, drop, refl, sym, ap, subst, ◌∙◌, ◌⊎◌, inl, inr, add-one, zero-add, Option, Some, None, nat_lt, get_or}
-use Rattle.std.specs.Prelude.{filter, count_by, ◌==◌, ◌||◌, ◌&&◌, not}
-use Rattle.std.specs.Option.{option_map}
-use Rattle.std.specs.List.{list_any, enumerate_from, AllByRecursion}
-use Rattle.std.proofs.lemmas.Bool.{cases_Bool, cases_lt, cond_both, ltb-true, lt-ltb, false≢true, ne_eqb, eq-eqb, and_parts}
-use Rattle.std.proofs.lemmas.List.Sums.{sum_by-cons}
+use Rattle.std.proofs.Common.{arith, ◌≡◌, ◌+◌, ◌-◌, ◌≤◌, ◌<◌, ℕ, Bool, true, false, List, [], ◌∷◌, ◌++◌, length, take, drop, refl, sym, ap, subst, ◌∙◌, inl, inr, add-one, Option, Some, None, get_or}
+use Rattle.std.specs.Prelude.{◌==◌}
+use Rattle.std.specs.List.{AllByRecursion}
+use Rattle.std.proofs.lemmas.Bool.{cases_Bool, cond_both, false≢true, ne_eqb, eq-eqb, and_parts}
 use Rattle.std.proofs.lemmas.List.{take-append-drop, length-take}
 use Rattle.std.proofs.Math.Seq.{drop-cons}
 use Rattle.mg_defs.specs.declared.Posting.{Posting}
 use Rattle.mg_defs.specs.Split.{documents}
-use Rattle.mg_defs.specs.Terms.{terms, same_term, freq_in, docs}
 use Rattle.mg_defs.specs.Weights.{has_term}
 use Rattle.mg_defs.specs.Lists.{postings, from_doc}
 use Rattle.mg_defs.specs.Sat.{Query, term, both, either, without, satisfies}
-use Rattle.mg_defs.specs.ShownAnswers.{Shown, plain, found}
+use Rattle.mg_defs.specs.ShownAnswers.{found}
 use Rattle.mg_defs.proofs.ListLaws.{from_here, from_next}
-use Rattle.mg_defs.proofs.ReplyLaws.{found-hit, found-miss}
+use Rattle.mg_defs.proofs.ReplyLaws.{found-miss}
 use Rattle.mg_defs.specs.PageBounds.{leading, leftmost_fewest, fewer}
 pub use Rattle.mg_laws.proofs.InOrderLaws.{posting_in, list_from, list_hit, list_miss, some_freq, length_postings}
 

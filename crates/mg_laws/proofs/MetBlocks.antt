@@ -1,18 +1,18 @@
 -- Laws of a list of postings that is gone through, and of the terms of a collection.
-use Rattle.std.proofs.Common.{arith, ◌≡◌, ◌+◌, ◌*◌, ◌-◌, ◌/◌, ◌≤◌, ◌<◌, ℕ, zero, suc, Bool, true, false, cond, List, [], ◌∷◌, ◌++◌, length, map, take, drop, refl, sym, ap, subst, ◌∙◌, ◌⊎◌, inl, inr, Option, Some, None, nat_lt, nat_le, get_or, zero-add}
-use Rattle.std.specs.Prelude.{slice_get, count_by, ◌||◌, ◌&&◌}
-use Rattle.std.specs.List.{list_any, flat_map, enumerate_from}
+use Rattle.std.proofs.Common.{arith, ◌≡◌, ◌+◌, ◌*◌, ◌-◌, ◌/◌, ◌≤◌, ◌<◌, ℕ, zero, suc, Bool, true, false, cond, List, [], ◌∷◌, ◌++◌, length, take, drop, refl, sym, ap, subst, ◌∙◌, inl, inr, Some, nat_lt, get_or}
+use Rattle.std.specs.Prelude.{slice_get, count_by}
+use Rattle.std.specs.List.{list_any, flat_map}
 use Rattle.std.specs.Str.{bytes_eq}
-use Rattle.std.proofs.lemmas.Bool.{cases_Bool, cases_lt, or_cases, or_left, or_right, false≢true, lt-ltb, le-leb, and_from, eqb-true, eq-eqb, cond_both, ltb-true}
+use Rattle.std.proofs.lemmas.Bool.{cases_Bool, cases_lt, or_cases, or_left, or_right, false≢true, cond_both, ltb-true}
 use Rattle.std.proofs.lemmas.List.{take-append-drop, take_all}
 use Rattle.std.proofs.lemmas.List.Folds.{list_any-append}
 use Rattle.std.proofs.lemmas.List.Sums.{sum_by-cons}
 use Rattle.mg_defs.specs.declared.Posting.{Posting}
 use Rattle.mg_defs.specs.Split.{documents}
 use Rattle.mg_defs.specs.Terms.{terms, same_term, docs, dictionary, all_terms, term_number}
-use Rattle.mg_defs.specs.Lists.{postings, from_doc, Rises, Follows, InRange, doc_before, last_doc, bits_after, bits_before, block_pages, block_count}
+use Rattle.mg_defs.specs.Lists.{from_doc, Rises, Follows, InRange, doc_before, last_doc, bits_after, bits_before, block_pages, block_count}
 use Rattle.mg_defs.specs.PagesOf.{pages}
-use Rattle.mg_defs.proofs.ListLaws.{from_here, from_next, last_above, rises_left, rises_right}
+use Rattle.mg_defs.proofs.ListLaws.{from_here, from_next, last_above, rises_left}
 use Rattle.mg_defs.proofs.SortedLaws.{has-sorted, sorted-rising, number-at, same-refl}
 use Rattle.mg_defs.specs.PageBounds.{is_met, in_range, numbers_in, met_pages}
 use Rattle.mg_laws.proofs.BoundLaws.{range_true, met_rises, met_hit, met_miss}

@@ -5,19 +5,18 @@ use Rattle.std.specs.List.{flat_map, AllByRecursion}
 use Rattle.std.specs.Int.{div_ceil}
 use Rattle.std.specs.Simd.{first_chunks}
 use Rattle.mg_defs.specs.Runs.{runs_of}
-use Rattle.std.proofs.lemmas.Bool.{cond_both, eqb-true, false≢true}
+use Rattle.std.proofs.lemmas.Bool.{cond_both, false≢true}
 use Rattle.std.proofs.lemmas.Nat.{mul-le}
 use Rattle.std.proofs.lemmas.List.{length-map}
 use Rattle.std.proofs.lemmas.List.Sums.{sum_by-cons}
 use Rattle.mg_defs.specs.declared.Posting.{Posting}
 use Rattle.mg_defs.specs.declared.TermPosting.{TermPosting}
-use Rattle.mg_defs.specs.declared.Stream.TheVariants.{Words}
 use Rattle.mg_defs.specs.Bits.{digits, filled, as_bytes}
 use Rattle.mg_defs.specs.Canon.{AreGood, AreCodeLengths, codeword, codeword_value}
 use Rattle.mg_defs.specs.Codes.{gamma, golomb, golomb_parameter, unary, log2, log2_below, ceil_log2}
 use Rattle.mg_defs.specs.CodedText.{IsTextCode, TextCode, coded_doc, coded_pair, codeword_of, text_part}
 use Rattle.mg_defs.specs.Fixed.{isqrt, root_from}
-use Rattle.mg_defs.specs.Heads.{IsWithin, run_count}
+use Rattle.mg_defs.specs.Heads.{run_count}
 use Rattle.mg_defs.specs.Limits.{limits}
 use Rattle.mg_defs.specs.PostingLists.{by_terms, term_list}
 use Rattle.mg_defs.specs.WithinLimits.{IsWithinLimits}
@@ -29,7 +28,6 @@ use Rattle.mg_defs.specs.Postings as runs
 use Rattle.mg_defs.specs.Sorted.{number_of, sorted_distinct}
 use Rattle.mg_defs.specs.Split.{documents}
 use Rattle.mg_defs.specs.Terms.{all_terms, dictionary, terms}
-use Rattle.mg_defs.specs.Vocabulary.{sorted_pieces}
 use Rattle.mg_defs.specs.Weights.{wd, weight}
 use Rattle.mg_defs.proofs.BitLaws.{length_digits}
 use Rattle.mg_defs.proofs.CodeLaws.{length_golomb, length_short, length_unary_after}
@@ -39,7 +37,6 @@ use Rattle.mg_defs.proofs.ListLaws.{terms_short}
 use Rattle.mg_defs.proofs.ParseLaws.{parse_short}
 use Rattle.mg_defs.proofs.SortedLaws.{distinct_short}
 use Rattle.mg_defs.proofs.SplitLaws.{docs_within}
-use Rattle.mg_defs.proofs.TermLaws.{dictionary-of_words, distinct-terms_short}
 use Rattle.mg_laws.proofs.WholeBytes.{length_filled}
 
 -- ---- occurrences

@@ -2,14 +2,14 @@
 use Rattle.std.specs.Prelude.{◌≡◌, ◌<◌, ◌≤◌, ◌+◌, ◌*◌, ◌^◌, ◌==◌, ◌++◌, if◌then◌else◌, ℕ, true, List, [], length, map, drop, sum_by}
 use Rattle.std.specs.List.{list_any}
 use Rattle.mg_defs.specs.Bits.{Bits}
-use Rattle.mg_defs.specs.CodedText.{TextCode, text_part as coded_text}
+use Rattle.mg_defs.specs.CodedText.{IsTextCode, TextCode, text_part as coded_text}
 use Rattle.mg_defs.specs.Commands.{first_settings, command_text}
-use Rattle.mg_defs.specs.DocCounts.{last_with}
+use Rattle.mg_defs.specs.DocCounts.{NeverFall, last_with}
 use Rattle.mg_defs.specs.Limits.{Limits, limits}
 use Rattle.mg_defs.specs.Join.{carried}
 use Rattle.mg_defs.specs.Lines.{without_return}
 use Rattle.mg_defs.specs.Lists.{postings}
-use Rattle.mg_defs.specs.Marks.{AreWithinLimits, Mark, coded_from, marks, open_from, pair_counts, starts, terms_from}
+use Rattle.mg_defs.specs.Marks.{AreWithinLimits, Mark, PassesFirst, coded_from, marks, open_from, pair_counts, piece, starts, terms_from}
 use Rattle.mg_defs.specs.Occurrences.{occurrences}
 use Rattle.mg_defs.specs.PageBounds.{boolean_bound, list_pages, numbers_in, pages_for}
 use Rattle.mg_defs.specs.Patterns.{Pattern}
@@ -21,6 +21,7 @@ use Rattle.mg_defs.specs.Split.{documents}
 use Rattle.mg_defs.specs.Terms.{dictionary, docs, same_term}
 use Rattle.mg_defs.specs.Texts.{bad_command}
 use Rattle.mg_defs.specs.Vocabulary.{all_pieces, count_in, sorted_pieces}
+use Rattle.mg_defs.specs.WithinLimits.{IsWithinLimits}
 use Rattle.mg_defs.specs.declared.Stream.{Stream}
 
 -- ---- pages
@@ -41,6 +42,10 @@ IsRarer collection s t = docs collection s < docs collection t
 abbrev pub pages_shared : List ℕ → List ℕ → List ℕ → ℕ
 pages_shared collection s t = pages_for collection (numbers_in (postings collection s)) t
 
+-- a fact on a collection of fewer than 2 ^ 32 bytes and two terms
+abbrev pub ForTwoTerms : (List ℕ → List ℕ → List ℕ → Type 0) → Type 0
+ForTwoTerms fact = (collection s t : List ℕ) → IsSmall collection → fact collection s t
+
 -- the bound of a conjunction of two words
 abbrev pub bound_of_both : List ℕ → List ℕ → List ℕ → ℕ
 bound_of_both collection s t = boolean_bound collection (both (term s) (term t))
@@ -55,6 +60,10 @@ pages_of_each collection q = sum_by (list_pages collection) (query_terms q)
 abbrev pub docs_added : ℕ → List (ℕ × ℕ) → ℕ × ℕ → ℕ
 docs_added t fed o = if o.0 == t then (if last_with t 0 fed == o.1 then 0 else 1) else 0
 
+-- a fact where an occurrence comes after these in reading order
+abbrev pub WhereNext : List (ℕ × ℕ) → ℕ × ℕ → Type 0 → Type 0
+WhereNext fed o fact = 1 ≤ o.1 → NeverFall 0 fed o.1 → fact
+
 -- an occurrence of a term of the dictionary, in a document of the collection
 abbrev pub IsOccurrenceIn : List ℕ → ℕ × ℕ → Type 0
 IsOccurrenceIn collection o = (o.0 < length (dictionary collection)) × (1 ≤ o.1) × (o.1 ≤ length (documents collection))
@@ -67,11 +76,15 @@ all_carried collection whole behind = map (carried collection whole behind) (occ
 
 -- how often a piece comes in a collection
 abbrev pub piece_count : Stream → List ℕ → List ℕ → ℕ
-piece_count kind collection piece = count_in (all_pieces kind collection) piece
+piece_count kind collection bytes = count_in (all_pieces kind collection) bytes
 
 -- more distinct pieces of this stream than these limits allow
 abbrev pub HasTooMany : Stream → Limits → List ℕ → Type 0
 HasTooMany kind most collection = most.pieces < length (sorted_pieces kind collection)
+
+-- a fact where the first mark with which these limits are passed is a piece of this stream
+abbrev pub WherePiecePasses : Stream → Limits → List ℕ → Type 0 → Type 0
+WherePiecePasses kind most collection fact = (bytes : List ℕ) → PassesFirst most collection (piece kind bytes) → fact
 
 -- one of the documents of the collection
 abbrev pub IsDocumentOf : List ℕ → List ℕ → Type 0
@@ -120,6 +133,10 @@ BeginsWithKey p t cut = BeginsWith (key p) (rotation cut t)
 -- so many bytes the text takes at most
 abbrev pub text_room : List ℕ → ℕ
 text_room collection = 12 * length collection + 17 * length (documents collection)
+
+-- a fact where a collection is within the limits of a version, and these are its codes
+abbrev pub WhereCodedWithin : ℕ → TextCode → List ℕ → Type 0 → Type 0
+WhereCodedWithin version code collection fact = IsWithinLimits version collection → IsTextCode collection code → fact
 
 -- a bit of the coded text has its place in five bytes
 abbrev pub HasShortText : TextCode → List ℕ → Type 0

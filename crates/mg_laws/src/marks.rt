@@ -2,15 +2,15 @@
 ghost use Rattle.std.specs.Prelude.{◌≡◌, ◌<◌, ◌+◌, ℕ, Bool, false, List, [], ◌++◌, length, map};
 ghost use Rattle.mg_defs.specs.Bits.{Bits};
 ghost use Rattle.mg_defs.specs.CodedText.{TextCode, coded_doc};
-ghost use Rattle.mg_defs.specs.Limits.{Limits, limits};
+ghost use Rattle.mg_defs.specs.Limits.{Limits};
 ghost use Rattle.mg_defs.specs.WithinLimits.{IsWithinLimits};
-ghost use Rattle.mg_defs.specs.Marks.{AreWithinLimits, Mark, PassesFirst, start, piece, stop, marks, starts, pieces_among, pairs_from, piece_count_from, pair_counts, open_at, is_open_after, coded_from, open_from, terms_from};
+ghost use Rattle.mg_defs.specs.Marks.{AreWithinLimits, Mark, PassesFirst, start, stop, marks, starts, pieces_among, pairs_from, piece_count_from, pair_counts, open_at, is_open_after, coded_from, open_from, terms_from};
 ghost use Rattle.mg_defs.specs.Occurrences.{occurrences};
 ghost use Rattle.mg_defs.specs.Split.{documents};
 ghost use Rattle.mg_defs.specs.Terms.{dictionary};
 ghost use Rattle.mg_defs.specs.Vocabulary.{all_pieces};
 ghost use Rattle.mg_defs.specs.declared.Stream.{Stream};
-ghost use Rattle.mg_laws.specs.Words.{HasFewBytes, HasFewMarks, HasTooMany, coded_both, coded_marks, open_both, terms_of_both};
+ghost use Rattle.mg_laws.specs.Words.{HasFewBytes, HasFewMarks, HasTooMany, WherePiecePasses, coded_both, coded_marks, open_both, terms_of_both};
 
 /// The marks of a collection have its documents, its pieces, the pairs of each document, its text and
 /// its occurrences; and no document is left open.
@@ -57,8 +57,8 @@ pub fn one_first_mark()
     ensures never { (most : Limits) (collection : List ℕ) → PassesFirst most collection stop → ⊥ }
     ensures documents { (most : Limits) (collection : List ℕ) →
         PassesFirst most collection start → most.documents < length (documents collection) }
-    ensures pieces { (most : Limits) (collection : List ℕ) (kind : Stream) (bytes : List ℕ) →
-        PassesFirst most collection (piece kind bytes) → HasTooMany kind most collection }
+    ensures pieces { (most : Limits) (collection : List ℕ) (kind : Stream) →
+        WherePiecePasses kind most collection (HasTooMany kind most collection) }
 {}
 
 /// All marks are within the limits exactly where the collection is, but for its bytes.

@@ -2,7 +2,7 @@
 ghost use Rattle.std.specs.Prelude.{◌≡◌, ◌<◌, ◌≤◌, ◌+◌, ◌-◌, ◌*◌, ◌/◌, ◌^◌, ℕ, List, length, sum, sum_by};
 ghost use Rattle.std.specs.Int.{div_ceil};
 ghost use Rattle.mg_defs.specs.CodedText.{IsTextCode, TextCode, text_part};
-ghost use Rattle.mg_defs.specs.Heads.{IsWithin, run_count};
+ghost use Rattle.mg_defs.specs.Heads.{run_count};
 ghost use Rattle.mg_defs.specs.WithinLimits.{IsWithinLimits};
 ghost use Rattle.mg_defs.specs.Lists.{inverted, lists_entries, post_bits};
 ghost use Rattle.mg_defs.specs.Marks.{pair_counts};
@@ -12,7 +12,7 @@ ghost use Rattle.mg_defs.specs.Split.{documents};
 ghost use Rattle.mg_defs.specs.Terms.{all_terms, dictionary};
 ghost use Rattle.mg_defs.specs.Weights.{weight};
 ghost use Rattle.mg_defs.specs.declared.Posting.{Posting};
-ghost use Rattle.mg_laws.specs.Words.{HasShortText, text_room};
+ghost use Rattle.mg_laws.specs.Words.{HasShortText, WhereCodedWithin, text_room};
 
 /// There are no more occurrences than bytes, and no more terms, postings or skip entries than
 /// occurrences; no more pairs than bytes.
@@ -36,8 +36,8 @@ pub fn parts_are_small()
         length (text_part code collection) ≤ text_room collection }
     ensures post_places { (version : ℕ) (collection : List ℕ) → IsWithinLimits version collection →
         length (post_bits collection) < 2 ^ 57 }
-    ensures text_places { (version : ℕ) (code : TextCode) (collection : List ℕ) → IsWithinLimits version collection →
-        IsTextCode collection code → HasShortText code collection }
+    ensures text_places { (version : ℕ) (code : TextCode) (collection : List ℕ) →
+        WhereCodedWithin version code collection (HasShortText code collection) }
 {}
 
 /// A document's weight fits in four bytes.
