@@ -61,3 +61,15 @@ abbrev pub fault_of_show : ShowErr → Fault
 fault_of_show (show.Part error) = fault_of_part error
 fault_of_show show.Write = WriteFault
 fault_of_show show.Memory = Memory
+
+-- a part is told as damaged
+abbrev pub IsDamagedPart : Fault → Type 0
+IsDamagedPart (Damaged bad) = Unit {0}
+IsDamagedPart _ = ⊥
+
+-- why reading or writing stops; as damaged only where what is read does not stand
+abbrev pub ReadStops : Type 0 → Type 0 → Fault → Type 0
+ReadStops store_rose stands StoreFault = store_rose
+ReadStops store_rose stands (Damaged bad) = stands → ⊥
+ReadStops store_rose stands Memory = Unit {0}
+ReadStops store_rose stands _ = ⊥

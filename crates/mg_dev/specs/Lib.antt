@@ -14,3 +14,4 @@ pub mod PartCauses
 pub mod Bads
 pub mod Moments
 pub mod Runs
+pub mod Each

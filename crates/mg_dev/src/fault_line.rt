@@ -9,7 +9,7 @@ use crate::{Bad, Fault, Part, PutErr, Sink, What};
 use itoa::Buffer;
 use mg_defs::Stream;
 
-// A piece of a line.
+/// A piece of a line.
 #[derive(Clone, Copy)]
 pub enum Piece<'a> {
     Text(&'a str),
@@ -30,8 +30,9 @@ fn put_piece<O: Sink>(out: &mut O, piece: Piece<'_>) -> Result<(), PutErr>
     }
 }
 
+/// Puts the pieces of a line, one after the other, so that none takes memory.
 #[tactic(auto, using(crate::specs::StreamLaws::stream_laws))]
-fn put_pieces<O: Sink>(out: &mut O, pieces: &[Piece<'_>]) -> Result<(), PutErr>
+pub fn put_pieces<O: Sink>(out: &mut O, pieces: &[Piece<'_>]) -> Result<(), PutErr>
     ensures content { AfterPut (O.written out.old) (O.written out.new) (flat_map piece_text pieces.now) result }
     ensures cause { HasPutCause (O.faults out.old) (O.faults out.new) result }
     ensures lack { HasLack (O.lacks out.old) (O.lacks out.new) result }

@@ -1,9 +1,9 @@
 // A sink in memory whose puts fail where it is told to.
-ghost use Rattle.std.specs.Prelude.{◌≡◌, ◌≢◌, ℕ, [], None, Some, IsSome, IsErr, IsErrOf, IfSome, OnOk, OnErr, take};
+ghost use Rattle.std.specs.Prelude.{◌≡◌, ◌≢◌, ℕ, [], None, Some, IsSome, IsErr, IsErrOf, OnOk, OnErr};
 ghost use Rattle.mg_dev.specs.Causes.{HasPutCause, HasLack};
-ghost use Rattle.mg_dev.specs.Streams.{AfterPut, appended};
+ghost use Rattle.mg_dev.specs.Streams.{AfterPut};
 ghost use Rattle.mg_dev.specs.Plans.{calls_of, keep_at, next_keep, AfterCall, FailsAt, SamePlan};
-ghost use Rattle.mg_dev.specs.Mem.{sink_plan};
+ghost use Rattle.mg_dev.specs.Mem.{sink_plan, PutKept};
 
 use crate::failure_plan::FailurePlan;
 use crate::{PutErr, Sink, SureSink};
@@ -70,8 +70,7 @@ impl Sink for MemSink {
         ensures lack { HasLack (⟦<MemSink as Sink>⟧.lacks self.old) (⟦<MemSink as Sink>⟧.lacks self.new) result }
         ensures refused { IsSome (next_keep (sink_plan self.old)) → IsErr result }
         ensures failed { IsErrOf result PutErr.Failed → IsSome (next_keep (sink_plan self.old)) }
-        ensures kept { IsErrOf result PutErr.Failed → IfSome (next_keep (sink_plan self.old)) (λ keep. ⟦<MemSink as Sink>⟧.written self.new
-            ≡ appended (⟦<MemSink as Sink>⟧.written self.old) (take keep piece.now)) }
+        ensures kept { IsErrOf result PutErr.Failed → PutKept ⟦<MemSink as Sink>⟧.written self.old self.new piece.now }
         ensures memory { IsErrOf result PutErr.Memory → ⟦<MemSink as Sink>⟧.written self.new ≡ ⟦<MemSink as Sink>⟧.written self.old }
         ensures counted { AfterCall (sink_plan self.old) (sink_plan self.new) }
         ensures calm { result ≢ Err PutErr.Failed → ⟦<MemSink as Sink>⟧.faults self.new ≡ ⟦<MemSink as Sink>⟧.faults self.old }

@@ -1,12 +1,12 @@
 // A store in memory whose calls fail where it is told to.
-ghost use Rattle.std.specs.Prelude.{◌≡◌, ◌≢◌, ◌≤◌, ◌↔◌, ℕ, None, Some, IsSome, IsErr, IsErrOf, IfSome, OnOk, OnErr, take};
+ghost use Rattle.std.specs.Prelude.{◌≡◌, ◌≢◌, ◌≤◌, ◌↔◌, ℕ, None, Some, IsSome, IsErr, IsErrOf, OnOk, OnErr};
 ghost use Rattle.std.specs.Io.{ReadsAtMost};
 ghost use Rattle.std.specs.Option.{option_copied};
 ghost use Rattle.mg_dev.specs.Causes.{Rose, HasCause, HasPutCause};
-ghost use Rattle.mg_dev.specs.Names.{full_name};
-ghost use Rattle.mg_dev.specs.Files.{no_files, file_at, written, kept, no_reads, OneRead, SameReads, IsSize, IsRead, AfterReset, AfterAppend};
+ghost use Rattle.mg_dev.specs.Names.{file_name};
+ghost use Rattle.mg_dev.specs.Files.{no_files, file_at, written, no_reads, OneRead, SameReads, IsSize, IsRead, AfterReset, AfterAppend};
 ghost use Rattle.mg_dev.specs.Plans.{calls_of, keep_at, next_keep, AfterCall, FailsAt, FailsFrom, SamePlan};
-ghost use Rattle.mg_dev.specs.Mem.{store_plan};
+ghost use Rattle.mg_dev.specs.Mem.{store_plan, AppendKept};
 
 use crate::failure_plan::FailurePlan;
 use crate::{Failed, FileRef, Part, PutErr, Store, SureStore};
@@ -111,7 +111,7 @@ impl Store for MemStore {
     ghost reads = { λ s. ⟦<SureStore as Store>⟧.reads s.inner };
 
     fn size(&mut self, file: &FileRef<'_>) -> Result<Option<u64>, Failed>
-        ensures answer { IsSize (⟦<MemStore as Store>⟧.files self.old) (full_name file.now.base.now file.now.part) result }
+        ensures answer { IsSize (⟦<MemStore as Store>⟧.files self.old) (file_name file.now) result }
         ensures files { ⟦<MemStore as Store>⟧.files self.new ≡ ⟦<MemStore as Store>⟧.files self.old }
         ensures reads { SameReads (⟦<MemStore as Store>⟧.reads self.old) (⟦<MemStore as Store>⟧.reads self.new) }
         ensures cause { HasCause (⟦<MemStore as Store>⟧.faults self.old) (⟦<MemStore as Store>⟧.faults self.new) result }
@@ -127,7 +127,7 @@ impl Store for MemStore {
 
     fn read_at(&mut self, file: &FileRef<'_>, at: u64, buf: &mut [u8]) -> Result<usize, Failed>
         ensures bound { ReadsAtMost result buf.new }
-        ensures bytes { IsRead (⟦<MemStore as Store>⟧.files self.old) (full_name file.now.base.now file.now.part) at buf.new result }
+        ensures bytes { IsRead (⟦<MemStore as Store>⟧.files self.old) (file_name file.now) at buf.new result }
         ensures files { ⟦<MemStore as Store>⟧.files self.new ≡ ⟦<MemStore as Store>⟧.files self.old }
         ensures reads { OneRead (⟦<MemStore as Store>⟧.reads self.old) (⟦<MemStore as Store>⟧.reads self.new) file.now.part }
         ensures cause { HasCause (⟦<MemStore as Store>⟧.faults self.old) (⟦<MemStore as Store>⟧.faults self.new) result }
@@ -143,8 +143,7 @@ impl Store for MemStore {
     }
 
     fn reset(&mut self, file: &FileRef<'_>) -> Result<(), PutErr>
-        ensures content { AfterReset (⟦<MemStore as Store>⟧.files self.old) (⟦<MemStore as Store>⟧.files self.new)
-            (full_name file.now.base.now file.now.part) result }
+        ensures content { AfterReset (⟦<MemStore as Store>⟧.files self.old) (⟦<MemStore as Store>⟧.files self.new) (file_name file.now) result }
         ensures reads { SameReads (⟦<MemStore as Store>⟧.reads self.old) (⟦<MemStore as Store>⟧.reads self.new) }
         ensures cause { HasPutCause (⟦<MemStore as Store>⟧.faults self.old) (⟦<MemStore as Store>⟧.faults self.new) result }
         ensures planned { IsErrOf result PutErr.Failed ↔ IsSome (next_keep (store_plan self.old)) }
@@ -162,14 +161,12 @@ impl Store for MemStore {
     /// Where the append is to fail and there is no memory for the bytes that it keeps, it answers
     /// `Memory` and keeps none.
     fn append(&mut self, file: &FileRef<'_>, piece: &[u8]) -> Result<(), PutErr>
-        ensures content { AfterAppend (⟦<MemStore as Store>⟧.files self.old) (⟦<MemStore as Store>⟧.files self.new)
-            (full_name file.now.base.now file.now.part) piece.now result }
+        ensures content { AfterAppend (⟦<MemStore as Store>⟧.files self.old) (⟦<MemStore as Store>⟧.files self.new) (file_name file.now) piece.now result }
         ensures reads { SameReads (⟦<MemStore as Store>⟧.reads self.old) (⟦<MemStore as Store>⟧.reads self.new) }
         ensures cause { HasPutCause (⟦<MemStore as Store>⟧.faults self.old) (⟦<MemStore as Store>⟧.faults self.new) result }
         ensures refused { IsSome (next_keep (store_plan self.old)) → IsErr result }
         ensures failed { IsErrOf result PutErr.Failed → IsSome (next_keep (store_plan self.old)) }
-        ensures kept { IsErrOf result PutErr.Failed → IfSome (next_keep (store_plan self.old)) (λ keep. ⟦<MemStore as Store>⟧.files self.new
-            ≡ kept (⟦<MemStore as Store>⟧.files self.old) (full_name file.now.base.now file.now.part) (take keep piece.now)) }
+        ensures kept { IsErrOf result PutErr.Failed → AppendKept ⟦<MemStore as Store>⟧.files self.old self.new (file_name file.now) piece.now }
         ensures memory { IsErrOf result PutErr.Memory → ⟦<MemStore as Store>⟧.files self.new ≡ ⟦<MemStore as Store>⟧.files self.old }
         ensures counted { AfterCall (store_plan self.old) (store_plan self.new) }
         ensures calm { result ≢ Err PutErr.Failed → ⟦<MemStore as Store>⟧.faults self.new ≡ ⟦<MemStore as Store>⟧.faults self.old }

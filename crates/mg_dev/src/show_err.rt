@@ -53,3 +53,10 @@ impl<T: Drop> From<AllocFailed<T>> for ShowErr {
         ShowErr::Part(PartErr::Memory)
     }
 }
+
+/// A sink's refusal as that of a document which could not be shown.
+pub fn refused_put(refusal: PutErr) -> ShowErr
+    ensures { result ≡ show_of_put refusal }
+{
+    ShowErr::from(refusal)
+}

@@ -3,7 +3,7 @@ ghost use Rattle.std.specs.Prelude.{◌≡◌, ◌≢◌, ◌+◌, ◌-◌, ◌^
 ghost use Rattle.std.specs.Io.{ReadsAtMost};
 ghost use Rattle.std.specs.Option.{option_copied};
 ghost use Rattle.mg_dev.specs.Causes.{HasCause, HasPutCause};
-ghost use Rattle.mg_dev.specs.Names.{full_name, number};
+ghost use Rattle.mg_dev.specs.Names.{file_name, full_name, number};
 ghost use Rattle.mg_dev.specs.Files.{no_files, file_at, written, no_reads, OneRead, SameReads, IsSize, IsRead, AfterReset, AfterAppend};
 ghost use Rattle.mg_dev.specs.Shelf.{files_of};
 ghost use Rattle.mg_dev.specs.Mem.{store_calls};
@@ -112,7 +112,7 @@ impl Store for SureStore {
     ghost reads = { λ s p. slice_index s.reads (number p) };
 
     fn size(&mut self, file: &FileRef<'_>) -> Result<Option<u64>, Failed>
-        ensures answer { IsSize (⟦<SureStore as Store>⟧.files self.old) (full_name file.now.base.now file.now.part) result }
+        ensures answer { IsSize (⟦<SureStore as Store>⟧.files self.old) (file_name file.now) result }
         ensures files { ⟦<SureStore as Store>⟧.files self.new ≡ ⟦<SureStore as Store>⟧.files self.old }
         ensures reads { SameReads (⟦<SureStore as Store>⟧.reads self.old) (⟦<SureStore as Store>⟧.reads self.new) }
         ensures cause { HasCause (⟦<SureStore as Store>⟧.faults self.old) (⟦<SureStore as Store>⟧.faults self.new) result }
@@ -125,7 +125,7 @@ impl Store for SureStore {
 
     fn read_at(&mut self, file: &FileRef<'_>, at: u64, buf: &mut [u8]) -> Result<usize, Failed>
         ensures bound { ReadsAtMost result buf.new }
-        ensures bytes { IsRead (⟦<SureStore as Store>⟧.files self.old) (full_name file.now.base.now file.now.part) at buf.new result }
+        ensures bytes { IsRead (⟦<SureStore as Store>⟧.files self.old) (file_name file.now) at buf.new result }
         ensures files { ⟦<SureStore as Store>⟧.files self.new ≡ ⟦<SureStore as Store>⟧.files self.old }
         ensures reads { OneRead (⟦<SureStore as Store>⟧.reads self.old) (⟦<SureStore as Store>⟧.reads self.new) file.now.part }
         ensures cause { HasCause (⟦<SureStore as Store>⟧.faults self.old) (⟦<SureStore as Store>⟧.faults self.new) result }
@@ -138,8 +138,7 @@ impl Store for SureStore {
     }
 
     fn reset(&mut self, file: &FileRef<'_>) -> Result<(), PutErr>
-        ensures content { AfterReset (⟦<SureStore as Store>⟧.files self.old) (⟦<SureStore as Store>⟧.files self.new)
-            (full_name file.now.base.now file.now.part) result }
+        ensures content { AfterReset (⟦<SureStore as Store>⟧.files self.old) (⟦<SureStore as Store>⟧.files self.new) (file_name file.now) result }
         ensures reads { SameReads (⟦<SureStore as Store>⟧.reads self.old) (⟦<SureStore as Store>⟧.reads self.new) }
         ensures cause { HasPutCause (⟦<SureStore as Store>⟧.faults self.old) (⟦<SureStore as Store>⟧.faults self.new) result }
         ensures sure { result ≢ Err PutErr.Failed }
@@ -153,8 +152,7 @@ impl Store for SureStore {
     }
 
     fn append(&mut self, file: &FileRef<'_>, piece: &[u8]) -> Result<(), PutErr>
-        ensures content { AfterAppend (⟦<SureStore as Store>⟧.files self.old) (⟦<SureStore as Store>⟧.files self.new)
-            (full_name file.now.base.now file.now.part) piece.now result }
+        ensures content { AfterAppend (⟦<SureStore as Store>⟧.files self.old) (⟦<SureStore as Store>⟧.files self.new) (file_name file.now) piece.now result }
         ensures reads { SameReads (⟦<SureStore as Store>⟧.reads self.old) (⟦<SureStore as Store>⟧.reads self.new) }
         ensures cause { HasPutCause (⟦<SureStore as Store>⟧.faults self.old) (⟦<SureStore as Store>⟧.faults self.new) result }
         ensures sure { result ≢ Err PutErr.Failed }
