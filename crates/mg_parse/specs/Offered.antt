@@ -1,7 +1,7 @@
 -- What an offered byte does to the piece that is being read.
-use Rattle.std.specs.Prelude.{◌≡◌, ℕ, ◌<◌, ◌≤◌, ◌⊎◌, true, false, [], ◌∷◌, ◌++◌, length}
+use Rattle.std.specs.Prelude.{◌≡◌, ℕ, ◌<◌, ◌≤◌, ◌⊎◌, true, false, List, [], ◌∷◌, ◌++◌, length}
 use Rattle.mg_defs.specs.Parse.{is_of_kind}
-use Rattle.mg_defs.specs.Pieces.{OpenPiece}
+use Rattle.mg_defs.specs.Pieces.{OpenPiece, Reads}
 use Rattle.mg_parse.specs.declared.reader.Offer.{Offer}
 use Rattle.mg_parse.specs.declared.reader.Offer.TheVariants.{Taken, Ended}
 use Rattle.mg_defs.specs.Limits.{piece_bytes}
@@ -14,6 +14,10 @@ pub record Fits (reading : OpenPiece) (byte : ℕ) : Type 0 where
 -- the byte is of the other kind, or the piece is full
 abbrev pub Ends : OpenPiece → ℕ → Type 0
 Ends reading byte = (is_of_kind reading.kind byte ≡ false) ⊎ (piece_bytes ≤ length reading.piece)
+
+-- where the pieces told so far and the current one are those of a document up to this byte, they still are once the current one is told and the next begun
+abbrev pub ReadsEnded : OpenPiece → OpenPiece → List (List ℕ) → List ℕ → ℕ → Type 0
+ReadsEnded old new told doc byte = Reads old told doc (byte ∷ []) → Reads new (told ++ old.piece ∷ []) doc (byte ∷ [])
 
 abbrev pub Offered : OpenPiece → ℕ → Offer → OpenPiece → Type 0
 -- a byte that fits joins the piece

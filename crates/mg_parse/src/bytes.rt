@@ -1,7 +1,8 @@
 // Bytes of words and of others.
 ghost use Rattle.std.specs.Prelude.{◌≡◌, ◌≤◌, ◌++◌, length, drop};
+ghost use Rattle.std.specs.List.{prefix_len};
 ghost use Rattle.mg_defs.specs.Parse.{is_word_byte as is_word_byte_spec, is_of_kind as is_of_kind_spec, piece_len as piece_len_spec};
-ghost use Rattle.mg_defs.specs.Terms.{folded};
+ghost use Rattle.mg_defs.specs.Terms.{folded, same_term};
 
 use mg_defs::Stream;
 
@@ -38,6 +39,21 @@ pub fn is_of_kind(kind: Stream, byte: u8) -> bool
     }
 }
 
+/// How many word bytes stand at the front.
+pub fn word_len(text: &[u8]) -> usize
+    ensures is { result ≡ prefix_len is_word_byte_spec text.now }
+    ensures within { result ≤ length text.now }
+{
+    let mut len = 0;
+    for byte in text {
+        if !is_word_byte(*byte) {
+            break;
+        }
+        len += 1;
+    }
+    len
+}
+
 /// How many bytes at the front are a piece of the stream.
 #[inline]
 pub fn piece_len(kind: Stream, text: &[u8]) -> usize
@@ -65,4 +81,20 @@ pub fn fold(word: &[u8], out: &mut [u8]) -> usize
         out[i] = byte.to_ascii_lowercase();
     }
     word.len()
+}
+
+/// Whether a word is the term, once it is folded.
+#[inline]
+pub fn is_term(word: &[u8], term: &[u8]) -> bool
+    ensures { result ≡ same_term term.now (folded word.now) }
+{
+    if word.len() != term.len() {
+        return false;
+    }
+    for (i, byte) in word.iter().enumerate() {
+        if byte.to_ascii_lowercase() != term[i] {
+            return false;
+        }
+    }
+    true
 }

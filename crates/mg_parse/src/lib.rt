@@ -17,8 +17,8 @@ mod splitter;
 #[cfg(test)]
 mod tests;
 
-pub use bytes::{PIECE_BYTES, fold, is_word_byte};
+pub use bytes::{PIECE_BYTES, fold, is_term, is_word_byte, word_len};
 pub use mg_defs::Stream;
 pub use pairs::{Pair, Pairs};
 pub use reader::{Offer, PieceReader};
-pub use splitter::{SplitEvent, Splitter};
+pub use splitter::{CLOSE, SplitEvent, Splitter};

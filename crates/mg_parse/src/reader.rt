@@ -1,7 +1,7 @@
 // The pieces of a document that comes one byte at a time.
 ghost use Rattle.std.specs.Prelude.{◌≡◌, ◌≤◌, ℕ, List, [], ◌∷◌, ◌++◌, length};
 ghost use Rattle.mg_defs.specs.Pieces.{Reads, other_kind as other_kind_spec, left_at_end, pieces};
-ghost use Rattle.mg_parse.specs.Offered.{Offered, Ends};
+ghost use Rattle.mg_parse.specs.Offered.{Offered, Ends, ReadsEnded};
 
 use crate::Stream;
 use crate::bytes::{PIECE_BYTES, is_of_kind};
@@ -99,8 +99,7 @@ impl PieceReader {
     #[inline]
     pub fn turn(&mut self)
         ensures turned { self.new ≡ record { kind = other_kind_spec self.old.kind; piece = [] } }
-        ensures reads { (told : List (List ℕ)) (doc : List ℕ) (byte : ℕ) → Ends self.old byte →
-            Reads self.old told doc (byte ∷ []) → Reads self.new (told ++ self.old.piece ∷ []) doc (byte ∷ []) }
+        ensures reads { (told : List (List ℕ)) (doc : List ℕ) (byte : ℕ) → Ends self.old byte → ReadsEnded self.old self.new told doc byte }
     {
         self.kind = other_kind(self.kind);
         self.len = 0;

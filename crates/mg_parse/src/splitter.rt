@@ -6,7 +6,7 @@ ghost use Rattle.mg_parse.specs.Seen.{StandsFor};
 use std::marker::Model;
 
 /// The byte that closes a document, control-B.
-const CLOSE: u8 = 2;
+pub const CLOSE: u8 = 2;
 
 /// What a byte of a collection does.
 #[derive(Clone, Copy, Debug, PartialEq, Eq)]
