@@ -1,12 +1,10 @@
 //! The tokens of a line, one after another.
 ghost use Rattle.std.specs.Prelude.{◌≡◌, ℕ, ◌+◌, ◌<◌, ◌≤◌, [], ◌∷◌, length, drop, IfNone, IfSome};
-ghost use Rattle.std.specs.List.{prefix_len};
 ghost use Rattle.std.specs.Option.{option_map};
-ghost use Rattle.mg_defs.specs.Parse.{is_word_byte as is_word_byte_spec};
 ghost use Rattle.mg_defs.specs.Tokens.{tokens_from, tokens, onto_sign, sign_of as sign_of_spec};
 ghost use Rattle.mg_query.specs.TokenOf.{token_of};
 
-use mg_parse::is_word_byte;
+use mg_parse::{is_word_byte, word_len};
 
 /// A token of a line.
 #[derive(Clone, Copy)]
@@ -73,24 +71,9 @@ fn lex<'a>(text: &'a [u8]) -> (Option<Token<'a>>, usize)
     if !is_word_byte(text[0]) {
         return (sign_of(text[0]), 1);
     }
-    let len = run_len(text);
+    let len = word_len(text);
     let (word, _) = text.split_at(len);
     (Some(Token::Word(word)), len)
-}
-
-/// How many word bytes stand at the front.
-fn run_len(text: &[u8]) -> usize
-    ensures run { result ≡ prefix_len is_word_byte_spec text.now }
-    ensures within { result ≤ length text.now }
-{
-    let mut len = 0;
-    for byte in text {
-        if !is_word_byte(*byte) {
-            break;
-        }
-        len += 1;
-    }
-    len
 }
 
 /// The sign that a byte is.

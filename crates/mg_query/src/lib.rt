@@ -11,6 +11,7 @@
 //! here say that the answer is that one, and leave open only a want of memory.
 #![tactic(auto)]
 
+mod blanks;
 mod boolean;
 mod lexer;
 mod parser;
@@ -21,6 +22,7 @@ mod ranked;
 mod term;
 mod terms;
 
+pub use blanks::{blank_len, is_blank};
 pub use boolean::parse_boolean;
 pub use phrase::parse_phrase;
 pub use query::Query;

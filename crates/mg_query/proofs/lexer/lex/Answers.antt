@@ -6,4 +6,4 @@ use Rattle.mg_query.proofs.lexer.lex.Goals as goal
 pub returns-clause-tokens : goal.returns-clause-tokens
 returns-clause-tokens c p =
     let is : is_word_byte (get_or c.args.text.now 0 0) ≡ true = search rules in
-    rw (c.split_at.ensures.front) (tokens_run_of p c.args.text.now c.run_len-len.result c.requires is c.run_len-len.ensures.run)
+    rw (c.split_at.ensures.front) (tokens_run_of p c.args.text.now c.word_len-len.result c.requires is c.word_len-len.ensures.is)
