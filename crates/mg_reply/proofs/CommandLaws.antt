@@ -1,5 +1,5 @@
 -- Laws of reading commands.
-use Rattle.std.proofs.Common.{◌≡◌, ◌≢◌, ℕ, suc, ◌+◌, ◌-◌, ◌*◌, ◌^◌, ◌<◌, ◌≤◌, true, false, List, [], ◌∷◌, length, get_or, drop, take, subst, refl, sym, ◌∙◌, ap, arith, lit<, add-one, ◌==◌, ◌&&◌}
+use Rattle.std.proofs.Common.{◌≡◌, ◌≢◌, ℕ, ◌+◌, ◌-◌, ◌*◌, ◌^◌, ◌<◌, ◌≤◌, true, false, List, [], ◌∷◌, length, get_or, drop, take, subst, refl, sym, ◌∙◌, ap, arith, lit<, add-one, ◌==◌, ◌&&◌}
 use Rattle.std.specs.List.{list_all, prefix_len}
 use Rattle.std.proofs.Math.Seq.{drop-cons}
 use Rattle.std.proofs.lemmas.List.{drop_all}
@@ -9,12 +9,6 @@ use Rattle.mg_defs.specs.Terms.{same_term}
 use Rattle.mg_defs.specs.Commands.{value, is_digit, is_most, is_blank, begins_with_stop, begins_blank, words}
 use Rattle.mg_defs.proofs.WordLaws.{is_word, words-skip, words-run, skipped-begins}
 use Rattle.mg_reply.proofs.ReadingLaws.{empty}
-
-pub other_lengths : (a b : List ℕ) → (length a ≡ length b → ⊥) → same_term a b ≡ false
-other_lengths [] [] ne = absurd (ne refl)
-other_lengths [] (c ∷ b) ne = refl
-other_lengths (d ∷ a) [] ne = refl
-other_lengths (d ∷ a) (c ∷ b) ne = and_right (d == c) (same_term a b) (other_lengths a b (λ e. ne (ap suc e)))
 
 pub same_step : (a b : List ℕ) (i : ℕ) → i < length a → i < length b → same_term (drop i a) (drop i b) ≡ (get_or a i 0 == get_or b i 0 && same_term (drop (i + 1) a) (drop (i + 1) b))
 same_step a b i p q = rw (add-one, drop-cons a i 0, drop-cons b i 0)

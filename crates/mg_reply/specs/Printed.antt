@@ -4,12 +4,15 @@ use Rattle.std.specs.Option.{ForSome}
 use Rattle.std.specs.declared.option.Option.{Option}
 use Rattle.std.specs.declared.result.Result.{Result}
 use Rattle.mg_dev.specs.Causes.{Rose}
-use Rattle.mg_dev.specs.Files.{Files, Reads}
+use Rattle.mg_dev.specs.Files.{Files}
 use Rattle.mg_dev.specs.Moments.{SinkAt, sink_at, source_at, store_at}
 use Rattle.mg_dev.specs.Runs.{Run, status_of}
 use Rattle.mg_dev.specs.Streams.{AfterPut, appended, GrewByPrefix}
 use Rattle.mg_dev.specs.declared.fault.Fault.{Fault}
 use Rattle.mg_dev.specs.declared.part_err.PartErr.{PartErr}
+use Rattle.mg_dev.specs.declared.sink.Sink as sinks
+use Rattle.mg_dev.specs.declared.source.Source as sources
+use Rattle.mg_dev.specs.declared.store.Store as stores
 use Rattle.mg_defs.specs.Commands.{command, command_text}
 use Rattle.mg_defs.specs.InputLimit.{is_too_much}
 use Rattle.mg_defs.specs.Limits.{input_limit}
@@ -22,10 +25,6 @@ use Rattle.mg_defs.specs.declared.session.Settings.{Settings}
 use Rattle.mg_reply.specs.Pending.{AfterPass}
 use Rattle.mg_reply.specs.Served.{EndsFor}
 use Rattle.mg_reply.specs.declared.serve.ServeErr.{ServeErr}
-
--- a fact of each value of which this holds
-abbrev pub ForEach : {T : Type 0} → (T → Type 0) → (T → Type 0) → Type 0
-ForEach {T = T} Is holds = (value : T) → Is value → holds value
 
 -- ---- what is printed
 
@@ -65,32 +64,34 @@ hit_by now doc total hit = hit_text doc now.mode now.most total hit
 abbrev pub IsTooLong : Option (List ℕ) → Type 0
 IsTooLong told = ForSome told (λ given. is_too_much input_limit given ≡ true)
 
--- each refusal has its cause: the input or the output failed meanwhile, the input is too long, or a part stopped it
-abbrev pub EndsWhere : {X Y T : Type 0} → (X → Option (List ℕ)) → (X → ℕ) → (Y → ℕ) → X → X → Y → Y → Result T ServeErr → (PartErr → Type 0) → Type 0
-EndsWhere left input_faults output_faults input input_now out out_now result Stops =
-    IfErr result (EndsFor (Rose (input_faults input) (input_faults input_now)) (Rose (output_faults out) (output_faults out_now)) (IsTooLong (left input)) Stops)
+-- each refusal has its cause: the input or the output failed meanwhile, the input is too long, or a part was refused that may be, between the states of an answerer and its device
+abbrev pub EndsWhere : {X Y A D S T : Type 0} → (X → Option (List ℕ)) → (X → ℕ) → (Y → ℕ) → (A → D → S) → (S → S → PartErr → Type 0)
+    → X → X → Y → Y → A → A → D → D → Result T ServeErr → Type 0
+EndsWhere left input_faults output_faults state may_stop input input_now out out_now answerer answerer_now dev dev_now result =
+    IfErr result (EndsFor (Rose (input_faults input) (input_faults input_now)) (Rose (output_faults out) (output_faults out_now)) (IsTooLong (left input))
+    (may_stop (state answerer dev) (state answerer_now dev_now)))
 
 -- what causes a refusal: whether the store, the input and the output failed meanwhile, the files before, and what was left of the input
 abbrev pub StopRule : Type 1
 StopRule = (store_rose input_rose output_rose : Type 0) (files : Option Files) (input : Option (List ℕ)) → Fault → Type 0
 
--- each refusal has its cause by this rule
-abbrev pub StopsBy : {X Y Z T : Type 0} → (X → Option Files) → (X → ℕ) → (Y → Option (List ℕ)) → (Y → ℕ) → (Z → ℕ) → X → X → Y → Y → Z → Z → Result T Fault → StopRule → Type 0
-StopsBy files store_faults left input_faults output_faults store store_now input input_now out out_now result rule =
-    IfErr result (rule (Rose (store_faults store) (store_faults store_now)) (Rose (input_faults input) (input_faults input_now)) (Rose (output_faults out) (output_faults out_now)) (files store) (left input))
+-- each refusal has its cause by this rule, by what the types of the devices tell
+abbrev pub StopsBy : {X Y Z T : Type 0} → stores.Ghosts X → sources.Ghosts Y → sinks.Ghosts Z → X → X → Y → Y → Z → Z → Result T Fault → StopRule → Type 0
+StopsBy of_store of_input of_out store store_now input input_now out out_now result rule = IfErr result (rule
+    (Rose (of_store.faults store) (of_store.faults store_now)) (Rose (of_input.faults input) (of_input.faults input_now)) (Rose (of_out.faults out) (of_out.faults out_now))
+    (of_store.files store) (of_input.left input))
 
 -- ---- a run
 
--- the run of a call over a store, an input and an output is so, whatever the error output is
-abbrev pub Runs : {X Y Z T : Type 0} → (X → Option Files) → (X → Reads) → (X → ℕ) → (Y → Option (List ℕ)) → (Y → ℕ) → (Z → Option (List ℕ)) → (Z → ℕ) → (Z → ℕ)
-    → X → X → Y → Y → Z → Z → Result T Fault → (Run → Type 0) → Type 0
-Runs files reads faults left input_faults written output_faults lacks store store_now input input_now out out_now result holds = (err err_now : SinkAt) → holds (record {
-  store = store_at files reads faults store;
-  store_now = store_at files reads faults store_now;
-  input = source_at left input_faults input;
-  input_now = source_at left input_faults input_now;
-  out = sink_at written output_faults lacks out;
-  out_now = sink_at written output_faults lacks out_now;
+-- the run of a call over a store, an input and an output is so, by what their types tell, whatever the error output is
+abbrev pub Runs : {X Y Z T : Type 0} → stores.Ghosts X → sources.Ghosts Y → sinks.Ghosts Z → X → X → Y → Y → Z → Z → Result T Fault → (Run → Type 0) → Type 0
+Runs of_store of_input of_out store store_now input input_now out out_now result holds = (err err_now : SinkAt) → holds (record {
+  store = store_at of_store.files of_store.reads of_store.faults store;
+  store_now = store_at of_store.files of_store.reads of_store.faults store_now;
+  input = source_at of_input.left of_input.faults input;
+  input_now = source_at of_input.left of_input.faults input_now;
+  out = sink_at of_out.written of_out.faults of_out.lacks out;
+  out_now = sink_at of_out.written of_out.faults of_out.lacks out_now;
   err = err;
   err_now = err_now;
   status = status_of result;

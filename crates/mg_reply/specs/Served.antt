@@ -2,9 +2,10 @@
 use Rattle.std.specs.Prelude.{◌≡◌, ℕ, ◌<◌, false, List, [], ◌++◌, length, Some}
 use Rattle.std.specs.List.{list_any}
 use Rattle.std.specs.declared.option.Option.{Option}
+use Rattle.mg_dev.specs.Faults.{fault_of_show}
 use Rattle.mg_dev.specs.Streams.{appended}
-use Rattle.mg_dev.specs.declared.device.PutErr.{PutErr}
-use Rattle.mg_dev.specs.declared.device.PutErr.TheVariants as put
+use Rattle.mg_dev.specs.declared.fault.Fault.{Fault}
+use Rattle.mg_dev.specs.declared.fault.Fault.TheVariants.{InputTooLong, ReadFault}
 use Rattle.mg_dev.specs.declared.part_err.PartErr.{PartErr}
 use Rattle.mg_dev.specs.declared.show_err.ShowErr.{ShowErr}
 use Rattle.mg_dev.specs.declared.show_err.ShowErr.TheVariants as show
@@ -28,11 +29,6 @@ pub record AnsweredSome {A : Type 0} (hearing : Hearing) (After : A → A → Li
 -- What is left of a told input after a session.
 abbrev pub LeftEnough : List ℕ → Option (List ℕ) → Type 0
 LeftEnough all left = (rest : List ℕ) × (left ≡ Some rest) × IsReadEnough all rest
-
--- which error a refused put becomes
-abbrev pub shown_put : PutErr → ShowErr
-shown_put put.Failed = show.Write
-shown_put put.Memory = show.Memory
 
 -- a part's refusal has this cause
 abbrev pub PartStops : (PartErr → Type 0) → ShowErr → Type 0
@@ -82,3 +78,9 @@ pub record Counted (before left : Option (List ℕ)) (used : ℕ) : Type 0 where
 -- the replies of one who says nothing: what is asked is known whatever is printed
 abbrev pub silent : Settings → List ℕ → List ℕ
 silent now line = []
+
+-- the fault of a session that stopped
+abbrev pub fault_of_serve : ServeErr → Fault
+fault_of_serve serve.Read = ReadFault
+fault_of_serve serve.TooMuch = InputTooLong
+fault_of_serve (serve.Show error) = fault_of_show error

@@ -6,26 +6,7 @@ ghost use Rattle.mg_defs.specs.Commands.{is_blank as is_blank_spec, begins_with_
 ghost use Rattle.mg_defs.proofs.WordLaws.{is_word as is_word_spec};
 
 use mg_defs::{Command, Mode, Settings};
-
-fn is_blank(byte: u8) -> bool
-    ensures { result ≡ is_blank_spec byte }
-{
-    byte == b' ' || byte == b'\t'
-}
-
-fn blank_len(line: &[u8]) -> usize
-    ensures is { result ≡ prefix_len is_blank_spec line.now }
-    ensures within { result ≤ length line.now }
-{
-    let mut len = 0;
-    for byte in line {
-        if !is_blank(*byte) {
-            break;
-        }
-        len += 1;
-    }
-    len
-}
+use mg_query::{blank_len, is_blank};
 
 fn word_len(line: &[u8]) -> usize
     ensures is { result ≡ prefix_len is_word_spec line.now }

@@ -26,7 +26,7 @@ pub use hit::{pass_hit, pass_shown, shows};
 pub use mg_defs::{Command, Hearing, Mode, Settings};
 pub use pending::Pending;
 pub use reader::{LineErr, LineEvent, LineReader};
-pub use serve::{Answerer, ServeErr, serve_lines};
+pub use serve::{Answerer, ServeErr, fault_of, serve_lines};
 pub use text::{
     answer_refused, put_close, put_count, put_refusal, put_row, put_shown, put_too_long, put_wrong,
 };

@@ -2,6 +2,7 @@
 ghost use Rattle.std.specs.Prelude.{◌≡◌, ℕ, ◌≤◌, List, [], ◌∷◌, ◌++◌, length, OnOk, IfOk, IfErr, IsErrOf, false};
 ghost use Rattle.std.specs.Option.{ForSome};
 ghost use Rattle.mg_dev.specs.Causes.{Rose};
+ghost use Rattle.mg_dev.specs.Each.{ForEach};
 ghost use Rattle.mg_dev.specs.declared.part_err.PartErr.{PartErr};
 ghost use Rattle.mg_dev.specs.declared.show_err.ShowErr.TheVariants.{Write};
 ghost use Rattle.mg_defs.specs.declared.session.Settings.{Settings};
@@ -9,12 +10,12 @@ ghost use Rattle.mg_defs.specs.Commands.{command, settings_after, stops as stops
 ghost use Rattle.mg_defs.specs.Session.{heard_session, hears, Question, asked_by};
 ghost use Rattle.mg_defs.specs.InputLimit.{is_too_much};
 ghost use Rattle.mg_defs.specs.Limits.{input_limit};
-ghost use Rattle.mg_reply.specs.Served.{AnsweredSome, LeftEnough, shown_put, PartStops};
-ghost use Rattle.mg_reply.specs.Printed.{EndsWhere, ForEach, PrintsAll, PrintsPrefix, Puts, heard_text};
+ghost use Rattle.mg_reply.specs.Served.{AnsweredSome, LeftEnough, PartStops, fault_of_serve};
+ghost use Rattle.mg_reply.specs.Printed.{EndsWhere, PrintsAll, PrintsPrefix, Puts, heard_text};
 
 use crate::{LineErr, LineEvent, LineReader, put_too_long, put_wrong, read_command};
 use mg_defs::{Command, Hearing, Settings};
-use mg_dev::{PutErr, ShowErr, Sink, Source};
+use mg_dev::{Fault, ShowErr, Sink, Source, refused_put};
 
 /// Answers the query lines of a session. Its calls take the device that it reads from.
 pub trait Answerer {
@@ -76,12 +77,14 @@ pub enum ServeErr {
     Show(ShowErr),
 }
 
-fn of_put(error: PutErr) -> ShowErr
-    ensures { result ≡ shown_put error }
+/// The fault of a session that stopped.
+pub fn fault_of(error: ServeErr) -> Fault
+    ensures { result ≡ fault_of_serve error }
 {
     match error {
-        PutErr::Failed => ShowErr::Write,
-        PutErr::Memory => ShowErr::Memory,
+        ServeErr::Read => Fault::ReadFault,
+        ServeErr::TooMuch => Fault::InputTooLong,
+        ServeErr::Show(error) => Fault::from(error),
     }
 }
 
@@ -116,7 +119,7 @@ fn serve_line<O: Sink, A: Answerer>(
         }
         Command::Wrong => match put_wrong(out) {
             Ok(()) => Ok(false),
-            Err(error) => Err(of_put(error)),
+            Err(error) => Err(refused_put(error)),
         },
         Command::Ask => match answerer.answer_line(dev, line, now, out) {
             Ok(()) => Ok(false),
@@ -148,8 +151,8 @@ pub fn serve_lines<I: Source, O: Sink, A: Answerer>(
     ensures answered { AnsweredSome hearing A.after (A.state answerer.old dev.old) (A.state answerer.new dev.new) (I.left input.old) }
     ensures read_later { I.faults input.old ≤ I.faults input.new }
     ensures write_later { O.faults out.old ≤ O.faults out.new }
-    ensures cause { EndsWhere I.left I.faults O.faults input.old input.new out.old out.new result
-        (A.may_stop (A.state answerer.old dev.old) (A.state answerer.new dev.new)) }
+    ensures cause { EndsWhere I.left I.faults O.faults A.state A.may_stop input.old input.new out.old out.new
+        answerer.old answerer.new dev.old dev.new result }
 {
     let mut reader = LineReader::new();
     let mut now = Settings::start();
@@ -163,7 +166,7 @@ pub fn serve_lines<I: Source, O: Sink, A: Answerer>(
             LineEvent::End => return Ok(()),
             LineEvent::TooLong => match put_too_long(out) {
                 Ok(()) => {}
-                Err(error) => return Err(ServeErr::Show(of_put(error))),
+                Err(error) => return Err(ServeErr::Show(refused_put(error))),
             },
             LineEvent::Line => match serve_line(
                 hearing,
