@@ -26,3 +26,7 @@ pub use Rattle.mg_bits.proofs.ByteLaws.{bits_are_bytes, bytes_again, same_bytes}
 pub use Rattle.mg_bits.proofs.Fills.{looked_twice}
 -- the page that a feed holds, where other files change
 pub use Rattle.mg_bits.proofs.HeldPages.{held_page_stays}
+-- the answer of a reader of a code where the code of a value stands
+pub use Rattle.mg_bits.proofs.CodeLaws.{told_got}
+-- what a store that tells its files tells of one, and names under which every store tells the same
+pub use Rattle.mg_bits.proofs.SameNames.{is_told, same_name}

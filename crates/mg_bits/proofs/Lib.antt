@@ -13,3 +13,5 @@ mod EightBytes
 mod ByteLaws
 mod HeldPages
 mod Growing
+mod CodeLaws
+mod SameNames

@@ -19,6 +19,13 @@ AnswersCode (Err Device) within code limit place bits = Unit {0}
 AnswersCode (Err (End at)) within code limit place bits = (at ≡ place) × Answers within code bits end
 AnswersCode (Err (Over at most)) within code limit place bits = (at ≡ place) × (most ≡ limit) × Answers within code bits over
 
+-- the number that stands there, or a device's failure
+abbrev pub IsGot : Result ℕ CodeErr → ℕ → Type 0
+IsGot (Ok x) y = x ≡ y
+IsGot (Err Device) y = Unit {0}
+IsGot (Err (End at)) y = ⊥
+IsGot (Err (Over at limit)) y = ⊥
+
 -- where the code of a value stands first, only pages on which it lies are read
 abbrev pub OnlyPagesOf : (ℕ → Type 0) → (ℕ → Bits) → Feeding → Feeding → Seen → Seen → ℕ → Bits → Type 0
 OnlyPagesOf within code old new before now place bits =

@@ -3,15 +3,11 @@ use Rattle.std.specs.Prelude.{ℕ, List, length, take}
 use Rattle.std.specs.Option.{IsSome}
 use Rattle.std.specs.declared.option.Option.{Option}
 use Rattle.mg_dev.specs.Files.{Files, Reads, bytes_at}
-use Rattle.mg_dev.specs.Names.{full_name}
+use Rattle.mg_dev.specs.Names.{file_name}
 use Rattle.mg_dev.specs.declared.file_ref.FileRef.{FileRef}
 use Rattle.mg_bits.specs.Feed.{Feeding, FeedStep, device_of, over_file}
 use Rattle.mg_bits.specs.Pages.{IsPageIn}
 use Rattle.mg_bits.specs.declared.window.Window.{Window}
-
--- the full name of a file
-abbrev pub file_name : FileRef → List ℕ
-file_name file = full_name file.base.now file.part
 
 -- where the files are told, the bytes that are kept are those of the file's page
 abbrev pub KeptFrom : FileRef → Window → List ℕ → Option Files → Type 0

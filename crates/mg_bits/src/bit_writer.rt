@@ -1,10 +1,10 @@
 // Bits into a file.
 ghost use Rattle.std.specs.Prelude.{◌≡◌, ◌+◌, ◌*◌, ◌/◌, ◌%◌, ◌≤◌, ◌<◌, ◌^◌, ◌++◌, [], IfOk, OnOk, IsSome, length};
 ghost use Rattle.mg_dev.specs.Names.{full_name};
-ghost use Rattle.mg_dev.specs.Files.{bytes_at};
+ghost use Rattle.mg_dev.specs.Files.{AfterReset, bytes_at};
 ghost use Rattle.mg_dev.specs.Causes.{HasPutCause};
 ghost use Rattle.mg_defs.specs.Bits.{digits, bits_of, to_byte};
-ghost use Rattle.mg_bits.specs.Writer.{AfterStart, KeepsBytes, WroteTo};
+ghost use Rattle.mg_bits.specs.Writer.{KeepsBytes, WroteTo};
 ghost use Rattle.mg_bits.specs.BitWriting.{GrewBits, Holds, WroteBits, bits_put, bits_filled};
 
 use crate::PageWriter;
@@ -45,7 +45,7 @@ impl<'a> BitWriter<'a> {
         ensures place { IfOk result (λ w. w.place ≡ 0) }
         ensures holds { IfOk result (λ w. Holds w (S.files store.new)) }
         ensures held { IfOk result (λ w. length w.buffered < 32768) }
-        ensures started { AfterStart (S.files store.old) (S.files store.new) (full_name file.entry.base.now file.entry.part) result }
+        ensures started { AfterReset (S.files store.old) (S.files store.new) (full_name file.entry.base.now file.entry.part) result }
         ensures wrote { WroteTo (full_name file.entry.base.now file.entry.part) (S.files store.old) (S.files store.new)
             (S.reads store.old) (S.reads store.new) }
         ensures cause { HasPutCause (S.faults store.old) (S.faults store.new) result }

@@ -2,8 +2,8 @@
 ghost use Rattle.std.specs.Prelude.{◌≡◌, ◌≤◌, ◌<◌, ◌+◌, ◌++◌, ◌∷◌, ℕ, List, [], IfOk, OnOk, length, take, IsSome};
 ghost use Rattle.mg_dev.specs.Names.{full_name};
 ghost use Rattle.mg_dev.specs.Causes.{HasPutCause};
-ghost use Rattle.mg_dev.specs.Files.{AfterAppend, GrewInPart, SameReads, bytes_at, grown};
-ghost use Rattle.mg_bits.specs.Writer.{AfterStart, Writing, put_to, KeepsBytes, WroteTo, Wrote};
+ghost use Rattle.mg_dev.specs.Files.{AfterAppend, AfterReset, GrewInPart, SameReads, bytes_at, grown};
+ghost use Rattle.mg_bits.specs.Writer.{Writing, put_to, KeepsBytes, WroteTo, Wrote};
 
 use mg_dev::{FileRef, PutErr, Store};
 use std::alloc::Global;
@@ -51,7 +51,7 @@ impl<'a> PageWriter<'a> {
         ensures name { IfOk result (λ w. w.name ≡ full_name file.entry.base.now file.entry.part) }
         ensures empty { IsSome (S.files store.old) → IfOk result (λ w. put_to w (S.files store.new) ≡ []) }
         ensures page { IfOk result (λ w. length w.buffered < 4096) }
-        ensures started { AfterStart (S.files store.old) (S.files store.new) (full_name file.entry.base.now file.entry.part) result }
+        ensures started { AfterReset (S.files store.old) (S.files store.new) (full_name file.entry.base.now file.entry.part) result }
         ensures wrote { WroteTo (full_name file.entry.base.now file.entry.part) (S.files store.old) (S.files store.new)
             (S.reads store.old) (S.reads store.new) }
         ensures cause { HasPutCause (S.faults store.old) (S.faults store.new) result }

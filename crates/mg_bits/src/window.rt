@@ -6,7 +6,8 @@ ghost use Rattle.mg_dev.specs.Causes.{HasCause};
 ghost use Rattle.mg_bits.specs.Feed.{Calm, ReadsWithin, lacks, page_of, OnRange};
 ghost use Rattle.mg_defs.specs.Bits.{bits_of, digits};
 ghost use Rattle.mg_bits.specs.Pages.{IsFirst, IsWordIn};
-ghost use Rattle.mg_bits.specs.Windows.{file_name, KeptFrom, AsWindow};
+ghost use Rattle.mg_dev.specs.Names.{file_name};
+ghost use Rattle.mg_bits.specs.Windows.{KeptFrom, AsWindow};
 
 use mg_dev::{Failed, FileRef, Store};
 
