@@ -3,7 +3,7 @@ use Rattle.std.proofs.Common.{arith, ◌≡◌, ◌+◌, ◌*◌, ◌/◌, ◌%�
 use Rattle.std.proofs.Math.Nat.{mul-div-mul_right, two-pow-succ}
 use Rattle.std.proofs.Math.Pow.{pow_mono}
 use Rattle.std.proofs.Math.Seq.{take-append_seam}
-use Rattle.std.proofs.lemmas.Nat.{mod_low, pow-add, pow_pos, shr-shr}
+use Rattle.std.proofs.lemmas.Nat.{pow-add, pow_pos, shr-shr}
 use Rattle.mg_defs.specs.Bits.{Bits, digits}
 use Rattle.mg_defs.specs.Codes.{ceil_log2, gamma, golomb, short, shorter, unary}
 use Rattle.mg_defs.proofs.BitLaws.{digits_mod, length_digits}

@@ -1,19 +1,8 @@
 // Refusals of a part of a code as those of the whole.
 ghost use Rattle.std.specs.Prelude.{◌≡◌};
-ghost use Rattle.mg_bits.specs.CodeAnswers.{of_bit};
 ghost use Rattle.mg_codes.specs.Refusals.{of_whole};
 
-use mg_bits::{BitErr, CodeErr};
-
-/// A bit reader's refusal as that of a code which begins at `start`.
-pub fn refused(refusal: BitErr, start: u64) -> CodeErr
-    ensures { result ≡ of_bit refusal start }
-{
-    match refusal {
-        BitErr::Device => CodeErr::Device,
-        BitErr::End { .. } => CodeErr::End { at: start },
-    }
-}
+use mg_bits::CodeErr;
 
 /// The refusal of a part of a code as that of the whole, which begins at `start` and has a limit.
 pub fn refused_whole(refusal: CodeErr, start: u64, limit: u64) -> CodeErr

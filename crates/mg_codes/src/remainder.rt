@@ -10,8 +10,7 @@ ghost use Rattle.mg_codes.specs.Refusals.{OverBelow};
 ghost use Rattle.mg_bits.specs.NextBits.{FromNext, ReadNext};
 
 use crate::held::HeldCode;
-use crate::refusals::refused;
-use mg_bits::{BitReader, CodeErr, Feed};
+use mg_bits::{BitReader, CodeErr, Feed, refused};
 
 /// The greatest length of a short code.
 pub fn code_size(b: u64) -> u32

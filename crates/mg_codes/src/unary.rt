@@ -11,8 +11,7 @@ ghost use Rattle.mg_bits.specs.Writer.{WroteTo};
 ghost use Rattle.mg_bits.specs.BitWriting.{Holds, WroteBits};
 ghost use Rattle.mg_bits.specs.NextBits.{FromNext, ReadNext};
 
-use crate::refusals::refused;
-use mg_bits::{BitReader, BitWriter, CodeErr, Feed};
+use mg_bits::{BitReader, BitWriter, CodeErr, Feed, refused};
 use mg_dev::{PutErr, Store};
 
 /// So many one-bits and a zero-bit, as a number.
