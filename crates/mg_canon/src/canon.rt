@@ -2,22 +2,23 @@
 ghost use Rattle.std.specs.Prelude.{◌≡◌, ℕ, ◌+◌, ◌-◌, ◌/◌, ◌^◌, ◌<◌, ◌≤◌, ◌↔◌, ◌⊎◌, length, slice_index, Err, IfOk, IfSome, OnOk, OnErr, MatchResult};
 ghost use Rattle.std.specs.Bool.{OnTrue, OnFalse};
 ghost use Rattle.mg_defs.specs.Answers.{Below};
-ghost use Rattle.mg_defs.specs.Bits.{FromPlace, digits};
+ghost use Rattle.mg_defs.specs.Bits.{digits};
 ghost use Rattle.mg_defs.specs.Canon.{AreGood, codeword};
 ghost use Rattle.mg_dev.specs.Causes.{HasPutCause};
 ghost use Rattle.mg_bits.specs.BitWriting.{Holds, WroteBits};
-ghost use Rattle.mg_bits.specs.CodeAnswers.{AnswersCode, CodeCause, OnlyPagesOf};
-ghost use Rattle.mg_bits.specs.Feed.{Calm, Read};
+ghost use Rattle.mg_bits.specs.CodeAnswers.{AnswersCode, CodeCause, OnlyCodePages};
+ghost use Rattle.mg_bits.specs.Feed.{Calm};
+ghost use Rattle.mg_bits.specs.NextBits.{FromNext, ReadNext};
 ghost use Rattle.mg_bits.specs.Writer.{WroteTo};
 ghost use Rattle.mg_canon.specs.Tables.{IsBeginning};
 ghost use Rattle.mg_canon.specs.Refusals.{IsFirstBad, IsUnfilled, HaveLengths};
 
 use crate::CanonErr;
-use crate::bits::{number_of, refused};
+use crate::bits::number_of;
 use crate::check::check;
 use crate::found::Found;
 use crate::tables::{ByLength, count_lengths, first_codewords, first_places, number};
-use mg_bits::{BitReader, BitWriter, CodeErr, Feed};
+use mg_bits::{BitReader, BitWriter, CodeErr, Feed, refused};
 use mg_dev::{PutErr, Store};
 use std::alloc::{AllocError, Global};
 use std::marker::Model;
@@ -120,15 +121,11 @@ impl Canon {
         requires place { reader.old.place ≤ 2 ^ 63 }
         ensures fits { F.fits reader.new.feed (F.device dev.new).files }
         ensures calm { Calm (F.feeding reader.old.feed) (F.feeding reader.new.feed) (F.device dev.old) (F.device dev.new) }
-        ensures read { IfOk result (λ s. Read (F.feeding reader.old.feed) (F.feeding reader.new.feed) (F.device dev.old) (F.device dev.new)
-            reader.old.place (reader.old.place + length (codeword self.now s))) }
-        ensures pages { OnErr result (FromPlace ((F.feeding reader.old.feed).source (F.device dev.old).files) reader.old.place
-            (OnlyPagesOf (Below (length self.now)) (codeword self.now) (F.feeding reader.old.feed) (F.feeding reader.new.feed) (F.device dev.old)
-            (F.device dev.new) reader.old.place)) }
+        ensures read { IfOk result (λ s. ReadNext F.feeding F.device reader.old reader.new dev.old dev.new (length (codeword self.now s))) }
+        ensures pages { OnErr result (OnlyCodePages F.feeding F.device reader.old reader.new dev.old dev.new (Below (length self.now)) (codeword self.now)) }
         ensures place { MatchResult result (λ s. reader.new.place
             ≡ reader.old.place + length (codeword self.now s)) (λ _. reader.new.place ≡ reader.old.place) }
-        ensures told { FromPlace ((F.feeding reader.old.feed).source (F.device dev.old).files) reader.old.place
-            (AnswersCode result (Below (length self.now)) (codeword self.now) 1 reader.old.place) }
+        ensures told { FromNext F.feeding F.device reader.old dev.old (AnswersCode result (Below (length self.now)) (codeword self.now) 1 reader.old.place) }
         ensures symbol { IfOk result (λ s. s < length self.now) }
         ensures over { (at limit : ℕ) → result ≡ Err (CodeErr.Over at limit) → length self.now ≡ 1 }
         ensures cause { CodeCause result (F.device dev.old).faults (F.device dev.new).faults }
@@ -230,15 +227,11 @@ impl Canon {
         requires place { reader.old.place ≤ 2 ^ 63 }
         ensures fits { F.fits reader.new.feed (F.device dev.new).files }
         ensures calm { Calm (F.feeding reader.old.feed) (F.feeding reader.new.feed) (F.device dev.old) (F.device dev.new) }
-        ensures read { IfOk result (λ s. Read (F.feeding reader.old.feed) (F.feeding reader.new.feed) (F.device dev.old) (F.device dev.new)
-            reader.old.place (reader.old.place + length (codeword self.now s))) }
-        ensures pages { OnErr result (FromPlace ((F.feeding reader.old.feed).source (F.device dev.old).files) reader.old.place
-            (OnlyPagesOf (Below (length self.now)) (codeword self.now) (F.feeding reader.old.feed) (F.feeding reader.new.feed) (F.device dev.old)
-            (F.device dev.new) reader.old.place)) }
+        ensures read { IfOk result (λ s. ReadNext F.feeding F.device reader.old reader.new dev.old dev.new (length (codeword self.now s))) }
+        ensures pages { OnErr result (OnlyCodePages F.feeding F.device reader.old reader.new dev.old dev.new (Below (length self.now)) (codeword self.now)) }
         ensures place { MatchResult result (λ s. reader.new.place
             ≡ reader.old.place + length (codeword self.now s)) (λ _. reader.new.place ≡ reader.old.place) }
-        ensures told { FromPlace ((F.feeding reader.old.feed).source (F.device dev.old).files) reader.old.place
-            (AnswersCode result (Below (length self.now)) (codeword self.now) 1 reader.old.place) }
+        ensures told { FromNext F.feeding F.device reader.old dev.old (AnswersCode result (Below (length self.now)) (codeword self.now) 1 reader.old.place) }
         ensures symbol { IfOk result (λ s. s < length self.now) }
         ensures over { (at limit : ℕ) → result ≡ Err (CodeErr.Over at limit) → length self.now ≡ 1 }
         ensures cause { CodeCause result (F.device dev.old).faults (F.device dev.new).faults }
