@@ -1,5 +1,5 @@
 -- For callers: what stands is told by eleven files, and the head of a set that stands is that of its collection.
-use Rattle.std.proofs.Common.{arith, ◌≡◌, ◌≤◌, ℕ, List, Option, sym, ◌∙◌, ap, subst, IsSome, []}
+use Rattle.std.proofs.Common.{arith, ◌≡◌, ◌≢◌, ◌≤◌, ℕ, List, Option, Some, None, sym, ◌∙◌, ap, subst, IsSome, []}
 use Rattle.std.specs.Prelude.{unwrap_or}
 use Rattle.mg_dev.specs.Files.{Files, bytes_at}
 use Rattle.mg_dev.specs.Names.{full_name, number}
@@ -9,9 +9,9 @@ use Rattle.mg_defs.specs.Stands.{AreParts, Parts, Stand, head_of}
 use Rattle.mg_layout.specs.Stands.{SameSet, Stands, StandsForNone, StandsIn, parts_at, StandsBy}
 use Rattle.mg_defs.specs.CodedText.{TextCode}
 use Rattle.mg_defs.specs.Heads as defs
-use Rattle.mg_defs.specs.Heads.{IsHead}
+use Rattle.mg_defs.specs.Heads.{IsHead, first_damage}
 use Rattle.mg_defs.specs.Means.{Tell}
-use Rattle.mg_defs.proofs.HeadLaws.{one_head}
+use Rattle.mg_defs.proofs.HeadLaws.{no_damage, one_head}
 use Rattle.mg_defs.proofs.StandLaws.{stand-tells, told-stands}
 use Rattle.mg_layout.specs.HeadAnswers.{fields_of}
 use Rattle.mg_layout.specs.declared.head.Head.{Head}
@@ -72,3 +72,18 @@ loaded_set files base collection head is loaded =
     let tell : Tell (parts_at files base) own is.stand.code = stand-tells is.stand.version is.stand.cap is.stand.code (parts_at files base) collection is.stand.are in
     let same : fields_of head ≡ own = one_head (fields_of head) own loaded.within tell.head.within (sym loaded.bytes_are ∙ tell.head.bytes_are) in
     (is.stand.code, told_set files base collection head is.stand.code is (subst (λ (h : defs.Head). Tell (parts_at files base) h is.stand.code) (sym same) tell))
+
+-- no head has no bytes
+pub no_empty_head : (bytes : List ℕ) (h : defs.Head) → IsHead 1 2 bytes h → bytes ≢ []
+unfolding first_damage
+no_empty_head bytes h is empty = some_is_not (sym (no_damage 1 2 bytes h is) ∙ ap (first_damage 1 2) empty)
+  where
+    some_is_not : {x : defs.Check} → None ≡ Some x → ⊥
+    some_is_not e = cc
+
+-- a set that stands has a head
+pub own_head : (files : Option Files) (base collection : List ℕ) → (stands : Stands files base collection) → IsHead 1 2 (bytes_at files (full_name base part.Head)) (head_of stands.stand.version stands.stand.cap stands.stand.code collection)
+own_head files base collection stands = (stand-tells stands.stand.version stands.stand.cap stands.stand.code (parts_at files base) collection stands.stand.are).head
+
+pub head_there : (files : Option Files) (base collection : List ℕ) → Stands files base collection → bytes_at files (full_name base part.Head) ≢ []
+head_there files base collection stands = no_empty_head (bytes_at files (full_name base part.Head)) _ (own_head files base collection stands)

@@ -1,13 +1,12 @@
 // The head of a set.
 ghost use Rattle.std.specs.Prelude.{◌≡◌, ◌≢◌, ◌⊎◌, ◌+◌, ◌≤◌, IsSome, length};
 ghost use Rattle.mg_dev.specs.Causes.{HasPutCause};
-ghost use Rattle.mg_dev.specs.Files.{AfterAppend, OneRead, SameReads};
+ghost use Rattle.mg_dev.specs.Files.{AfterAppend, OneRead, SameReads, part_bytes};
 ghost use Rattle.mg_dev.specs.Names.{full_name};
 ghost use Rattle.mg_dev.specs.PartCauses.{HasPartCause};
 ghost use Rattle.mg_dev.specs.declared.part.Part.TheVariants as part;
 ghost use Rattle.mg_defs.specs.Heads as defs;
 ghost use Rattle.mg_layout.specs.HeadAnswers.{fields_of, AnswersBack, AnswersHead, AnswersWithin};
-ghost use Rattle.mg_layout.specs.Stands.{part_bytes};
 
 use crate::field_writer::FieldWriter;
 use crate::read::parse;
@@ -115,9 +114,9 @@ impl Head {
     /// Loads a head of version 1 or 2: None exactly where the part is missing or empty, and the
     /// first damage where its bytes are no such head.
     pub fn load<S: Store>(store: &mut S, base: &str) -> Result<Option<Head>, PartErr>
-        ensures answer { IsSome (S.files store.old) → AnswersHead 1 2 (part_bytes (S.files store.old) base.now part.Head) result }
+        ensures answer { IsSome (S.files store.old) → AnswersHead 1 2 (part_bytes base.now part.Head (S.files store.old)) result }
         ensures back { IsSome (S.files store.old) → (h : defs.Head) →
-            defs.IsHead 1 2 (part_bytes (S.files store.old) base.now part.Head) h → AnswersBack h result }
+            defs.IsHead 1 2 (part_bytes base.now part.Head (S.files store.old)) h → AnswersBack h result }
         ensures within { AnswersWithin result }
         ensures files { S.files store.new ≡ S.files store.old }
         ensures reads { SameReads (S.reads store.old) (S.reads store.new) ⊎ OneRead (S.reads store.old) (S.reads store.new) part.Head }
@@ -151,7 +150,7 @@ fn load_from<S: Store>(
     requires first { 1 ≤ low }
     requires low { low ≤ high }
     requires high { high ≤ 2 }
-    ensures answer { IsSome (S.files store.old) → AnswersHead low high (part_bytes (S.files store.old) base.now part.Head) result }
+    ensures answer { IsSome (S.files store.old) → AnswersHead low high (part_bytes base.now part.Head (S.files store.old)) result }
     ensures within { AnswersWithin result }
     ensures files { S.files store.new ≡ S.files store.old }
     ensures reads { SameReads (S.reads store.old) (S.reads store.new) ⊎ OneRead (S.reads store.old) (S.reads store.new) part.Head }
