@@ -4,13 +4,12 @@ use Rattle.std.specs.Option.{IsSome}
 use Rattle.std.specs.declared.option.Option.{Option}
 use Rattle.std.specs.Int.{div_ceil}
 use Rattle.mg_dev.specs.Files.{Files, Reads, bytes_at}
-use Rattle.mg_dev.specs.Names.{same_part}
+use Rattle.mg_dev.specs.Names.{file_name, same_part}
 use Rattle.mg_dev.specs.declared.file_ref.FileRef.{FileRef}
 use Rattle.mg_dev.specs.declared.bad as declared
 use Rattle.mg_dev.specs.declared.part.Part.{Part}
 use Rattle.mg_bits.specs.Pages.{Paging, Fits}
 use Rattle.mg_bits.specs.Alike.{WhereSame}
-use Rattle.mg_bits.specs.Windows.{file_name}
 pub use Rattle.mg_bits.specs.Pages.{LookedAt}
 pub use Rattle.mg_dev.specs.Bads.{IsNotBad}
 use Rattle.mg_defs.specs.Numbers.{four}

@@ -13,7 +13,7 @@ ghost use Rattle.std.specs.Bool.{OnTrue, OnFalse};
 ghost use Rattle.std.specs.Int.{div_ceil};
 ghost use Rattle.mg_dev.specs.PartCauses.{HasPartCause};
 ghost use Rattle.mg_dev.specs.Moments.{Between};
-ghost use Rattle.mg_bits.specs.Windows.{file_name};
+ghost use Rattle.mg_dev.specs.Names.{file_name};
 
 use crate::FrontEntry;
 use crate::entry::{is_below, read_entry};
@@ -198,7 +198,8 @@ impl<'a, S: Store> FrontReader<'a, S> {
     ) -> Result<Self, PartErr>
         requires width { width ≤ 24 }
         ensures fits { IfOk result (λ reader. FrontFits reader (S.files store.new)) }
-        ensures reader { IfOk result (λ reader. IsReader reader (file_name strings.entry) strings.entry.part (file_name places.entry) places.entry.part width count) }
+        ensures reader { IfOk result (λ reader. IsReader reader
+            (file_name strings.entry) strings.entry.part (file_name places.entry) places.entry.part width count) }
         ensures answer { AnswersPlacesOf places.entry count (S.files store.old) result }
         ensures stands { WherePlacesStand places.entry (S.files store.old) count (IfErr result (λ refusal. IsNotBad refusal)) }
         ensures files { S.files store.new ≡ S.files store.old }

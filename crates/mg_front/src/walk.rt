@@ -7,7 +7,7 @@ ghost use Rattle.mg_defs.specs.Front.{Entry};
 ghost use Rattle.mg_front.specs.Walk.{Gave, SameWalk, AnswersNext, AfterNext, AnswersAmong, ReadsNext, WhereFront, GaveNext};
 ghost use Rattle.mg_dev.specs.declared.part_err.PartErr.TheVariants.{Memory};
 ghost use Rattle.mg_dev.specs.Moments.{Between};
-ghost use Rattle.mg_bits.specs.Windows.{file_name};
+ghost use Rattle.mg_dev.specs.Names.{file_name};
 
 use crate::FrontEntry;
 use crate::entry::read_entry;
@@ -35,7 +35,7 @@ pub struct FrontWalk<'a, S> {
 impl<'a, S> Model for FrontWalk<'a, S> {
     ghost use Rattle.std.specs.Prelude.{◌≡◌, ◌≤◌, ◌*◌};
     ghost use Rattle.mg_front.specs.Entries.{string_of};
-    ghost use Rattle.mg_bits.specs.Windows.{file_name};
+    ghost use Rattle.mg_dev.specs.Names.{file_name};
     ghost use Rattle.mg_front.specs.Walk.{Walking};
 
     ghost Value = { Walking };

@@ -6,7 +6,7 @@ ghost use Rattle.mg_dev.specs.Causes.{HasPutCause};
 ghost use Rattle.mg_defs.specs.Front.{Entry, IsEntry};
 ghost use Rattle.mg_front.specs.Fronting.{TookAlso, Took, IsOther, StartedPlaces, WroteToAsked, IsNotAsked, HoldsNothing, PlaceWrote, WroteToPlaces, with_empty, FinishedAll};
 ghost use Rattle.mg_bits.specs.Alike.{SameAt};
-ghost use Rattle.mg_bits.specs.Windows.{file_name};
+ghost use Rattle.mg_dev.specs.Names.{file_name};
 
 use crate::put::{put_entry, put_place};
 use mg_bits::PageWriter;
