@@ -21,9 +21,9 @@ use Rattle.mg_defs.proofs.SortedLaws.{has-sorted, number-found}
 use Rattle.mg_laws.proofs.SizeLaws.{few_entries, few_occurrences, post_places_fit}
 use Rattle.mg_dev.specs.declared.part_err.PartErr.{PartErr}
 use Rattle.mg_dev.specs.declared.part_err.PartErr.TheVariants.{Device, Memory, Bad}
-use Rattle.mg_layout.specs.Infos.{info_of}
+use Rattle.mg_layout.specs.Infos.{IsInfoOf, info_of}
 use Rattle.mg_layout.specs.declared.term_info.TermInfo.{TermInfo}
-use Rattle.mg_lex.specs.Reading.{AnswersInfo, AnswersTerm, IsInfo, IsInfoOf, IsNoTerm}
+use Rattle.mg_lex.specs.Reading.{AnswersInfo, AnswersTerm, IsInfo, IsNoTerm}
 use Rattle.mg_lex.specs.Terms.{FitsField}
 use Rattle.mg_lex.proofs.LexLaws.{same_info}
 

@@ -12,7 +12,7 @@ use Rattle.mg_defs.specs.Lexicon as defs
 use Rattle.mg_defs.specs.WithinLimits.{IsWithinLimits}
 use Rattle.mg_defs.specs.Terms.{dictionary, docs}
 use Rattle.mg_front.specs.Reading.{AnswersPlaces, Fronted, IsReader, places_size}
-use Rattle.mg_layout.specs.Infos.{info_of}
+use Rattle.mg_layout.specs.Infos.{IsInfoOf, info_of}
 use Rattle.mg_layout.specs.declared.term_info.TermInfo.{TermInfo}
 use Rattle.mg_lex.specs.Writing.{WhereBothStay}
 
@@ -76,11 +76,6 @@ AnswersTerm (Ok None) collection t = IsNoTerm collection t
 AnswersTerm (Err Device) collection t = Unit {0}
 AnswersTerm (Err Memory) collection t = ⊥
 AnswersTerm (Err (Bad bad)) collection t = ⊥
-
--- what stands of a term of the collection: its number, how many documents have it, where its list begins, and its first skip entry
-pub record IsInfoOf (collection t : List ℕ) (info : TermInfo) : Type 0 where
-  pub number : slice_get (dictionary collection) info.number ≡ Some t
-  pub is : info_of info ≡ defs.info_of collection info.number t
 
 -- where the parts stand for a collection within the limits: what stands of the term, or none exactly where no document has it
 abbrev pub AnswersInfo : Result (Option TermInfo) PartErr → List ℕ → List ℕ → Type 0
