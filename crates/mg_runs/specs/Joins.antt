@@ -1,6 +1,7 @@
 -- Runs of one file that are joined into a run of another.
-use Rattle.std.specs.Prelude.{◌≡◌, ◌≢◌, ◌≤◌, ◌+◌, ◌*◌, ◌++◌, ◌^◌, ℕ, false, List, length, drop, is_some, Some, None}
+use Rattle.std.specs.Prelude.{◌≡◌, ◌≢◌, ◌≤◌, ◌+◌, ◌*◌, ◌++◌, ◌^◌, ℕ, false, List, length, drop, is_some, Some, None, OnOk}
 use Rattle.std.specs.declared.option.Option.{Option}
+use Rattle.std.specs.declared.result.Result.{Result}
 use Rattle.mg_dev.specs.declared.part.Part.{Part}
 use Rattle.mg_dev.specs.declared.part.Part.TheVariants.{Run, MergeA, MergeB}
 use Rattle.mg_dev.specs.Files.{Files, Reads, file_at}
@@ -83,6 +84,10 @@ WrotePostings files before now old new xs = WroteBits old new (files before) (fi
 -- these runs, merged into one that ends at a byte, were written
 abbrev pub WroteRun : {X : Type 0} → (X → Option Files) → X → X → BitWriting → BitWriting → List (List TermPosting) → Type 0
 WroteRun files before now old new runs = WroteBits old new (files before) (files now) (filled (run_bits (merged runs)))
+
+-- at `Ok` these runs were written as that one
+abbrev pub WritesRun : {X T E : Type 0} → (X → Option Files) → X → X → BitWriting → BitWriting → Result T E → List (List TermPosting) → Type 0
+WritesRun files before now old new result runs = OnOk result (WroteRun files before now old new runs)
 
 -- so many postings were counted as these runs have, merged
 abbrev pub Counts : Counted → List (List TermPosting) → Type 0

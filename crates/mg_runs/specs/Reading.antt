@@ -2,24 +2,21 @@
 use Rattle.std.specs.Prelude.{◌≡◌, ◌≤◌, ◌+◌, ◌*◌, ◌^◌, ℕ, List, [], ◌∷◌, length, max, min, slice_index_or, slice_set}
 use Rattle.std.specs.Option.{IsSome}
 use Rattle.std.specs.declared.option.Option.{Option}
-use Rattle.mg_dev.specs.Files.{Files, bytes_at}
+use Rattle.mg_dev.specs.Files.{Files, file_bytes}
 use Rattle.mg_dev.specs.Names.{full_name}
 use Rattle.mg_dev.specs.declared.file_ref.FileRef.{FileRef}
 use Rattle.mg_defs.specs.declared.TermPosting.{TermPosting}
 use Rattle.mg_defs.specs.Bits.{Bits}
 use Rattle.mg_bits.specs.BitWriting.{BitWriting}
 use Rattle.mg_runs.specs.Cursors.{IsAtPostingBy, IsRun, IsRunAt}
-use Rattle.mg_runs.specs.Joins.{IsPut, IsPutting, other}
+use Rattle.mg_runs.specs.Joins.{Counts, IsPut, IsPutting, other}
 use Rattle.mg_runs.specs.Merging.{AreLeft, AreRuns, AreRunsAt, IsMerged, IsTaking, StandFor}
 use Rattle.mg_runs.specs.Pooled.{Pooled}
 use Rattle.mg_runs.specs.Rounds.{AreStored, IsGroupAt}
 use Rattle.mg_runs.specs.declared.cursor.Cursor.{Cursor}
 use Rattle.mg_runs.specs.declared.group.Group.{Group}
+use Rattle.mg_runs.specs.declared.join.Counted.{Counted}
 use Rattle.mg_runs.specs.declared.round.Round.{Round}
-
--- the bytes of a file, where the files are told
-abbrev pub file_bytes : FileRef → Option Files → List ℕ
-file_bytes file files = bytes_at files (full_name file.base.now file.part)
 
 -- by these bytes, this is left of each of a group's runs
 abbrev pub GroupStands : Group → List ℕ → List (List TermPosting) → Type 0
@@ -62,6 +59,10 @@ ForRuns file files places claim = IsSome files → (runs : List (List TermPostin
 -- for all of them that may be joined and written as one run behind so many bits
 abbrev pub ForGroup : FileRef → Option Files → List ℕ → ℕ → (List (List TermPosting) → Type 0) → Type 0
 ForGroup file files places behind claim = ForRuns file files places (λ _ runs. IsGroupAt runs behind → claim runs)
+
+-- for those that have as many postings, merged, as were counted
+abbrev pub ForCounted : Counted → FileRef → Option Files → List ℕ → ℕ → (List (List TermPosting) → Type 0) → Type 0
+ForCounted counted file files places behind claim = ForGroup file files places behind (λ runs. Counts counted runs → claim runs)
 
 -- for all runs that a file has one after another, at these places
 abbrev pub ForStored : FileRef → Option Files → List ℕ → (List (List TermPosting) → Type 0) → Type 0

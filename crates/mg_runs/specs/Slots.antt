@@ -6,7 +6,7 @@ use Rattle.std.specs.declared.option.Option.{Option}
 use Rattle.std.specs.declared.result.Result.{Result}
 use Rattle.mg_dev.specs.Files.{Files, bytes_at}
 use Rattle.mg_dev.specs.declared.file_ref.FileRef.{FileRef}
-use Rattle.mg_bits.specs.Windows.{file_name}
+use Rattle.mg_dev.specs.Names.{file_name}
 
 -- So many bytes of the slot are those of the file from a place on. They are fewer than 64 only at the file's end.
 pub record IsFilled (files : Option Files) (name : List ℕ) (at count : ℕ) (slot : List ℕ) : Type 0 where

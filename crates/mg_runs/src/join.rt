@@ -12,8 +12,8 @@ ghost use Rattle.mg_runs.specs.Pooled.{SamePool};
 ghost use Rattle.mg_runs.specs.Cursors.{NoDamage};
 ghost use Rattle.mg_runs.specs.Damages.{NamesItsPart, NamesPart};
 ghost use Rattle.mg_runs.specs.Merging.{AreRuns, IsShaped, left_together};
-ghost use Rattle.mg_runs.specs.Joins.{Passed, WrotePostings, WroteRun, Counts};
-ghost use Rattle.mg_runs.specs.Reading.{ForRuns, ForGroup, ForLeft, ForLeftRun, ForPutting, PutSince};
+ghost use Rattle.mg_runs.specs.Joins.{Passed, WrotePostings, WritesRun, Counts};
+ghost use Rattle.mg_runs.specs.Reading.{ForCounted, ForRuns, ForGroup, ForLeft, ForLeftRun, ForPutting, PutSince};
 ghost use Rattle.mg_dev.specs.Moments.{Between};
 
 use crate::Pool;
@@ -213,8 +213,8 @@ fn put_run<S: Store>(
     requires apart { full_name file.base.now file.part ≢ w.old.name }
     requires whole { w.old.place % 8 ≡ 0 }
     requires place { w.old.place ≤ 2 ^ 61 }
-    ensures told { ForGroup file.entry (S.files store.old) places.now w.old.place
-        (λ runs. Counts counted runs → OnOk result (WroteRun S.files store.old store.new w.old w.new runs)) }
+    ensures told { ForCounted counted file.entry (S.files store.old) places.now w.old.place
+        (WritesRun S.files store.old store.new w.old w.new result) }
     ensures undamaged { ForGroup file.entry (S.files store.old) places.now w.old.place (λ _. NoDamage result) }
     ensures entries { IfOk result (λ made. made.entries ≡ []) }
     ensures limit { IfOk result (λ made. made.limit ≡ counted.pool.limit) }
@@ -263,8 +263,7 @@ pub fn join<S: Store>(
     requires holds { Holds w.old (S.files store.old) }
     requires apart { full_name file.base.now file.part ≢ w.old.name }
     requires whole { w.old.place % 8 ≡ 0 }
-    ensures told { ForGroup file.entry (S.files store.old) places.now w.old.place
-        (λ runs. OnOk result (WroteRun S.files store.old store.new w.old w.new runs)) }
+    ensures told { ForGroup file.entry (S.files store.old) places.now w.old.place (WritesRun S.files store.old store.new w.old w.new result) }
     ensures undamaged { ForGroup file.entry (S.files store.old) places.now w.old.place (λ _. NoDamage result) }
     ensures entries { IfOk result (λ made. made.entries ≡ []) }
     ensures limit { IfOk result (λ made. made.limit ≡ pool.limit) }

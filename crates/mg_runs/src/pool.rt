@@ -34,7 +34,12 @@ impl Model for Pool {
 
     ghost Value = { Pooled };
 
-    ghost view = { λ p. record { entries = entries_in p.entries p.bytes.items; slots = first_chunks 64 p.slots p.bytes.items; peak = p.peak; limit = length p.bytes.items } };
+    ghost view = { λ p. record {
+      entries = entries_in p.entries p.bytes.items;
+      slots = first_chunks 64 p.slots p.bytes.items;
+      peak = p.peak;
+      limit = length p.bytes.items;
+    } };
 
     ghost invariant = { λ p. IsWithin p.entries p.slots p.peak (length p.bytes.items) };
 }

@@ -1,4 +1,4 @@
-use Rattle.std.proofs.Common.{refl, sym, ◌∙◌}
+use Rattle.std.proofs.Common.{refl, ◌∙◌}
 use Rattle.mg_runs.proofs.Joins.{put_start, passed_none, passed_more, passed_bytes}
 use Rattle.mg_runs.proofs.Steps.{pool_more}
 use Rattle.mg_runs.proofs.join.put_postings.Goals as goal
