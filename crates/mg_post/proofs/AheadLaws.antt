@@ -7,7 +7,7 @@ use Rattle.std.proofs.Math.Nat.{two-pow-succ}
 use Rattle.std.proofs.Math.Pow.{pow_mono}
 use Rattle.mg_dev.specs.Files.{Files}
 use Rattle.mg_defs.specs.Answers.{UpTo}
-use Rattle.mg_defs.specs.Bits.{Begins, Bits, FromPlace, bits_of, digits}
+use Rattle.mg_defs.specs.Bits.{Begins, Bits, FromPlace, Shows, bits_of, digits}
 use Rattle.mg_defs.specs.Codes.{ceil_log2, gamma, golomb, ones, short, shorter, unary}
 use Rattle.mg_defs.specs.Lists.{posting_bits, Follows}
 use Rattle.mg_defs.specs.declared.Posting.{Posting}
@@ -20,7 +20,6 @@ use Rattle.mg_bits.specs.Feed.{Device as Seen, Feeding, HoldsBits, Read}
 use Rattle.mg_bits.proofs.CallerLemmas.{holds_inside, read_held, told_nothing}
 use Rattle.mg_codes.proofs.CallerLemmas.{less_one, no_bits, one_zero, quotient, unary_digits, with_highest}
 use Rattle.mg_post.specs.Ahead.{IsAhead, IsGapCode, Takes}
-use Rattle.mg_post.specs.Stands.{Shows}
 use Rattle.mg_post.proofs.ReadLaws.{freq_got, gap_got}
 
 -- ---- bits of a number
@@ -211,7 +210,7 @@ pub peeked_ahead : (feed : Feeding) (fits : Option Files → Type 0) (place bits
 peeked_ahead feed fits place bits low small holds told = record { below = small; few = omega arith; held = λ some. holds; told = told; small = λ some. omega (arith, low) }
 
 -- where a code stands first, so does it at the place, and what is left stands behind it
-code_stands : (told : Option (List ℕ)) (place bits count rest left : ℕ) (code : Bits) → Takes code bits count rest left → FromPlace told place (Begins (digits count bits)) → FromPlace told place (Begins code)
+pub code_stands : (told : Option (List ℕ)) (place bits count rest left : ℕ) (code : Bits) → Takes code bits count rest left → FromPlace told place (Begins (digits count bits)) → FromPlace told place (Begins code)
 code_stands None place bits count rest left code takes begins = tt
 code_stands (Some bytes) place bits count rest left code takes begins = begins_first code (digits left rest) _ (subst (λ l. Begins l (drop place (bits_of bytes))) takes.whole begins)
 

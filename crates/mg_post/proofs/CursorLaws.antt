@@ -1,14 +1,11 @@
 -- Where a cursor stands after it was asked for a document.
-use Rattle.std.proofs.Common.{arith, ◌≡◌, ◌≢◌, ◌+◌, ◌*◌, ◌^◌, ◌≤◌, ◌<◌, ◌-◌, ℕ, Bool, true, false, List, [], ◌∷◌, ◌++◌, length, take, drop, min, Option, Some, None, Err, IsSome, refl, sym, ◌∙◌, ap, subst, ◌⊎◌, inl, inr, append_assoc, append-nil, unwrap_or, get_or}
+use Rattle.std.proofs.Common.{arith, ◌≡◌, ◌+◌, ◌*◌, ◌^◌, ◌≤◌, ◌<◌, ◌-◌, ℕ, Bool, true, false, List, [], ◌∷◌, ◌++◌, length, take, drop, min, Option, Some, None, Err, refl, sym, ◌∙◌, ap, subst, ◌⊎◌, inl, inr, append_assoc, append-nil}
 use Rattle.std.proofs.lemmas.List.{take-append-drop, take_all}
-use Rattle.std.specs.Str.{bytes_eq}
-use Rattle.std.proofs.lemmas.Slice.Eq.{bytes_eq-Decides}
-use Rattle.mg_dev.specs.Files.{Files, written, bytes_at, no_files}
-use Rattle.mg_dev.specs.Laws.{file_at-written, file_at-other, told-written}
 use Rattle.mg_dev.specs.declared.part.Part.{Part}
 use Rattle.mg_dev.specs.declared.part.Part.TheVariants.{Post, Skip}
-use Rattle.mg_bits.specs.Feed.{Device as Seen, Calm, told_at, raised}
+use Rattle.mg_bits.specs.Feed.{Device as Seen, Calm, raised}
 use Rattle.mg_bits.specs.Pages.{Paging, SameFile, feeding_of}
+use Rattle.mg_bits.proofs.CallerLemmas.{same_name}
 use Rattle.mg_defs.specs.declared.Posting.{Posting}
 use Rattle.mg_defs.specs.Lists.{last_doc, Rises, doc_before, block_of, from_doc}
 use Rattle.mg_defs.proofs.ListLaws.{last_append, rises_left, rises_right, from_past, from_after, from_within, from_here, from_next, from_some, last_above}
@@ -271,30 +268,6 @@ ended_after false ps reached last [] some w =
 ended_after false ps reached last (p ∷ held) some w = absurd (let e : p ∷ (held ++ drop (64 * reached) ps) ≡ [] = w.left_is in cc)
 
 -- ---- the parts
-
-pub is_told : (files : Option Files) (n : List ℕ) → IsSome files → told_at files n ≡ Some (bytes_at files n)
-is_told None n told = absurd cc
-is_told (Some f) n told = refl
-
-told_here : (a x : List ℕ) → told_at (written (Some no_files) a x) a ≡ Some x
-told_here a x = is_told (written (Some no_files) a x) a (told-written (Some no_files) a x) ∙ ap (λ o. Some (unwrap_or o [])) (file_at-written (Some no_files) a x refl)
-
-told_there : (a b x : List ℕ) → b ≢ a → told_at (written (Some no_files) a x) b ≡ Some (bytes_at (Some no_files) b)
-told_there a b x apart = is_told (written (Some no_files) a x) b (told-written (Some no_files) a x) ∙ ap (λ o. Some (unwrap_or o [])) (file_at-other (Some no_files) a x b apart)
-
--- feeds that read the same bytes of every store read the same file
-same_name : (a b : List ℕ) → ((files : Option Files) → told_at files a ≡ told_at files b) → a ≡ b
-same_name a b same = by_test (bytes_eq a b) refl
-  where
-    clash : b ≢ a → ⊥
-    clash apart =
-        let zero_there : Some (0 ∷ []) ≡ Some (bytes_at (Some no_files) b) = sym (told_here a (0 ∷ [])) ∙ same (written (Some no_files) a (0 ∷ [])) ∙ told_there a b (0 ∷ []) apart in
-        let one_there : Some (1 ∷ []) ≡ Some (bytes_at (Some no_files) b) = sym (told_here a (1 ∷ [])) ∙ same (written (Some no_files) a (1 ∷ [])) ∙ told_there a b (1 ∷ []) apart in
-        absurd (omega (arith, ap (λ o. get_or (unwrap_or o []) 0 5) (zero_there ∙ sym one_there)))
-
-    by_test : (t : Bool) → bytes_eq a b ≡ t → a ≡ b
-    by_test true e = (bytes_eq-Decides a b).0 e
-    by_test false e = absurd (clash (λ is. absurd (let yes : bytes_eq a b ≡ true = (bytes_eq-Decides a b).1 (sym is) in cc)))
 
 pub same_file : (p q : Paging) (d e : Seen) → Calm (feeding_of 4096 p) (feeding_of 4096 q) d e → SameFile p q
 same_file p q d e calm = record {

@@ -3,13 +3,14 @@ use Rattle.std.proofs.Common.{arith, suc, zero, ◌≡◌, ◌+◌, ◌*◌, ◌
 use Rattle.std.proofs.lemmas.Grind.{common_steps}
 use Rattle.std.proofs.lemmas.List.{take-append-drop, drop-drop, length-drop}
 use Rattle.std.proofs.Math.Seq.{take-add}
+use Rattle.mg_defs.specs.Bits.{Shows}
 use Rattle.mg_defs.specs.declared.Posting.{Posting}
 use Rattle.mg_defs.specs.Lists.{bits_after, last_doc, Rises, doc_before, bits_before, block_of, block_pages, from_doc}
 use Rattle.mg_defs.specs.PagesOf.{pages}
 use Rattle.mg_defs.proofs.ListLaws.{bits_append, rises_left, rises_right, rest_stands, from_some, block_last}
 use Rattle.mg_bits.specs.Feed.{Feeding, Device as Seen, ReadsWithin, to_read}
 use Rattle.mg_post.specs.declared.refusal.Refusal.{Refusal}
-use Rattle.mg_post.specs.Stands.{BlockStands, Shows}
+use Rattle.mg_post.specs.Stands.{BlockStands}
 use Rattle.mg_post.specs.Finding.{IsFoundAt}
 use Rattle.mg_post.specs.Cursor.{Entered, head_of}
 use Rattle.mg_post.specs.Answers.{OrDevice}

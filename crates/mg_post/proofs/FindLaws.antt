@@ -1,12 +1,12 @@
 -- What stands where a skip entry is read.
 use Rattle.std.proofs.Common.{arith, ◌≡◌, ◌+◌, ◌-◌, ◌*◌, ◌^◌, ◌%◌, ◌≤◌, ◌<◌, ℕ, List, ◌++◌, length, take, drop, Option, Some, None, Result, Ok, Err, refl, sym, ◌∙◌, ap, subst, length-append, IfOk, ◌⊎◌, inl, inr}
-use Rattle.std.proofs.lemmas.List.{take-append-drop, length-drop}
+use Rattle.std.proofs.lemmas.List.{take-append-drop}
 use Rattle.mg_defs.specs.declared.Posting.{Posting}
-use Rattle.mg_defs.specs.Bits.{Bits, Begins, FromPlace, bits_of, digits}
+use Rattle.mg_defs.specs.Bits.{Bits, Begins, FromPlace, Shows, digits}
 use Rattle.mg_defs.specs.Lists.{SkipEntry, bits_after, last_doc, Rises, doc_before, bits_before, entry_of, entry_bits}
 use Rattle.mg_defs.proofs.PageLaws.{pages_some}
 use Rattle.mg_defs.proofs.BitLaws.{length_digits, digits_same}
-use Rattle.mg_defs.proofs.FrontLaws.{begins_length}
+use Rattle.mg_defs.proofs.FrontLaws.{begins_length, shows_left, shows_right}
 use Rattle.mg_defs.proofs.ListLaws.{bits_append, rises_left, last_within}
 use Rattle.mg_bits.specs.Feed.{lacks}
 use Rattle.mg_bits.specs.Reader.{AnswersBits}
@@ -15,10 +15,9 @@ use Rattle.mg_bits.specs.declared.bit_err.BitErr.{BitErr}
 use Rattle.mg_bits.specs.declared.bit_err.BitErr.TheVariants as bits
 use Rattle.mg_post.specs.declared.refusal.Refusal.{Refusal}
 use Rattle.mg_post.specs.declared.refusal.Refusal.TheVariants.{Device, Damaged}
-use Rattle.mg_post.specs.Stands.{Shows, SkipStands}
-use Rattle.mg_post.specs.Finding.{LacksAnEntry, ReadTo, SkipReads, TellsBefore, TellsBlock, TellsLast, entry_page, entries_pages}
+use Rattle.mg_post.specs.Stands.{SkipStands}
+use Rattle.mg_post.specs.Finding.{LacksAnEntry, LacksBits, LacksLast, LacksNumber, ReadTo, SkipReads, TellsBefore, TellsBlock, TellsLast, entry_page, entries_pages}
 use Rattle.mg_post.specs.Answers.{IfDamaged, IsNumber, OnDamage, OrDevice, of_bits}
-use Rattle.mg_post.proofs.ReadLaws.{shows_left, shows_right}
 
 number_got : (result : Result ℕ BitErr) (place y : ℕ) (s : Bits) → IfOk result (λ v. v < 2 ^ 64) → y < 2 ^ 64 → Begins (digits 64 y) s → AnswersBits result place 64 s → IsNumber result y
 number_got (Ok v) place y s below small begins answers =
@@ -36,9 +35,9 @@ pub told_number : (told : Option (List ℕ)) (result : Result ℕ BitErr) (place
 told_number None result place y below small shows answers = absurd shows
 told_number (Some bytes) result place y below small shows answers = number_got result place y _ below small shows answers
 
-pub refused_number : {T : Type 0} (refusal : BitErr) (y : ℕ) (fact : T → Type 0) → IsNumber (Err refusal) y → OrDevice {T = T} (Err (of_bits refusal)) fact
-refused_number bits.Device y fact h = tt
-refused_number (bits.End at) y fact h = h
+pub refused_number : {T : Type 0} (refusal : BitErr) (place y : ℕ) (fact : T → Type 0) → IsNumber (Err refusal) y → OrDevice {T = T} (Err (of_bits refusal place)) fact
+refused_number bits.Device place y fact h = tt
+refused_number (bits.End at) place y fact h = h
 
 pub last_shown : (told : Option (List ℕ)) (place at : ℕ) (e : SkipEntry) → place ≡ at → Shows told at (entry_bits e) → Shows told place (digits 64 e.last)
 unfolding entry_bits
@@ -194,26 +193,34 @@ tells_on skip skip_at reached low known before block here last at from more told
 
 -- ---- entries that do not stand
 
-pub damaged_weaker : (refusal : Refusal) (one two : Type 0) → (one → two) → OnDamage refusal one → OnDamage refusal two
+pub damaged_weaker : (refusal : Refusal) (one two : ℕ → Type 0) → ((at : ℕ) → one at → two at) → OnDamage refusal one → OnDamage refusal two
 damaged_weaker Device one two then h = tt
-damaged_weaker (Damaged at) one two then h = then h
+damaged_weaker (Damaged at) one two then h = then at h
 
-pub ends_number : (told : Option (List ℕ)) (refusal : BitErr) (place : ℕ) → FromPlace told place (AnswersBits (Err refusal) place 64) → OnDamage (of_bits refusal) (FromPlace told place (λ bits. length bits < 64))
+-- of a damage that is told at a place
+pub damaged_at : (refusal : Refusal) (place : ℕ) (one : Type 0) (two : ℕ → Type 0) → (one → two place) → OnDamage refusal (λ at. at ≡ place) → OnDamage refusal (λ at. one) → OnDamage refusal two
+damaged_at Device place one two then is h = tt
+damaged_at (Damaged at) place one two then is h = subst two (sym is) (then h)
+
+pub bits_told : (refusal : BitErr) (place : ℕ) → OnDamage (of_bits refusal place) (λ at. at ≡ place)
+bits_told bits.Device place = tt
+bits_told (bits.End at) place = refl
+
+pub ends_number : (told : Option (List ℕ)) (refusal : BitErr) (place : ℕ) → FromPlace told place (AnswersBits (Err refusal) place 64) → OnDamage (of_bits refusal place) (λ at. LacksNumber told place)
 ends_number told bits.Device place answers = tt
 ends_number None (bits.End at) place answers = tt
 ends_number (Some bytes) (bits.End at) place answers = answers.0
 
-pub ends_first : (told : Option (List ℕ)) (place at : ℕ) → place ≡ at → FromPlace told place (λ bits. length bits < 64) → FromPlace told at (λ bits. length bits < 128)
-ends_first None place at is ends = tt
-ends_first (Some bytes) place at is ends = omega (arith, is, ends, length-drop place (bits_of bytes), length-drop at (bits_of bytes))
+pub lacks_last : (told : Option (List ℕ)) (refusal : Refusal) (skip_at all block place : ℕ) → place ≡ 128 * (skip_at + block) → OnDamage refusal (λ at. at ≡ place) → OnDamage refusal (λ at. LacksNumber told place) →
+    OnDamage refusal (LacksLast told skip_at all block)
+lacks_last told refusal skip_at all block place is at ends =
+    damaged_at refusal place (LacksNumber told place) (LacksLast told skip_at all block) (λ h. record { at_is = is; missing = inl h }) at ends
 
-pub ends_second : (told : Option (List ℕ)) (place at : ℕ) → place ≡ at + 64 → FromPlace told place (λ bits. length bits < 64) → FromPlace told at (λ bits. length bits < 128)
-ends_second None place at is ends = tt
-ends_second (Some bytes) place at is ends = omega (arith, is, ends, length-drop place (bits_of bytes), length-drop at (bits_of bytes))
+pub lacks_bits : (told : Option (List ℕ)) (result : Result ℕ Refusal) (skip_at block place : ℕ) → place ≡ 128 * (skip_at + block) + 64 → IfDamaged result (λ at. at ≡ place) → IfDamaged result (λ at. LacksNumber told place) →
+    IfDamaged result (LacksBits told skip_at block)
+lacks_bits told (Ok value) skip_at block place is at ends = tt
+lacks_bits told (Err refusal) skip_at block place is at ends =
+    damaged_at refusal place (LacksNumber told place) (LacksBits told skip_at block) (λ h. record { at_is = is; missing = h }) at ends
 
-pub lacks_wider : (skip : Option (List ℕ)) (skip_at all low high from to : ℕ) → from ≤ low → high ≤ to → LacksAnEntry skip skip_at all low high → LacksAnEntry skip skip_at all from to
-lacks_wider skip skip_at all low high from to le most h = (h.0, omega (arith, le, h.1), omega (arith, most, h.2), h.3)
-
-pub damaged_either : {A : Type 0} (result : Result A Refusal) (one two : Type 0) → (one → two) → IfDamaged result one → IfDamaged result two
-damaged_either (Ok value) one two then h = tt
-damaged_either (Err refusal) one two then h = damaged_weaker refusal one two then h
+pub lacks_wider : (skip : Option (List ℕ)) (skip_at all low high from to at : ℕ) → from ≤ low → high ≤ to → LacksAnEntry skip skip_at all low high at → LacksAnEntry skip skip_at all from to at
+lacks_wider skip skip_at all low high from to at le most h = (h.0, omega (arith, le, h.1), omega (arith, most, h.2), h.3)

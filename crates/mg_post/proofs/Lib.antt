@@ -10,3 +10,4 @@ mod Totals
 mod SoundLaws
 mod LifeLaws
 mod TermLaws
+pub mod ListHeads

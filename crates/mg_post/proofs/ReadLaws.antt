@@ -1,51 +1,31 @@
 -- What stands where a posting is read.
-use Rattle.std.proofs.Common.{arith, ◌≡◌, ◌+◌, ◌^◌, ◌≤◌, ◌<◌, ◌-◌, ℕ, List, [], ◌∷◌, ◌++◌, length, take, drop, Option, Some, None, Result, Ok, Err, sym, ◌∙◌, ap, subst, length-append, append-nil, get_or, drop-cons, add-one}
+use Rattle.std.proofs.Common.{arith, ◌≡◌, ◌+◌, ◌^◌, ◌≤◌, ◌<◌, ◌-◌, ℕ, List, [], ◌∷◌, ◌++◌, length, take, drop, Option, Some, None, Result, Ok, Err, inl, refl, sym, ◌∙◌, ap, subst, length-append, length-take, append-nil, get_or, drop-cons, add-one}
 use Rattle.std.proofs.lemmas.List.{take-append-drop, drop-drop, take_more}
 use Rattle.std.proofs.Math.Seq.{take-add}
 use Rattle.mg_defs.specs.declared.Posting.{Posting}
-use Rattle.mg_defs.specs.Bits.{Bits, Begins, FromPlace}
+use Rattle.mg_defs.specs.Bits.{Bits, Begins, FromPlace, Shows}
 use Rattle.mg_defs.specs.Codes.{gamma, golomb}
-use Rattle.mg_defs.specs.Answers.{UpTo, IsPrefixFree}
+use Rattle.mg_defs.specs.Answers.{UpTo}
 use Rattle.mg_defs.specs.Lists.{posting_bits, bits_after, last_doc, Rises, Follows}
 use Rattle.mg_defs.proofs.CodeLaws.{gamma_free, golomb_free}
-use Rattle.mg_defs.proofs.FrontLaws.{begins_first, begins_second, one_stands}
+use Rattle.mg_defs.proofs.FrontLaws.{begins_both, shows_left, shows_right}
 use Rattle.mg_defs.proofs.ListLaws.{bits_append, rises_right, last_append}
-use Rattle.mg_bits.specs.CodeAnswers.{AnswersCode, OnlyPagesOf}
+use Rattle.mg_bits.specs.CodeAnswers.{AnswersCode, IsGot, OnlyPagesOf}
 use Rattle.mg_bits.specs.Feed.{Feeding, Device as Seen, Read, ReadsWithin}
-use Rattle.mg_bits.proofs.CallerLemmas.{within_more, within_wider}
+use Rattle.mg_bits.proofs.CallerLemmas.{told_got, within_more, within_wider}
 use Rattle.mg_bits.specs.declared.code_err.CodeErr.{CodeErr}
 use Rattle.mg_bits.specs.declared.code_err.CodeErr.TheVariants as code
 use Rattle.mg_post.specs.declared.refusal.Refusal.{Refusal}
 use Rattle.mg_post.specs.declared.refusal.Refusal.TheVariants.{Device, Damaged}
-use Rattle.mg_post.specs.Stands.{Shows}
-use Rattle.mg_post.specs.Answers.{IsGot, OrDevice, of_code}
+use Rattle.mg_post.specs.Answers.{OnDamage, OrDevice, of_code}
+use Rattle.mg_post.specs.Missing.{IsBitOfPosting, LacksPosting}
 use Rattle.mg_defs.proofs.StandLists.{length_posting}
-
--- the answer of a reader of a code where the code of a value stands
-code_got : (within : ℕ → Type 0) (words : ℕ → Bits) (free : IsPrefixFree within words) (result : Result ℕ CodeErr) (limit place y : ℕ) (s : Bits) → within y → Begins (words y) s → AnswersCode result within words limit place s → IsGot result y
-code_got within words free (Ok x) limit place y s taken begins answers = one_stands within words s x y free answers.0 taken answers.1 begins
-code_got within words free (Err code.Device) limit place y s taken begins answers = tt
-code_got within words free (Err (code.End at)) limit place y s taken begins answers = answers.1.none y taken begins
-code_got within words free (Err (code.Over at most)) limit place y s taken begins answers = answers.2.begins y taken begins
-
-told_got : (within : ℕ → Type 0) (words : ℕ → Bits) (free : IsPrefixFree within words) (told : Option (List ℕ)) (result : Result ℕ CodeErr) (limit place y : ℕ) → within y → Shows told place (words y) →
-    FromPlace told place (AnswersCode result within words limit place) → IsGot result y
-told_got within words free None result limit place y taken shows answers = absurd shows
-told_got within words free (Some bytes) result limit place y taken shows answers = code_got within words free result limit place y _ taken shows answers
 
 -- the pages that a refused reader of a code read
 told_pages : (within : ℕ → Type 0) (words : ℕ → Bits) (told : Option (List ℕ)) (place y : ℕ) (f0 f1 : Feeding) (d0 d1 : Seen) → within y → Shows told place (words y) →
     FromPlace told place (OnlyPagesOf within words f0 f1 d0 d1 place) → ReadsWithin f0 f1 d0 d1 place (place + length (words y))
 told_pages within words None place y f0 f1 d0 d1 taken shows pages = absurd shows
 told_pages within words (Some bytes) place y f0 f1 d0 d1 taken shows pages = pages y taken shows
-
-pub shows_left : (told : Option (List ℕ)) (place : ℕ) (a b : Bits) → Shows told place (a ++ b) → Shows told place a
-shows_left None place a b h = h
-shows_left (Some bytes) place a b h = begins_first a b _ h
-
-pub shows_right : (told : Option (List ℕ)) (place next : ℕ) (a b : Bits) → next ≡ place + length a → Shows told place (a ++ b) → Shows told next b
-shows_right None place next a b e h = h
-shows_right (Some bytes) place next a b e h = rw e (rw drop-drop at (begins_second a b _ h))
 
 gap_shown : (told : Option (List ℕ)) (place b before : ℕ) (p : Posting) → Shows told place (posting_bits b before p) → Shows told place (golomb b (p.doc - before))
 unfolding posting_bits
@@ -61,10 +41,70 @@ gap_within before all limit p is follows = (omega (arith, follows.after), omega 
 freq_within : (before all : ℕ) (p : Posting) → Follows all before p → UpTo 4294967295 p.freq
 freq_within before all p follows = (follows.some, omega (arith, follows.fits))
 
-pub refused_posting : (refusal : CodeErr) (y : ℕ) (p : Posting) → IsGot (Err refusal) y → OrDevice {T = Posting} (Err (of_code refusal)) (λ q. q ≡ p)
-refused_posting code.Device y p h = tt
-refused_posting (code.End at) y p h = h
-refused_posting (code.Over at most) y p h = h
+pub refused_posting : (refusal : CodeErr) (place y : ℕ) (p : Posting) → IsGot (Err refusal) y → OrDevice {T = Posting} (Err (of_code refusal place)) (λ q. q ≡ p)
+refused_posting code.Device place y p h = tt
+refused_posting (code.End at) place y p h = h
+refused_posting (code.Over at most) place y p h = h
+
+pub code_told : (refusal : CodeErr) (place : ℕ) (fact : ℕ → Type 0) → (((y : ℕ) → IsGot (Err refusal) y → ⊥) → fact place) → OnDamage (of_code refusal place) fact
+code_told code.Device place fact h = tt
+code_told (code.End at) place fact h = h (λ y got. got)
+code_told (code.Over at most) place fact h = h (λ y got. got)
+
+-- where no gap is read, none stands
+pub gap_refused : (told : Option (List ℕ)) (refusal : CodeErr) (limit place b before all : ℕ) → 1 ≤ b → b < 2 ^ 48 → limit ≡ all - before → FromPlace told place (AnswersCode (Err refusal) (UpTo limit) (golomb b) limit place) →
+    OnDamage (of_code refusal place) (IsBitOfPosting all b told before place)
+gap_refused told refusal limit place b before all some small is answers =
+    code_told refusal place (IsBitOfPosting all b told before place) (λ no. inl record { missing = λ gap range low shows. no gap (none gap range shows); at_is = refl })
+  where
+    none : (gap : ℕ) → UpTo (all - before) gap → Shows told place (golomb b gap) → IsGot (Err refusal) gap
+    none gap range shows = told_got (UpTo limit) (golomb b) (golomb_free b limit some (omega (arith, small))) told (Err refusal) limit place gap (rw is range) shows answers
+
+-- ---- what was read stands
+
+pub code_stands : (told : Option (List ℕ)) (place limit x : ℕ) (within : ℕ → Type 0) (words : ℕ → Bits) → FromPlace told place (AnswersCode (Ok x) within words limit place) → FromPlace told place (Begins (words x))
+code_stands None place limit x within words answers = tt
+code_stands (Some bytes) place limit x within words answers = answers.1
+
+pub none_stand : (told : Option (List ℕ)) (place : ℕ) → FromPlace told place (Begins [])
+none_stand None place = tt
+none_stand (Some bytes) place = refl
+
+both_stand : (told : Option (List ℕ)) (place next : ℕ) (one two : Bits) → next ≡ place + length one → FromPlace told place (Begins one) → FromPlace told next (Begins two) → FromPlace told place (Begins (one ++ two))
+both_stand None place next one two at first second = tt
+both_stand (Some bytes) place next one two at first second = begins_both one two _ first (rw drop-drop (rw at at second))
+
+pub posting_stands : (told : Option (List ℕ)) (place next b before gap freq : ℕ) → next ≡ place + length (golomb b gap) → FromPlace told place (Begins (golomb b gap)) → FromPlace told next (Begins (gamma freq)) →
+    let p : Posting = record { doc = before + gap; freq = freq } in FromPlace told place (Begins (posting_bits b before p))
+unfolding posting_bits
+posting_stands told place next b before gap freq at one two =
+    let e : before + gap - before ≡ gap = omega arith in
+    rw e (both_stand told place next (golomb b gap) (gamma freq) at one two)
+
+pub postings_stand : (told : Option (List ℕ)) (start place b before last : ℕ) (a : List Posting) (p : Posting) → last ≡ last_doc before a → place ≡ start + length (bits_after b before a) →
+    FromPlace told start (Begins (bits_after b before a)) → FromPlace told place (Begins (posting_bits b last p)) → FromPlace told start (Begins (bits_after b before (a ++ p ∷ [])))
+unfolding bits_after
+postings_stand told start place b before last a p is at one two =
+    rw (bits_append b before a (p ∷ []), ← is, append-nil (posting_bits b last p)) (both_stand told start place (bits_after b before a) (posting_bits b last p) at one two)
+
+-- where a posting was refused, those before it stand and it does not
+pub lacks_next : (told now : Option (List ℕ)) (refusal : Refusal) (all b before start last place i count : ℕ) (out : List Posting) → now ≡ told → i < count → last ≡ last_doc before (take i out) → place ≡ start + length (bits_after b before (take i out)) →
+    Rises all before (take i out) → FromPlace told start (Begins (bits_after b before (take i out))) →
+    ((p : Posting) → Follows all last p → place + length (posting_bits b last p) ≤ 2 ^ 63 → Shows now place (posting_bits b last p) → OrDevice {T = Posting} (Err refusal) (λ q. q ≡ p)) →
+    OnDamage refusal (IsBitOfPosting all b now last place) → OnDamage refusal (LacksPosting all b told before start count)
+lacks_next told now Device all b before start last place i count out same lt doc at rises stands answers bit = tt
+lacks_next told now (Damaged bad) all b before start last place i count out same lt doc at rises stands answers bit = record {
+  first = take i out;
+  few = omega (arith, length-take i out, lt);
+  rises = rises;
+  bits = stands;
+  last = last;
+  last_is = doc;
+  next = place;
+  next_is = at;
+  missing = λ p follows small shows. answers p follows small (subst (λ t. Shows t place (posting_bits b last p)) (sym same) shows);
+  at_is = subst (λ t. IsBitOfPosting all b t last place bad) same bit;
+}
 
 pub gap_got : (told : Option (List ℕ)) (result : Result ℕ CodeErr) (limit place b before all : ℕ) (p : Posting) → 1 ≤ b → b < 2 ^ 48 → limit ≡ all - before → Follows all before p →
     Shows told place (posting_bits b before p) → FromPlace told place (AnswersCode result (UpTo limit) (golomb b) limit place) → IsGot result (p.doc - before)

@@ -179,19 +179,19 @@ skip_cause refusal err.Memory c files doc is = tt
 skip_cause Device (err.Bad bad) c files doc is = absurd cc
 skip_cause (Damaged at) (err.Bad bad) c files doc is = λ post. (let e : Skip ≡ Post = sym is.part_is ∙ post in absurd cc)
 
-pub post_cause : (refusal : Refusal) (e : PartErr) (c : Cursoring) (files : Option Files) (doc : ℕ) → IsRefused refusal Post e → ((at : ℕ) → refusal ≡ Damaged at → BlockIsMissing c files doc) → HasPostCause c files doc e
+pub post_cause : (refusal : Refusal) (e : PartErr) (c : Cursoring) (files : Option Files) (doc : ℕ) → IsRefused refusal Post e → ((at : ℕ) → refusal ≡ Damaged at → BlockIsMissing c files doc at) → HasPostCause c files doc e
 post_cause refusal err.Device c files doc is missing = tt
 post_cause refusal err.Memory c files doc is missing = tt
 post_cause Device (err.Bad bad) c files doc is missing = absurd cc
-post_cause (Damaged at) (err.Bad bad) c files doc is missing = λ post. missing at refl
+post_cause (Damaged at) (err.Bad bad) c files doc is missing = λ post. subst (BlockIsMissing c files doc) (sym is.at_is) (missing at refl)
 
-pub entry_cause : (refusal : Refusal) (e : PartErr) (fact : Type 0) → IsRefused refusal Skip e → OnDamage refusal fact → IfNames Skip e fact
+pub entry_cause : (refusal : Refusal) (e : PartErr) (fact : ℕ → Type 0) → IsRefused refusal Skip e → OnDamage refusal fact → IfNames Skip e fact
 entry_cause refusal err.Device fact is lacks = tt
 entry_cause refusal err.Memory fact is lacks = tt
 entry_cause Device (err.Bad bad) fact is lacks = absurd cc
-entry_cause (Damaged at) (err.Bad bad) fact is lacks = λ skip. lacks
+entry_cause (Damaged at) (err.Bad bad) fact is lacks = λ skip. subst fact (sym is.at_is) lacks
 
-pub no_entry_cause : (refusal : Refusal) (e : PartErr) (fact : Type 0) → IsRefused refusal Post e → IfNames Skip e fact
+pub no_entry_cause : (refusal : Refusal) (e : PartErr) (fact : ℕ → Type 0) → IsRefused refusal Post e → IfNames Skip e fact
 no_entry_cause refusal err.Device fact is = tt
 no_entry_cause refusal err.Memory fact is = tt
 no_entry_cause Device (err.Bad bad) fact is = absurd cc

@@ -15,11 +15,12 @@ use Rattle.mg_defs.specs.Lexicon as defs
 use Rattle.mg_defs.specs.PageBounds.{met_pages, pages_for, parameter_of, list_bit}
 use Rattle.mg_laws.proofs.LedLists.{length_postings}
 use Rattle.mg_laws.proofs.MetBlocks.{from_zero, from_from, met_all, number_is, term_some}
+use Rattle.mg_layout.specs.Infos.{IsInfoOf}
 use Rattle.mg_layout.specs.declared.term_info.TermInfo.{TermInfo}
 use Rattle.mg_post.specs.Answers.{AnswersList}
 use Rattle.mg_post.specs.Cursor.{Cursoring, CursorStands, IsOver, SameList, StandsAt, head_of, entered_pages, post_pages, Enters, ReadsTwo}
-use Rattle.mg_post.specs.TermLists.{AnswersAsk, CursorFor, IsAmong, IsInfoOf, ListsStand, MayAsk, PagesWithin}
-use Rattle.mg_post.proofs.CursorLaws.{is_told}
+use Rattle.mg_post.specs.TermLists.{AnswersAsk, CursorFor, IsAmong, ListsStand, MayAsk, PagesWithin}
+use Rattle.mg_bits.proofs.CallerLemmas.{is_told}
 use Rattle.mg_post.proofs.StandLaws.{term_stands}
 use Rattle.mg_post.proofs.LifeLaws.{entered_more, entered_most, pages_few, reads_after}
 

@@ -13,21 +13,15 @@ use Rattle.mg_bits.specs.declared.code_err.CodeErr.TheVariants as code
 use Rattle.mg_post.specs.declared.refusal.Refusal.{Refusal}
 use Rattle.mg_post.specs.declared.refusal.Refusal.TheVariants.{Device, Damaged}
 
-abbrev pub of_bits : BitErr → Refusal
-of_bits bits.Device = Device
-of_bits (bits.End at) = Damaged at
+-- a refusal of a reader, told of a place
+abbrev pub of_bits : BitErr → ℕ → Refusal
+of_bits bits.Device place = Device
+of_bits (bits.End at) place = Damaged place
 
-abbrev pub of_code : CodeErr → Refusal
-of_code code.Device = Device
-of_code (code.End at) = Damaged at
-of_code (code.Over at limit) = Damaged at
-
--- the number that stands there, or a device's failure
-abbrev pub IsGot : Result ℕ CodeErr → ℕ → Type 0
-IsGot (Ok x) y = x ≡ y
-IsGot (Err code.Device) y = Unit {0}
-IsGot (Err (code.End at)) y = ⊥
-IsGot (Err (code.Over at limit)) y = ⊥
+abbrev pub of_code : CodeErr → ℕ → Refusal
+of_code code.Device place = Device
+of_code (code.End at) place = Damaged place
+of_code (code.Over at limit) place = Damaged place
 
 -- the number that stands there, or a device's failure
 abbrev pub IsNumber : Result ℕ BitErr → ℕ → Type 0
@@ -51,12 +45,12 @@ RefusalCause (Ok value) before now = Unit {0}
 RefusalCause (Err Device) before now = Rose before now
 RefusalCause (Err (Damaged at)) before now = Unit {0}
 
--- this fact where something is damaged
-abbrev pub OnDamage : Refusal → Type 0 → Type 0
+-- this fact on the place where something is told to be damaged
+abbrev pub OnDamage : Refusal → (ℕ → Type 0) → Type 0
 OnDamage Device fact = Unit {0}
-OnDamage (Damaged at) fact = fact
+OnDamage (Damaged at) fact = fact at
 
-abbrev pub IfDamaged : {T : Type 0} → Result T Refusal → Type 0 → Type 0
+abbrev pub IfDamaged : {T : Type 0} → Result T Refusal → (ℕ → Type 0) → Type 0
 IfDamaged (Ok value) fact = Unit {0}
 IfDamaged (Err refusal) fact = OnDamage refusal fact
 

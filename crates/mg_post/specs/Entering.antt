@@ -2,13 +2,15 @@
 use Rattle.std.specs.Prelude.{◌≡◌, ℕ, ◌+◌, ◌-◌, ◌*◌, ◌^◌, ◌<◌, ◌≤◌, List, length, min, Option, Result}
 use Rattle.mg_bits.specs.Feed.{Feeding, Device}
 use Rattle.mg_bits.specs.Reading.{Reading}
+use Rattle.mg_defs.specs.Bits.{Shows}
 use Rattle.mg_defs.specs.declared.Posting.{Posting}
 use Rattle.mg_defs.specs.Lists.{bits_after, Rises, block_pages}
 use Rattle.mg_post.specs.Answers.{OrDevice}
 use Rattle.mg_post.specs.Cursor.{Entered}
 use Rattle.mg_post.specs.Finding.{IsFoundAt}
+use Rattle.mg_post.specs.Missing.{LacksBlock}
 use Rattle.mg_post.specs.Reading.{told_bytes}
-use Rattle.mg_post.specs.Stands.{BlockStands, Shows}
+use Rattle.mg_post.specs.Stands.{BlockStands}
 use Rattle.mg_post.specs.declared.enter.Inside.{Inside}
 use Rattle.mg_post.specs.declared.find.Found.{Found}
 use Rattle.mg_post.specs.declared.refusal.Refusal.{Refusal}
@@ -33,3 +35,8 @@ ReadsFound feeding device old new dev all parameter post_at docs doc found = Whe
 abbrev pub WhereBlockStands : Option (List ℕ) → ℕ → ℕ → ℕ → ℕ → ℕ → Found → Type 0 → Type 0
 WhereBlockStands post all parameter post_at docs doc found fact = (ps : List Posting) → found.before < doc → doc ≤ found.last →
     BlockStands all parameter post (8 * post_at + found.at) (min (docs - 64 * found.block) 64) found.before found.last ps → fact
+
+-- the block that was found for a document in its range does not stand; this bit is the first of what is missing
+abbrev pub LacksFound : Option (List ℕ) → ℕ → ℕ → ℕ → ℕ → ℕ → Found → ℕ → Type 0
+LacksFound post all parameter post_at docs doc found at = found.before < doc → doc ≤ found.last →
+    LacksBlock all parameter post (8 * post_at + found.at) (min (docs - 64 * found.block) 64) found.before found.last at

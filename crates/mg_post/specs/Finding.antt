@@ -59,13 +59,27 @@ TellsFound skip skip_at reached known f = TellsBlock skip skip_at reached known 
 abbrev pub TellsOnPage : Option (List ℕ) → ℕ → ℕ → ℕ → ℕ → ℕ → Result Found Refusal → Type 0
 TellsOnPage skip skip_at low high before last result = TellsLast skip skip_at high last → IfOk result (TellsFound skip skip_at low before)
 
--- no entry of a block among so many documents stands: Skip ends before its end, or its last document is beyond all
-abbrev pub LacksEntry : Option (List ℕ) → ℕ → ℕ → ℕ → Type 0
-LacksEntry skip skip_at all block = FromPlace skip (128 * (skip_at + block)) (λ bits. length bits < 128) ⊎ ((last : ℕ) × (all < last) × TellsLast skip skip_at block last)
+-- Skip ends before the end of the number of 8 bytes that is to stand at this bit
+abbrev pub LacksNumber : Option (List ℕ) → ℕ → Type 0
+LacksNumber skip at = FromPlace skip at (λ bits. length bits < 64)
 
--- an entry does not stand of one of the blocks from a first one to before a last one
-abbrev pub LacksAnEntry : Option (List ℕ) → ℕ → ℕ → ℕ → ℕ → Type 0
-LacksAnEntry skip skip_at all low high = (block : ℕ) × (low ≤ block) × (block < high) × LacksEntry skip skip_at all block
+-- in the entry of a block no last document stands, among so many documents: Skip ends before its end, or it is beyond all; this bit is its first
+pub record LacksLast (skip : Option (List ℕ)) (skip_at all block at : ℕ) : Type 0 where
+  pub at_is : at ≡ 128 * (skip_at + block)
+  pub missing : LacksNumber skip at ⊎ ((last : ℕ) × (all < last) × TellsLast skip skip_at block last)
+
+-- in the entry of a block the bits before it do not stand: Skip ends before the end of their number; this bit is its first
+pub record LacksBits (skip : Option (List ℕ)) (skip_at block at : ℕ) : Type 0 where
+  pub at_is : at ≡ 128 * (skip_at + block) + 64
+  pub missing : LacksNumber skip at
+
+-- no entry of a block among so many documents stands; this bit is the first of the number in it that does not
+abbrev pub LacksEntry : Option (List ℕ) → ℕ → ℕ → ℕ → ℕ → Type 0
+LacksEntry skip skip_at all block at = LacksLast skip skip_at all block at ⊎ LacksBits skip skip_at block at
+
+-- an entry does not stand of one of the blocks from a first one to before a last one; this bit is the first of the number in it that does not
+abbrev pub LacksAnEntry : Option (List ℕ) → ℕ → ℕ → ℕ → ℕ → ℕ → Type 0
+LacksAnEntry skip skip_at all low high at = (block : ℕ) × (low ≤ block) × (block < high) × LacksEntry skip skip_at all block at
 
 -- ---- the pages of the entries
 

@@ -8,10 +8,11 @@ use Rattle.mg_defs.specs.Terms.{dictionary}
 use Rattle.mg_defs.specs.Lists.{Rises, block_count, entry_bits, lists_bits, lists_entries, postings, post_bits, skip_bits, list_byte, first_entry}
 use Rattle.mg_post.specs.Stands.{ListStands}
 
--- a fact on the list of a number among these lists, where two parts hold them and their skip entries
-abbrev pub WhereHeld : ℕ → List (List Posting) → ℕ → List Posting → List ℕ → List ℕ → Type 0 → Type 0
-WhereHeld all lists n ps post skip fact = bits_of post ≡ lists_bits all lists → bits_of skip ≡ flat_map entry_bits (lists_entries all lists) →
-    slice_get lists n ≡ Some ps → Rises all 0 ps → all < 2 ^ 32 - 1 → length (lists_bits all lists) ≤ 2 ^ 63 → fact
+-- a fact on lists, the list of a number among them, and two parts that hold them and their skip entries
+abbrev pub ForHeld : (ℕ → List (List Posting) → ℕ → List Posting → List ℕ → List ℕ → Type 0) → Type 0
+ForHeld fact = (all n : ℕ) (lists : List (List Posting)) (ps : List Posting) (post skip : List ℕ) →
+    bits_of post ≡ lists_bits all lists → bits_of skip ≡ flat_map entry_bits (lists_entries all lists) →
+    slice_get lists n ≡ Some ps → Rises all 0 ps → all < 2 ^ 32 - 1 → length (lists_bits all lists) ≤ 2 ^ 63 → fact all lists n ps post skip
 
 -- the list of a number among these lists stands behind those before it
 abbrev pub StandsAmong : ℕ → List (List Posting) → ℕ → List Posting → List ℕ → List ℕ → Type 0

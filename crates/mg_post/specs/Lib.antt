@@ -1,6 +1,7 @@
 pub mod Ahead
 pub mod Answers
 pub mod Stands
+pub mod Missing
 pub mod Reading
 pub mod Finding
 pub mod Cursor

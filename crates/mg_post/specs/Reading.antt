@@ -2,9 +2,9 @@
 use Rattle.std.specs.Prelude.{◌≡◌, ℕ, ◌+◌, ◌^◌, ◌≤◌, List, length, take, Option, Result, MatchResult}
 use Rattle.mg_bits.specs.Feed.{Feeding, Device, ReadsWithin}
 use Rattle.mg_bits.specs.Reading.{Reading}
+use Rattle.mg_defs.specs.Bits.{Shows}
 use Rattle.mg_defs.specs.declared.Posting.{Posting}
 use Rattle.mg_defs.specs.Lists.{posting_bits, bits_after, Rises, Follows}
-use Rattle.mg_post.specs.Stands.{Shows}
 
 -- the bytes that a reader reads, where its device tells them
 abbrev pub told_bytes : {Fed Dev : Type 0} → (Fed → Feeding) → (Dev → Device) → Reading Fed → Dev → Option (List ℕ)

@@ -1,13 +1,8 @@
 -- A list stands in Post and Skip.
-use Rattle.std.specs.Prelude.{◌≡◌, ℕ, ◌+◌, ◌-◌, ◌*◌, ◌^◌, ◌<◌, ◌≤◌, List, length, drop, Option, Some, None}
+use Rattle.std.specs.Prelude.{◌≡◌, ℕ, ◌+◌, ◌-◌, ◌*◌, ◌^◌, ◌<◌, ◌≤◌, List, length, Option}
 use Rattle.mg_defs.specs.declared.Posting.{Posting}
-use Rattle.mg_defs.specs.Bits.{Bits, bits_of, Begins}
+use Rattle.mg_defs.specs.Bits.{Shows}
 use Rattle.mg_defs.specs.Lists.{SkipEntry, bits_after, last_doc, Rises, entry_of, entry_bits}
-
--- these bits stand at this place of bytes that are told
-abbrev pub Shows : Option (List ℕ) → ℕ → Bits → Type 0
-Shows None place bits = ⊥
-Shows (Some bytes) place bits = Begins bits (drop place (bits_of bytes))
 
 -- this skip entry stands as that of a block, the first block's being the entry of a number
 abbrev pub ShowsEntry : Option (List ℕ) → ℕ → ℕ → SkipEntry → Type 0

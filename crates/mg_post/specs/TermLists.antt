@@ -11,9 +11,8 @@ use Rattle.mg_defs.specs.Codes.{golomb_parameter}
 use Rattle.mg_defs.specs.Split.{documents}
 use Rattle.mg_defs.specs.Terms.{dictionary}
 use Rattle.mg_defs.specs.Lists.{block_count, postings, from_doc, InRange, post_bits, skip_bits, list_byte, first_entry}
-use Rattle.mg_defs.specs.Lexicon as defs
 use Rattle.mg_defs.specs.PageBounds.{is_met, met_pages, pages_for}
-use Rattle.mg_layout.specs.Infos.{info_of}
+use Rattle.mg_layout.specs.Infos.{IsInfoOf}
 use Rattle.mg_layout.specs.declared.term_info.TermInfo.{TermInfo}
 use Rattle.mg_dev.specs.declared.part_err.PartErr.{PartErr}
 use Rattle.mg_post.specs.Answers.{AnswersList}
@@ -41,6 +40,10 @@ KeepsEntered asked ps c v doc found = SameList c v → c.reached ≤ v.reached �
 abbrev pub MostEntered : List ℕ → List Posting → Cursoring → Cursoring → ℕ → Result (Option Posting) PartErr → Type 0
 MostEntered asked ps c v doc result = Enters result ps c doc v → EnteredFor asked ps c → entered_pages v ≤ all_met asked c ps
 
+-- a fact on documents that are asked of a list, a cursor over it before a call for one of them and after it, and what the call answers
+abbrev pub ForCalls : {A : Type 0} → (List ℕ → List Posting → Cursoring → Cursoring → ℕ → A → Type 0) → Type 0
+ForCalls {A = A} fact = (asked : List ℕ) (ps : List Posting) (c v : Cursoring) (doc : ℕ) (answer : A) → IsAmong asked ps doc → fact asked ps c v doc answer
+
 -- ---- the lists of a collection
 
 -- the two parts of a base are the lists of this collection
@@ -51,11 +54,6 @@ pub record ListsStand (base : List ℕ) (files : Option Files) (collection : Lis
   pub short : length collection < 2 ^ 32
   pub few : length (documents collection) < 2 ^ 32 - 1
   pub small : length (post_bits collection) ≤ 2 ^ 63
-
--- what the lexicon tells of a term
-pub record IsInfoOf (collection t : List ℕ) (info : TermInfo) : Type 0 where
-  pub number : slice_get (dictionary collection) info.number ≡ Some t
-  pub is : info_of info ≡ defs.info_of collection info.number t
 
 -- a cursor over the list of a term, which was asked for no document past n, and entered no blocks but those whose range holds one of the documents that are asked
 pub record CursorFor (base collection asked t : List ℕ) (n : ℕ) (c : Cursoring) : Type 0 where

@@ -114,6 +114,12 @@ pub record Pushed (old new : Listing) (doc : ℕ) : Type 0 where
   pub last : new.last ≡ doc
   pub total : new.total ≡ old.total + 1
 
+-- so many postings more were pushed
+pub record PushedMore (old new : Listing) (count : ℕ) : Type 0 where
+  pub docs : new.docs ≡ old.docs
+  pub pushed : new.pushed ≡ old.pushed + count
+  pub total : new.total ≡ old.total + count
+
 -- no posting of a list was pushed
 pub record IsBetween (old new : Listing) (count : ℕ) : Type 0 where
   pub docs : new.docs ≡ count

@@ -1,12 +1,14 @@
 // The postings of one block, from the current one on.
 ghost use Rattle.std.specs.Prelude.{◌≡◌, ◌+◌, ◌-◌, ◌*◌, ◌<◌, ◌≤◌, ◌^◌, ℕ, List, [], ◌++◌, length, take, drop, IfOk, OnOk, OnErr, MatchResult};
 ghost use Rattle.mg_bits.specs.Feed.{Calm};
+ghost use Rattle.mg_defs.specs.Bits.{Begins};
 ghost use Rattle.mg_defs.specs.declared.Posting.{Posting};
 ghost use Rattle.mg_defs.specs.Lists.{bits_after, Rises, from_doc, last_doc};
 ghost use Rattle.mg_post.specs.Cursor.{head_of, GoesOn};
-ghost use Rattle.mg_post.specs.Answers.{OrDevice, RefusalCause};
-ghost use Rattle.mg_post.specs.Reading.{OnlyListPages, ForNextList};
-ghost use Rattle.mg_bits.specs.NextBits.{ReadNext};
+ghost use Rattle.mg_post.specs.Answers.{IfDamaged, OrDevice, RefusalCause};
+ghost use Rattle.mg_post.specs.Missing.{LacksPosting};
+ghost use Rattle.mg_post.specs.Reading.{OnlyListPages, ForNextList, told_bytes};
+ghost use Rattle.mg_bits.specs.NextBits.{FromNext, ReadNext};
 
 use crate::read::read_block;
 use crate::refusal::Refusal;
@@ -118,6 +120,9 @@ impl Block {
         ensures read { OnOk result (ReadNext F.feeding F.device r.old r.new dev.old dev.new (length (bits_after parameter before self.new))) }
         ensures pages { OnErr result (OnlyListPages F.feeding F.device r.old r.new dev.old dev.new all parameter before count) }
         ensures rises { OnOk result (Rises all before self.new) }
+        ensures whole { OnOk result (length self.new ≡ count) }
+        ensures shows { OnOk result (FromNext F.feeding F.device r.old dev.old (Begins (bits_after parameter before self.new))) }
+        ensures lacks { IfDamaged result (LacksPosting all parameter (told_bytes F.feeding F.device r.old dev.old) before r.old.place count) }
         ensures last { IfOk result (λ last. last ≡ last_doc before self.new) }
         ensures place { MatchResult result (λ _. r.new.place ≡ r.old.place + length (bits_after parameter before self.new)) (λ _. r.new.place ≡ r.old.place) }
         ensures told { ForNextList F.feeding F.device r.old dev.old all parameter before count (λ ps. OrDevice result (λ _. self.new ≡ take count ps)) }

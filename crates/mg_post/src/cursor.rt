@@ -19,7 +19,7 @@ use crate::refusal::refused_part;
 use crate::writer::parameter_of;
 use mg_bits::{BitReader, PageFeed};
 use mg_defs::Posting;
-use mg_dev::{Bad, FileRef, Part, PartErr, Store};
+use mg_dev::{FileRef, Part, PartErr, Store};
 use mg_layout::TermInfo;
 use std::alloc::{AllocError, Global};
 use std::marker::Model;
@@ -37,7 +37,10 @@ use std::mem::swap;
 ///
 /// A damage is one of Skip or Post, told with the bit where nothing of what is to stand was found. It
 /// is one of Skip only where an entry from there on doesn't stand, and never where the entries are those
-/// of the list. It is one of Post only where the entries lead to a block that doesn't stand in Post.
+/// of the list; the bit is the first of the number in that entry that doesn't. It is one of Post only
+/// where the entries lead to a block that doesn't stand in Post; the bit is the first of the gap or the
+/// count that is missing behind the postings that stand, or of the block where it ends with another
+/// document than its entry tells.
 #[derive(Drop)]
 pub struct Cursor<'a, S: Store> {
     post: BitReader<PageFeed<'a, S>>,
@@ -63,7 +66,20 @@ impl<'a, S: Store> Model for Cursor<'a, S> {
 
     ghost Value = { Cursoring };
 
-    ghost view = { λ c. record { post = c.post.feed; skip = c.skip.feed; post_at = c.post_at; skip_at = c.skip_at; docs = c.docs; all = c.all; parameter = c.parameter; reached = c.reached; last = c.last; held = c.block; ended = c.ended; entered = c.entered } };
+    ghost view = { λ c. record {
+      post = c.post.feed;
+      skip = c.skip.feed;
+      post_at = c.post_at;
+      skip_at = c.skip_at;
+      docs = c.docs;
+      all = c.all;
+      parameter = c.parameter;
+      reached = c.reached;
+      last = c.last;
+      held = c.block;
+      ended = c.ended;
+      entered = c.entered;
+    } };
 
     ghost invariant = { λ c. (1 ≤ c.parameter) × (c.parameter < 2 ^ 48) × (c.last ≤ c.all) × (c.reached ≤ block_count c.docs) × (c.post.feed.part ≡ part.Post) ×
         (c.skip.feed.part ≡ part.Skip) × (c.entered < 2 ^ 64) × (c.ended ≡ true → c.block ≡ []) × HeldRises c.all c.last c.block ×
@@ -276,7 +292,7 @@ impl<'a, S: Store> Cursor<'a, S> {
         ensures post { (ps left : List Posting) → EntriesStand self.old (S.files store.old) ps → StandsAt self.old ps left →
             IfErr result (NamesPart part.Post) }
         ensures block { IfErr result (HasPostCause self.old (S.files store.old) (self.old.last + 1)) }
-        ensures entry { self.old.last + 1 < 2 ^ 32 → IfErr result (HasSkipCause self.old (S.files store.old)) }
+        ensures entry { IfErr result (HasSkipCause self.old (S.files store.old)) }
         ensures kept { OnErr result (SamePlace self.old self.new) }
         ensures files { S.files store.new ≡ S.files store.old }
         ensures memory { result ≢ Err PartErr.Memory }
@@ -290,13 +306,9 @@ impl<'a, S: Store> Cursor<'a, S> {
             None => {
                 let last = self.last;
                 if last == u32::MAX {
-                    return Err(PartErr::Bad(Bad {
-                        part: Part::Skip,
-                        at: 0,
-                        low: 1,
-                        high: 1,
-                        found: 0,
-                    }));
+                    // No document has a higher number, so that nothing is read from here on.
+                    self.block.clear();
+                    return Ok(None);
                 }
                 self.advance_to(store, last + 1)
             }

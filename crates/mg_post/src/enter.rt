@@ -4,9 +4,9 @@ ghost use Rattle.mg_bits.specs.Feed.{Calm};
 ghost use Rattle.mg_defs.specs.PagesOf.{pages};
 ghost use Rattle.mg_defs.specs.declared.Posting.{Posting};
 ghost use Rattle.mg_post.specs.Cursor.{head_of, IsFrom, IsPlace, HeldRises};
-ghost use Rattle.mg_post.specs.Answers.{OrDevice, RefusalCause};
+ghost use Rattle.mg_post.specs.Answers.{IfDamaged, OrDevice, RefusalCause};
 ghost use Rattle.mg_post.specs.Reading.{told_bytes};
-ghost use Rattle.mg_post.specs.Entering.{EntersFound, WhereBlockStands, ReadsFound};
+ghost use Rattle.mg_post.specs.Entering.{EntersFound, LacksFound, WhereBlockStands, ReadsFound};
 
 use crate::block::Block;
 use crate::find::Found;
@@ -42,6 +42,13 @@ fn place_of(byte: u64, bits: u64) -> Option<u64>
     (8 * byte).checked_add(bits)
 }
 
+/// The place of so many bits behind a byte, or 2^64 - 1 where it is more.
+fn place_or_most(byte: u64, bits: u64) -> u64
+    ensures { result ≡ min (8 * byte + bits) (2 ^ 64 - 1) }
+{
+    byte.saturating_mul(8).saturating_add(bits)
+}
+
 /// Reads the block that was found of a list which begins at a byte of the part, and goes to its
 /// first posting whose document is at least `doc`. A block that doesn't end with the document that
 /// its skip entry tells is refused, so that documents rise from block to block over any parts.
@@ -70,11 +77,14 @@ pub fn enter<F: Feed>(
     ensures current { IfOk result (λ i. head_of block.new ≡ Some i.posting) }
     ensures told { EntersFound F.feeding F.device r.old dev.old all parameter post_at docs doc found result block.new }
     ensures block { WhereBlockStands (told_bytes F.feeding F.device r.old dev.old) all parameter post_at docs doc found (OrDevice result (λ _. Unit {0})) }
+    ensures lacks { IfDamaged result (LacksFound (told_bytes F.feeding F.device r.old dev.old) all parameter post_at docs doc found) }
     ensures most { ReadsFound F.feeding F.device r.old r.new dev.old all parameter post_at docs doc found }
     ensures cause { RefusalCause result (F.device dev.old).faults (F.device dev.new).faults }
 {
     let Some(place) = place_of(post_at, found.at) else {
-        return Err(Refusal::Damaged { at: found.at });
+        return Err(Refusal::Damaged {
+            at: place_or_most(post_at, found.at),
+        });
     };
     r.seek(place);
     let left = (docs - 64 * found.block) as usize;

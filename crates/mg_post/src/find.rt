@@ -3,12 +3,12 @@
 // The entries of a list rise, so a page of them is passed by a look at its last one, and within a
 // page the entry is found by halves. Each page is read at most once, and in rising order: over a
 // cursor's life the reads of Skip are at most the pages of the list's entries.
-ghost use Rattle.std.specs.Prelude.{◌≡◌, ◌+◌, ◌-◌, ◌*◌, ◌/◌, ◌%◌, ◌<◌, ◌≤◌, ◌^◌, ℕ, ◌++◌, length, Some, IfOk, OnOk, IfSome};
+ghost use Rattle.std.specs.Prelude.{◌≡◌, ◌+◌, ◌-◌, ◌*◌, ◌/◌, ◌%◌, ◌<◌, ◌≤◌, ◌^◌, ℕ, ◌++◌, Some, IfOk, OnOk, IfSome};
 ghost use Rattle.mg_bits.specs.Feed.{Calm, lacks};
-ghost use Rattle.mg_defs.specs.Bits.{Begins, FromPlace, digits};
+ghost use Rattle.mg_defs.specs.Bits.{Begins, FromPlace, Shows, digits};
 ghost use Rattle.mg_defs.specs.Lists.{SkipEntry};
-ghost use Rattle.mg_post.specs.Stands.{Shows, ShowsEntry};
-ghost use Rattle.mg_post.specs.Finding.{IsSound, LacksAnEntry, LacksEntry, SkipReads, TellsBits, TellsLast, blocks_after, entries_pages, entry_page, TellsFound, FindsBlock, FindsOnPage, TellsOnPage};
+ghost use Rattle.mg_post.specs.Stands.{ShowsEntry};
+ghost use Rattle.mg_post.specs.Finding.{IsSound, LacksAnEntry, LacksBits, LacksLast, LacksNumber, SkipReads, TellsBits, TellsLast, blocks_after, entries_pages, entry_page, TellsFound, FindsBlock, FindsOnPage, TellsOnPage};
 ghost use Rattle.mg_post.specs.Answers.{IfDamaged, RefusalCause, AnswersThis};
 ghost use Rattle.mg_post.specs.Reading.{told_bytes};
 
@@ -36,14 +36,15 @@ fn number_at<F: Feed>(r: &mut BitReader<F>, dev: &mut F::Dev, place: u64) -> Res
     ensures count { (F.feeding r.new.feed).count ≤ (F.feeding r.old.feed).count + lacks (F.feeding r.old.feed).held (place / 32768) }
     ensures held { OnOk result ((F.feeding r.new.feed).held ≡ Some (place / 32768)) }
     ensures shows { IfOk result (λ x. FromPlace (told_bytes F.feeding F.device r.old dev.old) place (Begins (digits 64 x))) }
-    ensures ends { IfDamaged result (FromPlace (told_bytes F.feeding F.device r.old dev.old) place (λ bits. length bits < 64)) }
+    ensures ends { IfDamaged result (λ _. LacksNumber (told_bytes F.feeding F.device r.old dev.old) place) }
+    ensures at { IfDamaged result (λ at. at ≡ place) }
     ensures told { (y : ℕ) → y < 2 ^ 64 → Shows (told_bytes F.feeding F.device r.old dev.old) place (digits 64 y) → AnswersThis result y }
     ensures cause { RefusalCause result (F.device dev.old).faults (F.device dev.new).faults }
 {
     r.seek(place);
     match r.bits(dev, 64) {
         Ok(number) => Ok(number),
-        Err(refusal) => Err(refused_bits(refusal)),
+        Err(refusal) => Err(refused_bits(refusal, place)),
     }
 }
 
@@ -70,7 +71,7 @@ fn last_of<F: Feed>(
     ensures held { OnOk result ((F.feeding r.new.feed).held ≡ Some (entry_page (skip_at + block))) }
     ensures within { IfOk result (λ last. last ≤ all) }
     ensures tells { IfOk result (TellsLast (told_bytes F.feeding F.device r.old dev.old) skip_at block) }
-    ensures lacks { IfDamaged result (LacksEntry (told_bytes F.feeding F.device r.old dev.old) skip_at all block) }
+    ensures lacks { IfDamaged result (LacksLast (told_bytes F.feeding F.device r.old dev.old) skip_at all block) }
     ensures told { (e : SkipEntry) → e.last ≤ all → ShowsEntry (told_bytes F.feeding F.device r.old dev.old) skip_at block e → AnswersThis result e.last }
     ensures cause { RefusalCause result (F.device dev.old).faults (F.device dev.new).faults }
 {
@@ -100,8 +101,7 @@ fn bits_of<F: Feed>(
     ensures count { (F.feeding r.new.feed).count ≤ (F.feeding r.old.feed).count + lacks (F.feeding r.old.feed).held (entry_page (skip_at + block)) }
     ensures held { OnOk result ((F.feeding r.new.feed).held ≡ Some (entry_page (skip_at + block))) }
     ensures tells { IfOk result (TellsBits (told_bytes F.feeding F.device r.old dev.old) skip_at block) }
-    ensures lacks { IfDamaged result
-        (FromPlace (told_bytes F.feeding F.device r.old dev.old) (128 * (skip_at + block)) (λ bits. length bits < 128)) }
+    ensures lacks { IfDamaged result (LacksBits (told_bytes F.feeding F.device r.old dev.old) skip_at block) }
     ensures told { (e : SkipEntry) → e.bits < 2 ^ 64 → ShowsEntry (told_bytes F.feeding F.device r.old dev.old) skip_at block e → AnswersThis result e.bits }
     ensures cause { RefusalCause result (F.device dev.old).faults (F.device dev.new).faults }
 {

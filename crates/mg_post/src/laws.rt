@@ -1,5 +1,5 @@
 // The laws of lists that stand in Post and Skip.
-ghost use Rattle.std.specs.Prelude.{◌≡◌, ◌≢◌, ◌+◌, ◌-◌, ◌*◌, ◌/◌, ◌^◌, ◌<◌, ◌≤◌, ℕ, List, [], true, Result, Contains, length};
+ghost use Rattle.std.specs.Prelude.{◌≡◌, ◌≢◌, ◌-◌, ◌^◌, ◌<◌, ◌≤◌, ℕ, List, [], true, Contains, length};
 ghost use Rattle.mg_defs.specs.declared.Posting.{Posting};
 ghost use Rattle.mg_defs.specs.Split.{documents};
 ghost use Rattle.mg_defs.specs.Terms.{docs};
@@ -7,19 +7,17 @@ ghost use Rattle.mg_defs.specs.Lists.{block_count, post_bits, list_byte, first_e
 ghost use Rattle.std.specs.declared.option.Option.{Option};
 ghost use Rattle.mg_dev.specs.Files.{Files};
 ghost use Rattle.mg_dev.specs.Files.{Reads};
-ghost use Rattle.mg_dev.specs.declared.part.Part.TheVariants as part;
-ghost use Rattle.mg_dev.specs.declared.part_err.PartErr.{PartErr};
 ghost use Rattle.mg_defs.specs.PageBounds.{pages_for};
 ghost use Rattle.mg_post.specs.Cursor.{CursorFits, Cursoring, CursorStands, ReadsTwo, SameList, StandsAt, entered_pages, post_pages, WhereSameLists};
 ghost use Rattle.mg_post.specs.Finding.{entries_pages};
-ghost use Rattle.mg_post.specs.TermLists.{CursorFor, EnteredFor, IsAmong, KeepsEntered, MostEntered, all_met, PostRises};
+ghost use Rattle.mg_post.specs.TermLists.{CursorFor, EnteredFor, ForCalls, IsAmong, KeepsEntered, MostEntered, all_met, PostRises};
 ghost use Rattle.mg_post.specs.Writing.{Listing, Took, WhereSameFiles};
-ghost use Rattle.mg_post.specs.Laws.{WhereFew, WhereListsHeld, WhereHeld, TermListStands, StandsAmong};
+ghost use Rattle.mg_post.specs.Laws.{ForHeld, WhereFew, WhereListsHeld, TermListStands, StandsAmong};
 
 /// Where two parts hold lists and their skip entries, each list stands where the lists before it
 /// end.
 pub fn lists_stand()
-    ensures { (all n : ℕ) (lists : List (List Posting)) (ps : List Posting) (post skip : List ℕ) → WhereHeld all lists n ps post skip (StandsAmong all lists n ps post skip) }
+    ensures { ForHeld StandsAmong }
 {}
 
 /// Where two parts hold the lists of a collection, the list of each of its terms stands where the
@@ -65,9 +63,8 @@ pub fn cursor_still_fits()
 /// comes to its end, and the reads of Post rise by no more than the cursor's.
 pub fn blocks_are_entered_once()
     ensures start { (asked : List ℕ) (ps : List Posting) (c : Cursoring) → entered_pages c ≡ 0 → EnteredFor asked ps c }
-    ensures more { (asked : List ℕ) (ps : List Posting) (c v : Cursoring) (doc : ℕ) (found : Option Posting) → IsAmong asked ps doc → KeepsEntered asked ps c v doc found }
-    ensures most { (asked : List ℕ) (ps : List Posting) (c v : Cursoring) (doc : ℕ) (result : Result (Option Posting) PartErr) →
-        IsAmong asked ps doc → MostEntered asked ps c v doc result }
+    ensures more { ForCalls KeepsEntered }
+    ensures most { ForCalls MostEntered }
     ensures few { (asked : List ℕ) (ps : List Posting) (files : Option Files) (c : Cursoring) → CursorStands c files ps →
         all_met asked c ps < 2 ^ 50 }
     ensures skip { (skip_at docs : ℕ) → docs < 2 ^ 32 → entries_pages skip_at (block_count docs) < 2 ^ 50 }
@@ -94,5 +91,6 @@ pub fn cursor_pages_are_within()
 /// What a writer took stays, and it may write on, as long as its two files do: calls that write
 /// other files don't matter.
 pub fn lists_stay()
-    ensures { (w : Listing) (f g : Option Files) (lists : List (List Posting)) (ps : List Posting) → WhereSameFiles w f g (Took w f lists ps → Took w g lists ps) }
+    ensures { (w : Listing) (f g : Option Files) (lists : List (List Posting)) (ps : List Posting) →
+        WhereSameFiles w f g (Took w f lists ps → Took w g lists ps) }
 {}

@@ -1,12 +1,14 @@
 // Postings from bits.
 ghost use Rattle.std.specs.Prelude.{◌≡◌, ◌+◌, ◌-◌, ◌*◌, ◌<◌, ◌≤◌, ◌^◌, ℕ, ◌++◌, length, take, IfOk, OnOk, OnErr, MatchResult};
 ghost use Rattle.mg_bits.specs.Feed.{Calm};
+ghost use Rattle.mg_defs.specs.Bits.{Begins};
 ghost use Rattle.mg_defs.specs.declared.Posting.{Posting};
 ghost use Rattle.mg_defs.specs.Lists.{posting_bits, bits_after, last_doc, Rises, Follows};
 ghost use Rattle.mg_post.specs.Ahead.{IsAhead, IsGapCode};
-ghost use Rattle.mg_post.specs.Answers.{OrDevice, RefusalCause, AnswersThis};
-ghost use Rattle.mg_post.specs.Reading.{OnlyListPages, ForNextPosting, OnlyPostingPages, GoesBehind, ForNextList};
-ghost use Rattle.mg_bits.specs.NextBits.{ReadNext};
+ghost use Rattle.mg_post.specs.Answers.{IfDamaged, OrDevice, RefusalCause, AnswersThis};
+ghost use Rattle.mg_post.specs.Missing.{IsBitOfPosting, LacksPosting};
+ghost use Rattle.mg_post.specs.Reading.{OnlyListPages, ForNextPosting, OnlyPostingPages, GoesBehind, ForNextList, told_bytes};
+ghost use Rattle.mg_bits.specs.NextBits.{FromNext, ReadNext};
 
 use crate::ahead::{Ahead, GapCode, gap_code, posting_ahead};
 use crate::refusal::{Refusal, refused_code};
@@ -36,7 +38,9 @@ fn read_posting<F: Feed>(
     ensures read { IfOk result (λ p. ReadNext F.feeding F.device r.old r.new dev.old dev.new (length (posting_bits parameter before p))) }
     ensures pages { OnErr result (OnlyPostingPages F.feeding F.device r.old r.new dev.old dev.new all parameter before) }
     ensures place { MatchResult result (λ p. r.new.place ≡ r.old.place + length (posting_bits parameter before p)) (λ _. r.new.place ≡ r.old.place) }
+    ensures shows { IfOk result (λ p. FromNext F.feeding F.device r.old dev.old (Begins (posting_bits parameter before p))) }
     ensures follows { IfOk result (Follows all before) }
+    ensures at { IfDamaged result (IsBitOfPosting all parameter (told_bytes F.feeding F.device r.old dev.old) before r.old.place) }
     ensures told { ForNextPosting F.feeding F.device r.old dev.old all parameter before (λ p. AnswersThis result p) }
     ensures cause { RefusalCause result (F.device dev.old).faults (F.device dev.new).faults }
 {
@@ -46,11 +50,12 @@ fn read_posting<F: Feed>(
     }
     let gap = match get_golomb(r, dev, parameter, u64::from(all - before)) {
         Ok(gap) => gap as u32,
-        Err(refusal) => return Err(refused_code(refusal)),
+        Err(refusal) => return Err(refused_code(refusal, start)),
     };
-    if r.place() > LAST {
+    let behind = r.place();
+    if behind > LAST {
         r.seek(start);
-        return Err(Refusal::Damaged { at: start });
+        return Err(Refusal::Damaged { at: behind });
     }
     match get_gamma(r, dev, 0xffff_ffff) {
         Ok(freq) => Ok(Posting {
@@ -59,7 +64,7 @@ fn read_posting<F: Feed>(
         }),
         Err(refusal) => {
             r.seek(start);
-            Err(refused_code(refusal))
+            Err(refused_code(refusal, behind))
         }
     }
 }
@@ -101,7 +106,9 @@ fn next_posting<F: Feed>(
     ensures read { IfOk result (λ p. ReadNext F.feeding F.device r.old r.new dev.old dev.new (length (posting_bits parameter before p))) }
     ensures pages { OnErr result (OnlyPostingPages F.feeding F.device r.old r.new dev.old dev.new all parameter before) }
     ensures place { MatchResult result (λ p. r.new.place ≡ r.old.place + length (posting_bits parameter before p)) (λ _. r.new.place ≡ r.old.place) }
+    ensures shows { IfOk result (λ p. FromNext F.feeding F.device r.old dev.old (Begins (posting_bits parameter before p))) }
     ensures follows { IfOk result (Follows all before) }
+    ensures at { IfDamaged result (IsBitOfPosting all parameter (told_bytes F.feeding F.device r.old dev.old) before r.old.place) }
     ensures told { ForNextPosting F.feeding F.device r.old dev.old all parameter before (λ p. AnswersThis result p) }
     ensures cause { RefusalCause result (F.device dev.old).faults (F.device dev.new).faults }
 {
@@ -146,7 +153,10 @@ pub fn read_block<F: Feed>(
     ensures place { GoesBehind result r.old.place r.new.place (length (bits_after parameter before (take count out.new.items))) }
     ensures last { IfOk result (λ last. last ≡ last_doc before (take count out.new.items)) }
     ensures rises { OnOk result (Rises all before (take count out.new.items)) }
-    ensures told { ForNextList F.feeding F.device r.old dev.old all parameter before count (λ ps. OrDevice result (λ _. take count out.new.items ≡ take count ps)) }
+    ensures shows { OnOk result (FromNext F.feeding F.device r.old dev.old (Begins (bits_after parameter before (take count out.new.items)))) }
+    ensures lacks { IfDamaged result (LacksPosting all parameter (told_bytes F.feeding F.device r.old dev.old) before r.old.place count) }
+    ensures told { ForNextList F.feeding F.device r.old dev.old all parameter before count
+        (λ ps. OrDevice result (λ _. take count out.new.items ≡ take count ps)) }
     ensures cause { RefusalCause result (F.device dev.old).faults (F.device dev.new).faults }
 {
     let start = r.place();

@@ -14,24 +14,24 @@ pub enum Refusal {
     Damaged { at: u64 },
 }
 
-/// A bit reader's refusal.
-pub fn refused_bits(refusal: BitErr) -> Refusal
-    ensures { result ≡ of_bits refusal }
+/// A bit reader's refusal, told of a bit place.
+pub fn refused_bits(refusal: BitErr, at: u64) -> Refusal
+    ensures { result ≡ of_bits refusal at }
 {
     match refusal {
         BitErr::Device => Refusal::Device,
-        BitErr::End { at } => Refusal::Damaged { at },
+        BitErr::End { .. } => Refusal::Damaged { at },
     }
 }
 
-/// A refusal of a reader of a code.
-pub fn refused_code(refusal: CodeErr) -> Refusal
-    ensures { result ≡ of_code refusal }
+/// A refusal of a reader of a code, told of a bit place.
+pub fn refused_code(refusal: CodeErr, at: u64) -> Refusal
+    ensures { result ≡ of_code refusal at }
 {
     match refusal {
         CodeErr::Device => Refusal::Device,
-        CodeErr::End { at } => Refusal::Damaged { at },
-        CodeErr::Over { at, .. } => Refusal::Damaged { at },
+        CodeErr::End { .. } => Refusal::Damaged { at },
+        CodeErr::Over { .. } => Refusal::Damaged { at },
     }
 }
 

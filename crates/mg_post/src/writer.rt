@@ -43,7 +43,20 @@ impl<'a> Model for ListWriter<'a> {
 
     ghost Value = { Listing };
 
-    ghost view = { λ w. record { post = w.post; skip = w.skip; all = w.all; docs = w.docs; parameter = w.parameter; pushed = w.pushed; last = w.last; total = w.total; start = w.start; first = w.first; full = w.full; block_at = w.block_at } };
+    ghost view = { λ w. record {
+      post = w.post;
+      skip = w.skip;
+      all = w.all;
+      docs = w.docs;
+      parameter = w.parameter;
+      pushed = w.pushed;
+      last = w.last;
+      total = w.total;
+      start = w.start;
+      first = w.first;
+      full = w.full;
+      block_at = w.block_at;
+    } };
 
     ghost invariant = { λ w. (1 ≤ w.parameter) × (w.parameter < 2 ^ 48) };
 }

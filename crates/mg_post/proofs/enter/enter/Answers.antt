@@ -1,6 +1,7 @@
-use Rattle.std.proofs.Common.{arith, ◌≡◌, ◌+◌, ◌*◌, length, sym, ◌∙◌, ap, Ok, Err}
+use Rattle.std.proofs.Common.{arith, ◌≡◌, ◌+◌, ◌*◌, ◌≤◌, length, sym, ◌∙◌, ap, inl, inr, Ok, Err}
 use Rattle.mg_defs.specs.Lists.{from_doc, block_of, bits_before, last_doc}
-use Rattle.mg_post.proofs.FindLaws.{bits_fit}
+use Rattle.mg_defs.proofs.ListLaws.{from_some}
+use Rattle.mg_post.proofs.FindLaws.{bits_fit, damaged_weaker}
 use Rattle.mg_post.proofs.ReadLaws.{any_refused}
 use Rattle.mg_post.proofs.EnterLaws.{block_answer, block_ends, block_filled, filled_some, head_none, found_some, entered, count_most, refused_pages}
 use Rattle.mg_post.proofs.SoundLaws.{block_held, from_held}
@@ -90,3 +91,33 @@ pub returns-in-Err-clause-block : goal.returns-in-Err-clause-block
 returns-in-Err-clause-block g c = λ ps after within stands.
     let at : c.seek.new.self.place ≡ 8 * c.args.post_at + c.args.found.at = c.seek.ensures.place ∙ c.in-Some.ensures in
     any_refused c.in-Err.refusal _ _ (block_filled _ c.args.all c.args.parameter (8 * c.args.post_at + c.args.found.at) c.min.result c.args.found.before c.args.found.last c.seek.new.self.place ps c.fill.new.self (Err c.in-Err.refusal) (rw (c.min.ensures, c.seek.ensures.feed) stands) at c.in-Err.ensures.told)
+
+-- ---- where it is told that the block does not stand
+
+pub returns-in_default-clause-lacks : goal.returns-in_default-clause-lacks
+returns-in_default-clause-lacks g c = λ after within. inr (inr record { far = c.in_default.ensures; at_is = c.place_or_most.ensures })
+
+pub returns-then-last-found-clause-lacks : goal.returns-then-last-found-clause-lacks
+returns-then-last-found-clause-lacks g c = λ after within.
+    let at : c.seek.new.self.place ≡ 8 * c.args.post_at + c.args.found.at = c.seek.ensures.place ∙ c.in-Some.ensures in
+    inr
+    (inl record {
+      block = c.fill.new.self;
+      count_is = c.in-Ok.ensures.whole ∙ c.min.ensures;
+      rises = c.in-Ok.ensures.rises;
+      bits = rw (c.seek.ensures.feed, at) at c.in-Ok.ensures.shows;
+      other = λ is. c.if-last-found.true (c.in-Ok.ensures.last ∙ is);
+      at_is = c.in-Some.ensures;
+    })
+
+pub returns-in-None-clause-lacks : goal.returns-in-None-clause-lacks
+returns-in-None-clause-lacks g c = λ after within.
+    let none : length c.forward.new.self ≡ 0 = head_none c.forward.new.self (sym c.in-None.ensures) in
+    let same : length c.forward.new.self ≡ length (from_doc c.args.doc c.fill.new.self) = ap length c.forward.ensures in
+    let low : c.args.doc ≤ last_doc c.args.found.before c.fill.new.self = omega (arith, within, c.in-Ok.ensures.last, c.if-last-found.false) in
+    absurd (omega (arith, none, same, from_some c.args.all c.args.found.before c.args.doc c.fill.new.self c.in-Ok.ensures.rises after low))
+
+pub returns-in-Err-clause-lacks : goal.returns-in-Err-clause-lacks
+returns-in-Err-clause-lacks g c =
+    let at : c.seek.new.self.place ≡ 8 * c.args.post_at + c.args.found.at = c.seek.ensures.place ∙ c.in-Some.ensures in
+    damaged_weaker c.in-Err.refusal _ _ (λ bad lacks after within. inl lacks) (rw (c.seek.ensures.feed, at, c.min.ensures) at c.in-Err.ensures.lacks)

@@ -1,8 +1,8 @@
-use Rattle.std.proofs.Common.{arith, ◌≡◌, ◌+◌, ◌*◌, ◌≤◌, sym, ◌∙◌, subst, Ok, Err}
+use Rattle.std.proofs.Common.{arith, ◌≡◌, ◌+◌, ◌*◌, ◌≤◌, sym, ◌∙◌, subst, inl, Ok, Err}
 use Rattle.mg_bits.proofs.CallerLemmas.{calm_more, same_told}
 use Rattle.mg_defs.specs.Lists.{doc_before}
 use Rattle.mg_post.specs.Stands.{SkipStands}
-use Rattle.mg_post.specs.Finding.{LacksAnEntry, LacksEntry, TellsBlock, TellsLast}
+use Rattle.mg_post.specs.Finding.{LacksAnEntry, LacksLast, TellsBlock, TellsLast}
 use Rattle.mg_post.proofs.ReadLaws.{any_refused}
 use Rattle.mg_post.proofs.FindLaws.{damaged_weaker, lacks_wider, last_answer, page_between, reads_now, reads_to, reads_same, tells_next, tells_on, within_entries, reads_within}
 use Rattle.mg_post.proofs.find.find_block.Goals as goal
@@ -84,11 +84,11 @@ returns-in-Ok-search_page-clause-tells g c =
 pub returns-in-Err-clause-lacks : goal.returns-in-Err-clause-lacks
 returns-in-Err-clause-lacks g c =
     let low : c.args.reached ≤ c.page_end-high.result = omega (arith, c.loop-low.invariant.from, c.page_end-high.ensures.from) in
-    damaged_weaker c.in-Err.refusal (LacksEntry ((g.F.Feed.feeding c.args.r.now.feed).source (g.F.Feed.device c.args.dev.now).files) c.args.skip_at c.args.all c.page_end-high.result) _ (λ lacks. (c.page_end-high.result, low, c.page_end-high.ensures.there, lacks)) (rw (same_told _ _ _ _ c.loop-low.invariant.calm) at c.in-Err.ensures.lacks)
+    damaged_weaker c.in-Err.refusal (LacksLast ((g.F.Feed.feeding c.args.r.now.feed).source (g.F.Feed.device c.args.dev.now).files) c.args.skip_at c.args.all c.page_end-high.result) _ (λ at lacks. (c.page_end-high.result, low, c.page_end-high.ensures.there, inl lacks)) (rw (same_told _ _ _ _ c.loop-low.invariant.calm) at c.in-Err.ensures.lacks)
 
 pub returns-in-Err-search_page-clause-lacks : goal.returns-in-Err-search_page-clause-lacks
 returns-in-Err-search_page-clause-lacks g c =
     let calm = calm_more _ _ _ _ _ _ c.loop-low.invariant.calm c.in-Ok.ensures.calm in
     damaged_weaker c.in-Err-search_page.refusal (LacksAnEntry ((g.F.Feed.feeding c.args.r.now.feed).source (g.F.Feed.device c.args.dev.now).files) c.args.skip_at c.args.all c.loop-low.low (c.page_end-high.result + 1)) _
-    (lacks_wider _ c.args.skip_at c.args.all c.loop-low.low (c.page_end-high.result + 1) c.args.reached c.args.blocks c.loop-low.invariant.from (omega (arith, c.page_end-high.ensures.there)))
+    (λ at. lacks_wider _ c.args.skip_at c.args.all c.loop-low.low (c.page_end-high.result + 1) c.args.reached c.args.blocks at c.loop-low.invariant.from (omega (arith, c.page_end-high.ensures.there)))
     (rw (same_told _ _ _ _ calm) at c.in-Err-search_page.ensures.lacks)

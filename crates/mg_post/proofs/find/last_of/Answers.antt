@@ -1,5 +1,5 @@
-use Rattle.std.proofs.Common.{arith, ◌≡◌, inl, inr}
-use Rattle.mg_post.proofs.FindLaws.{damaged_weaker, ends_first, last_shown}
+use Rattle.std.proofs.Common.{arith, ◌≡◌, inr}
+use Rattle.mg_post.proofs.FindLaws.{lacks_last, last_shown}
 use Rattle.mg_post.proofs.ReadLaws.{any_refused}
 use Rattle.mg_post.proofs.find.last_of.Goals as goal
 
@@ -20,7 +20,10 @@ pub returns-else-last-from-clause-tells : goal.returns-else-last-from-clause-tel
 returns-else-last-from-clause-tells g c = rw c.entry_place-place.ensures.value at c.in-Ok.ensures.shows
 
 pub returns-then-last-from-clause-lacks : goal.returns-then-last-from-clause-lacks
-returns-then-last-from-clause-lacks g c = inr (c.in-Ok.last, omega (arith, c.if-last-from.true, c.from.ensures), rw c.entry_place-place.ensures.value at c.in-Ok.ensures.shows)
+returns-then-last-from-clause-lacks g c = record {
+  at_is = c.entry_place-place.ensures.value;
+  missing = inr (c.in-Ok.last, omega (arith, c.if-last-from.true, c.from.ensures), rw c.entry_place-place.ensures.value at c.in-Ok.ensures.shows);
+}
 
 pub returns-in-Err-clause-lacks : goal.returns-in-Err-clause-lacks
-returns-in-Err-clause-lacks g c = damaged_weaker c.in-Err.refusal _ _ (λ ends. inl (ends_first _ _ _ c.entry_place-place.ensures.value ends)) c.in-Err.ensures.ends
+returns-in-Err-clause-lacks g c = lacks_last _ c.in-Err.refusal c.args.skip_at c.args.all c.args.block c.entry_place-place.result c.entry_place-place.ensures.value c.in-Err.ensures.at c.in-Err.ensures.ends

@@ -1,7 +1,7 @@
-use Rattle.std.proofs.Common.{arith, ◌≡◌, ◌+◌, ◌*◌, ◌<◌, ◌≤◌, ◌∙◌, ap, subst, inl, Some, Ok, Err}
+use Rattle.std.proofs.Common.{arith, ◌≡◌, ◌+◌, ◌*◌, ◌<◌, ◌≤◌, ◌∙◌, ap, subst, inl, inr, Some, Ok, Err}
 use Rattle.mg_bits.proofs.CallerLemmas.{calm_more, same_told}
 use Rattle.mg_defs.specs.Lists.{doc_before, bits_before}
-use Rattle.mg_post.specs.Finding.{LacksEntry, TellsBefore, TellsBits, TellsLast, entry_page}
+use Rattle.mg_post.specs.Finding.{LacksBits, LacksLast, TellsBefore, TellsBits, TellsLast, entry_page}
 use Rattle.mg_post.proofs.ReadLaws.{any_refused}
 use Rattle.mg_post.proofs.FindLaws.{last_answer, bits_answer, page_between, count_same, damaged_weaker, tells_next}
 use Rattle.mg_post.proofs.find.search_page.Goals as goal
@@ -108,10 +108,10 @@ pub returns-in-Err-clause-lacks : goal.returns-in-Err-clause-lacks
 returns-in-Err-clause-lacks g c =
     let low : c.args.low ≤ c.loop-from.middle = omega (arith, c.loop-from.invariant.low, c.loop-from.invariant.middle) in
     let high : c.loop-from.middle < c.args.high + 1 = omega (arith, c.loop-from.invariant.before_to c.loop-from-test.true, c.loop-from.invariant.high) in
-    damaged_weaker c.in-Err.refusal (LacksEntry ((g.F.Feed.feeding c.args.r.now.feed).source (g.F.Feed.device c.args.dev.now).files) c.args.skip_at c.args.all c.loop-from.middle) _ (λ lacks. (c.loop-from.middle, low, high, lacks)) (rw (same_told _ _ _ _ c.loop-from.invariant.calm) at c.in-Err.ensures.lacks)
+    damaged_weaker c.in-Err.refusal (LacksLast ((g.F.Feed.feeding c.args.r.now.feed).source (g.F.Feed.device c.args.dev.now).files) c.args.skip_at c.args.all c.loop-from.middle) _ (λ at lacks. (c.loop-from.middle, low, high, inl lacks)) (rw (same_told _ _ _ _ c.loop-from.invariant.calm) at c.in-Err.ensures.lacks)
 
 pub returns-in-Err-bits_of-clause-lacks : goal.returns-in-Err-bits_of-clause-lacks
 returns-in-Err-bits_of-clause-lacks g c =
     let low : c.args.low ≤ c.loop-from.to = omega (arith, c.loop-from.invariant.low, c.loop-from.invariant.order) in
     let high : c.loop-from.to < c.args.high + 1 = omega (arith, c.loop-from.invariant.high) in
-    damaged_weaker c.in-Err-bits_of.refusal _ _ (λ ends. (c.loop-from.to, low, high, inl ends)) (rw (same_told _ _ _ _ c.loop-from.invariant.calm) at c.in-Err-bits_of.ensures.lacks)
+    damaged_weaker c.in-Err-bits_of.refusal (LacksBits ((g.F.Feed.feeding c.args.r.now.feed).source (g.F.Feed.device c.args.dev.now).files) c.args.skip_at c.loop-from.to) _ (λ at lacks. (c.loop-from.to, low, high, inr lacks)) (rw (same_told _ _ _ _ c.loop-from.invariant.calm) at c.in-Err-bits_of.ensures.lacks)

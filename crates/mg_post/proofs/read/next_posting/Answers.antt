@@ -1,6 +1,6 @@
 use Rattle.std.proofs.Common.{arith, ◌≡◌, ◌+◌, length}
 use Rattle.mg_defs.specs.Lists.{posting_bits}
-use Rattle.mg_post.proofs.AheadLaws.{code_held, next_ahead, nothing_ahead, one_posting}
+use Rattle.mg_post.proofs.AheadLaws.{code_held, code_stands, next_ahead, nothing_ahead, one_posting}
 use Rattle.mg_post.proofs.read.next_posting.Goals as goal
 
 pub returns-in-Some-clause-place : goal.returns-in-Some-clause-place
@@ -21,6 +21,9 @@ returns-in-Some-clause-read g c =
 pub returns-in-Some-clause-told : goal.returns-in-Some-clause-told
 returns-in-Some-clause-told g c = λ p follows small shows.
     one_posting _ c.args.r.now.place c.args.parameter c.args.before c.args.all _ _ _ _ c.in-Some.passed.posting p c.requires.code.some c.requires.code.small c.in-Some.ensures.takes (c.look-seen.ensures.told _ c.requires.fits) c.in-Some.ensures.follows follows shows
+
+pub returns-in-Some-clause-shows : goal.returns-in-Some-clause-shows
+returns-in-Some-clause-shows g c = code_stands _ c.args.r.now.place _ _ _ _ _ c.in-Some.ensures.takes (c.look-seen.ensures.told _ c.requires.fits)
 
 pub returns-in-Ok-clause-ahead : goal.returns-in-Ok-clause-ahead
 returns-in-Ok-clause-ahead g c = nothing_ahead _ _ _ _ _ c.none.ensures.bits c.none.ensures.count

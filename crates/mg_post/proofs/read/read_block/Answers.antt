@@ -4,7 +4,7 @@ use Rattle.std.proofs.lemmas.List.{take_more_set}
 use Rattle.mg_bits.proofs.CallerLemmas.{read_more, read_none, same_told}
 use Rattle.mg_defs.specs.Lists.{posting_bits, bits_after, last_doc, Rises}
 use Rattle.mg_post.proofs.AheadLaws.{nothing_ahead}
-use Rattle.mg_post.proofs.ReadLaws.{next_here, next_answer, any_refused, rises_more, last_more, bits_more, block_pages_more}
+use Rattle.mg_post.proofs.ReadLaws.{lacks_next, none_stand, postings_stand, next_here, next_answer, any_refused, rises_more, last_more, bits_more, block_pages_more}
 use Rattle.mg_post.proofs.read.read_block.Goals as goal
 
 pub loop-i-init : goal.loop-i-init
@@ -18,6 +18,7 @@ loop-i-init g c = record {
   rises = tt;
   place = omega arith;
   read = rw add-zero (read_none _ _ c.place-start.result);
+  shows = none_stand _ c.place-start.result;
   told = λ ps rises le small shows. refl;
 }
 
@@ -37,6 +38,12 @@ returns-in-Err-clause-pages g c = λ ps rises le small shows.
     (block_pages_more _ _ _ _ _ _ _ _ c.args.r.now.place c.loop-i.r.place c.args.all c.args.parameter c.args.before c.loop-i.last c.loop-i.i c.args.count ps c.loop-i.out.items (g.met.F.Feed.whole_pages c.args.r.now.feed).some (same_told _ _ _ _ c.loop-i.invariant.read.calm) next same c.loop-i.invariant.last c.loop-i-test.true at
     (rw c.place-start.ensures at c.loop-i.invariant.read) c.in-Err.ensures.pages)
 
+pub returns-in-Err-clause-lacks : goal.returns-in-Err-clause-lacks
+returns-in-Err-clause-lacks g c =
+    let at : c.loop-i.r.place ≡ c.args.r.now.place + length (bits_after c.args.parameter c.args.before (take c.loop-i.i c.loop-i.out.items)) = omega (arith, c.loop-i.invariant.place) in
+    lacks_next _ _ c.in-Err.refusal c.args.all c.args.parameter c.args.before c.args.r.now.place c.loop-i.last c.loop-i.r.place c.loop-i.i c.args.count c.loop-i.out.items (same_told _ _ _ _ c.loop-i.invariant.read.calm) c.loop-i-test.true c.loop-i.invariant.last at
+    c.loop-i.invariant.rises (rw c.place-start.ensures at c.loop-i.invariant.shows) c.in-Err.ensures.told c.in-Err.ensures.at
+
 pub loop-i-preserved : goal.loop-i-preserved
 loop-i-preserved g c =
     let room : c.loop-i.i < length c.loop-i.out.items = omega arith in
@@ -54,6 +61,9 @@ loop-i-preserved g c =
       read = rw (t, b, ← add_assoc c.place-start.result (length (bits_after c.args.parameter c.args.before (take c.loop-i.i c.loop-i.out.items))) (length (posting_bits c.args.parameter c.loop-i.last c.in-Ok.posting)))
           (read_more _ _ _ _ _ _ c.place-start.result (c.place-start.result + length (bits_after c.args.parameter c.args.before (take c.loop-i.i c.loop-i.out.items))) _ (g.met.F.Feed.whole_pages c.args.r.now.feed).some (omega arith) (omega arith)
           c.loop-i.invariant.read (rw c.loop-i.invariant.place at c.in-Ok.ensures.read));
+      shows = rw t
+          (postings_stand _ c.place-start.result c.loop-i.r.place c.args.parameter c.args.before c.loop-i.last (take c.loop-i.i c.loop-i.out.items) c.in-Ok.posting c.loop-i.invariant.last c.loop-i.invariant.place
+          c.loop-i.invariant.shows (rw (same_told _ _ _ _ c.loop-i.invariant.read.calm) at c.in-Ok.ensures.shows));
       told = λ ps rises le small shows.
           let same : take c.loop-i.i c.loop-i.out.items ≡ take c.loop-i.i ps = c.loop-i.invariant.told ps rises le small shows in
           let next = next_here _ c.place-start.result c.loop-i.r.place c.args.all c.args.parameter c.args.before c.loop-i.last c.loop-i.i c.loop-i.out.items ps (omega arith) same c.loop-i.invariant.last c.loop-i.invariant.place rises small shows in

@@ -1,9 +1,9 @@
 use Rattle.std.proofs.Common.{◌≡◌, ◌+◌, ◌^◌, ◌≤◌, List, length, take}
 use Rattle.mg_bits.specs.Feed.{Read}
+use Rattle.mg_defs.specs.Bits.{Begins, FromPlace, Shows}
 use Rattle.mg_defs.specs.declared.Posting.{Posting}
 use Rattle.mg_defs.specs.Lists.{bits_after, last_doc, Rises}
 use Rattle.mg_post.specs.Ahead.{IsAhead}
-use Rattle.mg_post.specs.Stands.{Shows}
 use Rattle.mg_post.proofs.read.read_block.Given as goal
 
 abbrev pub invariant-loop-i : goal.invariant-loop-i
@@ -16,6 +16,7 @@ invariant-loop-i g l = record {
   rises : Rises l.all l.before (take l.i l.out.items);
   place : l.r.place ≡ l.start + length (bits_after l.parameter l.before (take l.i l.out.items));
   read : Read (g.F.Feed.feeding l.fn.r.feed) (g.F.Feed.feeding l.r.feed) (g.F.Feed.device l.fn.dev) (g.F.Feed.device l.dev) l.start (l.start + length (bits_after l.parameter l.before (take l.i l.out.items)));
+  shows : FromPlace ((g.F.Feed.feeding l.fn.r.feed).source (g.F.Feed.device l.fn.dev).files) l.start (Begins (bits_after l.parameter l.before (take l.i l.out.items)));
   told : (ps : List Posting) → Rises l.all l.before ps → l.count ≤ length ps → l.start + length (bits_after l.parameter l.before ps) ≤ 2 ^ 63 →
       Shows ((g.F.Feed.feeding l.fn.r.feed).source (g.F.Feed.device l.fn.dev).files) l.start (bits_after l.parameter l.before ps) → take l.i l.out.items ≡ take l.i ps;
 }

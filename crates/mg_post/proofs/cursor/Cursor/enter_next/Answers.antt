@@ -2,8 +2,9 @@ use Rattle.std.proofs.Common.{arith, ◌≡◌, ◌+◌, ◌-◌, ◌*◌, ◌^�
 use Rattle.mg_dev.specs.declared.part.Part.TheVariants.{Post}
 use Rattle.mg_bits.specs.Feed.{told_at}
 use Rattle.mg_bits.specs.Pages.{Paging}
+use Rattle.mg_defs.specs.Bits.{Shows}
 use Rattle.mg_defs.specs.Lists.{bits_after, block_pages}
-use Rattle.mg_post.specs.Stands.{BlockStands, Shows, SkipStands}
+use Rattle.mg_post.specs.Stands.{BlockStands, SkipStands}
 use Rattle.mg_post.specs.Finding.{IsFound}
 use Rattle.mg_post.proofs.CursorLaws.{walks_of, at_end, on_block, same_file, refused_answer, raised_by, raised_most}
 use Rattle.mg_post.proofs.SoundLaws.{entry_cause, names_none, names_own, no_entry_cause, nothing_held, post_cause, skip_cause}
@@ -172,6 +173,9 @@ returns-in-Err-enter-clause-block g c =
           let answer = c.in-Err-enter.ensures.block ps sound.below sound.within
           (subst (λ f. BlockStands c.self.inside.all c.self.inside.parameter (told_at f c.self.inside.post.feed.name) (8 * c.self.inside.post_at + c.in-Ok-Some.found.at) (min (c.self.inside.docs - 64 * c.in-Ok-Some.found.block) 64) c.in-Ok-Some.found.before c.in-Ok-Some.found.last ps) (sym c.in-Ok-Some.ensures.calm.files) stands) in
           rw is at answer;
+      at_is =
+          let lacks = rw is at c.in-Err-enter.ensures.lacks in
+          rw c.in-Ok-Some.ensures.calm.files at (lacks sound.below sound.within);
     }))
 
 pub returns-in-Err-clause-entry : goal.returns-in-Err-clause-entry

@@ -1,7 +1,7 @@
 use Rattle.std.proofs.Common.{arith, refl, sym, ◌∙◌}
 use Rattle.mg_post.proofs.CursorLaws.{next_within, next_low, next_beyond}
 use Rattle.std.proofs.lemmas.Bool.{false≢true}
-use Rattle.mg_post.proofs.SoundLaws.{last_small, next_held, next_sound, step_rises}
+use Rattle.mg_post.proofs.SoundLaws.{last_small, nothing_held, next_held, next_sound, step_rises}
 use Rattle.mg_post.proofs.cursor.Cursor.next.Goals as goal
 
 pub returns-in-Some-clause-answer : goal.returns-in-Some-clause-answer
@@ -53,6 +53,21 @@ invariant_of-self g c =
       i.9,
     )
 
+pub invariant_of-self-then-last : goal.invariant_of-self-then-last
+invariant_of-self-then-last g c =
+    let i = c.self.invariant in (
+      i.0,
+      i.1,
+      i.2,
+      i.3,
+      i.4,
+      i.5,
+      i.6,
+      λ e. c.clear.ensures,
+      nothing_held c.self.inside.all c.self.inside.last c.clear.new.self c.clear.ensures,
+      i.9,
+    )
+
 pub returns-in-Some-clause-sound : goal.returns-in-Some-clause-sound
 returns-in-Some-clause-sound g c =
     let step = c.in-Some.ensures in
@@ -63,12 +78,20 @@ returns-else-last-clause-sound g c =
     let step = c.in-None.ensures in
     rw (← c.self.view_is) (next_sound c.self.inside.all c.self.inside.last c.self.inside.block c.advance_to.result c.self.invariant.8 step.0 c.advance_to.ensures.sound)
 
-pub returns-then-last-clause-post : goal.returns-then-last-clause-post
-returns-then-last-clause-post g c =
+-- no list of a set that is not too large has the last number
+pub returns-then-last-clause-answer : goal.returns-then-last-clause-answer
+returns-then-last-clause-answer g c =
     rw (← c.self.view_is)
     (λ ps left stands at.
-    let low = last_small c.self.inside.ended c.self.inside.all ps c.self.inside.reached c.self.inside.last c.self.inside.block left c.if-self.false stands.entries.rises at.on in
-    absurd (omega (arith, low, stands.few, c.if-last.true)))
+    let low = last_small c.self.inside.ended c.self.inside.all ps c.self.inside.reached c.self.inside.last c.self.inside.block left c.if-self.false stands.list.entries.rises at.on in
+    absurd (omega (arith, low, stands.list.few, c.if-last.true)))
+
+pub returns-then-last-clause-entered : goal.returns-then-last-clause-entered
+returns-then-last-clause-entered g c =
+    rw (← c.self.view_is)
+    (λ ps left stands at.
+    let low = last_small c.self.inside.ended c.self.inside.all ps c.self.inside.reached c.self.inside.last c.self.inside.block left c.if-self.false stands.list.entries.rises at.on in
+    absurd (omega (arith, low, stands.list.few, c.if-last.true)))
 
 pub returns-else-last-clause-post : goal.returns-else-last-clause-post
 returns-else-last-clause-post g c =
@@ -76,20 +99,14 @@ returns-else-last-clause-post g c =
     let post = rw step.1 at c.advance_to.ensures.post in
     rw (← c.self.view_is) (λ ps left stands at. post ps left stands at)
 
-pub returns-then-last-clause-block : goal.returns-then-last-clause-block
-returns-then-last-clause-block g c = λ post. absurd cc
-
 pub returns-else-last-clause-block : goal.returns-else-last-clause-block
 returns-else-last-clause-block g c =
     let step = c.in-None.ensures in
     let block = rw step.1 at c.advance_to.ensures.block in
     rw (← c.self.view_is) block
 
-pub returns-then-last-clause-entry : goal.returns-then-last-clause-entry
-returns-then-last-clause-entry g c = rw (← c.self.view_is) (λ small. absurd (omega (arith, small, c.if-last.true)))
-
 pub returns-else-last-clause-entry : goal.returns-else-last-clause-entry
 returns-else-last-clause-entry g c =
     let step = c.in-None.ensures in
     let entry = rw step.1 at c.advance_to.ensures.entry in
-    rw (← c.self.view_is) (λ small. entry)
+    rw (← c.self.view_is) entry
