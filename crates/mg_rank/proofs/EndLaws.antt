@@ -9,10 +9,11 @@ use Rattle.mg_dev.specs.Files.{Reads}
 use Rattle.mg_dev.specs.declared.part_err.PartErr.{PartErr}
 use Rattle.mg_dev.specs.declared.part_err.PartErr.TheVariants as part
 use Rattle.mg_defs.specs.Split.{documents}
-use Rattle.mg_defs.specs.Weights.{Hit, hits, has_term, score}
+use Rattle.mg_defs.specs.Weights.{Hit, hits_over, has_term, score_over}
+use Rattle.mg_layout.specs.Infos.{IsInfoOf}
 use Rattle.mg_layout.specs.declared.term_info.TermInfo.{TermInfo}
 use Rattle.mg_defs.specs.PageBounds.{list_pages, ranked_bound}
-use Rattle.mg_post.specs.TermLists.{IsInfoOf, ReadsLists}
+use Rattle.mg_post.specs.TermLists.{ReadsLists}
 use Rattle.mg_rank.specs.declared.best.Kept.{Kept}
 use Rattle.mg_rank.specs.Ranked.{AnswersOr, AnswersTop, AreTold, IsNumbered, ReadsRanked, ReadsWeights, SumsFor}
 use Rattle.mg_rank.specs.Rows.{AreNumbered, hit_in, hits_in}
@@ -74,17 +75,17 @@ length_filter p (x ∷ xs) =
       | inr isnt ↦ (let e : filter p (x ∷ xs) ≡ filter p xs = rw isnt refl in omega (arith, ap length e, length_filter p xs))
     ]
 
-pub hits_few : (collection : List ℕ) (ts : List (List ℕ)) → length (hits collection ts) ≤ length (documents collection)
+pub hits_few : (collection : List ℕ) (ts : List (List ℕ)) → length (hits_over collection ts) ≤ length (documents collection)
 hits_few collection ts = omega (arith, length_map (hit collection ts) (filter (met ts) (enumerate_from 1 (documents collection))), length_filter (met ts) (enumerate_from 1 (documents collection)), length_numbers 1 (documents collection))
   where
     met : List (List ℕ) → ℕ × List ℕ → Bool
     met ts d = list_any (has_term d.1) ts
 
     hit : List ℕ → List (List ℕ) → ℕ × List ℕ → Hit
-    hit collection ts d = record { number = d.0; score = score collection ts d.1 }
+    hit collection ts d = record { number = d.0; score = score_over collection ts d.1 }
 
-pub counted : (collection : List ℕ) (ts : List (List ℕ)) (all : ℕ) (sums : List (ℕ × ℕ)) → SumsFor collection ts sums → AreWithin all sums → length sums ≡ length (hits collection ts)
-counted collection ts all sums s within = sym (length_same (hits collection ts) (map (row_of collection) sums) (same_hits collection ts all sums s within) ∙ length_map (row_of collection) sums)
+pub counted : (collection : List ℕ) (ts : List (List ℕ)) (all : ℕ) (sums : List (ℕ × ℕ)) → SumsFor collection ts sums → AreWithin all sums → length sums ≡ length (hits_over collection ts)
+counted collection ts all sums s within = sym (length_same (hits_over collection ts) (map (row_of collection) sums) (same_hits collection ts all sums s within) ∙ length_map (row_of collection) sums)
 
 -- ---- refusals and reads
 

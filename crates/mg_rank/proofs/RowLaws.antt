@@ -16,7 +16,7 @@ use Rattle.std.proofs.Math.Seq.{drop-append-add}
 use Rattle.mg_defs.specs.Numbers.{four}
 use Rattle.mg_defs.specs.Fixed.{isqrt, root_from}
 use Rattle.mg_defs.specs.Split.{documents}
-use Rattle.mg_defs.specs.Terms.{document, terms, same_term, sorted_distinct}
+use Rattle.mg_defs.specs.Terms.{document, terms, sorted_distinct}
 use Rattle.mg_defs.specs.Weights.{has_term, score_of, weight, wd, weight_in_doc}
 use Rattle.mg_defs.proofs.ListLaws.{documents_short}
 use Rattle.mg_defs.proofs.SortedLaws.{has-sorted}

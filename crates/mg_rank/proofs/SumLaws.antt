@@ -15,8 +15,8 @@ use Rattle.mg_defs.specs.Weights.{has_term, wd, wt, weight_in_doc}
 use Rattle.mg_defs.specs.Lists.{postings, from_doc, Rises, Follows}
 use Rattle.mg_defs.proofs.ListLaws.{from_here, from_next}
 use Rattle.mg_post.specs.Cursor.{head_of}
-use Rattle.mg_laws.proofs.LedLists.{first_of, is_number, posting_is, list_from, from_front, docs_from, length_front, some_freq}
-use Rattle.mg_laws.proofs.MetBlocks.{from_from}
+use Rattle.mg_post.proofs.ListHeads.{has_at, later}
+use Rattle.mg_laws.proofs.LedLists.{list_from, from_front, docs_from, length_front, some_freq}
 use Rattle.mg_rank.specs.Ranked.{SumsFor, part_sum, so_far}
 use Rattle.mg_rank.specs.Sums.{sum_of, with_more, AreApart}
 use Rattle.mg_rank.proofs.Adding.{found_same, found_other, apart_more, sum_same, sum_other}
@@ -37,31 +37,6 @@ head_sound all before d (q ∷ ps) p rises is =
           let freq_is : q.freq ≡ p.freq = ap (λ (x : Posting). x.freq) same in
           (omega (arith, doc_is, above), omega (arith, doc_is, f.within), omega (arith, freq_is, f.some)))
     ]
-
-first_kept : (d : ℕ) (q : List Posting) (p : Posting) → head_of q ≡ Some p → d ≤ p.doc → from_doc d q ≡ q
-first_kept d [] p is le = absurd cc
-first_kept d (h ∷ q) p is le = let same : h ≡ p = cc in from_here d h q (omega (arith, ap (λ (x : Posting). x.doc) same, le))
-
-first_head : (q : List Posting) (p : Posting) → head_of q ≡ Some p → first_of q ≡ Some p.doc
-first_head [] p is = absurd cc
-first_head (h ∷ q) p is = let same : h ≡ p = cc in ap (λ (x : Posting). Some x.doc) same
-
-no_first : (d : ℕ) (q : List Posting) → head_of q ≡ None → first_of (from_doc d q) ≡ None
-unfolding from_doc
-no_first d [] is = refl
-no_first d (h ∷ q) is = absurd cc
-
--- the list from a later document on, up to the first one
-later : (last d : ℕ) (ps : List Posting) (p : Posting) → head_of (from_doc (last + 1) ps) ≡ Some p → last < d → d ≤ p.doc → from_doc d ps ≡ from_doc (last + 1) ps
-later last d ps p is low high = sym (from_from (last + 1) d ps (omega (arith, low))) ∙ first_kept d (from_doc (last + 1) ps) p is high
-
-pub has_at : (collection t : List ℕ) (last d : ℕ) (p : Posting) → head_of (from_doc (last + 1) (postings collection t)) ≡ Some p → last < d → d ≤ p.doc → d ≤ length (documents collection) → has_term (document collection d) t ≡ nat_eq p.doc d
-has_at collection t last d p is low high le =
-    sym (posting_is collection t d (omega (arith, low)) le) ∙ ap (λ l. is_number (first_of l) d) (later last d (postings collection t) p is low high) ∙ ap (λ o. is_number o d) (first_head (from_doc (last + 1) (postings collection t)) p is)
-
-pub none_at : (collection t : List ℕ) (last d : ℕ) → head_of (from_doc (last + 1) (postings collection t)) ≡ None → last < d → d ≤ length (documents collection) → has_term (document collection d) t ≡ false
-none_at collection t last d is low le =
-    sym (posting_is collection t d (omega (arith, low)) le) ∙ ap (λ o. is_number o d) (ap first_of (sym (from_from (last + 1) d (postings collection t) (omega (arith, low)))) ∙ no_first d (from_doc (last + 1) (postings collection t)) is)
 
 pub get_past : (ds : List (List ℕ)) (k : ℕ) → length ds ≤ k → get_or ds k [] ≡ []
 get_past [] k le = refl

@@ -16,6 +16,7 @@ use Rattle.std.proofs.lemmas.List.Sums.{sum_by-cons}
 use Rattle.mg_defs.specs.Terms.{docs, terms, same_term}
 use Rattle.mg_defs.specs.Weights.{weight_of_term, wt}
 use Rattle.mg_defs.specs.Lexicon as defs
+use Rattle.mg_layout.specs.Infos.{IsInfoOf}
 use Rattle.mg_layout.specs.declared.term_info.TermInfo.{TermInfo}
 use Rattle.mg_dev.specs.declared.part_err.PartErr.{PartErr}
 use Rattle.mg_dev.specs.declared.part_err.PartErr.TheVariants as part
@@ -24,7 +25,7 @@ use Rattle.mg_post.specs.Cursor.{Cursoring}
 use Rattle.mg_defs.specs.PageBounds.{numbers_in, pages_for, list_pages, parameter_of, list_bit}
 use Rattle.mg_laws.proofs.BoundLaws.{met_whole}
 use Rattle.mg_laws.proofs.MetBlocks.{own_met, term_some}
-use Rattle.mg_post.specs.TermLists.{IsInfoOf, ListsStand, MayAsk}
+use Rattle.mg_post.specs.TermLists.{ListsStand, MayAsk}
 use Rattle.mg_rank.specs.Ranked.{AnswersOr, ListFor, ReadsWeights}
 
 pub for_within : (collection asked t : List ℕ) → pages_for collection asked t ≤ list_pages collection t

@@ -16,13 +16,14 @@ use Rattle.mg_defs.specs.Numbers.{four}
 use Rattle.mg_defs.specs.Split.{documents}
 use Rattle.mg_defs.specs.Terms.{document}
 use Rattle.mg_defs.specs.Weights.{Hit, has_term, wd, wt, hits, by_score}
+use Rattle.mg_layout.specs.Infos.{IsInfoOf}
 use Rattle.mg_layout.specs.declared.term_info.TermInfo.{TermInfo}
 use Rattle.mg_defs.specs.Stands.{weights_part}
 use Rattle.std.specs.Map.{lookup}
 use Rattle.mg_defs.specs.Lists.{postings}
 use Rattle.mg_post.specs.Cursor.{Cursoring, post_pages}
 use Rattle.mg_defs.specs.PageBounds.{numbers_in}
-use Rattle.mg_post.specs.TermLists.{AnswersAsk, CursorFor, IsInfoOf, ListsStand}
+use Rattle.mg_post.specs.TermLists.{AnswersAsk, CursorFor, ListsStand}
 use Rattle.mg_rank.specs.Sums.{AreApart}
 
 -- what is told of these distinct terms, each of them of the collection

@@ -6,7 +6,8 @@ use Rattle.mg_defs.specs.PageBounds.{numbers_in}
 use Rattle.mg_post.specs.TermLists.{ListsStand}
 use Rattle.mg_rank.specs.Sums.{AreApart, AreWithin, sum_of}
 use Rattle.mg_rank.proofs.Adding.{apart_more, within_more}
-use Rattle.mg_rank.proofs.SumLaws.{Bounded, Walking, bounded_start, bounded_next, head_sound, none_at, walk_start, walk_next, walk_end}
+use Rattle.mg_rank.proofs.SumLaws.{Bounded, Walking, bounded_start, bounded_next, head_sound, walk_start, walk_next, walk_end}
+use Rattle.mg_post.proofs.ListHeads.{none_at}
 use Rattle.mg_defs.specs.Weights.{wt}
 use Rattle.mg_rank.proofs.WalkLaws.{for_within, weight_of, list_later, told, or_list}
 use Rattle.mg_rank.proofs.list.add_list.Goals as goal

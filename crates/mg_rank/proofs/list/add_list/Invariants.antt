@@ -2,7 +2,8 @@ use Rattle.std.proofs.Common.{◌-◌, ◌≡◌, ℕ, ◌+◌, ◌≤◌, List,
 use Rattle.mg_dev.specs.declared.part.Part.TheVariants as part
 use Rattle.mg_defs.specs.Split.{documents}
 use Rattle.mg_post.specs.Cursor.{CursorFits, post_pages}
-use Rattle.mg_post.specs.TermLists.{IsInfoOf, ListsStand, ReadsLists}
+use Rattle.mg_post.specs.TermLists.{ListsStand, ReadsLists}
+use Rattle.mg_layout.specs.Infos.{IsInfoOf}
 use Rattle.mg_rank.specs.Ranked.{ListFor, SumsFor}
 use Rattle.mg_rank.specs.Sums.{AreApart, AreWithin, sum_of}
 use Rattle.mg_rank.proofs.SumLaws.{Bounded, Walking}

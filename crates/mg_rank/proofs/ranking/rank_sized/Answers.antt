@@ -1,4 +1,6 @@
-use Rattle.std.proofs.Common.{arith, ◌^◌, ◌<◌, length, sym, ◌∙◌, subst}
+use Rattle.std.proofs.Common.{arith, ◌≡◌, ◌^◌, ◌<◌, length, take, sym, ◌∙◌, ap, subst}
+use Rattle.mg_defs.specs.Weights.{hits, hits_over, by_score}
+use Rattle.mg_defs.proofs.FirstLaws.{hits_of_distinct}
 use Rattle.mg_rank.specs.Ranked.{WeightsStand}
 use Rattle.mg_rank.proofs.EndLaws.{counted, hits_few, numbered_hits, top_err}
 use Rattle.mg_rank.proofs.WalkLaws.{weight_of}
@@ -18,7 +20,10 @@ returns-in-Ok-first_rows-clause-answer g c = λ collection ts stand told all_is.
     let s = c.in-Ok.ensures.answer collection ts stand.lists told all_is in
     let is = counted collection ts c.args.all c.in-Ok.sums s c.in-Ok.ensures.within in
     let stand2 = subst (λ fs. WeightsStand c.args.base.now fs collection) (sym c.sum_lists.ensures.files) stand in
-    (c.in-Ok-first_rows.ensures.answer collection ts stand2 all_is s, weight_of (c.in-Ok-count.ensures.is (omega (arith, is, hits_few collection ts, stand.lists.few))) ∙ is)
+    let total = weight_of (c.in-Ok-count.ensures.is (omega (arith, is, hits_few collection ts, stand.lists.few))) ∙ is in
+    -- the terms are distinct, so that their list is the query
+    let once : hits_over collection ts ≡ hits collection ts = sym (hits_of_distinct collection ts told.apart) in
+    (c.in-Ok-first_rows.ensures.answer collection ts stand2 all_is s ∙ ap (λ hs. take c.args.most (by_score hs)) once, total ∙ ap length once)
 
 pub returns-in-Ok-first_rows-clause-range : goal.returns-in-Ok-first_rows-clause-range
 returns-in-Ok-first_rows-clause-range g c = numbered_hits c.args.all c.in-Ok-first_rows.rows.items c.in-Ok-first_rows.ensures.range
