@@ -19,7 +19,7 @@ use Rattle.mg_laws.proofs.LedLists.{first_of, is_number, length_postings, postin
 use Rattle.mg_post.specs.Answers.{AnswersList}
 use Rattle.mg_post.specs.Cursor.{Cursoring, head_of, post_pages}
 use Rattle.mg_post.specs.TermLists.{CursorFor, ListsStand, PagesWithin}
-use Rattle.mg_bool.specs.Places.{AnswersAll, AnswersPlace, AreInfos, AsksAll, AsksPlace, Asking, IsToldOf, Place, PlaceFits, PlaceFor, PlaceOn, PlacesFit, PlacesFor, PlacesOn, SamePlace, SamePlaces, number_in, pages_read, place_pages}
+use Rattle.mg_bool.specs.Places.{AnswersAll, AnswersPlace, AreInfos, AsksAll, AsksPlace, Asking, IsToldOf, Place, PlaceFits, PlaceFor, PlaceOn, PlacesFit, PlacesFor, PlacesOn, SamePlace, SamePlaces, number_in, pages_read, place_pages, is_first}
 
 -- a refusal is a device's, whatever the answer is about
 pub err_answer : {A B : Type 0} (e : PartErr) (f : A → Type 0) (h : B → Type 0) → AnswersList {T = A} (Err e) f → AnswersList {T = B} (Err e) h
@@ -234,8 +234,12 @@ first_number (p ∷ ps) = refl
 
 -- ---- one document asked of one place: what is left there
 
-pub found_is : (collection t : List ℕ) (doc : ℕ) (found : Option ℕ) (b : Bool) → 1 ≤ doc → doc ≤ length (documents collection) → found ≡ number_in (head_of (from_doc doc (postings collection t))) → b ≡ is_number found doc → b ≡ has_term (document collection doc) t
-found_is collection t doc found b some le is flag = flag ∙ ap (λ o. is_number o doc) (is ∙ first_number (from_doc doc (postings collection t))) ∙ posting_is collection t doc some le
+pub is_same : (n : ℕ) (found : Option ℕ) → is_first (Some n) found ≡ is_number found n
+is_same n None = refl
+is_same n (Some doc) = refl
+
+pub found_is : (collection t : List ℕ) (doc : ℕ) (found : Option ℕ) (b : Bool) → 1 ≤ doc → doc ≤ length (documents collection) → found ≡ number_in (head_of (from_doc doc (postings collection t))) → b ≡ is_first (Some doc) found → b ≡ has_term (document collection doc) t
+found_is collection t doc found b some le is flag = flag ∙ is_same doc found ∙ ap (λ o. is_number o doc) (is ∙ first_number (from_doc doc (postings collection t))) ∙ posting_is collection t doc some le
 
 -- ---- one place after another is made
 

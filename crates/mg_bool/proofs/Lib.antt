@@ -1,5 +1,7 @@
 mod LeadLaws
 mod AskLaws
+mod AnyLaws
+mod FirstLaws
 mod NextLaws
 mod WordLaws
 mod StayLaws

@@ -35,7 +35,7 @@ unfolding asked_of
 asked_none collection q none = ap (λ ts. asked_by_leader collection (leftmost_fewest collection ts)) none
 
 -- any document may be asked where nothing leads
-any_asked : (collection : List ℕ) (q : Query) (doc : ℕ) → leading q ≡ [] → 1 ≤ doc → doc ≤ length (documents collection) → (t : List ℕ) → IsAmong (asked_of collection q) (postings collection t) doc
+pub any_asked : (collection : List ℕ) (q : Query) (doc : ℕ) → leading q ≡ [] → 1 ≤ doc → doc ≤ length (documents collection) → (t : List ℕ) → IsAmong (asked_of collection q) (postings collection t) doc
 any_asked collection q doc none some le t k in_it =
     ap (λ l. list_any (in_range k (postings collection t)) l) (asked_none collection q none) ∙ number_there (in_range k (postings collection t)) 1 doc (documents collection) some (omega (arith, le)) (range_true k (postings collection t) doc in_it)
 
@@ -50,7 +50,7 @@ own_asked collection q r doc short lead k in_it =
 
 -- ---- the next one
 
-drop_front : {X : Type 0} (xs ys : List X) → drop (length xs) (xs ++ ys) ≡ ys
+pub drop_front : {X : Type 0} (xs ys : List X) → drop (length xs) (xs ++ ys) ≡ ys
 drop_front [] ys = refl
 drop_front (x ∷ xs) ys = drop_front xs ys
 

@@ -1,5 +1,5 @@
 -- The places of a query's terms: a cursor over the list of each, or none where no document has the term.
-use Rattle.std.specs.Prelude.{◌≡◌, ℕ, ◌+◌, ◌≤◌, ◌<◌, true, Bool, List, [], length, get_or, slice_index_or, sum_by, Option, Result, Some, None}
+use Rattle.std.specs.Prelude.{◌≡◌, ℕ, ◌+◌, ◌≤◌, ◌<◌, ◌==◌, nat_lt, true, false, Bool, List, [], length, get_or, slice_index_or, sum_by, Option, Result, Some, None, IfSome}
 use Rattle.mg_dev.specs.Files.{Files, Reads}
 use Rattle.mg_dev.specs.Names.{full_name}
 use Rattle.mg_dev.specs.declared.part.Part.TheVariants as part
@@ -10,11 +10,12 @@ use Rattle.mg_defs.specs.Terms.{document, docs}
 use Rattle.mg_defs.specs.Weights.{has_term}
 use Rattle.mg_defs.specs.Lists.{postings, from_doc}
 use Rattle.mg_defs.specs.PageBounds.{pages_for}
+use Rattle.mg_layout.specs.Infos.{IsInfoOf}
 use Rattle.mg_layout.specs.declared.term_info.TermInfo.{TermInfo}
 use Rattle.mg_query.specs.Holds.{AreThere}
 use Rattle.mg_post.specs.Cursor.{Cursoring, CursorFits, SameList, head_of, post_pages}
 use Rattle.mg_post.specs.Answers.{AnswersList}
-use Rattle.mg_post.specs.TermLists.{CursorFor, IsAmong, IsInfoOf, ListsStand, MayAsk, PagesWithin}
+use Rattle.mg_post.specs.TermLists.{CursorFor, IsAmong, ListsStand, MayAsk, PagesWithin}
 
 -- ---- what the lexicon tells
 
@@ -153,6 +154,50 @@ PlacesAnswer doc files old now there result = (base collection asked : List ℕ)
 -- where all may be asked, no more pages of Post are read than their lists have for the documents that are asked
 abbrev pub PlacesRead : ℕ → Option Files → List Place → List Place → Reads → Reads → Type 0
 PlacesRead doc files old now before after = (base collection asked : List ℕ) (ts : List (List ℕ)) → AsksAll base collection asked ts doc files old → PagesWithin (sum_by (pages_for collection asked) ts) (pages_read old) (pages_read now) before after
+
+-- ---- the first document that the list of any place has
+
+-- the first document of the term's list from this one on
+abbrev pub first_from : List ℕ → ℕ → List ℕ → Option ℕ
+first_from collection doc t = number_in (head_of (from_doc doc (postings collection t)))
+
+-- one is found, before the first so far
+abbrev pub comes_sooner : Option ℕ → Option ℕ → Bool
+comes_sooner None first = false
+comes_sooner (Some doc) None = true
+comes_sooner (Some doc) (Some n) = nat_lt doc n
+
+-- what is found is this first one
+abbrev pub is_first : Option ℕ → Option ℕ → Bool
+is_first None found = false
+is_first (Some n) None = false
+is_first (Some n) (Some doc) = doc == n
+
+-- what is found is not before the first one; where there is no first one, nothing is found
+abbrev pub IsNoLater : Option ℕ → Option ℕ → Type 0
+IsNoLater None found = found ≡ None
+IsNoLater (Some n) found = IfSome found (λ doc. n ≤ doc)
+
+-- of the documents that were found in the first so many lists this is the least, and it is told which lists have it
+pub record FirstOf (found : ℕ → Option ℕ) (count : ℕ) (first : Option ℕ) (there : List Bool) : Type 0 where
+  pub least : (k : ℕ) → k < count → IsNoLater first (found k)
+  pub one : IfSome first (λ n. (k : ℕ) × (k < count) × (found k ≡ Some n))
+  pub told : (k : ℕ) → k < count → get_or there k true ≡ is_first first (found k)
+
+-- with what list i has found, the first one of the lists before becomes that of the lists up to i
+abbrev pub TakesFound : Option ℕ → ℕ → Option ℕ → List Bool → Option ℕ → List Bool → Type 0
+TakesFound found i first there first_now there_now = (documents : ℕ → Option ℕ) → documents i ≡ found → FirstOf documents i first there → FirstOf documents (i + 1) first_now there_now
+
+-- the least of the first documents of these lists from this one on, and which terms it has; the places were asked for it
+pub record AnswersFirst (base collection asked : List ℕ) (ts : List (List ℕ)) (doc : ℕ) (first : Option ℕ) (there : List Bool) (places : List Place) : Type 0 where
+  pub places_for : PlacesFor base collection asked ts doc places
+  pub least : (k : ℕ) → k < length ts → IsNoLater first (first_from collection doc (get_or ts k []))
+  pub one : IfSome first (λ n. (k : ℕ) × (k < length ts) × (first_from collection doc (get_or ts k []) ≡ Some n))
+  pub are_there : IfSome first (λ n. AreThere (document collection n) ts there)
+
+-- where all may be asked for the document, the answer is the first document from it on of any list, and of which terms that one has one
+abbrev pub FindsFirst : ℕ → Option Files → List Place → List Place → List Bool → Result (Option ℕ) PartErr → Type 0
+FindsFirst doc files old now there result = (base collection asked : List ℕ) (ts : List (List ℕ)) → AsksAll base collection asked ts doc files old → AnswersList result (λ first. AnswersFirst base collection asked ts doc first there now)
 
 -- ---- while a document is asked of all places
 

@@ -25,8 +25,10 @@ use std::marker::Model;
 ///
 /// It keeps a cursor for each place of a term in the query, and nothing else but a bit for each
 /// place. Where the query holds only in documents of one of its terms, the list of the one with the
-/// fewest documents leads: only its documents are asked of the other lists. Contracts see what is
-/// still to come of a collection as `left_of`; the answer at each call is its first.
+/// fewest documents leads: only its documents are asked of the other lists. Where none leads, and
+/// the query holds in no document without its terms, only the documents of some list are asked.
+/// Contracts see what is still to come of a collection as `left_of`; the answer at each call is its
+/// first.
 #[derive(Drop)]
 pub struct Matches<'a, S: Store> {
     query: &'a Query,

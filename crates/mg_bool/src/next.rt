@@ -8,6 +8,7 @@ ghost use Rattle.mg_post.specs.TermLists.{ReadsLists};
 ghost use Rattle.mg_bool.specs.Places.{IsInRange, PlacesFit, PlacesOn, SamePlaces};
 ghost use Rattle.mg_bool.specs.Matches.{IsWithin, FindsCandidate, FindsNext, ReadsNext};
 
+use crate::any::next_of_any;
 use crate::place::Place;
 use crate::places::{ask_all, ask_at};
 use crate::word::next_of_word;
@@ -138,6 +139,9 @@ pub(crate) fn next_match<S: Store>(
             *decided = found.unwrap_or(all);
             return Ok(found);
         }
+    }
+    if lead.is_none() && !query.holds(&[]) {
+        return next_of_any(query, places, there, store, all, decided);
     }
     next_asked(query, places, there, store, lead, all, decided)
 }

@@ -4,7 +4,8 @@ ghost use Rattle.mg_dev.specs.Files.{Files};
 ghost use Rattle.mg_dev.specs.PartCauses.{HasPartCause};
 ghost use Rattle.mg_post.specs.Cursor.{CursorFits, NamesItsPart, SameList};
 ghost use Rattle.mg_post.specs.TermLists.{ReadsLists};
-ghost use Rattle.mg_bool.specs.Places.{IsInRange, PlaceFits, PlaceOn, SamePlace, place_pages, StartsPlace, CursorAnswers, CursorReads, PlaceAnswers, PlaceReads};
+ghost use Rattle.mg_bool.specs.Places.{IsInRange, PlaceFits, PlaceOn, SamePlace, place_pages};
+ghost use Rattle.mg_bool.specs.Places.{StartsPlace, CursorAnswers, CursorReads, PlaceAnswers, PlaceReads};
 
 use mg_dev::{PartErr, Store};
 use mg_layout::TermInfo;

@@ -1,11 +1,12 @@
 // All places of a query.
-ghost use Rattle.std.specs.Prelude.{◌≡◌, ◌≢◌, ℕ, ◌≤◌, ◌<◌, List, Option, None, Err, IfErr, IfOk, IfSome, OnOk, length, slice_index_or, slice_set};
+ghost use Rattle.std.specs.Prelude.{◌≡◌, ◌≢◌, ℕ, ◌≤◌, ◌<◌, true, false, List, Option, None, Err, IfErr, IfOk, IfSome, OnOk};
+ghost use Rattle.std.specs.Prelude.{get_or, length, slice_index_or, slice_set};
 ghost use Rattle.mg_dev.specs.Files.{Files};
 ghost use Rattle.mg_dev.specs.PartCauses.{HasPartCause};
-ghost use Rattle.mg_laws.proofs.LedLists.{is_number};
 ghost use Rattle.mg_post.specs.Cursor.{NamesItsPart};
 ghost use Rattle.mg_post.specs.TermLists.{ReadsLists};
-ghost use Rattle.mg_bool.specs.Places.{IsInRange, PlaceOn, PlacesFit, PlacesOn, SamePlaces, pages_read, PlaceAnswers, PlaceReads, nth_place, StartPlaces, PlacesAnswer, PlacesRead};
+ghost use Rattle.mg_bool.specs.Places.{IsInRange, PlaceOn, PlacesFit, PlacesOn, SamePlaces, pages_read, PlaceAnswers, PlaceReads, nth_place};
+ghost use Rattle.mg_bool.specs.Places.{StartPlaces, PlacesAnswer, PlacesRead, FindsFirst, TakesFound, comes_sooner, is_first};
 
 use crate::place::Place;
 use mg_dev::{PartErr, Store};
@@ -15,7 +16,7 @@ use std::alloc::{AllocError, Global};
 
 /// Whether it is this document.
 fn is_at(found: Option<u32>, doc: u32) -> bool
-    ensures { result ≡ is_number found doc }
+    ensures { result ≡ is_first (Some doc) found }
 {
     match found {
         Some(found) => found == doc,
@@ -79,6 +80,95 @@ pub(crate) fn ask_all<S: Store>(
         }
     }
     Ok(())
+}
+
+/// Whether a document was found, and comes before the first one so far.
+fn is_sooner(found: Option<u32>, first: Option<u32>) -> bool
+    ensures { result ≡ comes_sooner found first }
+{
+    match (found, first) {
+        (Some(found), Some(first)) => found < first,
+        (Some(_), None) => true,
+        (None, _) => false,
+    }
+}
+
+/// Whether the document that was found is the first one.
+fn is_same(found: Option<u32>, first: Option<u32>) -> bool
+    ensures { result ≡ is_first first found }
+{
+    match first {
+        Some(first) => is_at(found, first),
+        None => false,
+    }
+}
+
+/// Says of the first so many lists that they have no such document.
+fn clear_first(there: &mut Vec<bool>, count: usize)
+    requires { count ≤ length there.old.items }
+    ensures size { length there.new.items ≡ length there.old.items }
+    ensures none { (k : ℕ) → k < count → get_or there.new.items k true ≡ false }
+{
+    for i in 0..count {
+        there[i] = false;
+    }
+}
+
+/// The first document of all lists up to `i`, by that of those before and the one that was found in
+/// list `i`; and in `there` which of these lists have it.
+#[inline]
+fn take_found(
+    found: Option<u32>,
+    first: Option<u32>,
+    i: usize,
+    there: &mut Vec<bool>,
+) -> Option<u32>
+    requires { i < length there.old.items }
+    ensures size { length there.new.items ≡ length there.old.items }
+    ensures first { TakesFound found i first there.old.items result there.new.items }
+    ensures range { (doc all : ℕ) → IfSome found (IsInRange doc all) → IfSome first (IsInRange doc all) → IfSome result (IsInRange doc all) }
+{
+    if is_sooner(found, first) {
+        clear_first(there, i);
+        there[i] = true;
+        return found;
+    }
+    there[i] = is_same(found, first);
+    first
+}
+
+/// Asks every place for its first document from one on. The least of these is the answer, and
+/// `there` tells which lists have it.
+pub(crate) fn ask_first<S: Store>(
+    places: &mut Vec<Place<'_, S>>,
+    store: &mut S,
+    from: u32,
+    there: &mut Vec<bool>,
+) -> Result<Option<u32>, PartErr>
+    requires size { length there.old.items ≡ length places.old.items }
+    requires fits { PlacesFit (S.files store.old) places.old.items }
+    requires some { 1 ≤ from }
+    ensures size { length there.new.items ≡ length there.old.items }
+    ensures same { SamePlaces places.old.items places.new.items }
+    ensures fits { OnOk result (PlacesFit (S.files store.new) places.new.items) }
+    ensures range { (base : List ℕ) (all : ℕ) → PlacesOn base all places.old.items → IfOk result (λ first. IfSome first (IsInRange from all)) }
+    ensures answer { FindsFirst from (S.files store.old) places.old.items places.new.items there.new.items result }
+    ensures pages { PlacesRead from (S.files store.old) places.old.items places.new.items (S.reads store.old) (S.reads store.new) }
+    ensures part { IfErr result NamesItsPart }
+    ensures reads { ReadsLists (S.reads store.old) (S.reads store.new) }
+    ensures files { S.files store.new ≡ S.files store.old }
+    ensures memory { result ≢ Err PartErr.Memory }
+    ensures cause { HasPartCause (S.faults store.old) (S.faults store.new) result }
+{
+    cursor_pages_are_within();
+    let mut first = None;
+    for i in 0..places.len() {
+        match ask_at(places, store, i, from) {
+            Ok(found) => first = take_found(found, first, i, there),
+            Err(refusal) => return Err(refusal),
+        }
+    }
+    Ok(first)
 }
 
 /// A place for each term of which these are told, each before the first posting of its list.
