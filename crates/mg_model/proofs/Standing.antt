@@ -1,5 +1,5 @@
 -- Where parts stand, they have no damage, and are those of one code.
-use Rattle.std.proofs.Common.{◌≡◌, ◌≢◌, ℕ, zero, suc, ◌+◌, ◌-◌, ◌*◌, ◌%◌, ◌<◌, ◌≤◌, ◌==◌, Bool, true, false, cond, List, [], ◌∷◌, ◌++◌, length, drop, get_or, slice_index, refl, sym, ap, subst, ◌∙◌, arith, inl, inr, Ok, Err, Result, length-append, append-nil, zero-add, Option}
+use Rattle.std.proofs.Common.{◌≡◌, ◌≢◌, ℕ, zero, suc, ◌+◌, ◌-◌, ◌*◌, ◌%◌, ◌<◌, ◌≤◌, ◌==◌, Bool, true, false, cond, List, [], ◌∷◌, ◌++◌, length, drop, slice_index, sym, ap, subst, ◌∙◌, arith, inl, inr, Ok, Err, Result, length-append, append-nil, zero-add, Option}
 use Rattle.std.proofs.lemmas.Bool.Decides.{nat_tests}
 use Rattle.mg_dev.specs.declared.bad.Bad as declared
 use Rattle.mg_dev.specs.declared.part.Part.{Part}
@@ -18,27 +18,10 @@ use Rattle.mg_defs.proofs.EntryLaws.{entries_rest}
 use Rattle.mg_defs.specs.Means.{IsStreamCode}
 use Rattle.mg_model.specs.Models.{PartsStand}
 use Rattle.mg_model.specs.Damage.{StandFirst, IsBroken, HasMore, IsPart, IsWholePart, IsDamage, AnswersLoad, AnswersStanding, AnswersStream}
-use Rattle.mg_model.proofs.Entries.{code, entry, entries-long}
-use Rattle.mg_defs.proofs.StandCodes.{entries-are}
+use Rattle.mg_model.proofs.Entries.{code, entries-long}
+use Rattle.mg_defs.proofs.StandCodes.{entries-are, same-lists}
 
 -- ---- one code
-
-same-lists : (ps qs : List (List ℕ)) (ls ms : List ℕ) → length ls ≡ length ps → length ms ≡ length qs → piece_entries (code ps ls) ≡ piece_entries (code qs ms) → (ps ≡ qs) × (ls ≡ ms)
-same-lists [] [] [] [] e f h = (refl, refl)
-same-lists [] [] [] (m ∷ ms) e f h = absurd (omega (arith, f))
-same-lists [] [] (l ∷ ls) ms e f h = absurd (omega (arith, e))
-same-lists [] (q ∷ qs) ls [] e f h = absurd (omega (arith, f))
-same-lists [] (q ∷ qs) ls (m ∷ ms) e f h = absurd cc
-same-lists (p ∷ ps) qs [] ms e f h = absurd (omega (arith, e))
-same-lists (p ∷ ps) [] (l ∷ ls) ms e f h = absurd cc
-same-lists (p ∷ ps) (q ∷ qs) (l ∷ ls) [] e f h = absurd (omega (arith, f))
-same-lists (p ∷ ps) (q ∷ qs) (l ∷ ls) (m ∷ ms) e f h =
-    let head : entry p l ≡ entry q m = cc in
-    let tails : piece_entries (code ps ls) ≡ piece_entries (code qs ms) = cc in
-    let more = same-lists ps qs ls ms (omega (arith, e)) (omega (arith, f)) tails in
-    let string : p ≡ q = ap (λ (x : Entry). x.string) head in
-    let bits : l ≡ m = ap (λ (x : Entry). get_or x.field 0 0) head in
-    ((λ i. string i ∷ more.0 i), (λ i. bits i ∷ more.1 i))
 
 pub one-part : (count : ℕ) (bytes : List ℕ) (a b : StreamCode) → IsPart count bytes a → IsPart count bytes b → a ≡ b
 one-part count bytes a b is other =

@@ -2,23 +2,14 @@
 use Rattle.std.specs.Prelude.{◌≡◌, ◌≢◌, ℕ, List, Result}
 use Rattle.std.specs.Option.{IsSome}
 use Rattle.std.specs.declared.option.Option.{Option}
-use Rattle.mg_dev.specs.Files.{Files, Reads, bytes_at, file_at}
+use Rattle.mg_dev.specs.Files.{Files, Reads, file_at, part_bytes}
 use Rattle.mg_dev.specs.Names.{full_name}
-use Rattle.mg_dev.specs.declared.file_ref.FileRef.{FileRef}
 use Rattle.mg_dev.specs.declared.part.Part.{Part}
 use Rattle.mg_dev.specs.declared.part.Part.TheVariants as part
 use Rattle.mg_dev.specs.declared.part_err.PartErr.{PartErr}
 use Rattle.mg_defs.specs.CodedText.{TextCode}
 use Rattle.mg_model.specs.Damage.{AnswersLoad}
 use Rattle.mg_model.specs.Read.{ReadBehindWhole, ReadOnce, UnreadIfShort}
-
--- the bytes of a file
-abbrev pub file_bytes : FileRef → Option Files → List ℕ
-file_bytes file files = bytes_at files (full_name file.base.now file.part)
-
--- the bytes of a part under a base
-abbrev pub part_bytes : List ℕ → Part → Option Files → List ℕ
-part_bytes base part files = bytes_at files (full_name base part)
 
 -- what loading a model from the two parts under a base answers
 abbrev pub AnswersModel : List ℕ → ℕ → ℕ → Option Files → Result TextCode PartErr → Type 0

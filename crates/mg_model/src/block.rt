@@ -69,8 +69,8 @@ fn entry_at(entries: &[[u8; 16]], place: usize) -> &[u8; 16]
     &entries[place]
 }
 
-/// The piece that an entry holds.
-fn short_piece(entry: &[u8; 16]) -> &[u8]
+/// The piece that an entry holds: the first byte is its length, and the piece stands behind.
+pub fn short_piece(entry: &[u8; 16]) -> &[u8]
     requires { slice_index entry.now 0 ≤ 15 }
     ensures { result.now ≡ short_piece entry.now }
 {

@@ -23,6 +23,7 @@ mod text_model;
 mod vocab;
 mod vocab_err;
 
+pub use block::short_piece;
 pub use laws::{
     collections_have_models, symbol_and_piece, terms_are_the_dictionary, vocabularies_sort,
     words_have_terms,

@@ -1,7 +1,7 @@
 //! The pieces of a part, and the damages that they may have.
 ghost use Rattle.std.specs.Bool.{OnTrue, OnFalse};
 ghost use Rattle.std.specs.Prelude.{◌≡◌, ◌≢◌, ◌+◌, ◌-◌, ◌*◌, ◌^◌, ◌≤◌, ◌<◌, ◌++◌, ◌∷◌, [], ℕ, List, IsSome, length, min, take, Err, IfOk, OnOk};
-ghost use Rattle.mg_dev.specs.Files.{SameReads};
+ghost use Rattle.mg_dev.specs.Files.{SameReads, file_bytes};
 ghost use Rattle.mg_dev.specs.Moments.{Between};
 ghost use Rattle.mg_dev.specs.PartCauses.{HasPartCause};
 ghost use Rattle.mg_bits.specs.Pages.{Looked};
@@ -16,7 +16,7 @@ ghost use Rattle.mg_front.specs.Entries.{entry_of, string_of};
 ghost use Rattle.mg_defs.specs.Canon.{AreGood};
 ghost use Rattle.mg_model.specs.Damage.{AnswersRoom, IsPart};
 ghost use Rattle.mg_model.specs.Sizes.{entry_size, first_sizes};
-ghost use Rattle.mg_model.specs.Loading.{ReadsOnce, file_bytes};
+ghost use Rattle.mg_model.specs.Loading.{ReadsOnce};
 ghost use Rattle.mg_model.specs.Read.{AnswersEntries, AnswersCode, code_read};
 
 use crate::block::PieceBlock;

@@ -2,6 +2,7 @@
 ghost use Rattle.std.specs.Prelude.{◌≡◌, ◌<◌, ◌≤◌, ◌^◌, IsSome, length, position, slice_get, slice_index, Some, IfOk, IfSome, OnOk};
 ghost use Rattle.std.specs.Str.{bytes_eq};
 ghost use Rattle.mg_dev.specs.Causes.{HasPutCause};
+ghost use Rattle.mg_dev.specs.Files.{file_bytes};
 ghost use Rattle.mg_dev.specs.Moments.{Between};
 ghost use Rattle.mg_dev.specs.Names.{full_name};
 ghost use Rattle.mg_dev.specs.PartCauses.{HasPartCause};
@@ -13,7 +14,7 @@ ghost use Rattle.mg_defs.specs.Vocabulary.{sorted_of, counts_of};
 ghost use Rattle.mg_model.specs.Blocks.{short_piece};
 ghost use Rattle.mg_model.specs.Damage.{AnswersStream};
 ghost use Rattle.mg_defs.specs.Means.{IsStreamCode};
-ghost use Rattle.mg_model.specs.Loading.{ReadsOnce, SkipsIfShort, file_bytes};
+ghost use Rattle.mg_model.specs.Loading.{ReadsOnce, SkipsIfShort};
 
 use crate::Vocab;
 use crate::pieces::Pieces;
