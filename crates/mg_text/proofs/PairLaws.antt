@@ -12,15 +12,16 @@ use Rattle.mg_dev.specs.declared.part_err.PartErr.TheVariants as part
 use Rattle.mg_dev.specs.declared.show_err.ShowErr.TheVariants as show
 use Rattle.mg_bits.specs.Feed.{Feeding, Device as Seen, Read, ReadsWithin, Calm}
 use Rattle.mg_bits.proofs.CallerLemmas.{read_none, same_told}
-use Rattle.mg_defs.specs.Bits.{Bits}
+use Rattle.mg_defs.specs.Bits.{Bits, Shows}
 use Rattle.mg_defs.specs.Codes.{gamma}
 use Rattle.mg_defs.specs.CodedText.{StreamCode, TextCode, coded_doc, coded_pair}
 use Rattle.mg_defs.specs.Parse.{Pair, parse, text}
 use Rattle.mg_defs.specs.Sorted.{number_of}
+use Rattle.mg_defs.proofs.FrontLaws.{shows_left, shows_right}
 use Rattle.mg_defs.proofs.ParseLaws.{parse-is}
-use Rattle.mg_text.specs.Decoding.{Decoded, Ends, IsIn, PairIn, PairsIn, Shows, Shown, Stopped, Takes, coded_pairs}
+use Rattle.mg_text.specs.Decoding.{Decoded, Ends, IsIn, PairIn, PairsIn, Shown, Stopped, Takes, coded_pairs}
 use Rattle.mg_text.proofs.Shows.{shown_prefix}
-use Rattle.mg_text.proofs.Steps.{decoded_more, shows_left, shows_right, stopped_more, stopped_wider}
+use Rattle.mg_text.proofs.Steps.{decoded_more, stopped_more, stopped_wider}
 
 -- ---- a piece
 

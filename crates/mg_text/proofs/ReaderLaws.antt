@@ -11,7 +11,7 @@ use Rattle.mg_dev.specs.declared.part_err.PartErr.TheVariants.{Device, Memory, B
 use Rattle.mg_dev.specs.declared.show_err.ShowErr.{ShowErr}
 use Rattle.mg_dev.specs.declared.show_err.ShowErr.TheVariants as show
 use Rattle.mg_bits.specs.Feed.{Feeding, Device as Seen, ReadsWithin, to_read}
-use Rattle.mg_defs.specs.Bits.{bits_of}
+use Rattle.mg_defs.specs.Bits.{Shows, bits_of}
 use Rattle.mg_defs.specs.WithinLimits.{IsWithinLimits}
 use Rattle.mg_defs.proofs.BitLaws.{length_bits_of}
 use Rattle.mg_defs.specs.CodedText.{IsTextCode, TextCode, place_bytes, places, places_part, text_part}
@@ -33,7 +33,7 @@ use Rattle.mg_text.proofs.Steps.{ends_map, ends_read}
 use Rattle.mg_text.specs.Decoding.{Decoded, Ends, Shown, Stopped, Takes, WholeDoc}
 use Rattle.mg_text.specs.Places.{place_width}
 use Rattle.mg_text.specs.Reading.{AnswersDoc, AnswersGathered, AnswersReader, AnswersTextSizes, IsText, SameText, TextFits, TextReading, TextStands, stored_at, places_size}
-use Rattle.mg_text.specs.Decoding.{PairsIn, Shows}
+use Rattle.mg_text.specs.Decoding.{PairsIn}
 use Rattle.mg_text.specs.Places.{IsPlaceAt}
 use Rattle.mg_text.proofs.StandLaws.{doc_ends, doc_pieces, doc_shown, few_pairs, place_long, place_stands, place_within, small_place}
 use Rattle.mg_bits.specs.Feed.{told_at}

@@ -11,7 +11,7 @@ use Rattle.mg_bits.specs.Feed.{told_at}
 use Rattle.mg_bits.proofs.CallerLemmas.{drop_bits}
 use Rattle.mg_defs.specs.declared.Stream.{Stream}
 use Rattle.mg_defs.specs.declared.Stream.TheVariants.{Words, Others}
-use Rattle.mg_defs.specs.Bits.{Bits, Begins, bits_of, digits, filled, to_byte, as_bytes}
+use Rattle.mg_defs.specs.Bits.{Bits, Begins, bits_of, digits, filled, to_byte, as_bytes, Shows}
 use Rattle.mg_defs.specs.CodedText.{IsTextCode, StreamCode, TextCode, coded_doc, coded_size, place_after, place_bytes, places, text_part}
 use Rattle.mg_defs.specs.Numbers.{eight, four}
 use Rattle.mg_defs.specs.Parse.{Pair, parse}
@@ -23,7 +23,7 @@ use Rattle.mg_defs.proofs.CodedTextLaws.{bits-of_as_bytes, length-as_bytes, plac
 use Rattle.mg_defs.proofs.FrontLaws.{begins_append}
 use Rattle.mg_defs.proofs.ParseLaws.{parse_short}
 use Rattle.mg_defs.proofs.SortedLaws.{has-sorted, number-found, same-refl}
-use Rattle.mg_text.specs.Decoding.{IsIn, PairsIn, Shows}
+use Rattle.mg_text.specs.Decoding.{IsIn, PairsIn}
 use Rattle.mg_text.specs.Places.{IsPlaceAt, place_width}
 use Rattle.mg_text.specs.Reading.{TextReading, TextStands}
 

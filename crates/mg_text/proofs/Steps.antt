@@ -1,53 +1,15 @@
--- What stands where a code is read, and steps one after the other.
-use Rattle.std.proofs.Common.{arith, ◌≡◌, ◌+◌, ◌≤◌, ◌<◌, ℕ, List, ◌++◌, length, Option, Some, None, Result, Ok, Err, MatchResult}
-use Rattle.std.proofs.lemmas.List.{drop-drop}
+-- Steps of decoding, one after the other.
+use Rattle.std.proofs.Common.{arith, ◌+◌, ◌≤◌, ◌<◌, ℕ, List, ◌++◌, Option, Result, Ok, Err, MatchResult}
 use Rattle.mg_dev.specs.Causes.{Rose}
 use Rattle.mg_dev.specs.StreamLaws.{grew_first}
 use Rattle.mg_dev.specs.declared.part_err.PartErr.{PartErr}
 use Rattle.mg_dev.specs.declared.part_err.PartErr.TheVariants as part
 use Rattle.mg_dev.specs.declared.show_err.ShowErr.{ShowErr}
 use Rattle.mg_dev.specs.declared.show_err.ShowErr.TheVariants as show
-use Rattle.mg_defs.specs.Bits.{Bits, Begins, FromPlace}
-use Rattle.mg_defs.specs.Answers.{IsPrefixFree}
-use Rattle.mg_defs.proofs.FrontLaws.{begins_first, begins_second, one_stands}
-use Rattle.mg_bits.specs.CodeAnswers.{AnswersCode}
 use Rattle.mg_bits.specs.Feed.{Feeding, Device as Seen}
 use Rattle.mg_bits.proofs.CallerLemmas.{read_more, within_more, within_wider}
-use Rattle.mg_bits.specs.declared.code_err.CodeErr.{CodeErr}
-use Rattle.mg_bits.specs.declared.code_err.CodeErr.TheVariants as code
-use Rattle.mg_text.specs.Decoding.{Decoded, Ends, IsShowCaused, Shows, Stopped, Takes}
+use Rattle.mg_text.specs.Decoding.{Decoded, Ends, IsShowCaused, Stopped, Takes}
 use Rattle.mg_text.specs.Reading.{ShowIsNotBad}
-
--- ---- bits that stand at a place
-
-pub shows_left : (told : Option (List ℕ)) (place : ℕ) (a b : Bits) → Shows told place (a ++ b) → Shows told place a
-shows_left None place a b h = h
-shows_left (Some bytes) place a b h = begins_first a b _ h
-
-pub shows_right : (told : Option (List ℕ)) (place next : ℕ) (a b : Bits) → next ≡ place + length a → Shows told place (a ++ b) → Shows told next b
-shows_right None place next a b e h = h
-shows_right (Some bytes) place next a b e h = rw e (rw drop-drop at (begins_second a b _ h))
-
--- the number that stands there, or a device's failure
-abbrev pub IsGot : Result ℕ CodeErr → ℕ → Type 0
-IsGot (Ok x) y = x ≡ y
-IsGot (Err code.Device) y = Unit {0}
-IsGot (Err (code.End at)) y = ⊥
-IsGot (Err (code.Over at limit)) y = ⊥
-
-code_got : (within : ℕ → Type 0) (words : ℕ → Bits) (free : IsPrefixFree within words) (result : Result ℕ CodeErr) (limit place y : ℕ) (s : Bits) → within y → Begins (words y) s → AnswersCode result within words limit place s → IsGot result y
-code_got within words free (Ok x) limit place y s taken begins answers = one_stands within words s x y free answers.0 taken answers.1 begins
-code_got within words free (Err code.Device) limit place y s taken begins answers = tt
-code_got within words free (Err (code.End at)) limit place y s taken begins answers = answers.1.none y taken begins
-code_got within words free (Err (code.Over at most)) limit place y s taken begins answers = answers.2.begins y taken begins
-
--- the answer of a reader of a code where the code of a value stands
-pub told_got : (within : ℕ → Type 0) (words : ℕ → Bits) (free : IsPrefixFree within words) (told : Option (List ℕ)) (result : Result ℕ CodeErr) (limit place y : ℕ) → within y → Shows told place (words y) →
-    FromPlace told place (AnswersCode result within words limit place) → IsGot result y
-told_got within words free None result limit place y taken shows answers = absurd shows
-told_got within words free (Some bytes) result limit place y taken shows answers = code_got within words free result limit place y _ taken shows answers
-
--- ---- steps
 
 pub decoded_more : (f0 f1 f2 : Feeding) (d0 d1 d2 : Seen) (a p q at_p at_q : ℕ) (w0 w1 w2 : Option (List ℕ)) (held1 held2 bytes more : List ℕ) → 0 < f0.page → a ≤ p → p ≤ q →
     Decoded f0 f1 d0 d1 a p at_p w0 w1 held1 bytes → Decoded f1 f2 d1 d2 p q at_q w0 w2 held2 more → Decoded f0 f2 d0 d2 a q at_q w0 w2 held2 more

@@ -15,6 +15,7 @@ use Rattle.mg_defs.specs.Bits.{Bits, bits_of, digits, filled, to_byte, as_bytes}
 use Rattle.mg_defs.specs.Canon.{AreGood, codeword}
 use Rattle.mg_defs.specs.Codes.{gamma, log2}
 use Rattle.mg_defs.specs.CodedText.{StreamCode, running}
+use Rattle.mg_defs.specs.Heads.{as_number}
 use Rattle.mg_defs.specs.Numbers.{eight}
 use Rattle.mg_defs.proofs.BitLaws.{length_digits, bits_of_append}
 use Rattle.mg_defs.proofs.CodedTextLaws.{bits-of_as_bytes, length-as_bytes}
@@ -23,7 +24,7 @@ use Rattle.mg_defs.proofs.CodeLaws.{length_gamma}
 use Rattle.mg_defs.proofs.FixedLaws.{IsLog, is_log}
 use Rattle.mg_codes.proofs.CallerLemmas.{log_small}
 use Rattle.mg_defs.specs.Means.{IsStreamCode}
-use Rattle.mg_text.specs.Writing.{TextWriting, IsOnText, DocumentsStand, text_bytes, sizes, starts, begun, as_count}
+use Rattle.mg_text.specs.Writing.{TextWriting, IsOnText, DocumentsStand, text_bytes, sizes, starts, begun}
 
 told_back : (f g : Option Files) → is_some g ≡ is_some f → IsSome g → IsSome f
 told_back f g e told = cc
@@ -116,7 +117,7 @@ took_none w f g h r s t docs pairs closed left place text_name places_name empty
       text = λ told. put_stays w.text w.places.name g h s t to apart ∙ empty (told_back f g told_too (told_back g h to.told told));
       places = λ told. none (told_back g h to.told told) ∙ ap (λ b. flat_map eight (begun b [])) (sym closed);
       place = place;
-      count = omega (arith, docs, ap as_count closed);
+      count = omega (arith, docs, ap as_number closed);
       none = λ e. refl;
       nothing_left = λ e. left;
       few_docs = omega (arith, docs);
@@ -146,7 +147,7 @@ took_begun w p q f g h r s t docs pairs placed placed_to wrote to holds closed f
           ∙ ap (λ l. l ++ eight (w.text.place / 8)) (took.places back ∙ ap (λ b. flat_map eight (begun b (sizes docs))) closed)
           ∙ all_places docs (w.text.place / 8) at;
       place = omega (arith, wrote.place, took.place);
-      count = omega (arith, took.count, ap as_count closed);
+      count = omega (arith, took.count, ap as_number closed);
       none = λ e. absurd (open_too e);
       nothing_left = λ e. absurd (open_too e);
       few_docs = omega (arith, few);
@@ -198,7 +199,7 @@ took_ended w q f g r s docs bits wrote to holds is_open whole took =
           bytes_stay w.places w.text.name f g r s to (λ same. apart (sym same)) ∙ took.places (told_back f g to.told told)
           ∙ ap (λ b. flat_map eight (begun b (sizes docs))) is_open ∙ ap (flat_map eight) (sym (starts_more 0 docs bits));
       place = omega (arith, wide, took.place, long_more docs bits);
-      count = omega (arith, took.count, ap as_count is_open, long);
+      count = omega (arith, took.count, ap as_number is_open, long);
       none = λ e. refl;
       nothing_left = λ e. whole;
       few_docs = took.few_docs;

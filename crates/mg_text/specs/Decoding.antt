@@ -1,5 +1,5 @@
 -- What decoding the bits of a document does to the reader of bits, and to where the document's bytes go.
-use Rattle.std.specs.Prelude.{◌≡◌, ℕ, ◌+◌, ◌^◌, ◌≤◌, ◌<◌, ◌++◌, List, drop, length, Some, None, Ok, Err, MatchResult}
+use Rattle.std.specs.Prelude.{◌≡◌, ℕ, ◌+◌, ◌^◌, ◌≤◌, ◌<◌, ◌++◌, List, length, Some, Ok, Err, MatchResult}
 use Rattle.std.specs.List.{AllByRecursion, flat_map}
 use Rattle.std.specs.declared.option.Option.{Option}
 use Rattle.std.specs.declared.result.Result.{Result}
@@ -12,15 +12,10 @@ use Rattle.mg_dev.specs.declared.show_err.ShowErr.{ShowErr}
 use Rattle.mg_dev.specs.declared.show_err.ShowErr.TheVariants as show
 use Rattle.mg_bits.specs.Feed.{Feeding, Device as Seen, Read, ReadsWithin}
 use Rattle.mg_bits.specs.Reading.{Reading}
-use Rattle.mg_defs.specs.Bits.{Bits, Begins, bits_of}
+use Rattle.mg_defs.specs.Bits.{Bits, Shows}
 use Rattle.mg_defs.specs.CodedText.{StreamCode, TextCode, codeword_of, coded_doc, coded_pair}
 use Rattle.mg_defs.specs.Parse.{Pair, parse, text}
 use Rattle.mg_defs.specs.Sorted.{number_of}
-
--- these bits stand at this place of bytes that are told
-abbrev pub Shows : Option (List ℕ) → ℕ → Bits → Type 0
-Shows None place bits = ⊥
-Shows (Some bytes) place bits = Begins bits (drop place (bits_of bytes))
 
 -- ---- pieces of a code
 

@@ -7,12 +7,12 @@ use Rattle.mg_dev.specs.declared.part.Part.TheVariants.{Text, Places}
 use Rattle.mg_defs.specs.declared.Stream.{Stream}
 use Rattle.mg_defs.specs.declared.Stream.TheVariants.{Words}
 use Rattle.mg_defs.specs.Bits.{Bits, bits_of}
-use Rattle.mg_defs.specs.CodedText.{TextCode, coded_doc, text_part, places_part}
+use Rattle.mg_defs.specs.CodedText.{IsTextCode, TextCode, coded_doc, text_part, places_part}
 use Rattle.mg_defs.specs.Pieces.{other_kind}
 use Rattle.mg_defs.specs.Split.{documents}
 use Rattle.mg_defs.specs.Marks.{piece_bits}
 use Rattle.mg_defs.specs.TextBits.{text_bits}
-use Rattle.mg_text.specs.Writing.{turn}
+use Rattle.mg_text.specs.Writing.{DocumentsStand, turn}
 
 abbrev pub coded_docs : TextCode → List ℕ → List Bits
 coded_docs code collection = map (coded_doc code) (documents collection)
@@ -29,6 +29,11 @@ AddsPiece code before piece = pieces_bits code Words (before ++ piece ∷ []) �
 -- a fact on a base, the files, a code and a collection
 abbrev pub ForCoded : (List ℕ → Option Files → TextCode → List ℕ → Type 0) → Type 0
 ForCoded fact = (base : List ℕ) (files : Option Files) (code : TextCode) (collection : List ℕ) → fact base files code collection
+
+-- a fact on a base, the files and a collection whose documents were written there by its codes
+abbrev pub ForWrittenDocuments : (List ℕ → Option Files → List ℕ → Type 0) → Type 0
+ForWrittenDocuments fact = (base : List ℕ) (files : Option Files) (code : TextCode) (collection : List ℕ) →
+    IsTextCode collection code → DocumentsStand base files (coded_docs code collection) → fact base files collection
 
 -- the bits of a collection's text as bytes, and a byte for each document
 abbrev pub most_text_bytes : List ℕ → ℕ

@@ -10,7 +10,7 @@ use Rattle.mg_dev.specs.declared.part_err.PartErr.{PartErr}
 use Rattle.mg_dev.specs.declared.part_err.PartErr.TheVariants.{Device, Memory, Bad}
 use Rattle.mg_dev.specs.declared.show_err.ShowErr.{ShowErr}
 use Rattle.mg_dev.specs.declared.show_err.ShowErr.TheVariants as show
-use Rattle.mg_dev.specs.Streams.{GrewByPrefix, appended}
+use Rattle.mg_dev.specs.Streams.{AfterPut, GrewByPrefix, appended}
 use Rattle.mg_bits.specs.Alike.{WhereSame}
 use Rattle.mg_bits.specs.Pages.{Fits, Paging}
 use Rattle.mg_defs.specs.Bits.{bits_of}
@@ -91,6 +91,10 @@ pub record TextStands (r : TextReading) (files : Option Files) (collection : Lis
   pub few : length collection < 2 ^ 32
   pub small : r.size ≤ most_text r.version
 
+-- if the parts of a reader were the text and places of this collection, those of another reader are it now
+abbrev pub TextStays : TextReading → TextReading → Option Files → Option Files → List ℕ → Type 0
+TextStays r now f g collection = TextStands r f collection → TextStands now g collection
+
 -- a fact on the code and the collection whose parts those of a base are, by a head
 abbrev pub WhereIsText : List ℕ → Option Files → Head → (TextCode → List ℕ → Type 0) → Type 0
 WhereIsText base files head fact = (code : TextCode) (collection : List ℕ) → IsText base files head code collection → fact code collection
@@ -109,6 +113,10 @@ WhereWritten base files head code collection fact = TextHolds base files code co
 abbrev pub WhereTold : List ℕ → Option Files → Head → TextCode → List ℕ → Type 0 → Type 0
 WhereTold base files head code collection fact =
     IsSome files → Tell (parts_at files base) (fields_of head) code → Stand (parts_at files base) collection → fact
+
+-- a fact on a version, codes and a collection within its limits that has these codes
+abbrev pub ForCodedWithin : (ℕ → TextCode → List ℕ → Type 0) → Type 0
+ForCodedWithin fact = (version : ℕ) (code : TextCode) (collection : List ℕ) → IsTextCode collection code → IsWithinLimits version collection → fact version code collection
 
 -- ---- loading
 
@@ -181,6 +189,10 @@ WhereTextStands r files fact = (collection : List ℕ) → TextStands r files co
 abbrev pub document_pages : TextCode → List ℕ → ℕ → ℕ
 document_pages code collection number = pages (doc_range code collection number).from (doc_range code collection number).to
 
+-- at `Ok` the document of this number was written, else a prefix of it
+abbrev pub WritesDocument : Option (List ℕ) → Option (List ℕ) → ℕ → Result (Unit {0}) ShowErr → List ℕ → Type 0
+WritesDocument sent sent_now number result collection = AfterPut sent sent_now (document collection number) result
+
 -- no more pages of the text are read than a document's bits lie on
 abbrev pub PagesOfDocument : TextReading → ℕ → Reads → Reads → List ℕ → Type 0
 PagesOfDocument r number reads reads_now collection = reads_now part.Text ≤ reads part.Text + document_pages r.code collection number
@@ -191,15 +203,15 @@ GathersDoc r files sent sent_now held held_now number result = (collection : Lis
     TextStands r files collection → Shown before sent held bytes → Gathers result before sent_now held_now (bytes ++ document collection number)
 
 -- that, and no more pages of the text are read than its bits lie on
-abbrev pub GathersWithin : TextReading → Option Files → Option (List ℕ) → Option (List ℕ) → List ℕ → List ℕ → ℕ → Result (Unit {0}) ShowErr → Reads → Reads → Type 0
-GathersWithin r files sent sent_now held held_now number result reads reads_now = (collection : List ℕ) (before : Option (List ℕ)) (bytes : List ℕ) →
-    TextStands r files collection → Shown before sent held bytes →
-    AnswersGathered result before sent_now held_now (bytes ++ document collection number) (reads part.Text) (reads_now part.Text) (document_pages r.code collection number)
+abbrev pub GathersWithin : {X Y : Type 0} → (X → Option Files) → (X → Reads) → (Y → Option (List ℕ)) → TextReading → X → X → Y → Y → List ℕ → List ℕ → ℕ → Result (Unit {0}) ShowErr → Type 0
+GathersWithin files reads written r store store_now out out_now held held_now number result = (collection : List ℕ) (before : Option (List ℕ)) (bytes : List ℕ) →
+    TextStands r (files store) collection → Shown before (written out) held bytes →
+    AnswersGathered result before (written out_now) held_now (bytes ++ document collection number) (reads store part.Text) (reads store_now part.Text) (document_pages r.code collection number)
 
 -- where the parts stand: a document is written, or a prefix of it, and no more pages of the text are read than its bits lie on
-abbrev pub ShowsWithin : TextReading → Option Files → Option (List ℕ) → Option (List ℕ) → ℕ → Result (Unit {0}) ShowErr → Reads → Reads → Type 0
-ShowsWithin r files sent sent_now number result reads reads_now = WhereTextStands r files
-    (λ collection. AnswersDoc result sent sent_now (document collection number) (reads part.Text) (reads_now part.Text) (document_pages r.code collection number))
+abbrev pub ShowsWithin : {X Y : Type 0} → (X → Option Files) → (X → Reads) → (Y → Option (List ℕ)) → TextReading → X → X → Y → Y → ℕ → Result (Unit {0}) ShowErr → Type 0
+ShowsWithin files reads written r store store_now out out_now number result = WhereTextStands r (files store)
+    (λ collection. AnswersDoc result (written out) (written out_now) (document collection number) (reads store part.Text) (reads store_now part.Text) (document_pages r.code collection number))
 
 -- no part is bad
 abbrev pub ShowIsNotBad : Result (Unit {0}) ShowErr → Type 0

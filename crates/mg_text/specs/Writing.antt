@@ -13,6 +13,7 @@ use Rattle.mg_defs.specs.declared.Stream.{Stream}
 use Rattle.mg_defs.specs.declared.Stream.TheVariants.{Words, Others}
 use Rattle.mg_defs.specs.Bits.{Bits, bits_of, as_bytes}
 use Rattle.mg_defs.specs.CodedText.{running}
+use Rattle.mg_defs.specs.Heads.{as_number}
 use Rattle.mg_defs.specs.Numbers.{eight}
 
 pub record TextWriting : Type 0 where
@@ -64,9 +65,6 @@ abbrev pub begun : Bool → List ℕ → List ℕ
 begun false sizes = starts 0 sizes
 begun true sizes = running 0 sizes
 
-abbrev pub as_count : Bool → ℕ
-as_count b = if b then 1 else 0
-
 -- the writer stands for these documents, and for these bits of the open one
 pub record IsOnText (w : TextWriting) (files : Option Files) (docs : List Bits) (bits : Bits) : Type 0 where
   pub text_name : w.text.name ≡ full_name w.base Text
@@ -75,7 +73,7 @@ pub record IsOnText (w : TextWriting) (files : Option Files) (docs : List Bits) 
   pub text : IsSome files → bits_put w.text files ≡ bits_of (text_bytes docs) ++ bits
   pub places : IsSome files → put_to w.places files ≡ flat_map eight (begun w.is_open (sizes docs))
   pub place : w.text.place ≡ 8 * length (text_bytes docs) + length bits
-  pub count : w.docs ≡ length docs + as_count w.is_open
+  pub count : w.docs ≡ length docs + as_number w.is_open
   pub none : w.is_open ≡ false → bits ≡ []
   pub nothing_left : w.is_open ≡ false → w.left ≡ 0
   pub few_docs : w.docs ≤ 2 ^ 24

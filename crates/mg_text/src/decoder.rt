@@ -1,22 +1,14 @@
 //! The bytes of a document, decoded piece by piece.
 ghost use Rattle.std.specs.Prelude.{◌≡◌, ◌+◌, ◌≤◌, ◌<◌, ◌^◌, ◌++◌, ℕ, []};
 ghost use Rattle.mg_bits.specs.Feed.{Calm};
-ghost use Rattle.mg_dev.specs.Faults.{show_of_put};
 ghost use Rattle.mg_defs.specs.Marks.{code_of};
-ghost use Rattle.mg_text.specs.Decoding.{Added, Shows, ShowsPiece, ShowsPairs, ShowsWhole, ShowCaused, ShowsPair, ShowsDoc};
+ghost use Rattle.mg_text.specs.Decoding.{Added, ShowsPiece, ShowsPairs, ShowsWhole, ShowCaused, ShowsPair, ShowsDoc};
 
 use crate::show_buffer::ShowBuffer;
 use crate::symbols::{get_count, get_symbol};
 use mg_bits::{BitReader, Feed};
-use mg_dev::{PutErr, ShowErr, Sink};
+use mg_dev::{ShowErr, Sink, refused_put};
 use mg_model::{Stream, TextModel};
-
-// A sink's refusal.
-fn refused_put(refusal: PutErr) -> ShowErr
-    ensures { result ≡ show_of_put refusal }
-{
-    ShowErr::from(refusal)
-}
 
 /// Shows the piece of the stream whose codeword stands at the place.
 #[inline]

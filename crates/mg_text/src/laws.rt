@@ -1,16 +1,14 @@
 // Laws of the coded text.
-ghost use Rattle.std.specs.Prelude.{◌≡◌, ◌+◌, ◌*◌, ◌/◌, ◌≤◌, ◌++◌, [], ◌∷◌, ℕ, List, length};
+ghost use Rattle.std.specs.Prelude.{◌≡◌, ◌+◌, ◌*◌, ◌≤◌, ◌++◌, ℕ, List, length};
 ghost use Rattle.std.specs.declared.option.Option.{Option};
 ghost use Rattle.mg_dev.specs.Files.{Files};
-ghost use Rattle.mg_dev.specs.declared.part.Part.TheVariants.{Places, Text};
 ghost use Rattle.mg_defs.specs.declared.Stream.TheVariants.{Words};
 ghost use Rattle.mg_defs.specs.Bits.{Bits};
 ghost use Rattle.mg_defs.specs.Codes.{gamma};
-ghost use Rattle.mg_defs.specs.CodedText.{IsTextCode, TextCode, coded_doc, text_part};
+ghost use Rattle.mg_defs.specs.CodedText.{TextCode, coded_doc, text_part};
 ghost use Rattle.mg_defs.specs.Parse.{parse};
 ghost use Rattle.mg_defs.specs.Pieces.{pieces};
-ghost use Rattle.mg_defs.specs.Split.{documents};
-ghost use Rattle.mg_text.specs.Documents.{TextHolds, coded_docs, pieces_bits, AddsPiece, ForCoded, most_text_bytes};
+ghost use Rattle.mg_text.specs.Documents.{TextHolds, coded_docs, pieces_bits, AddsPiece, ForCoded, ForWrittenDocuments, most_text_bytes};
 ghost use Rattle.mg_text.specs.Writing.{DocumentsStand, IsOnText, TextWriting, text_bytes, turn, WhereSameBase, text_at};
 
 /// The pieces of a document, put in turn behind the number of its pairs, are its bits. The stream
@@ -29,8 +27,7 @@ pub fn pieces_make_documents()
 pub fn text_has_its_documents()
     ensures text { (code : TextCode) (collection : List ℕ) → text_bytes (coded_docs code collection) ≡ text_part code collection }
     ensures holds { ForCoded (λ base files code collection. DocumentsStand base files (coded_docs code collection) → TextHolds base files code collection) }
-    ensures size { ForCoded (λ base files code collection. IsTextCode collection code →
-        DocumentsStand base files (coded_docs code collection) → length (text_at base files) ≤ most_text_bytes collection) }
+    ensures size { ForWrittenDocuments (λ base files collection. length (text_at base files) ≤ most_text_bytes collection) }
     ensures bytes { (base : List ℕ) (files : Option Files) (docs : List Bits) → DocumentsStand base files docs →
         text_at base files ≡ text_bytes docs }
 {}
@@ -38,5 +35,6 @@ pub fn text_has_its_documents()
 /// What a writer took stays, and it may write on, as long as its Text and Places stay: calls that
 /// write other files don't matter.
 pub fn text_stays()
-    ensures { (w : TextWriting) (f g : Option Files) (docs : List Bits) (bits : Bits) → WhereSameBase w.base f g (IsOnText w f docs bits → IsOnText w g docs bits) }
+    ensures { (w : TextWriting) (f g : Option Files) (docs : List Bits) (bits : Bits) →
+        WhereSameBase w.base f g (IsOnText w f docs bits → IsOnText w g docs bits) }
 {}

@@ -8,6 +8,7 @@
 //! See Witten, Moffat and Bell, *Managing Gigabytes*, chapter 2.
 #![tactic(auto)]
 
+mod closing;
 mod decoder;
 mod laws;
 mod places;
@@ -17,6 +18,7 @@ mod symbols;
 mod text_reader;
 mod text_writer;
 
+pub use closing::is_closed;
 pub use laws::{pieces_make_documents, text_has_its_documents, text_stays};
 pub use reader_laws::texts_stand;
 pub use show_buffer::ShowBuffer;

@@ -1,10 +1,8 @@
 //! Laws of texts that stand.
-ghost use Rattle.std.specs.Prelude.{◌≡◌, ◌≢◌, ◌≤◌, ℕ, List, Option};
+ghost use Rattle.std.specs.Prelude.{ℕ, List, Option};
 ghost use Rattle.mg_dev.specs.Files.{Files};
-ghost use Rattle.mg_defs.specs.CodedText.{IsTextCode, TextCode};
-ghost use Rattle.mg_defs.specs.WithinLimits.{IsWithinLimits};
 ghost use Rattle.mg_layout.specs.Stands.{StandsBy};
-ghost use Rattle.mg_text.specs.Reading.{IsText, SameText, TextFits, TextReading, TextStands, ForHeads, WhereSameTexts, WhereWritten, WhereTold};
+ghost use Rattle.mg_text.specs.Reading.{IsText, SameText, TextStays, TextFits, TextReading, ForCodedWithin, ForHeads, WhereSameTexts, WhereWritten, WhereTold};
 ghost use Rattle.mg_text.specs.Places.{FitsVersion};
 
 /// The places of a collection within the limits of a version fit. What a writer wrote for a
@@ -14,11 +12,11 @@ ghost use Rattle.mg_text.specs.Places.{FitsVersion};
 /// and what it keeps agrees with them, as long as its Text and Places stay as they are: other files
 /// may change.
 pub fn texts_stand()
-    ensures small { (version : ℕ) (code : TextCode) (collection : List ℕ) → IsTextCode collection code → IsWithinLimits version collection →
-        FitsVersion version code collection }
+    ensures small { ForCodedWithin FitsVersion }
     ensures written { ForHeads (λ base files head code collection. WhereWritten base files head code collection (IsText base files head code collection)) }
     ensures set { ForHeads (λ base files head code collection. StandsBy head code files base collection → IsText base files head code collection) }
     ensures told { ForHeads (λ base files head code collection. WhereTold base files head code collection (IsText base files head code collection)) }
-    ensures stays { (r now : TextReading) (f g : Option Files) (collection : List ℕ) → SameText r now → WhereSameTexts r f g (TextStands r f collection → TextStands now g collection) }
+    ensures stays { (r now : TextReading) (f g : Option Files) (collection : List ℕ) → SameText r now →
+        WhereSameTexts r f g (TextStays r now f g collection) }
     ensures fits { (r : TextReading) (f g : Option Files) → WhereSameTexts r f g (TextFits r f → TextFits r g) }
 {}

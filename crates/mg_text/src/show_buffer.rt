@@ -6,6 +6,7 @@ ghost use Rattle.mg_model.specs.Blocks.{short_piece};
 ghost use Rattle.mg_text.specs.Decoding.{Added, Gathers, ForShown};
 
 use mg_dev::{PutErr, Sink};
+use mg_model::short_piece;
 use std::alloc::{AllocError, Global};
 use std::marker::Model;
 
@@ -13,14 +14,6 @@ const SIZE: usize = 16384;
 
 // The most bytes of a piece in an entry.
 const MOST: usize = 15;
-
-// The piece of an entry: its length, and then the piece.
-fn piece_in(entry: &[u8; 16]) -> &[u8]
-    requires { slice_index entry.now 0 ≤ 15 }
-    ensures { result.now ≡ short_piece entry.now }
-{
-    &entry[1..usize::from(entry[0]) + 1]
-}
 
 /// Holds bytes until there are enough of them for one put of a sink, 16,384.
 ///
@@ -101,7 +94,8 @@ impl ShowBuffer {
     #[inline]
     pub fn put_short<O: Sink>(&mut self, out: &mut O, entry: &[u8; 16]) -> Result<(), PutErr>
         requires short { slice_index entry.now 0 ≤ 15 }
-        ensures shown { ForShown (O.written out.old) self.old (λ before bytes. Gathers result before (O.written out.new) self.new (bytes ++ short_piece entry.now)) }
+        ensures shown { ForShown (O.written out.old) self.old
+            (λ before bytes. Gathers result before (O.written out.new) self.new (bytes ++ short_piece entry.now)) }
         ensures added { Added (O.written out.old) (O.written out.new) (O.faults out.old) (O.faults out.new) (O.lacks out.old) (O.lacks out.new) }
         ensures cause { HasPutCause (O.faults out.old) (O.faults out.new) result }
         ensures lack { HasLack (O.lacks out.old) (O.lacks out.new) result }
@@ -110,7 +104,7 @@ impl ShowBuffer {
             self.keep_short(entry);
             return Ok(());
         }
-        match self.put(out, piece_in(entry)) {
+        match self.put(out, short_piece(entry)) {
             Ok(()) => Ok(()),
             Err(refusal) => Err(refusal),
         }

@@ -1,16 +1,14 @@
 //! A reader of coded documents.
-ghost use Rattle.std.specs.Prelude.{◌≡◌, ◌≢◌, ◌-◌, ◌+◌, ◌*◌, ◌≤◌, ◌<◌, ◌^◌, ◌++◌, ℕ, [], Option, IsSome, IfErr, IfOk, Err};
+ghost use Rattle.std.specs.Prelude.{◌≡◌, ◌≢◌, ◌-◌, ◌+◌, ◌*◌, ◌≤◌, ◌<◌, ◌^◌, Option, IsSome, IfErr, IfOk, Err};
 ghost use Rattle.mg_dev.specs.Files.{Files, SameReads};
 ghost use Rattle.mg_dev.specs.PartCauses.{HasPartCause};
-ghost use Rattle.mg_dev.specs.Streams.{AfterPut};
 ghost use Rattle.mg_dev.specs.declared.part.Part.TheVariants as part;
 ghost use Rattle.mg_defs.specs.PagesOf.{pages};
 ghost use Rattle.mg_defs.specs.Split.{documents};
 ghost use Rattle.mg_front.specs.Reading.{IsNotBad, LookedAt};
-ghost use Rattle.mg_text.specs.Decoding.{Added, Gathers, IsShowCaused};
-ghost use Rattle.mg_text.specs.Reading.{AnswersReader, AnswersTextSizes, IsTextReader, SameText, ShowIsNotBad, TextFits, TextStands, stored_at, WhereIsText, GathersDoc, DiffersInSize, GathersWithin, WhereTextStands, PagesOfDocument, ShowsWithin};
+ghost use Rattle.mg_text.specs.Decoding.{Added, IsShowCaused};
+ghost use Rattle.mg_text.specs.Reading.{AnswersReader, AnswersTextSizes, IsTextReader, SameText, ShowIsNotBad, TextFits, TextStands, stored_at, WhereIsText, GathersDoc, DiffersInSize, GathersWithin, WhereTextStands, PagesOfDocument, ShowsWithin, WritesDocument};
 ghost use Rattle.mg_dev.specs.Moments.{Between};
-ghost use Rattle.mg_defs.specs.Terms.{document};
 
 use crate::decoder::{gather_doc, show_doc};
 use crate::places::{first_byte, width_of};
@@ -96,7 +94,8 @@ impl<'a, S: Store> TextReader<'a, S> {
         ensures answer { IsSome (S.files store.old) → AnswersReader (stored_at (S.files store.old) base.entry.now head.now) result }
         ensures unread { IsSome (S.files store.old) → DiffersInSize (S.files store.old) base.entry.now head.now →
             SameReads (S.reads store.old) (S.reads store.new) }
-        ensures stands { WhereIsText base.entry.now (S.files store.old) head.now (λ code collection. IfOk result (λ r. TextStands r (S.files store.new) collection)) }
+        ensures stands { WhereIsText base.entry.now (S.files store.old) head.now
+            (λ code collection. IfOk result (λ r. TextStands r (S.files store.new) collection)) }
         ensures code { WhereIsText base.entry.now (S.files store.old) head.now (λ code collection. IfOk result (λ r. r.code ≡ code)) }
         ensures never_bad { WhereIsText base.entry.now (S.files store.old) head.now (λ code collection. IfErr result (λ refusal. IsNotBad refusal)) }
         ensures looked { Between S.files S.reads S.faults store.old store.new (LookedAt part.Words part.Nonwords) }
@@ -160,7 +159,7 @@ impl<'a, S: Store> TextReader<'a, S> {
         ensures fits { TextFits self.new (S.files store.new) }
         ensures same { SameText self.old self.new }
         ensures looked { Between S.files S.reads S.faults store.old store.new (LookedAt part.Text part.Places) }
-        ensures content { WhereTextStands self.old (S.files store.old) (λ collection. AfterPut (O.written out.old) (O.written out.new) (document collection number) result) }
+        ensures content { WhereTextStands self.old (S.files store.old) (WritesDocument (O.written out.old) (O.written out.new) number result) }
         ensures never_bad { WhereTextStands self.old (S.files store.old) (λ _. ShowIsNotBad result) }
         ensures pages { WhereTextStands self.old (S.files store.old) (PagesOfDocument self.old number (S.reads store.old) (S.reads store.new)) }
         ensures places { S.reads store.new part.Places ≤ S.reads store.old part.Places + 1 }
@@ -225,8 +224,7 @@ impl<'a, S: Store> TextReader<'a, S> {
         ensures fits { TextFits self.new (S.files store.new) }
         ensures same { SameText self.old self.new }
         ensures looked { Between S.files S.reads S.faults store.old store.new (LookedAt part.Text part.Places) }
-        ensures answer { GathersWithin self.old (S.files store.old) (O.written out.old) (O.written out.new) buffer.old buffer.new number result
-            (S.reads store.old) (S.reads store.new) }
+        ensures answer { GathersWithin S.files S.reads O.written self.old store.old store.new out.old out.new buffer.old buffer.new number result }
         ensures places { S.reads store.new part.Places ≤ S.reads store.old part.Places + 1 }
         ensures added { Added (O.written out.old) (O.written out.new) (O.faults out.old) (O.faults out.new) (O.lacks out.old) (O.lacks out.new) }
         ensures cause { IsShowCaused result (S.faults store.old) (S.faults store.new) (O.faults out.old) (O.faults out.new)
@@ -251,7 +249,7 @@ impl<'a, S: Store> TextReader<'a, S> {
         ensures fits { TextFits self.new (S.files store.new) }
         ensures same { SameText self.old self.new }
         ensures looked { Between S.files S.reads S.faults store.old store.new (LookedAt part.Text part.Places) }
-        ensures answer { ShowsWithin self.old (S.files store.old) (O.written out.old) (O.written out.new) number result (S.reads store.old) (S.reads store.new) }
+        ensures answer { ShowsWithin S.files S.reads O.written self.old store.old store.new out.old out.new number result }
         ensures places { S.reads store.new part.Places ≤ S.reads store.old part.Places + 1 }
         ensures added { Added (O.written out.old) (O.written out.new) (O.faults out.old) (O.faults out.new) (O.lacks out.old) (O.lacks out.new) }
         ensures cause { IsShowCaused result (S.faults store.old) (S.faults store.new) (O.faults out.old) (O.faults out.new)

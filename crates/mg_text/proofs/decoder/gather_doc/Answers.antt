@@ -4,7 +4,8 @@ use Rattle.mg_defs.specs.Codes.{gamma}
 use Rattle.mg_defs.specs.Parse.{parse}
 use Rattle.mg_text.specs.Decoding.{coded_pairs}
 use Rattle.mg_text.proofs.Shows.{added_none}
-use Rattle.mg_text.proofs.Steps.{ends_more, ends_read, shows_left}
+use Rattle.mg_text.proofs.Steps.{ends_more, ends_read}
+use Rattle.mg_defs.proofs.FrontLaws.{shows_left}
 use Rattle.mg_text.proofs.PairLaws.{doc_decoded, doc_stopped, head_stopped, shows_next}
 use Rattle.mg_text.proofs.decoder.gather_doc.Goals as goal
 

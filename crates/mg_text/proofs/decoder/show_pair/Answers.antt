@@ -1,7 +1,8 @@
 use Rattle.std.proofs.Common.{arith, ◌++◌, length-append}
 use Rattle.mg_defs.specs.CodedText.{codeword_of}
 use Rattle.mg_text.proofs.Shows.{added_more}
-use Rattle.mg_text.proofs.Steps.{ends_more, shows_left}
+use Rattle.mg_text.proofs.Steps.{ends_more}
+use Rattle.mg_defs.proofs.FrontLaws.{shows_left}
 use Rattle.mg_text.proofs.PairLaws.{both_decoded, first_stopped, second_stopped, shows_next}
 use Rattle.mg_text.proofs.decoder.show_pair.Goals as goal
 

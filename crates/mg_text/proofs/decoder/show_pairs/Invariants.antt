@@ -1,7 +1,8 @@
 use Rattle.std.proofs.Common.{◌≡◌, ◌+◌, ◌++◌, ◌^◌, ◌≤◌, ℕ, List, Option, length, take}
 use Rattle.mg_bits.specs.Feed.{Calm}
+use Rattle.mg_defs.specs.Bits.{Shows}
 use Rattle.mg_defs.specs.Parse.{Pair, text}
-use Rattle.mg_text.specs.Decoding.{Added, Decoded, PairsIn, Shown, Shows, coded_pairs}
+use Rattle.mg_text.specs.Decoding.{Added, Decoded, PairsIn, Shown, coded_pairs}
 use Rattle.mg_text.proofs.decoder.show_pairs.Given as goal
 
 abbrev pub invariant-loop-i : goal.invariant-loop-i

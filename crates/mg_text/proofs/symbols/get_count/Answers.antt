@@ -2,7 +2,7 @@ use Rattle.std.proofs.Common.{arith, ◌≡◌, ◌+◌, length, ◌∙◌, ap, 
 use Rattle.mg_defs.specs.Codes.{gamma}
 use Rattle.mg_defs.specs.Answers.{UpTo}
 use Rattle.mg_defs.proofs.CodeLaws.{gamma_free}
-use Rattle.mg_text.proofs.Steps.{told_got}
+use Rattle.mg_bits.proofs.CallerLemmas.{told_got}
 use Rattle.mg_text.proofs.symbols.get_count.Goals as goal
 
 pub returns-in-Ok-clause-told : goal.returns-in-Ok-clause-told

@@ -2,7 +2,7 @@ use Rattle.std.proofs.Common.{◌≡◌, ◌+◌, length, ◌∙◌, ap, Ok}
 use Rattle.mg_defs.specs.Canon.{codeword}
 use Rattle.mg_defs.specs.Answers.{Below}
 use Rattle.mg_defs.proofs.CanonLaws.{codewords_free}
-use Rattle.mg_text.proofs.Steps.{told_got}
+use Rattle.mg_bits.proofs.CallerLemmas.{told_got}
 use Rattle.mg_text.proofs.symbols.get_symbol.Goals as goal
 
 pub returns-in-Ok-clause-told : goal.returns-in-Ok-clause-told
