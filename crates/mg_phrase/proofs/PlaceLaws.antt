@@ -1,7 +1,7 @@
 -- Laws of flags that go from one word of a document to the next.
 use Rattle.std.proofs.Common.{◌≡◌, ℕ, zero, suc, ◌+◌, ◌≤◌, if◌then◌else◌, Bool, true, false, ◌&&◌, ◌==◌, List, [], ◌∷◌, ◌++◌, length, take, drop, map, get_or, refl, sym, ◌∙◌, ap, arith, zero-add, inl, inr}
 use Rattle.std.proofs.Math.ListN.{replicate}
-use Rattle.std.proofs.lemmas.Bool.{cases_Bool, ne_eqb, and_right, false≢true}
+use Rattle.std.proofs.lemmas.Bool.{cases_Bool, ne_eqb, false≢true}
 use Rattle.std.proofs.lemmas.List.{take-append-drop}
 use Rattle.mg_defs.specs.OnePass.{carry_on, complete, place_count_from}
 use Rattle.mg_defs.specs.Parse.{Pair, parse}
@@ -9,21 +9,6 @@ use Rattle.mg_defs.specs.Phrases.{one_if, phrase_places}
 use Rattle.mg_defs.specs.Terms.{folded, same_term, is_empty, terms, terms_of_words}
 use Rattle.mg_laws.proofs.OnePassLaws.{one_pass}
 use Rattle.mg_phrase.specs.Flags.{to_come}
-
--- ---- a word and a term
-
-other_lengths : (a b : List ℕ) → (length a ≡ length b → ⊥) → same_term a b ≡ false
-other_lengths [] [] ne = absurd (ne refl)
-other_lengths [] (c ∷ b) ne = refl
-other_lengths (d ∷ a) [] ne = refl
-other_lengths (d ∷ a) (c ∷ b) ne = and_right (d == c) (same_term a b) (other_lengths a b (λ e. ne (ap suc e)))
-
-length-folded : (w : List ℕ) → length (folded w) ≡ length w
-length-folded [] = refl
-length-folded (b ∷ w) = ap suc (length-folded w)
-
-pub other_word : (word t : List ℕ) → (length word ≡ length t → ⊥) → same_term t (folded word) ≡ false
-other_word word t ne = other_lengths t (folded word) (λ e. ne (sym (e ∙ length-folded word)))
 
 -- ---- flags after a word
 

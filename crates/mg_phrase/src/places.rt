@@ -2,30 +2,14 @@
 ghost use Rattle.std.specs.Prelude.{◌≡◌, ◌≤◌, ◌<◌, ◌∷◌, length};
 ghost use Rattle.mg_defs.specs.OnePass.{carry_on as carry_on_spec, complete};
 ghost use Rattle.mg_defs.specs.Phrases.{one_if, phrase_places as phrase_places_spec};
-ghost use Rattle.mg_defs.specs.Terms.{folded, same_term};
+ghost use Rattle.mg_defs.specs.Terms.{folded};
 ghost use Rattle.mg_phrase.specs.Flags.{to_come};
 
-use mg_parse::Pairs;
+use mg_parse::{Pairs, is_term};
 use mg_query::{Term, Terms};
 
 /// The most words of a phrase.
 const MOST_WORDS: usize = 64;
-
-/// Whether a word is the term, once it is folded.
-#[inline]
-fn is_term(word: &[u8], term: &[u8]) -> bool
-    ensures { result ≡ same_term term.now (folded word.now) }
-{
-    if word.len() != term.len() {
-        return false;
-    }
-    for (i, byte) in word.iter().enumerate() {
-        if byte.to_ascii_lowercase() != term[i] {
-            return false;
-        }
-    }
-    true
-}
 
 /// Goes on by a word of the document: `begun[i]` then says whether the phrase's first i + 1 words end
 /// with it. Whether all of them do.
