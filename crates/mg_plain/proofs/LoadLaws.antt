@@ -4,11 +4,10 @@ use Rattle.std.specs.Option.{option_map}
 use Rattle.std.specs.declared.option.Option.{Option}
 use Rattle.std.proofs.Math.Seq.{take-length}
 use Rattle.std.proofs.lemmas.List.{take_all, take-append-le}
-use Rattle.mg_dev.specs.Files.{Files, file_at, bytes_at}
+use Rattle.mg_dev.specs.Files.{Files, file_at, bytes_at, HasSize}
 use Rattle.mg_dev.specs.Laws.{read_count, size_is}
 use Rattle.mg_defs.specs.Replies.{session, reply}
 use Rattle.mg_defs.specs.Session.{session_of}
-use Rattle.mg_plain.specs.Stops.{HasSize}
 
 -- a file that is told to have a size is there
 there : (o : Option (List ℕ)) (size : ℕ) → ◌≡◌ {A = Option ℕ} (Some size) (option_map length o) → (b : List ℕ) × (o ≡ Some b)

@@ -17,9 +17,9 @@ use Rattle.mg_defs.specs.Terms.{folded, same_term}
 use Rattle.mg_defs.specs.Read.{ranked_with, ranked_token, ranked_next, ranked_from, ranked}
 use Rattle.mg_defs.specs.Refusals.{Reading, reads, refused}
 use Rattle.mg_defs.specs.Split.{documents}
-use Rattle.mg_defs.specs.Weights.{Hit, hits, by_score, limited_to, has_term, score}
+use Rattle.mg_defs.specs.Weights.{Hit, hits_over, by_score, limited_to, has_term, score_over}
 use Rattle.mg_defs.specs.Texts.{count}
-use Rattle.mg_defs.specs.ShownAnswers.{shown, ranking, answer_text}
+use Rattle.mg_defs.specs.ShownAnswers.{shown, ranked_as, answer_text}
 use Rattle.mg_defs.specs.declared.session.Mode.{Mode}
 use Rattle.mg_defs.specs.declared.session.Settings.{Settings}
 use Rattle.mg_reply.specs.Pending.{Passed}
@@ -65,25 +65,25 @@ few_terms line terms e =
 
 -- ---- there are no more rows than bytes
 
-few_hits : (collection : List ℕ) (query : List (List ℕ)) → length (hits collection query) ≤ length collection
+few_hits : (collection : List ℕ) (query : List (List ℕ)) → length (hits_over collection query) ≤ length collection
 few_hits collection query =
     let docs = enumerate_from 1 (documents collection) in
     let is_met = λ (d : ℕ × List ℕ). list_any (has_term d.1) query in
     omega (
       arith,
-      length-map {B = Hit} (filter is_met docs) (λ (d : ℕ × List ℕ). record { number = d.0; score = score collection query d.1 }),
+      length-map {B = Hit} (filter is_met docs) (λ (d : ℕ × List ℕ). record { number = d.0; score = score_over collection query d.1 }),
       length-filter is_met docs,
       count_by-le-length is_met docs,
       length-enumerate_from 1 (documents collection),
       few_documents collection,
     )
 
-pub few_rows : (collection : List ℕ) (query : List (List ℕ)) (rows sorted : List Row) → hits_of rows ≡ hits collection query → IsPermutation rows sorted → length collection ≤ 2 ^ 28 → length sorted ≤ 2 ^ 28
+pub few_rows : (collection : List ℕ) (query : List (List ℕ)) (rows sorted : List Row) → hits_of rows ≡ hits_over collection query → IsPermutation rows sorted → length collection ≤ 2 ^ 28 → length sorted ≤ 2 ^ 28
 few_rows collection query rows sorted e same small =
     omega (arith, ap length e, length-map rows hit_of, few_hits collection query, length_permutation rows sorted same, small)
 
 -- rows in the order of the ranking are the ranking
-pub ranking-is : (collection : List ℕ) (query : List (List ℕ)) (rows : List Row) → hits_of rows ≡ by_score (hits collection query) → shown_rows rows ≡ ranking collection query
+pub ranking-is : (collection : List ℕ) (query : List (List ℕ)) (rows : List Row) → hits_of rows ≡ by_score (hits_over collection query) → shown_rows rows ≡ ranked_as (hits_over collection query)
 ranking-is collection query rows e = as_hits rows ∙ ap (map (λ (h : Hit). record { number = h.number; score = Some h.score })) e
   where
     as_hits : (rows : List Row) → shown_rows rows ≡ map (λ (h : Hit). record { number = h.number; score = Some h.score }) (hits_of rows)

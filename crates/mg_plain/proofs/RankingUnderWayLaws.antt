@@ -12,7 +12,7 @@ use Rattle.std.proofs.Math.ListN.{drop_of_length-le}
 use Rattle.mg_defs.specs.Fixed.{lg, digits_of, digit, next}
 use Rattle.mg_defs.specs.Split.{documents}
 use Rattle.mg_defs.specs.Terms.{docs, freq_in}
-use Rattle.mg_defs.specs.Weights.{Hit, has_term, score, hits, weight, weight_of_term, wt}
+use Rattle.mg_defs.specs.Weights.{Hit, has_term, score_over, hits_over, weight, weight_of_term, wt}
 use Rattle.mg_defs.proofs.ReplyLaws.{document_at}
 use Rattle.mg_plain.specs.declared.order.Row.{Row}
 use Rattle.mg_plain.specs.Inside.{is_inside}
@@ -125,7 +125,7 @@ pub record Next (collection doc : List ℕ) (rest : List (List ℕ)) (place : �
 
 -- ---- hits, one document after another
 
-hits-one : (collection doc : List ℕ) (query rest : List (List ℕ)) (n : ℕ) → list_any (has_term doc) query ≡ true → hits_from collection query n (doc ∷ rest) ≡ record { number = n; score = score collection query doc } ∷ hits_from collection query (n + 1) rest
+hits-one : (collection doc : List ℕ) (query rest : List (List ℕ)) (n : ℕ) → list_any (has_term doc) query ≡ true → hits_from collection query n (doc ∷ rest) ≡ record { number = n; score = score_over collection query doc } ∷ hits_from collection query (n + 1) rest
 unfolding hits_from
 hits-one collection doc query rest n some = rw some refl
 
@@ -137,7 +137,7 @@ hits-none : (collection : List ℕ) (query : List (List ℕ)) (n : ℕ) → hits
 unfolding hits_from
 hits-none collection query n = refl
 
-hits-all : (collection : List ℕ) (query : List (List ℕ)) → hits collection query ≡ hits_from collection query 1 (documents collection)
+hits-all : (collection : List ℕ) (query : List (List ℕ)) → hits_over collection query ≡ hits_from collection query 1 (documents collection)
 unfolding hits_from
 hits-all collection query = refl
 
@@ -201,11 +201,11 @@ ranked_miss collection doc query rows number place before rest s e none = record
   rows_placed = s.rows_placed;
 }
 
-pub ranked_hit : (collection doc : List ℕ) (query : List (List ℕ)) (rows : List Row) (number place score_is : ℕ) (before rest : List (List ℕ)) → Ranked collection query rows number place before → before ≡ doc ∷ rest → list_any (has_term doc) query ≡ true → score_is ≡ score collection query doc → Ranked collection query (rows ++ record { number = number + 1; place = place; score = score_is } ∷ []) (number + 1) (place + (length doc + 1)) rest
+pub ranked_hit : (collection doc : List ℕ) (query : List (List ℕ)) (rows : List Row) (number place score_is : ℕ) (before rest : List (List ℕ)) → Ranked collection query rows number place before → before ≡ doc ∷ rest → list_any (has_term doc) query ≡ true → score_is ≡ score_over collection query doc → Ranked collection query (rows ++ record { number = number + 1; place = place; score = score_is } ∷ []) (number + 1) (place + (length doc + 1)) rest
 ranked_hit collection doc query rows number place score_is before rest s e some is =
     let r : Row = record { number = number + 1; place = place; score = score_is } in
     let next = ranked_next collection doc query rows number place before rest s e in
-    let hit : Hit = record { number = number + 1; score = score collection query doc } in
+    let hit : Hit = record { number = number + 1; score = score_over collection query doc } in
     let same : hit_of r ≡ hit = ap {B = Hit} (λ x. record { number = number + 1; score = x }) is in
     let pushed : hits_of (rows ++ r ∷ []) ≡ hits_of rows ++ hit ∷ [] = hits_of-push rows r ∙ ap (λ (h : Hit). hits_of rows ++ h ∷ []) same in
     let later = hits_from collection query (number + 1 + 1) rest in
@@ -222,6 +222,6 @@ ranked_hit collection doc query rows number place score_is before rest s e some 
     }
 
 -- all documents were read
-pub ranked_all : (collection : List ℕ) (query : List (List ℕ)) (rows : List Row) (number place : ℕ) (rest : List (List ℕ)) → Ranked collection query rows number place rest → rest ≡ [] → hits_of rows ≡ hits collection query
+pub ranked_all : (collection : List ℕ) (query : List (List ℕ)) (rows : List Row) (number place : ℕ) (rest : List (List ℕ)) → Ranked collection query rows number place rest → rest ≡ [] → hits_of rows ≡ hits_over collection query
 ranked_all collection query rows number place rest s none =
     sym (s.hits_is ∙ ap (λ r. hits_of rows ++ hits_from collection query (number + 1) r) none ∙ ap (λ hs. hits_of rows ++ hs) (hits-none collection query (number + 1)) ∙ append-nil (hits_of rows))

@@ -7,7 +7,7 @@ use Rattle.std.proofs.lemmas.Bool.{cases_Bool, false≢true}
 use Rattle.std.proofs.lemmas.Nat.{mul-le}
 use Rattle.std.proofs.lemmas.List.Sums.{sum_by-cons}
 use Rattle.mg_defs.specs.Terms.{terms, freq_in, same_term, sorted_distinct}
-use Rattle.mg_defs.specs.Weights.{weight, weight_in_doc, wd, wt, has_term, score, score_of}
+use Rattle.mg_defs.specs.Weights.{weight, weight_in_doc, wd, wt, has_term, score_over, score_of}
 use Rattle.mg_defs.specs.Fixed.{IsRoot}
 use Rattle.mg_defs.proofs.SortedLaws.{has-sorted}
 use Rattle.mg_defs.proofs.WeightLaws.{weight_root}
@@ -45,7 +45,7 @@ products-are collection doc (t ∷ ts) (n ∷ ns) (m ∷ ms) c w =
     ]
 
 -- what `document_score` answers is the score
-pub score-is : (collection doc : List ℕ) (query : List (List ℕ)) (counts weights : List ℕ) (s : ℕ) → AreCounts (freq_in doc) query counts → AreCounts (wt collection) query weights → s ≡ score_of (products counts weights) (weight doc) → s ≡ score collection query doc
+pub score-is : (collection doc : List ℕ) (query : List (List ℕ)) (counts weights : List ℕ) (s : ℕ) → AreCounts (freq_in doc) query counts → AreCounts (wt collection) query weights → s ≡ score_of (products counts weights) (weight doc) → s ≡ score_over collection query doc
 score-is collection doc query counts weights s c w is = is ∙ ap (λ x. score_of x (weight doc)) (products-are collection doc query counts weights c w)
 
 square_some : (doc t : List ℕ) → 65536 ≤ wd doc t * wd doc t

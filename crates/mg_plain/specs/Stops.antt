@@ -1,10 +1,9 @@
 -- Why a call stops.
-use Rattle.std.specs.Prelude.{◌≡◌, ◌≢◌, ◌<◌, ℕ, true, List, length, Some, None, IsSome}
-use Rattle.std.specs.Option.{ForSome, option_map}
+use Rattle.std.specs.Prelude.{◌≡◌, ◌≢◌, ◌<◌, ℕ, true, List, length, None, IsSome}
+use Rattle.std.specs.Option.{ForSome}
 use Rattle.std.specs.declared.option.Option.{Option}
 use Rattle.std.specs.declared.result.Result.{Result}
-use Rattle.mg_dev.specs.Faults.{fault_of_show}
-use Rattle.mg_dev.specs.Files.{Files, file_at}
+use Rattle.mg_dev.specs.Files.{Files, HasSize, file_at}
 use Rattle.mg_dev.specs.Runs.{RefusedFor}
 use Rattle.mg_dev.specs.declared.fault.Fault.{Fault}
 use Rattle.mg_dev.specs.declared.fault.Fault.TheVariants.{StoreFault, ReadFault, WriteFault, NoCollection, TooLarge, Changed, Memory, InputTooLong}
@@ -12,12 +11,6 @@ use Rattle.mg_dev.specs.declared.what.What.TheVariants.{Size}
 use Rattle.mg_defs.specs.InputLimit.{is_too_much}
 use Rattle.mg_defs.specs.Limits.{input_limit, held_bytes}
 pub use Rattle.mg_reply.specs.Refusals.{AnswerStops}
-use Rattle.mg_reply.specs.declared.serve.ServeErr.{ServeErr}
-use Rattle.mg_reply.specs.declared.serve.ServeErr.TheVariants as serve
-
--- where the file is told, it is there and has so many bytes
-abbrev pub HasSize : Option Files → List ℕ → ℕ → Type 0
-HasSize files name size = IsSome files → ◌≡◌ {A = Option ℕ} (Some size) (option_map length (file_at files name))
 
 -- why a collection is not loaded
 abbrev pub LoadStops : Type 0 → Option Files → List ℕ → Fault → Type 0
@@ -38,9 +31,3 @@ ScanStops name store_rose input_rose output_rose files input ReadFault = input_r
 ScanStops name store_rose input_rose output_rose files input InputTooLong = ForSome input (λ given. is_too_much input_limit given ≡ true)
 ScanStops name store_rose input_rose output_rose files input WriteFault = output_rose
 ScanStops name store_rose input_rose output_rose files input fault = LoadStops store_rose files name fault
-
--- the fault of a session that stopped
-abbrev pub fault_of_serve : ServeErr → Fault
-fault_of_serve serve.Read = ReadFault
-fault_of_serve serve.TooMuch = InputTooLong
-fault_of_serve (serve.Show error) = fault_of_show error

@@ -3,24 +3,8 @@ ghost use Rattle.std.specs.Prelude.{◌≡◌, ℕ, ◌+◌, ◌^◌, ◌<◌, �
 ghost use Rattle.mg_defs.specs.Terms.{same_term, folded, freq_in};
 ghost use Rattle.mg_plain.specs.Counts.{AreCounts};
 
-use mg_parse::Pairs;
+use mg_parse::{Pairs, is_term};
 use mg_query::Term;
-
-/// Whether a word is the term, once it is folded.
-#[inline]
-fn is_term(word: &[u8], term: &[u8]) -> bool
-    ensures { result ≡ same_term term.now (folded word.now) }
-{
-    if word.len() != term.len() {
-        return false;
-    }
-    for (i, byte) in word.iter().enumerate() {
-        if byte.to_ascii_lowercase() != term[i] {
-            return false;
-        }
-    }
-    true
-}
 
 /// Counts a word at each term that it is.
 #[inline]

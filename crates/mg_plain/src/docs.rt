@@ -5,10 +5,8 @@ ghost use Rattle.mg_defs.specs.Split.{documents};
 ghost use Rattle.mg_plain.specs.Inside.{is_inside};
 
 use memchr::memchr;
+use mg_parse::CLOSE;
 use std::marker::Model;
-
-/// The byte that closes a document.
-const CLOSE: u8 = 2;
 
 /// The documents that are left.
 #[derive(Drop)]

@@ -1,13 +1,13 @@
 // A collection that is held as it is.
 ghost use Rattle.std.specs.Prelude.{◌≡◌, ◌≤◌, ◌^◌, false, length, vec_len, Some, IsSome, IfOk, IfErr, IsErrOf};
 ghost use Rattle.mg_dev.specs.Causes.{Rose};
-ghost use Rattle.mg_dev.specs.Files.{file_at};
+ghost use Rattle.mg_dev.specs.Files.{HasSize, file_at};
 ghost use Rattle.mg_dev.specs.Names.{same_part};
 ghost use Rattle.mg_dev.specs.declared.part.Part.{Part};
 ghost use Rattle.mg_dev.specs.declared.part.Part.TheVariants.{Plain};
 ghost use Rattle.mg_dev.specs.Streams.{AfterPut};
 ghost use Rattle.mg_defs.specs.Replies.{reply};
-ghost use Rattle.mg_plain.specs.Stops.{AnswerStops, HasSize, LoadStops};
+ghost use Rattle.mg_plain.specs.Stops.{AnswerStops, LoadStops};
 
 use crate::boolean::answer_boolean;
 use crate::ranked::answer_ranked;

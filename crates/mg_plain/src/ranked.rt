@@ -1,9 +1,9 @@
 // Ranked lines.
 ghost use Rattle.std.specs.Prelude.{◌≡◌, ◌<◌, ◌≤◌, ◌^◌, length, take, drop, Some, IfErr, IsErrOf};
 ghost use Rattle.std.specs.List.{All, prefix_len};
-ghost use Rattle.mg_defs.specs.Weights.{limited_to};
+ghost use Rattle.mg_defs.specs.Weights.{hits_over, limited_to};
 ghost use Rattle.mg_defs.specs.Read.{ranked};
-ghost use Rattle.mg_defs.specs.ShownAnswers.{ranking, answer_text, shown};
+ghost use Rattle.mg_defs.specs.ShownAnswers.{ranked_as, answer_text, shown};
 ghost use Rattle.mg_defs.specs.Replies.{ranked_reply};
 ghost use Rattle.mg_dev.specs.Causes.{HasPutCause, HasLack, Rose};
 ghost use Rattle.mg_dev.specs.Streams.{AfterPut};
@@ -119,7 +119,7 @@ fn answer_terms<O: Sink>(
 ) -> Result<(), ShowErr>
     requires small { length bytes.now ≤ 2 ^ 28 }
     requires few { length terms.now ≤ 64 }
-    ensures content { AfterPut (O.written out.old) (O.written out.new) (answer_text bytes.now now.now (ranking bytes.now terms.now)) result }
+    ensures content { AfterPut (O.written out.old) (O.written out.new) (answer_text bytes.now now.now (ranked_as (hits_over bytes.now terms.now))) result }
     ensures later { O.faults out.old ≤ O.faults out.new }
     ensures cause { IfErr result (AnswerStops (Rose (O.faults out.old) (O.faults out.new)) (Rose (O.lacks out.old) (O.lacks out.new))) }
     ensures silent { IsErrOf result (ShowErr.Part PartErr.Memory) → O.written out.new ≡ O.written out.old }

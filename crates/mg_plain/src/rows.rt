@@ -3,7 +3,7 @@ ghost use Rattle.std.specs.Prelude.{◌≡◌, ℕ, List, ◌+◌, ◌^◌, ◌<
 ghost use Rattle.std.specs.List.{list_any};
 ghost use Rattle.mg_defs.specs.Split.{documents};
 ghost use Rattle.mg_defs.specs.Terms.{docs};
-ghost use Rattle.mg_defs.specs.Weights.{hits, has_term, weight_of_term, wt, score};
+ghost use Rattle.mg_defs.specs.Weights.{hits_over, has_term, weight_of_term, wt};
 ghost use Rattle.mg_plain.specs.Counts.{AreCounts};
 ghost use Rattle.mg_plain.specs.RankedRows.{hits_of, IsPlaced};
 ghost use Rattle.mg_plain.specs.Scores.{IsScoreFor};
@@ -138,7 +138,7 @@ fn rows_by(
     requires counts { length counts.old ≡ length terms.now }
     requires weights { AreCounts (wt bytes.now) terms.now weights.now }
     requires light { (k : ℕ) → k < length weights.now → get_or weights.now k 0 < 2 ^ 14 }
-    ensures hits { IfOk result (λ rows. hits_of rows.items ≡ hits bytes.now terms.now) }
+    ensures hits { IfOk result (λ rows. hits_of rows.items ≡ hits_over bytes.now terms.now) }
     ensures placed { IfOk result (λ rows. All (IsPlaced bytes.now) rows.items) }
 {
     let mut rows = Vec::new(alloc);
@@ -165,7 +165,7 @@ fn rows_by(
 pub(crate) fn rows_of(alloc: Global, bytes: &[u8], terms: &Terms) -> Result<Vec<Row>, AllocError>
     requires small { length bytes.now ≤ 2 ^ 28 }
     requires few { length terms.now ≤ 64 }
-    ensures hits { IfOk result (λ rows. hits_of rows.items ≡ hits bytes.now terms.now) }
+    ensures hits { IfOk result (λ rows. hits_of rows.items ≡ hits_over bytes.now terms.now) }
     ensures placed { IfOk result (λ rows. All (IsPlaced bytes.now) rows.items) }
 {
     let mut counts = vec![in alloc; 0u32; terms.len()]?;

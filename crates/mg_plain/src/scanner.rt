@@ -14,12 +14,12 @@ ghost use Rattle.mg_dev.specs.Runs.{RefusedFor};
 ghost use Rattle.mg_reply.specs.Printed.{PrintsAll, PrintsPrefix, Runs, StopsBy};
 ghost use Rattle.mg_reply.specs.Served.{LeftEnough};
 ghost use Rattle.mg_plain.specs.Scanned.{Scanned};
-ghost use Rattle.mg_plain.specs.Stops.{RefusesLarge, ScanStops, fault_of_serve};
+ghost use Rattle.mg_plain.specs.Stops.{RefusesLarge, ScanStops};
 
 use crate::PlainText;
 use mg_defs::Settings;
 use mg_dev::{Fault, ShowErr, Sink, Source, Store};
-use mg_reply::{Answerer, Hearing, ServeErr, serve_lines};
+use mg_reply::{Answerer, Hearing, fault_of, serve_lines};
 use std::alloc::Global;
 
 /// The device of a scan, which reads none once its text is held.
@@ -67,17 +67,6 @@ impl Answerer for Scanner {
     ghost stops_later = { λ _ _ _ _ _ _ stops. stops };
 }
 
-/// The fault of a session that stopped.
-fn fault_of(error: ServeErr) -> Fault
-    ensures { result ≡ fault_of_serve error }
-{
-    match error {
-        ServeErr::Read => Fault::ReadFault,
-        ServeErr::TooMuch => Fault::InputTooLong,
-        ServeErr::Show(error) => Fault::from(error),
-    }
-}
-
 /// Prints the session that the input asks of the collection of this name, and tells how each device stands then.
 fn scan_text<S: Store, I: Source, O: Sink>(
     alloc: Global,
@@ -96,8 +85,7 @@ fn scan_text<S: Store, I: Source, O: Sink>(
         PrintsPrefix I.left O.written input.old out.old out.new session (bytes_at (S.files store.old) name.now) }
     ensures silent { IsErrOf result NoCollection → O.written out.new ≡ O.written out.old }
     ensures silent_large { (size most : ℕ) → IsErrOf result (TooLarge size most) → O.written out.new ≡ O.written out.old }
-    ensures cause { StopsBy S.files S.faults I.left I.faults O.faults
-        store.old store.new input.old input.new out.old out.new result (ScanStops name.now) }
+    ensures cause { StopsBy S.Store I.Source O.Sink store.old store.new input.old input.new out.old out.new result (ScanStops name.now) }
     ensures missing { IsSome (S.files store.old) → file_at (S.files store.old) name.now ≡ None → RefusedFor result NoCollection }
     ensures large { IsSome (S.files store.old) → RefusesLarge result (bytes_at (S.files store.old) name.now) }
     ensures store_later { S.faults store.old ≤ S.faults store.new }
@@ -131,8 +119,7 @@ pub fn scan<S: Store, I: Source, O: Sink>(
     out: &mut O,
 ) -> Result<(), Fault>
     // What a run does that scans, whatever its error output is.
-    ensures scanned { Runs S.files S.reads S.faults I.left I.faults O.written O.faults O.lacks
-        store.old store.new input.old input.new out.old out.new result (Scanned name.now) }
+    ensures scanned { Runs S.Store I.Source O.Sink store.old store.new input.old input.new out.old out.new result (Scanned name.now) }
     ensures store_later { S.faults store.old ≤ S.faults store.new }
 {
     scan_text(alloc, store, name, input, out)

@@ -1,6 +1,11 @@
-use Rattle.std.proofs.Common.{ap}
+use Rattle.std.proofs.Common.{◌≡◌, List, ℕ, ap, sym, ◌∙◌, subst}
 use Rattle.std.proofs.lemmas.Option.{IfSome_then}
+use Rattle.mg_dev.specs.Streams.{AfterPut}
 use Rattle.mg_defs.specs.Replies.{ranked_reply}
+use Rattle.mg_defs.specs.ShownAnswers.{answer_text, ranked_as}
+use Rattle.mg_defs.specs.Weights.{Hit, hits, hits_over}
+use Rattle.mg_defs.proofs.FirstLaws.{hits_of_distinct}
+use Rattle.mg_defs.proofs.RankedLaws.{reads-list, terms-apart}
 use Rattle.mg_query.specs.RefusalOf.{refusal_of}
 use Rattle.mg_plain.proofs.RankedAnswerLaws.{few_terms}
 use Rattle.mg_plain.proofs.ranked.answer_ranked.Goals as goal
@@ -10,3 +15,11 @@ answer_terms-requires-clause-few g c = few_terms c.args.line.now _ c.in-Ok.ensur
 
 pub returns-in-Err-clause-content : goal.returns-in-Err-clause-content
 returns-in-Err-clause-content g c = c.answer_refused.ensures.content _ (IfSome_then (refusal_of c.in-Err.why) c.in-Err.ensures.refused (λ why is. ap (ranked_reply c.args.bytes.now c.args.now.now) is))
+
+-- the terms of a line are distinct, so that their list is the query
+pub returns-in-Ok-clause-content : goal.returns-in-Ok-clause-content
+returns-in-Ok-clause-content g c =
+    let line = c.args.line.now in
+    let bytes = c.args.bytes.now in
+    let once : hits_over bytes c.in-Ok.terms ≡ hits bytes c.in-Ok.terms = sym (hits_of_distinct bytes c.in-Ok.terms (terms-apart line c.in-Ok.terms (reads-list line c.in-Ok.terms c.in-Ok.ensures.reads))) in
+    subst (λ text. AfterPut (g.O.Sink.written c.args.out.now) (g.O.Sink.written c.answer_terms.new.out) text c.answer_terms.result) (ap (λ hs. answer_text bytes c.args.now.now (ranked_as hs)) once ∙ ap (ranked_reply bytes c.args.now.now) (sym c.in-Ok.ensures.reads)) c.answer_terms.ensures.content

@@ -3,16 +3,16 @@ use Rattle.std.specs.List.{All}
 use Rattle.std.proofs.lemmas.List.Sorted.{All-permutation}
 use Rattle.mg_dev.specs.Streams.{GrewByPrefix, appended}
 use Rattle.mg_defs.specs.Order.{AreRisingByNumber}
-use Rattle.mg_defs.specs.Weights.{by_score}
-use Rattle.mg_defs.specs.ShownAnswers.{Shown, ranking, answer_text}
-use Rattle.mg_defs.proofs.TopLaws.{hits_rise}
+use Rattle.mg_defs.specs.Weights.{by_score, hits_over, score_over}
+use Rattle.mg_defs.specs.ShownAnswers.{Shown, ranked_as, answer_text}
+use Rattle.mg_defs.proofs.TopLaws.{scored_rise}
 use Rattle.mg_plain.specs.declared.order.Row.{Row}
 use Rattle.mg_plain.specs.RankedRows.{IsPlaced, hits_of, shown_rows}
 use Rattle.mg_plain.proofs.RankedAnswerLaws.{few_rows, ranking-is}
 use Rattle.mg_plain.proofs.ranked.answer_terms.Goals as goal
 
 pub sort_rows-requires : goal.sort_rows-requires
-sort_rows-requires g c = subst AreRisingByNumber (sym c.in_ok-rows.ensures.hits) (hits_rise c.args.bytes.now c.args.terms.now)
+sort_rows-requires g c = subst AreRisingByNumber (sym c.in_ok-rows.ensures.hits) (scored_rise (score_over c.args.bytes.now c.args.terms.now) c.args.bytes.now c.args.terms.now)
 
 pub put_answer-requires-clause-few : goal.put_answer-requires-clause-few
 put_answer-requires-clause-few g c =
@@ -24,10 +24,10 @@ put_answer-requires-clause-placed g c =
 
 pub returns-in-Ok-clause-content : goal.returns-in-Ok-clause-content
 returns-in-Ok-clause-content g c =
-    let is : shown_rows c.deref.result.now ≡ ranking c.args.bytes.now c.args.terms.now = ranking-is c.args.bytes.now c.args.terms.now c.deref.result.now (ap hits_of c.deref.ensures.value ∙ c.sort_rows.ensures.sorted ∙ ap by_score c.in_ok-rows.ensures.hits) in
+    let is : shown_rows c.deref.result.now ≡ ranked_as (hits_over c.args.bytes.now c.args.terms.now) = ranking-is c.args.bytes.now c.args.terms.now c.deref.result.now (ap hits_of c.deref.ensures.value ∙ c.sort_rows.ensures.sorted ∙ ap by_score c.in_ok-rows.ensures.hits) in
     c.in-Ok.ensures.content ∙ ap (λ (answer : List Shown). appended (g.O.Sink.written c.args.out.now) (answer_text c.args.bytes.now c.args.now.now answer)) is
 
 pub returns-clause-content : goal.returns-clause-content
 returns-clause-content g c =
-    let is : shown_rows c.deref.result.now ≡ ranking c.args.bytes.now c.args.terms.now = ranking-is c.args.bytes.now c.args.terms.now c.deref.result.now (ap hits_of c.deref.ensures.value ∙ c.sort_rows.ensures.sorted ∙ ap by_score c.in_ok-rows.ensures.hits) in
+    let is : shown_rows c.deref.result.now ≡ ranked_as (hits_over c.args.bytes.now c.args.terms.now) = ranking-is c.args.bytes.now c.args.terms.now c.deref.result.now (ap hits_of c.deref.ensures.value ∙ c.sort_rows.ensures.sorted ∙ ap by_score c.in_ok-rows.ensures.hits) in
     subst (λ (answer : List Shown). GrewByPrefix (g.O.Sink.written c.args.out.now) (g.O.Sink.written c.put_answer.new.out) (answer_text c.args.bytes.now c.args.now.now answer)) is c.in-Err.ensures.content
