@@ -1,15 +1,12 @@
 //! The pattern of a line.
 ghost use Rattle.std.specs.Prelude.{◌≡◌, ◌≤◌, ◌<◌, ◌+◌, ◌-◌, length, take, IfOk, IfErr, IfSome};
 ghost use Rattle.std.specs.Bool.{OnTrue, OnFalse};
-ghost use Rattle.std.specs.List.{prefix_len};
-ghost use Rattle.mg_defs.specs.Commands.{is_blank as is_blank_spec};
-ghost use Rattle.mg_defs.specs.Parse.{is_word_byte as is_word_byte_spec};
 ghost use Rattle.mg_defs.specs.Patterns.{body, blanks_before, pattern_at, pattern_of, right_of, sides, star_of, without_end_blanks};
 ghost use Rattle.mg_defs.specs.Terms.{folded};
 ghost use Rattle.mg_wild.specs.Patterns.{bad_of, sides_of};
 
-use mg_parse::is_word_byte;
-use mg_query::Term;
+use mg_parse::word_len;
+use mg_query::{Term, blank_len, is_blank};
 use std::alloc::{AllocError, Global};
 
 /// What stands before a pattern's star and behind it, folded.
@@ -28,42 +25,6 @@ pub enum PatternErr {
     /// ends here, and no star came.
     Bad { at: u32 },
     Memory,
-}
-
-fn is_blank(byte: u8) -> bool
-    ensures { result ≡ is_blank_spec byte }
-{
-    byte == b' ' || byte == b'\t'
-}
-
-/// How many blanks stand at the front.
-fn blank_len(line: &[u8]) -> usize
-    ensures is { result ≡ prefix_len is_blank_spec line.now }
-    ensures within { result ≤ length line.now }
-{
-    let mut len = 0;
-    for byte in line {
-        if !is_blank(*byte) {
-            break;
-        }
-        len += 1;
-    }
-    len
-}
-
-/// How many word bytes stand at the front.
-fn word_len(text: &[u8]) -> usize
-    ensures is { result ≡ prefix_len is_word_byte_spec text.now }
-    ensures within { result ≤ length text.now }
-{
-    let mut len = 0;
-    for byte in text {
-        if !is_word_byte(*byte) {
-            break;
-        }
-        len += 1;
-    }
-    len
 }
 
 /// Whether the last of so many bytes is a blank.

@@ -1,13 +1,13 @@
 //! The terms in a lexicon's entries.
-ghost use Rattle.std.specs.Prelude.{◌≡◌, ◌<◌, ◌≤◌, ◌+◌, ◌*◌, List, IfOk, IsSome, length};
+ghost use Rattle.std.specs.Prelude.{◌≤◌, ◌+◌, ◌*◌, IfOk, IsSome};
 ghost use Rattle.mg_bits.specs.Pages.{Looked};
-ghost use Rattle.mg_defs.specs.Front.{Entry};
 ghost use Rattle.mg_defs.specs.Rotations.{most_rotations};
 ghost use Rattle.mg_dev.specs.Files.{bytes_at};
+ghost use Rattle.mg_dev.specs.Moments.{Between};
 ghost use Rattle.mg_dev.specs.Names.{full_name};
 ghost use Rattle.mg_dev.specs.PartCauses.{HasPartCause};
-ghost use Rattle.mg_wild.specs.Loading.{AnswersTerms, AnswersTotal, AreEntriesOf, strings_of};
-ghost use Rattle.mg_wild.specs.Terms.{AreNumbered, total};
+ghost use Rattle.mg_wild.specs.Loading.{AnswersTerms, AnswersTotal, ForEntries};
+ghost use Rattle.mg_wild.specs.Terms.{AreNumbered};
 
 use crate::term_block::{TermBlock, string_in};
 use mg_dev::{Bad, FileRef, PartErr, Store};
@@ -26,8 +26,7 @@ pub(crate) fn total_size<S: Store>(
 ) -> Result<u64, PartErr>
     ensures answer { IsSome (S.files store.old) → AnswersTotal (bytes_at (S.files store.old) (full_name file.entry.base.now file.entry.part)) count result }
     ensures most { IfOk result (λ size. size ≤ 255 * count) }
-    ensures looked { Looked file.entry.part (S.files store.old) (S.files store.new)
-        (S.reads store.old) (S.reads store.new) (S.faults store.old) (S.faults store.new) }
+    ensures looked { Between S.files S.reads S.faults store.old store.new (Looked file.entry.part) }
     ensures cause { HasPartCause (S.faults store.old) (S.faults store.new) result }
 {
     let mut walk = match FrontWalk::load(alloc, store, file, FIELD, count) {
@@ -52,12 +51,10 @@ pub(crate) fn read_terms<S: Store>(
     size: u32,
 ) -> Result<TermBlock, PartErr>
     requires { size + count ≤ most_rotations }
-    ensures answer { (es : List Entry) → IsSome (S.files store.old) →
-        AreEntriesOf (bytes_at (S.files store.old) (full_name file.entry.base.now file.entry.part)) count es →
-        total (strings_of es) ≡ size → AnswersTerms (λ terms. terms) es result }
+    ensures answer { ForEntries (S.files store.old) (full_name file.entry.base.now file.entry.part) count size
+        (λ es. AnswersTerms (λ terms. terms) es result) }
     ensures numbered { IfOk result (λ terms. AreNumbered 0 terms.infos) }
-    ensures looked { Looked file.entry.part (S.files store.old) (S.files store.new)
-        (S.reads store.old) (S.reads store.new) (S.faults store.old) (S.faults store.new) }
+    ensures looked { Between S.files S.reads S.faults store.old store.new (Looked file.entry.part) }
     ensures cause { HasPartCause (S.faults store.old) (S.faults store.new) result }
 {
     let mut terms = TermBlock::with_room(alloc, count, size)?;
