@@ -1,9 +1,9 @@
 // The two calls.
-ghost use Rattle.std.specs.Prelude.{◌≡◌, ◌≤◌, ◌%◌, ◌+◌, ◌^◌, ℕ, List, Option, [], length, OnOk, MatchResult};
+ghost use Rattle.std.specs.Prelude.{◌≡◌, ◌≤◌, ◌%◌, ◌+◌, ◌^◌, ℕ, List, Option, [], length, OnOk};
 ghost use Rattle.mg_defs.specs.Generator.{Made, made_collection, made_session};
-ghost use Rattle.mg_dev.specs.Streams.{AfterPut, GrewByPrefix};
+ghost use Rattle.mg_dev.specs.Streams.{AfterPut};
 ghost use Rattle.mg_dev.specs.Causes.{HasPutCause, HasLack};
-ghost use Rattle.mg_gen.specs.Grew.{Handed};
+ghost use Rattle.mg_gen.specs.Grew.{StaysHanded};
 
 use crate::letter::LONGEST;
 use crate::writer::{ROOM, Writer};
@@ -12,8 +12,7 @@ use mg_dev::{PutErr, Sink};
 impl Writer {
     /// Hands the text on where there is no room for another document.
     fn make_room<O: Sink>(&mut self, out: &mut O) -> Result<(), PutErr>
-        ensures handed { (old : Option (List ℕ)) (made : Made) → Handed old (O.written out.old) self.old made → MatchResult result
-            (λ _. Handed old (O.written out.new) self.new made) (λ _. GrewByPrefix (O.written out.old) (O.written out.new) self.old.text.items) }
+        ensures handed { (old : Option (List ℕ)) (made : Made) → StaysHanded O.written out.old out.new self.old self.new result old made }
         ensures room { OnOk result (length self.new.text.items + 867 ≤ 8192) }
         ensures cause { HasPutCause (O.faults out.old) (O.faults out.new) result }
         ensures lack { HasLack (O.lacks out.old) (O.lacks out.new) result }
