@@ -72,6 +72,11 @@ rows_in m = rows_of (found_of m)
 abbrev pub IsGiven : ArgMatches → Word → Type 0
 IsGiven m id = is_some (first_value (found_of m) id) ≡ true
 
+-- a fact where matches give each of these ids a value
+abbrev pub WhereGiven : ArgMatches → List Word → Type 0 → Type 0
+WhereGiven m [] fact = fact
+WhereGiven m (id ∷ ids) fact = IsGiven m id → WhereGiven m ids fact
+
 -- a text that writes a number of eight bytes: a plus may stand before it
 abbrev pub WritesNumber : Word → Type 0
 WritesNumber text = IsNumeral 10 (without_leading_plus text) × (digits_value 10 (without_leading_plus text) < 2 ^ 64)

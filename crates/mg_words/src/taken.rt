@@ -2,7 +2,7 @@
 ghost use Rattle.std.specs.Prelude.{◌≡◌, ℕ, List, ◌∷◌, [], ◌≢◌, IfOk, IfSome, Some, None, codes, map, option_map, string_bytes};
 ghost use Rattle.std.specs.Option.{option_copied};
 ghost use Rattle.clap.specs.Words.{first_of, one_of, IsUnsignedIn};
-ghost use Rattle.mg_words.specs.Commands.{name_app, build_app, build_names, trial_app, migrate_app, migrate_names, merge_app, merge_names, if_taken, name_in, number_in, rows_in, IsGiven, IsOwnId, HasEmpty, IsRefusedBy, WritesNumber};
+ghost use Rattle.mg_words.specs.Commands.{name_app, build_app, build_names, trial_app, migrate_app, migrate_names, merge_app, merge_names, if_taken, name_in, number_in, rows_in, IsGiven, WhereGiven, IsOwnId, HasEmpty, IsRefusedBy, WritesNumber};
 ghost use Rattle.mg_words.specs.Tasks.{as_task, build_in, trial_in, migrate_in, merge_in, IsWithin};
 
 use crate::command::{
@@ -73,8 +73,7 @@ pub fn build_taken<'a>(alloc: Global, words: &'a [String]) -> Result<Option<Task
 
 fn build_of<'a>(matches: &ArgMatches<'a>) -> Option<Task<'a>>
     requires { (text : List ℕ) → one_of (codes "budget") (rows_in matches.now) ≡ Some text → IsUnsignedIn 4096 1073741824 text }
-    ensures empty { result ≡ None → IsGiven matches.now (codes "collection") → IsGiven matches.now (codes "name") →
-        HasEmpty build_names (rows_in matches.now) }
+    ensures empty { result ≡ None → WhereGiven matches.now build_names (HasEmpty build_names (rows_in matches.now)) }
     ensures is { option_map as_task result ≡ build_in (rows_in matches.now) }
     ensures within { IfSome result (λ q. IsWithin (as_task q)) }
 {
@@ -143,8 +142,7 @@ pub fn migrate_taken<'a>(alloc: Global, words: &'a [String]) -> Result<Option<Ta
 }
 
 fn migrate_of<'a>(matches: &ArgMatches<'a>) -> Option<Task<'a>>
-    ensures empty { result ≡ None → IsGiven matches.now (codes "name") → IsGiven matches.now (codes "new") →
-        HasEmpty migrate_names (rows_in matches.now) }
+    ensures empty { result ≡ None → WhereGiven matches.now migrate_names (HasEmpty migrate_names (rows_in matches.now)) }
     ensures is { option_map as_task result ≡ migrate_in (rows_in matches.now) }
     ensures within { IfSome result (λ q. IsWithin (as_task q)) }
 {
@@ -172,8 +170,7 @@ pub fn merge_taken<'a>(alloc: Global, words: &'a [String]) -> Result<Option<Task
 }
 
 fn merge_of<'a>(matches: &ArgMatches<'a>) -> Option<Task<'a>>
-    ensures empty { result ≡ None → IsGiven matches.now (codes "first") → IsGiven matches.now (codes "second") →
-        IsGiven matches.now (codes "new") → HasEmpty merge_names (rows_in matches.now) }
+    ensures empty { result ≡ None → WhereGiven matches.now merge_names (HasEmpty merge_names (rows_in matches.now)) }
     ensures is { option_map as_task result ≡ merge_in (rows_in matches.now) }
     ensures within { IfSome result (λ q. IsWithin (as_task q)) }
 {
