@@ -11,7 +11,7 @@ use Rattle.mg_dev.specs.declared.part.Part.TheVariants.{Head, Words, Nonwords, T
 use Rattle.mg_dev.specs.declared.part_err.PartErr.{PartErr}
 use Rattle.mg_dev.specs.declared.part_err.PartErr.TheVariants as part_err
 use Rattle.mg_dev.specs.Causes.{HasPutCause, Rose}
-use Rattle.mg_dev.specs.Faults.{fault_of_part, fault_of_store}
+use Rattle.mg_dev.specs.Faults.{IsDamagedPart, fault_of_part, fault_of_store}
 use Rattle.mg_dev.specs.Files.{Files, file_at}
 use Rattle.mg_dev.specs.Laws.{same_part_of_name}
 use Rattle.mg_dev.specs.Names.{full_name, number}
@@ -20,7 +20,7 @@ use Rattle.mg_defs.specs.declared.TermPosting.{TermPosting}
 use Rattle.mg_runs.specs.Cursors.{NoDamage}
 use Rattle.mg_runs.specs.Joins.{IsRunPart}
 use Rattle.mg_runs.specs.Left.{IsMerging, Merging}
-use Rattle.mg_make.specs.Listing.{IsDamage, ListStops, OfPostings, SameMerge}
+use Rattle.mg_make.specs.Listing.{ListStops, OfPostings, SameMerge}
 use Rattle.mg_make.specs.Written.{OfLists, WroteParts}
 
 -- ---- what was written
@@ -167,7 +167,7 @@ stops_by_part f g same part_err.Device cause sound = cause.device
 stops_by_part f g same part_err.Memory cause sound = tt
 stops_by_part f g same (part_err.Bad bad) cause sound = λ is. sound is
 
-pub stops_by_damage : (rose same : Type 0) (f : Fault) → IsDamage f → ¬ same → ListStops rose same f
+pub stops_by_damage : (rose same : Type 0) (f : Fault) → IsDamagedPart f → ¬ same → ListStops rose same f
 stops_by_damage rose same fault.Usage h not_so = absurd h
 stops_by_damage rose same fault.StoreFault h not_so = absurd h
 stops_by_damage rose same fault.ReadFault h not_so = absurd h

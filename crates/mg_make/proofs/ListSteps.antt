@@ -11,9 +11,9 @@ use Rattle.mg_defs.specs.declared.TermPosting.{TermPosting}
 use Rattle.mg_defs.specs.Lists.{Follows, Rises}
 use Rattle.mg_defs.specs.PostingLists.{by_terms, term_list}
 use Rattle.mg_defs.specs.Squares.{squares}
-use Rattle.mg_post.specs.Writing.{IsBetween, Listing, SameFiles, Took}
+use Rattle.mg_post.specs.Writing.{IsBetween, Listing, PushedMore, SameFiles, Took}
 use Rattle.mg_runs.specs.Left.{IsMerging, Merging}
-use Rattle.mg_make.specs.Listing.{AreSquares, CanList, HasNext, HasList, HasRest, IsAtList, IsInList, OfPostings, PushedMore, SameMerge, SquaresFit}
+use Rattle.mg_make.specs.Listing.{AreSquares, CanList, HasNext, HasList, HasRest, IsAtList, IsInList, OfPostings, SameMerge, SquaresFit}
 use Rattle.mg_make.specs.Written.{WroteParts}
 use Rattle.mg_make.proofs.ListFrames.{RunsStay, merging_stays}
 use Rattle.mg_make.proofs.SquareSteps.{squares_front, squares_first, summed_begun}

@@ -7,6 +7,7 @@ use Rattle.std.proofs.lemmas.Bool.Decides.{nat_tests}
 use Rattle.std.proofs.lemmas.List.{length-map}
 use Rattle.std.proofs.lemmas.List.Elements.{Contains-append_right}
 use Rattle.std.specs.declared.option.Option.{Option}
+use Rattle.mg_defs.specs.Heads.{as_number}
 use Rattle.mg_defs.specs.declared.Stream.{Stream}
 use Rattle.mg_defs.specs.declared.Stream.TheVariants.{Words, Others}
 use Rattle.mg_defs.specs.Marks.{Mark, start, piece, stop, marks, marks_of_document, marks_of_pairs, pieces_among, starts, pairs_from, piece_count_from, pair_counts, open_at, is_open_after, with_doc, terms_from}
@@ -18,7 +19,7 @@ use Rattle.mg_defs.specs.Vocabulary.{all_pieces, sorted_pieces}
 use Rattle.mg_defs.proofs.SortedLaws.{contains-from, has-from, has-sorted, number-found, same-refl}
 use Rattle.mg_laws.proofs.MarkLaws.{marks_have_documents, marks_have_occurrences, marks_have_pairs, marks_have_pieces, pairs_append, pieces_append, starts_append, terms_append}
 use Rattle.mg_laws.proofs.SizeLaws.{few_occurrences}
-use Rattle.mg_text.specs.Writing.{as_count, turn}
+use Rattle.mg_text.specs.Writing.{turn}
 use Rattle.mg_make.specs.Fronts.{IsFrontOf}
 use Rattle.mg_make.specs.Second.{term_at}
 
@@ -36,16 +37,16 @@ follow_behind now n (piece kind x ∷ a) b h = follow_behind now (n + 1) a b h.2
 follow_behind now n (stop ∷ a) b h = follow_behind false 0 a b h.2
 
 -- each document that was begun has ended, but the open one
-ended : (now : Bool) (n : ℕ) (a b : List Mark) → Follow now n (a ++ b) → length (pairs_from n a) + as_count (open_at now a) ≡ starts a + as_count now
+ended : (now : Bool) (n : ℕ) (a b : List Mark) → Follow now n (a ++ b) → length (pairs_from n a) + as_number (open_at now a) ≡ starts a + as_number now
 ended now n [] b h = refl
 ended now n (start ∷ a) b h =
     let rest = ended true 0 a b h.1 in
-    let closed : as_count now ≡ 0 = ap as_count h.0 in
+    let closed : as_number now ≡ 0 = ap as_number h.0 in
     omega arith
 ended now n (piece kind x ∷ a) b h = ended now (n + 1) a b h.2
 ended now n (stop ∷ a) b h =
     let rest = ended false 0 a b h.2 in
-    let was_open : as_count now ≡ 1 = ap as_count h.0 in
+    let was_open : as_number now ≡ 1 = ap as_number h.0 in
     omega arith
 
 -- the pieces so far are no more than those of the open document's pairs
@@ -103,13 +104,13 @@ open_at_stop met collection f = (next met stop collection f).0
 pub some_begun : (met : List Mark) (m : Mark) (collection : List ℕ) → IsFrontOf (met ++ m ∷ []) collection → is_open_after met ≡ true → 1 ≤ starts met
 some_begun met m collection f is_open =
     let all = ended false 0 met (m ∷ f.after) (follows met m collection f) in
-    let one : as_count (is_open_after met) ≡ 1 = ap as_count is_open in
+    let one : as_number (is_open_after met) ≡ 1 = ap as_number is_open in
     omega (arith, all, one)
 
 number_ended : (met : List Mark) (m : Mark) (collection : List ℕ) → IsFrontOf (met ++ m ∷ []) collection → is_open_after met ≡ true → length (pairs_from 0 met) ≡ starts met - 1
 number_ended met m collection f is_open =
     let all = ended false 0 met (m ∷ f.after) (follows met m collection f) in
-    let one : as_count (is_open_after met) ≡ 1 = ap as_count is_open in
+    let one : as_number (is_open_after met) ≡ 1 = ap as_number is_open in
     omega (arith, all, one)
 
 first_behind : (a b : List ℕ) → get_or (a ++ b) (length a) 0 ≡ get_or b 0 0

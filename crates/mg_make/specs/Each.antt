@@ -1,13 +1,9 @@
--- What is so of each collection of a kind, and refusals that depend on whether there is one.
+-- Refusals that depend on a fact, or on whether it is so of some collection.
 use Rattle.std.specs.Prelude.{ℕ, List, IfErr}
 use Rattle.std.specs.declared.result.Result.{Result}
 use Rattle.mg_dev.specs.Causes.{Rose}
 use Rattle.mg_dev.specs.declared.fault.Fault.{Fault}
 use Rattle.mg_make.specs.Listing.{ListStops}
-
--- of each collection of which the one is so, the other is so
-abbrev pub ForEach : (List ℕ → Type 0) → (List ℕ → Type 0) → Type 0
-ForEach given holds = (collection : List ℕ) → given collection → holds collection
 
 -- refused where the store failed or for want of memory, and for damage or a change only where this is not so
 abbrev pub RefusedUnless : {X T : Type 0} → (X → ℕ) → X → X → Type 0 → Result T Fault → Type 0

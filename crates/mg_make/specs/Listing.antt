@@ -102,12 +102,6 @@ pub record SameMerge (old new : Merging) : Type 0 where
   pub runs : new.runs ≡ old.runs
   pub peak : new.peak ≡ old.peak
 
--- so many postings more were pushed
-pub record PushedMore (old new : Listing) (count : ℕ) : Type 0 where
-  pub docs : new.docs ≡ old.docs
-  pub pushed : new.pushed ≡ old.pushed + count
-  pub total : new.total ≡ old.total + count
-
 -- ---- between lists
 
 -- These lists are done. The others are left, the first of them of a term's number.
@@ -175,8 +169,3 @@ ListStops store_rose same Memory = Unit {0}
 ListStops store_rose same (Damaged bad) = ¬ same
 ListStops store_rose same (Changed what first second) = (first ≢ second) × ¬ same
 ListStops store_rose same _ = ⊥
-
--- a part is told as damaged
-abbrev pub IsDamage : Fault → Type 0
-IsDamage (Damaged bad) = Unit {0}
-IsDamage _ = ⊥

@@ -11,13 +11,11 @@ use Rattle.mg_dev.specs.declared.part.Part.TheVariants.{MergeA, MergeB}
 use Rattle.mg_dev.specs.declared.fault.Fault.{Fault}
 use Rattle.mg_dev.specs.declared.fault.Fault.TheVariants.{NoCollection, NotBuilt, TooLarge, TooManyDocuments, TooManyPieces, NameClash, SameName}
 use Rattle.mg_defs.specs.declared.Stream.{Stream}
-use Rattle.mg_defs.specs.CodedText.{TextCode}
 use Rattle.mg_defs.specs.Limits.{version_2}
 use Rattle.mg_defs.specs.WithinLimits.{IsWithinLimits}
 use Rattle.mg_defs.specs.Marks.{PassesFirst, piece, start}
 use Rattle.mg_defs.specs.Summaries.{run_cap}
-use Rattle.mg_layout.specs.Stands.{Stands, StandsBy, StandsForNone, StandsIn}
-use Rattle.mg_layout.specs.declared.head.Head.{Head}
+use Rattle.mg_layout.specs.Stands.{Stands, StandsForNone, StandsIn}
 use Rattle.mg_make.specs.Summaries.{summary_of}
 use Rattle.mg_make.specs.declared.summary.Summary.{Summary}
 
@@ -63,10 +61,6 @@ MakesSet budget files base result collection = OnOk result (StandsIn 2 (run_cap 
 -- the summary has the numbers of a collection, with a pool of so many bytes
 abbrev pub HasSummaryOf : {E : Type 0} → ℕ → Result Summary E → List ℕ → Type 0
 HasSummaryOf budget result collection = IfOk result (λ (summary : Summary). summary ≡ summary_of budget collection)
-
--- this is so of each collection that the files of a base stand for by this head, and of its code
-abbrev pub ForSetBy : Head → Option Files → List ℕ → (TextCode → List ℕ → Type 0) → Type 0
-ForSetBy head files base holds = (code : TextCode) (collection : List ℕ) → StandsBy head code files base collection → holds code collection
 
 -- too many bytes are refused
 abbrev pub RefusesSize : {T : Type 0} → Result T Fault → ℕ → Type 0

@@ -1,12 +1,13 @@
 //! Lists, lexicon and weights, from what was inverted.
 ghost use Rattle.std.specs.Prelude.{◌≡◌, ◌≤◌, List, [], length, replicate, IfOk, OnOk, IsSome, Some, sum};
 ghost use Rattle.mg_dev.specs.Causes.{HasPutCause};
+ghost use Rattle.mg_dev.specs.Each.{ForEach};
 ghost use Rattle.mg_dev.specs.Files.{file_at};
 ghost use Rattle.mg_dev.specs.Names.{full_name};
 ghost use Rattle.mg_dev.specs.declared.part.Part.TheVariants as part;
 ghost use Rattle.mg_defs.specs.declared.TermPosting.{TermPosting};
 ghost use Rattle.mg_runs.specs.Left.{IsMerging};
-ghost use Rattle.mg_make.specs.Each.{ForEach, RefusedIfNone};
+ghost use Rattle.mg_make.specs.Each.{RefusedIfNone};
 ghost use Rattle.mg_make.specs.Index.{HasPostPart, HasSkipPart, InvertedOf, OfIndex, OfWeights, WeightsAreRoots, WroteIndex};
 ghost use Rattle.mg_make.specs.Listing.{AreListSizes, SameMerge};
 ghost use Rattle.mg_make.specs.Written.{WroteParts};

@@ -5,15 +5,16 @@
 //! are those that were written no test fails.
 ghost use Rattle.std.specs.Prelude.{◌≡◌, ◌≢◌, ◌<◌, ◌≤◌, ◌+◌, ◌-◌, ◌*◌, ◌^◌, ℕ, List, length, drop, IfOk, OnOk, is_some};
 ghost use Rattle.mg_dev.specs.Causes.{HasPutCause};
+ghost use Rattle.mg_dev.specs.Faults.{IsDamagedPart};
 ghost use Rattle.mg_dev.specs.Files.{file_at};
 ghost use Rattle.mg_defs.specs.declared.Posting.{Posting};
 ghost use Rattle.mg_defs.specs.declared.TermPosting.{TermPosting};
 ghost use Rattle.mg_defs.specs.Lists.{Follows};
-ghost use Rattle.mg_post.specs.Writing.{Pushed, SameFiles, Took, posting_of};
+ghost use Rattle.mg_post.specs.Writing.{Pushed, PushedMore, SameFiles, Took, posting_of};
 ghost use Rattle.mg_runs.specs.Left.{IsMerging};
 ghost use Rattle.mg_make.specs.Each.{RefusedUnless};
 ghost use Rattle.mg_make.specs.Listed.{BeginsInPost, BeginsInSkip, EndsList, ForListLeft, ForFirstLeft, ListTakes, SumsTake, TakesPosting, TakesPostings};
-ghost use Rattle.mg_make.specs.Listing.{CanList, HasList, HasNext, HasRest, IsDamage, ListedMore, OfPostings, PushedMore, SameMerge};
+ghost use Rattle.mg_make.specs.Listing.{CanList, HasList, HasNext, HasRest, ListedMore, OfPostings, SameMerge};
 ghost use Rattle.mg_make.specs.Written.{WroteParts};
 
 use mg_defs::TermPosting;
@@ -25,7 +26,7 @@ use mg_runs::{Merge, runs_stay};
 /// The runs are not those that were written: so much was found where low to high was to stand.
 pub(crate) fn stray(found: u32, low: u32, high: u32) -> Fault
     requires { low ≤ found → high < found }
-    ensures { IsDamage result }
+    ensures { IsDamagedPart result }
 {
     Fault::Damaged(Bad {
         part: Part::Run,

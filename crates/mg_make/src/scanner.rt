@@ -8,11 +8,8 @@ ghost use Rattle.mg_make.specs.Meeting.{marks_of};
 ghost use Rattle.mg_make.specs.Scanning.{HasMet, HasRead, closing_marks, joined_marks};
 
 use crate::met::Met;
-use mg_parse::{Offer, PieceReader, SplitEvent, Splitter};
+use mg_parse::{CLOSE, Offer, PieceReader, SplitEvent, Splitter};
 use std::marker::Model;
-
-/// The byte that closes a document.
-const CLOSE: u8 = 2;
 
 /// Takes the bytes of a collection, and tells of each what is met with it.
 ///

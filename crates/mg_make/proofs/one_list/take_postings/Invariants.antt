@@ -1,8 +1,8 @@
 use Rattle.std.proofs.Common.{◌≡◌, ◌≤◌, ◌++◌, List, length, take, drop, IsSome}
 use Rattle.mg_defs.specs.declared.Posting.{Posting}
 use Rattle.mg_defs.specs.declared.TermPosting.{TermPosting}
-use Rattle.mg_post.specs.Writing.{SameFiles}
-use Rattle.mg_make.specs.Listing.{CanList, IsInList, OfPostings, PushedMore, SameMerge}
+use Rattle.mg_post.specs.Writing.{PushedMore, SameFiles}
+use Rattle.mg_make.specs.Listing.{CanList, IsInList, OfPostings, SameMerge}
 use Rattle.mg_make.specs.Written.{WroteParts}
 use Rattle.mg_make.proofs.one_list.take_postings.Given as goal
 
