@@ -2,7 +2,7 @@
 use Rattle.std.proofs.Common.{arith, ◌+◌, ◌/◌, ◌≡◌, ◌≤◌, ◌∙◌, ◌⊎◌, ℕ, List, [], length, Option, None, Some, Ok, Err, IsSome, refl, sym, ap, subst, inl, inr}
 use Rattle.std.specs.Prelude.{IfErr, OnOk, Result}
 use Rattle.std.specs.Option.{unwrap_or}
-use Rattle.mg_dev.specs.Files.{Files, bytes_at, file_at}
+use Rattle.mg_dev.specs.Files.{Files, HasSize, bytes_at, file_at}
 use Rattle.mg_dev.specs.Laws.{size_is}
 use Rattle.mg_dev.specs.Names.{full_name}
 use Rattle.mg_dev.specs.declared.fault.Fault.{Fault}
@@ -20,7 +20,7 @@ use Rattle.mg_layout.specs.Stands.{StandsIn}
 use Rattle.mg_build.specs.Building.{BuildStops, IsPlanFor, PassStops, WriteStops}
 use Rattle.mg_dev.specs.Runs.{IsDone, RefusedFor}
 use Rattle.mg_make.specs.Outcomes.{IsEarly, most_bytes}
-use Rattle.mg_build.specs.Sources.{HasSize, OpenStops}
+use Rattle.mg_build.specs.Sources.{OpenStops}
 use Rattle.mg_make.specs.Plans.{Plan}
 
 -- ---- the file

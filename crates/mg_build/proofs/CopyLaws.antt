@@ -6,13 +6,14 @@ use Rattle.std.specs.Prelude.{IfErr, OnOk}
 use Rattle.std.specs.declared.result.Result.{Result}
 use Rattle.std.proofs.Math.Seq.{take-add}
 use Rattle.std.proofs.lemmas.List.{append_cancel_right, take-take}
+use Rattle.mg_dev.specs.Faults.{ReadStops}
 use Rattle.mg_dev.specs.Files.{AfterAppend, AfterReset, Files, bytes_at, file_at, grown, written}
 use Rattle.mg_dev.specs.Laws.{append-others, append-told, file_at-other, file_at-written, read_count, reset-others, reset-told, told-written}
 use Rattle.mg_dev.specs.Names.{ending, full_name}
 use Rattle.mg_dev.specs.declared.part.Part.{Part}
 use Rattle.mg_dev.specs.declared.fault.Fault.{Fault}
 use Rattle.mg_dev.specs.declared.fault.Fault.TheVariants as fault
-use Rattle.mg_build.specs.Copying.{ChangedAlone, CopyStops}
+use Rattle.mg_build.specs.Copying.{ChangedAlone}
 
 -- an append, and a reset, change one file alone
 pub append_alone : {E : Type 0} (before old new : Option Files) (name piece : List ℕ) (r : Result (Unit {0}) E) → old ≡ before → AfterAppend old new name piece r → ChangedAlone name before new
@@ -75,7 +76,7 @@ module _ (from to : List ℕ) (before loop now : Option Files) (at : ℕ) (alone
 
 -- ---- why copying stops
 
-pub stops_more : (fault : Fault) (rose rose_since whole whole_since : Type 0) → (rose → rose_since) → (whole_since → whole) → CopyStops rose whole fault → CopyStops rose_since whole_since fault
+pub stops_more : (fault : Fault) (rose rose_since whole whole_since : Type 0) → (rose → rose_since) → (whole_since → whole) → ReadStops rose whole fault → ReadStops rose_since whole_since fault
 stops_more fault.Usage rose rose_since whole whole_since up down stops = stops
 stops_more fault.StoreFault rose rose_since whole whole_since up down stops = up stops
 stops_more fault.ReadFault rose rose_since whole whole_since up down stops = stops
@@ -93,7 +94,7 @@ stops_more fault.InputTooLong rose rose_since whole whole_since up down stops = 
 stops_more fault.SameName rose rose_since whole whole_since up down stops = stops
 stops_more (fault.TooManyRotations count) rose rose_since whole whole_since up down stops = stops
 
-pub refused_more : (r : Result (Unit {0}) Fault) (rose whole whole_since : Type 0) → (whole_since → whole) → IfErr r (CopyStops rose whole) → IfErr r (CopyStops rose whole_since)
+pub refused_more : (r : Result (Unit {0}) Fault) (rose whole whole_since : Type 0) → (whole_since → whole) → IfErr r (ReadStops rose whole) → IfErr r (ReadStops rose whole_since)
 refused_more (Ok done) rose whole whole_since down stops = tt
 refused_more (Err refusal) rose whole whole_since down stops = stops_more refusal rose rose whole whole_since (λ up. up) down stops
 

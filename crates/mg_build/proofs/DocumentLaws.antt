@@ -1,18 +1,17 @@
 -- Documents one after the other, on their way to a sink.
-use Rattle.std.proofs.Common.{arith, ◌≡◌, ◌≢◌, ◌+◌, ◌-◌, ◌≤◌, ◌<◌, ◌==◌, ℕ, zero, suc, Bool, true, false, not, if◌then◌else◌, List, [], ◌∷◌, ◌++◌, length, drop, get_or, Option, refl, sym, ◌∙◌, ap, subst, append-nil, append_assoc, add-one, is_some}
+use Rattle.std.proofs.Common.{arith, ◌≡◌, ◌+◌, ◌-◌, ◌≤◌, ◌<◌, ℕ, zero, suc, Bool, true, false, List, [], ◌∷◌, ◌++◌, length, drop, get_or, Option, refl, sym, ◌∙◌, ap, subst, append-nil, append_assoc, add-one, is_some}
 use Rattle.std.proofs.Common.{drop-cons}
-use Rattle.std.proofs.lemmas.Bool.Decides.{nat_tests}
 use Rattle.mg_dev.specs.Files.{Files, Reads, file_at}
 use Rattle.mg_dev.specs.Streams.{GrewByPrefix}
 use Rattle.mg_dev.specs.StreamLaws.{grew_first}
 use Rattle.mg_dev.specs.declared.part.Part.{Part}
-use Rattle.mg_defs.specs.Split.{documents, has_open_end, joined}
-use Rattle.mg_defs.proofs.SplitLaws.{documents_split}
+use Rattle.mg_defs.specs.Split.{close, documents, has_open_end, is_closed, joined}
+use Rattle.mg_defs.proofs.SplitLaws.{documents_split, joined_next}
 use Rattle.mg_front.specs.Reading.{LookedAt}
 use Rattle.mg_text.specs.Decoding.{Shown}
 use Rattle.mg_text.specs.Reading.{SameText, TextReading, TextStands}
 use Rattle.mg_text.proofs.CallerLemmas.{shown_none, text_stays}
-use Rattle.mg_build.specs.Documents.{ShownFirst, close, is_closed}
+use Rattle.mg_build.specs.Documents.{ShownFirst}
 
 -- ---- calls that read
 
@@ -39,27 +38,6 @@ same_more a b c one two = record {
   documents = two.documents ∙ one.documents;
   size = two.size ∙ one.size;
 }
-
--- ---- the next document
-
--- a document and its byte, and then the others
-joined_next : (doc : List ℕ) (rest : List (List ℕ)) (open_end : Bool) (n all : ℕ) → n + length rest ≡ all → joined (doc ∷ rest) open_end ≡ doc ++ close (is_closed n all open_end) ++ joined rest open_end
-joined_next doc [] open_end n all is =
-    let last : (n == all) ≡ true = equal n all (omega (arith, is)) in
-    by_end open_end ∙ ap (λ b. doc ++ close (if b then not open_end else true) ++ []) (sym last)
-  where
-    equal : (a b : ℕ) → a ≡ b → (a == b) ≡ true
-    equal a b h = grind (arith, nat_tests)
-
-    by_end : (e : Bool) → doc ++ (if e then [] else 2 ∷ []) ≡ doc ++ close (not e) ++ []
-    by_end true = sym (append-nil (doc ++ []))
-    by_end false = sym (append-nil (doc ++ 2 ∷ []))
-joined_next doc (next ∷ rest) open_end n all is =
-    let more : (n == all) ≡ false = other n all (λ e. omega (arith, is, e)) in
-    sym (append_assoc doc (2 ∷ []) (joined (next ∷ rest) open_end)) ∙ ap (λ b. doc ++ close (if b then not open_end else true) ++ joined (next ∷ rest) open_end) (sym more)
-  where
-    other : (a b : ℕ) → a ≢ b → (a == b) ≡ false
-    other a b h = grind (arith, nat_tests)
 
 -- what stands for a reader does so for what the reader became, while the files stay
 pub stands_on : (r now : TextReading) (files files_now : Option Files) (collection : List ℕ) → SameText r now → files_now ≡ files → TextStands r files collection → TextStands now files_now collection

@@ -1,7 +1,7 @@
 -- Why a set is not made anew.
 use Rattle.std.proofs.Common.{◌≡◌, ◌≢◌, ◌≤◌, ◌∙◌, ℕ, List, [], Option, Some, Ok, Err, IsSome, refl, sym, ap, subst}
 use Rattle.mg_dev.specs.Causes.{Rose}
-use Rattle.mg_dev.specs.Faults.{fault_of_part}
+use Rattle.mg_dev.specs.Faults.{ReadStops, fault_of_part}
 use Rattle.mg_dev.specs.Files.{Files, bytes_at}
 use Rattle.mg_dev.specs.Names.{full_name}
 use Rattle.mg_dev.specs.declared.fault.Fault.{Fault}
@@ -16,14 +16,13 @@ use Rattle.mg_defs.specs.Stands.{head_of}
 use Rattle.mg_defs.proofs.HeadLaws.{one_head}
 use Rattle.mg_defs.proofs.StandLaws.{stand-tells}
 use Rattle.mg_layout.specs.HeadAnswers.{fields_of}
-use Rattle.mg_layout.specs.Stands.{Stands, StandsBy, StandsIn, parts_at}
+use Rattle.mg_layout.specs.Stands.{IsSetBy, Stands, StandsBy, StandsIn, parts_at}
 use Rattle.mg_layout.specs.declared.head.Head.{Head}
-use Rattle.mg_build.specs.Copying.{CopyStops}
-use Rattle.mg_build.specs.Migrating.{IsSetOf, MigrateStops}
+use Rattle.mg_build.specs.Migrating.{MigrateStops}
 use Rattle.mg_dev.specs.Runs.{IsDone}
 use Rattle.mg_build.specs.Outcomes.{DecodeStops}
 use Rattle.mg_build.proofs.PassLaws.{rose_behind}
-use Rattle.mg_build.proofs.StopLaws.{head_there}
+use Rattle.mg_layout.proofs.CallerLemmas.{head_there}
 
 -- a head that was refused
 pub head_refused : (refusal : PartErr) (rose : Type 0) (files : Option Files) (name new : List ℕ) → DecodeStops rose (Unit {0}) files name (fault_of_part refusal) → MigrateStops rose files name new (fault_of_part refusal)
@@ -33,7 +32,7 @@ head_refused (Bad bad) rose files name new stops = stops
 
 -- a set whose parts were not made
 pub set_refused : (refusal : Fault) (head : Head) (s t u : ℕ) (before middle : Option Files) (name new : List ℕ) → s ≤ t
-    → ((collection : List ℕ) → Stands before name collection → (code : TextCode) × StandsBy head code middle name collection) → CopyStops (Rose t u) (IsSetOf head middle name) refusal → MigrateStops (Rose s u) before name new refusal
+    → ((collection : List ℕ) → Stands before name collection → (code : TextCode) × StandsBy head code middle name collection) → ReadStops (Rose t u) (IsSetBy head middle name) refusal → MigrateStops (Rose s u) before name new refusal
 set_refused fault.Usage head s t u before middle name new up by stops = absurd stops
 set_refused fault.StoreFault head s t u before middle name new up by stops = rose_behind s t u up stops
 set_refused fault.ReadFault head s t u before middle name new up by stops = absurd stops

@@ -3,7 +3,7 @@ use Rattle.std.proofs.Common.{arith, ◌≡◌, ◌≢◌, ◌≤◌, ◌<◌, �
 use Rattle.std.specs.Option.{is_some}
 use Rattle.std.specs.declared.result.Result.{Result}
 use Rattle.mg_dev.specs.Causes.{HasPutCause, Rose}
-use Rattle.mg_dev.specs.Faults.{fault_of_store}
+use Rattle.mg_dev.specs.Faults.{ReadStops, fault_of_store}
 use Rattle.mg_dev.specs.Files.{AfterAppend, Files, GrewInPart, file_at, grown}
 use Rattle.mg_dev.specs.Names.{full_name, number}
 use Rattle.mg_dev.specs.declared.device.PutErr.{PutErr}
@@ -19,7 +19,7 @@ use Rattle.mg_layout.specs.Stands.{Stands, StandsBy, StandsForNone, StandsIn}
 use Rattle.mg_layout.specs.declared.head.Head as layout
 use Rattle.mg_make.specs.Putting.{IsUnbuilt, LacksOnlyHead}
 use Rattle.mg_make.specs.Outcomes.{Left}
-use Rattle.mg_build.specs.Copying.{ChangedAlone, CopyStops}
+use Rattle.mg_build.specs.Copying.{ChangedAlone}
 use Rattle.mg_build.proofs.CopyLaws.{append_alone}
 use Rattle.mg_build.proofs.MigrateLaws.{part_stays}
 
@@ -103,6 +103,6 @@ left_unbuilt new collection before now told none (inr gone) = inr (inl (none new
 pub left_built : (new collection : List ℕ) (cap : ℕ) (before now : Option Files) → StandsIn 2 cap now new collection → Left new before now collection
 left_built new collection cap before now is = inr (inr (record { told = is.told; stand = record { version = 2; cap = cap; code = is.code; are = is.are } }))
 
-pub head_stops : (a b c : ℕ) (error : PutErr) (whole : Type 0) → a ≤ b → HasPutCause {T = Unit {0}} b c (Err error) → CopyStops (Rose a c) whole (fault_of_store error)
+pub head_stops : (a b c : ℕ) (error : PutErr) (whole : Type 0) → a ≤ b → HasPutCause {T = Unit {0}} b c (Err error) → ReadStops (Rose a c) whole (fault_of_store error)
 head_stops a b c put_err.Failed whole up cause = omega (arith, up, cause.failed refl)
 head_stops a b c put_err.Memory whole up cause = tt

@@ -7,13 +7,13 @@ use Rattle.mg_bits.specs.Pages.{IsFilled}
 use Rattle.mg_defs.specs.Numbers.{eight, four, four_at}
 use Rattle.mg_defs.proofs.NumberLaws.{four_back}
 use Rattle.mg_dev.specs.Causes.{Rose}
-use Rattle.mg_dev.specs.Faults.{fault_of_part}
+use Rattle.mg_dev.specs.Faults.{ReadStops, fault_of_part}
 use Rattle.mg_dev.specs.PartCauses.{IsCaused}
 use Rattle.mg_dev.specs.declared.part.Part.TheVariants.{Places}
 use Rattle.mg_dev.specs.declared.part_err.PartErr.{PartErr}
 use Rattle.mg_dev.specs.declared.part_err.PartErr.TheVariants.{Bad, Device, Memory}
 use Rattle.mg_layout.specs.Sizes.{AnswersSize}
-use Rattle.mg_build.specs.Copying.{AreNarrow, CopyStops, HasFour}
+use Rattle.mg_build.specs.Copying.{AreNarrow, HasFour}
 
 four_long : (n : ℕ) → length (four n) ≡ 4
 unfolding four
@@ -75,7 +75,7 @@ narrow_long numbers bytes count are = omega (arith, ap length are.bytes_are, nar
 -- ---- why numbers are not widened
 
 pub size_stops : (refusal : PartErr) (a b n count : ℕ) (bytes : List ℕ) (told : Type 0) → n ≡ count → (told → AnswersSize Places (4 * n) bytes (Err refusal)) → IsCaused {T = Unit {0}} a b (Err refusal)
-    → CopyStops (Rose a b) (told × (numbers : List ℕ) × AreNarrow numbers bytes count) (fault_of_part refusal)
+    → ReadStops (Rose a b) (told × (numbers : List ℕ) × AreNarrow numbers bytes count) (fault_of_part refusal)
 size_stops Device a b n count bytes told same answer caused = caused
 size_stops Memory a b n count bytes told same answer caused = tt
 size_stops (Bad bad) a b n count bytes told same answer caused = λ is. (answer is.0).0 (narrow_long is.1 bytes count is.2 ∙ ap (λ k. 4 * k) (sym same))

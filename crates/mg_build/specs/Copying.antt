@@ -4,27 +4,17 @@ use Rattle.std.specs.List.{All, flat_map}
 use Rattle.std.specs.Option.{IsSome, is_some}
 use Rattle.std.specs.declared.option.Option.{Option}
 use Rattle.std.specs.declared.result.Result.{Result}
-use Rattle.mg_dev.specs.Files.{Files, bytes_at, file_at}
+use Rattle.mg_dev.specs.Files.{Files, bytes_at, file_at, file_bytes, part_bytes}
 use Rattle.mg_dev.specs.Names.{full_name}
 use Rattle.mg_dev.specs.declared.file_ref.FileRef.{FileRef}
 use Rattle.mg_dev.specs.declared.part.Part.TheVariants.{Places}
-use Rattle.mg_dev.specs.declared.fault.Fault.{Fault}
-use Rattle.mg_dev.specs.declared.fault.Fault.TheVariants.{Damaged, Memory, StoreFault}
 use Rattle.mg_bits.specs.Writer.{Writing, put_to}
 use Rattle.mg_defs.specs.Numbers.{eight, four}
-use Rattle.mg_model.specs.Loading.{file_bytes}
 
 -- no file but the one of this name changed
 pub record ChangedAlone (name : List ℕ) (before now : Option Files) : Type 0 where
   pub told : is_some now ≡ is_some before
   pub others : (n : List ℕ) → n ≢ name → file_at now n ≡ file_at before n
-
--- why copying stops: as damaged only where the parts are not whole
-abbrev pub CopyStops : Type 0 → Type 0 → Fault → Type 0
-CopyStops store_rose whole StoreFault = store_rose
-CopyStops store_rose whole (Damaged bad) = whole → ⊥
-CopyStops store_rose whole Memory = Unit {0}
-CopyStops store_rose whole _ = ⊥
 
 -- so many numbers below 2 ^ 32, in four bytes each
 pub record AreNarrow (numbers bytes : List ℕ) (count : ℕ) : Type 0 where
@@ -58,12 +48,12 @@ HasSomeFour files name index = IsSome files × (number : ℕ) × HasFour (bytes_
 
 -- where the store tells its files, this is so of the numbers, so many, whose four bytes each the places of a base are
 abbrev pub ForNarrow : Option Files → List ℕ → ℕ → (List ℕ → Type 0) → Type 0
-ForNarrow files base count holds = IsSome files → (numbers : List ℕ) → AreNarrow numbers (bytes_at files (full_name base Places)) count → holds numbers
+ForNarrow files base count holds = IsSome files → (numbers : List ℕ) → AreNarrow numbers (part_bytes base Places files) count → holds numbers
 
 -- the store tells its files, and there are such numbers
 abbrev pub AreSomeNarrow : Option Files → List ℕ → ℕ → Type 0
-AreSomeNarrow files base count = IsSome files × (numbers : List ℕ) × AreNarrow numbers (bytes_at files (full_name base Places)) count
+AreSomeNarrow files base count = IsSome files × (numbers : List ℕ) × AreNarrow numbers (part_bytes base Places files) count
 
 -- the places of a base are these numbers in eight bytes each
 abbrev pub AreWide : Option Files → List ℕ → List ℕ → Type 0
-AreWide files base numbers = bytes_at files (full_name base Places) ≡ flat_map eight numbers
+AreWide files base numbers = part_bytes base Places files ≡ flat_map eight numbers

@@ -1,17 +1,16 @@
 -- What a run of `decode NAME` does.
-use Rattle.std.specs.Prelude.{◌≡◌, ◌⊎◌, ◌≤◌, ℕ, List, [], IsSome}
+use Rattle.std.specs.Prelude.{◌≡◌, ◌⊎◌, ◌≤◌, ℕ, List, IsSome}
 use Rattle.std.specs.declared.option.Option.{Option}
 use Rattle.std.specs.declared.result.Result.{Result}
-use Rattle.mg_dev.specs.Files.{Files, Reads, bytes_at}
+use Rattle.mg_dev.specs.Files.{Files, Reads}
 use Rattle.mg_dev.specs.Moments.{SinkAt, SourceAt, sink_at, store_at}
-use Rattle.mg_dev.specs.Names.{full_name, number}
+use Rattle.mg_dev.specs.Names.{number}
 use Rattle.mg_dev.specs.Streams.{appended, GrewByPrefix}
 use Rattle.mg_dev.specs.declared.part.Part.{Part}
-use Rattle.mg_dev.specs.declared.part.Part.TheVariants as part
 use Rattle.mg_dev.specs.declared.fault.Fault.{Fault}
 use Rattle.mg_dev.specs.declared.fault.Fault.TheVariants.{NotBuilt, Memory}
 use Rattle.mg_dev.specs.declared.status.Status.TheVariants.{Done}
-use Rattle.mg_layout.specs.Stands.{Stands}
+use Rattle.mg_layout.specs.Stands.{HasNoHead, Stands}
 use Rattle.mg_build.specs.Outcomes.{DecodeStops}
 use Rattle.mg_dev.specs.Runs.{IfStopped, Run, StoreFailed, OutputFailed, SaysNothing, KeepsFiles, Stops, StopsUnless, status_of}
 
@@ -25,7 +24,7 @@ pub record Decoded (base : List ℕ) (run : Run) : Type 0 where
   pub silent : Stops run NotBuilt → SaysNothing run
   -- the cause of every other status; 5 comes exactly where it has it, unless the store fails or memory is wanting
   pub cause : IfStopped run.status (DecodeStops (StoreFailed run) (OutputFailed run) run.store.files base)
-  pub not_built : IsSome run.store.files → bytes_at run.store.files (full_name base part.Head) ≡ [] → StopsUnless run NotBuilt
+  pub not_built : IsSome run.store.files → HasNoHead run.store.files base → StopsUnless run NotBuilt
   -- where the files stand and no device fails, it is done, or memory is wanting
   pub complete : (collection : List ℕ) → Stands run.store.files base collection → ¬ StoreFailed run → ¬ OutputFailed run
       → (run.status ≡ Done) ⊎ Stops run Memory

@@ -1,20 +1,12 @@
 -- Documents one after the other, with the bytes that close them.
-use Rattle.std.specs.Prelude.{◌≡◌, ◌==◌, ◌-◌, ℕ, Bool, true, not, if◌then◌else◌, List, [], ◌∷◌, ◌++◌, drop, get_or}
+use Rattle.std.specs.Prelude.{◌≡◌, ◌-◌, ℕ, Bool, List, [], ◌++◌, drop, get_or}
 use Rattle.std.specs.declared.option.Option.{Option}
 use Rattle.std.specs.declared.result.Result.{Result}
 use Rattle.mg_dev.specs.Files.{Files}
 use Rattle.mg_dev.specs.declared.show_err.ShowErr.{ShowErr}
-use Rattle.mg_defs.specs.Split.{documents, has_open_end, joined}
+use Rattle.mg_defs.specs.Split.{close, documents, has_open_end, joined}
 use Rattle.mg_text.specs.Decoding.{Gathers, Shown}
 use Rattle.mg_text.specs.Reading.{TextReading, TextStands}
-
--- whether a byte closes document n of so many: the last one has none where the end is open
-abbrev pub is_closed : ℕ → ℕ → Bool → Bool
-is_closed n all open_end = if n == all then not open_end else true
-
--- the byte that closes a document
-abbrev pub close : Bool → List ℕ
-close closed = if closed then 2 ∷ [] else []
 
 -- The first documents of a collection were shown or are held: the others follow.
 pub record ShownFirst (count : ℕ) (before now : Option (List ℕ)) (held collection : List ℕ) : Type 0 where

@@ -1,15 +1,12 @@
 -- What making a set anew does to its store, and why it stops.
-use Rattle.std.specs.Prelude.{◌≡◌, ◌≢◌, ◌⊎◌, ℕ, List, [], IsSome}
-use Rattle.mg_dev.specs.Files.{bytes_at}
+use Rattle.std.specs.Prelude.{◌≡◌, ◌≢◌, ◌⊎◌, ℕ, List, IsSome}
 use Rattle.mg_dev.specs.Moments.{StoreAt, StoreRose, KeptFiles}
-use Rattle.mg_dev.specs.Names.{full_name}
 use Rattle.mg_dev.specs.Runs.{IfStopped, StoppedFor}
-use Rattle.mg_dev.specs.declared.part.Part.TheVariants as part
 use Rattle.mg_dev.specs.declared.fault.Fault.{Fault}
 use Rattle.mg_dev.specs.declared.fault.Fault.TheVariants.{NotBuilt, Memory, SameName}
 use Rattle.mg_dev.specs.declared.status.Status.{Status}
 use Rattle.mg_dev.specs.declared.status.Status.TheVariants.{Done, Stopped}
-use Rattle.mg_layout.specs.Stands.{Stands, StandsIn}
+use Rattle.mg_layout.specs.Stands.{HasNoHead, Stands, StandsIn}
 use Rattle.mg_make.specs.Putting.{OthersSame}
 use Rattle.mg_make.specs.Outcomes.{AreMadeAnew, Left}
 use Rattle.mg_build.specs.Migrating.{ComesFirst, MigrateStops}
@@ -28,7 +25,7 @@ pub record MadeAnew (name new : List ℕ) (store store_now : StoreAt) (status : 
   pub cause : IfStopped status (MigrateStops (StoreRose store store_now) store.files name new)
   -- 16 comes exactly where it has it, and behind it 5, unless the store fails or memory is wanting
   pub same : new ≡ name → status ≡ Stopped SameName
-  pub not_built : IsSome store.files → new ≢ name → bytes_at store.files (full_name name part.Head) ≡ [] → StoppedFor status NotBuilt
+  pub not_built : IsSome store.files → new ≢ name → HasNoHead store.files name → StoppedFor status NotBuilt
   -- where the set stands, the names differ and the store does not fail, it is done, or memory is wanting
   pub complete : (collection : List ℕ) → Stands store.files name collection → new ≢ name → ¬ StoreRose store store_now
       → (status ≡ Done) ⊎ (status ≡ Stopped Memory)

@@ -10,8 +10,7 @@ use Rattle.mg_dev.specs.declared.fault.Fault.TheVariants.{Damaged, Memory, NotBu
 use Rattle.mg_dev.specs.declared.part.Part.{Part}
 use Rattle.mg_dev.specs.declared.part.Part.TheVariants.{Head, Lex, LexAt, MergeA, MergeB, Nonwords, Places, Post, Run, Skip, Text, Weights, Words}
 use Rattle.mg_defs.specs.CodedText.{TextCode, places_part}
-use Rattle.mg_layout.specs.Stands.{StandsBy, StandsForNone, StandsIn}
-use Rattle.mg_layout.specs.declared.head.Head as layout
+use Rattle.mg_layout.specs.Stands.{HasNoHead, StandsForNone, StandsIn}
 use Rattle.mg_make.specs.Putting.{LacksOnlyHead}
 
 -- the parts that are the same in both versions, by an index
@@ -48,14 +47,10 @@ pub record AreEmptied (files : Option Files) (base : List ℕ) : Type 0 where
   pub merge_a : file_at files (full_name base MergeA) ≡ Some []
   pub merge_b : file_at files (full_name base MergeB) ≡ Some []
 
--- the files of a base stand for some collection, by this head
-abbrev pub IsSetOf : layout.Head → Option Files → List ℕ → Type 0
-IsSetOf head files base = (code : TextCode) × (collection : List ℕ) × StandsBy head code files base collection
-
 -- the cause of each refusal, by the files as the call began
 abbrev pub MigrateStops : Type 0 → Option Files → List ℕ → List ℕ → Fault → Type 0
 MigrateStops store_rose files name new StoreFault = store_rose
-MigrateStops store_rose files name new NotBuilt = IsSome files → bytes_at files (full_name name Head) ≡ []
+MigrateStops store_rose files name new NotBuilt = IsSome files → HasNoHead files name
 MigrateStops store_rose files name new (Damaged bad) = StandsForNone files name
 MigrateStops store_rose files name new Memory = Unit {0}
 MigrateStops store_rose files name new SameName = new ≡ name
@@ -68,10 +63,6 @@ ComesFirst NotBuilt = Unit {0}
 ComesFirst _ = ⊥
 
 -- ---- words for contracts
-
--- a base has no head, or an empty one
-abbrev pub HasNoHead : Option Files → List ℕ → Type 0
-HasNoHead files base = bytes_at files (full_name base Head) ≡ []
 
 -- this is so of each collection that the files of a base stand for, in either version, and of its cap
 abbrev pub ForSetIn : Option Files → List ℕ → (ℕ → List ℕ → Type 0) → Type 0

@@ -1,26 +1,24 @@
 -- Why a call on a whole set stops.
-use Rattle.std.specs.Prelude.{◌≡◌, ℕ, List, [], Ok, Err}
+use Rattle.std.specs.Prelude.{◌≡◌, ℕ, List, Ok, Err}
 use Rattle.std.specs.Option.{IsSome}
 use Rattle.std.specs.declared.option.Option.{Option}
 use Rattle.std.specs.declared.result.Result.{Result}
 use Rattle.mg_dev.specs.Causes.{Rose}
-use Rattle.mg_dev.specs.Files.{Files, bytes_at}
-use Rattle.mg_dev.specs.Names.{full_name}
+use Rattle.mg_dev.specs.Files.{Files}
 use Rattle.mg_dev.specs.Runs.{IsDone}
 use Rattle.mg_dev.specs.declared.fault.Fault.{Fault}
 use Rattle.mg_dev.specs.declared.fault.Fault.TheVariants.{Damaged, Memory, NotBuilt, StoreFault, WriteFault}
-use Rattle.mg_dev.specs.declared.part.Part.TheVariants.{Head}
 use Rattle.mg_dev.specs.declared.part_err.PartErr.TheVariants as part
 use Rattle.mg_dev.specs.declared.show_err.ShowErr.{ShowErr}
 use Rattle.mg_dev.specs.declared.show_err.ShowErr.TheVariants as show
-use Rattle.mg_layout.specs.Stands.{StandsForNone}
+use Rattle.mg_layout.specs.Stands.{HasNoHead, StandsForNone}
 use Rattle.mg_make.specs.Outcomes.{Fails}
 
 -- the cause of each refusal of a decoding
 abbrev pub DecodeStops : Type 0 → Type 0 → Option Files → List ℕ → Fault → Type 0
 DecodeStops store_rose output_rose files base StoreFault = store_rose
 DecodeStops store_rose output_rose files base WriteFault = output_rose
-DecodeStops store_rose output_rose files base NotBuilt = IsSome files → bytes_at files (full_name base Head) ≡ []
+DecodeStops store_rose output_rose files base NotBuilt = IsSome files → HasNoHead files base
 DecodeStops store_rose output_rose files base (Damaged bad) = StandsForNone files base
 DecodeStops store_rose output_rose files base Memory = Unit {0}
 DecodeStops store_rose output_rose files base _ = ⊥

@@ -1,6 +1,6 @@
 -- A collection's file: what contracts see of a reader of its bytes.
-use Rattle.std.specs.Prelude.{◌≡◌, ◌≢◌, ◌<◌, ℕ, List, length, take, None, Some}
-use Rattle.std.specs.Option.{IsSome, option_map}
+use Rattle.std.specs.Prelude.{◌≡◌, ◌≢◌, ◌<◌, ℕ, List, length, take, None}
+use Rattle.std.specs.Option.{IsSome}
 use Rattle.std.specs.declared.option.Option.{Option}
 use Rattle.mg_bits.specs.Pages.{Paging}
 use Rattle.mg_dev.specs.Files.{Files, bytes_at, file_at}
@@ -12,10 +12,6 @@ use Rattle.mg_make.specs.Outcomes.{most_bytes}
 pub record Sourcing : Type 0 where
   pub feed : Paging
   pub size : ℕ
-
--- where the file is told, it is there and has so many bytes
-abbrev pub HasSize : Option Files → List ℕ → ℕ → Type 0
-HasSize files name size = IsSome files → ◌≡◌ {A = Option ℕ} (Some size) (option_map length (file_at files name))
 
 -- why a collection is not opened
 abbrev pub OpenStops : Type 0 → Option Files → List ℕ → Fault → Type 0

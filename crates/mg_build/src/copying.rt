@@ -1,10 +1,11 @@
 //! A part of one base made from that of another: copied, or with wider numbers.
 ghost use Rattle.std.specs.Prelude.{◌≡◌, ◌≢◌, ◌≤◌, ◌<◌, IfErr, IfOk, OnOk, IsSome, length};
 ghost use Rattle.mg_dev.specs.Causes.{Rose};
+ghost use Rattle.mg_dev.specs.Faults.{ReadStops};
+ghost use Rattle.mg_dev.specs.Files.{file_bytes};
 ghost use Rattle.mg_dev.specs.Names.{full_name};
 ghost use Rattle.mg_dev.specs.declared.part.Part.TheVariants.{Plain};
-ghost use Rattle.mg_model.specs.Loading.{file_bytes};
-ghost use Rattle.mg_build.specs.Copying.{ChangedAlone, CopyStops, HasCopied};
+ghost use Rattle.mg_build.specs.Copying.{ChangedAlone, HasCopied};
 ghost use Rattle.mg_build.specs.Migrating.{IsCopied};
 
 use mg_dev::{Bad, Fault, FileRef, Part, Store};
@@ -25,7 +26,7 @@ fn copy_block<S: Store>(
     ensures within { IfOk result (λ n. n ≤ rest) }
     ensures alone { ChangedAlone (full_name to.now.base.now to.now.part) (S.files store.old) (S.files store.new) }
     ensures room { length block.new ≡ length block.old }
-    ensures refused { IfErr result (CopyStops (Rose (S.faults store.old) (S.faults store.new)) (Unit {0})) }
+    ensures refused { IfErr result (ReadStops (Rose (S.faults store.old) (S.faults store.new)) (Unit {0})) }
     ensures later { S.faults store.old ≤ S.faults store.new }
 {
     let read = match store.read_at(from, at, block) {
@@ -53,7 +54,7 @@ pub(crate) fn copy_part<S: Store>(
     ensures copied { IsSome (S.files store.old) → OnOk result (IsCopied name.now new.now (S.files store.old) (S.files store.new) part) }
     ensures alone { ChangedAlone (full_name new.now part) (S.files store.old) (S.files store.new) }
     ensures room { length block.new ≡ length block.old }
-    ensures refused { IfErr result (CopyStops (Rose (S.faults store.old) (S.faults store.new)) (IsSome (S.files store.old))) }
+    ensures refused { IfErr result (ReadStops (Rose (S.faults store.old) (S.faults store.new)) (IsSome (S.files store.old))) }
     ensures later { S.faults store.old ≤ S.faults store.new }
 {
     let from = FileRef { base: name, part };

@@ -1,6 +1,7 @@
 //! The collection of a set.
 ghost use Rattle.std.specs.Prelude.{◌≡◌, ◌⊎◌, ◌≤◌, ◌^◌, ℕ, List, [], IfErr, IsSome, Err};
 ghost use Rattle.mg_dev.specs.Causes.{Rose};
+ghost use Rattle.mg_dev.specs.Each.{ForEach};
 ghost use Rattle.mg_dev.specs.Files.{bytes_at};
 ghost use Rattle.mg_dev.specs.Names.{full_name, number};
 ghost use Rattle.mg_dev.specs.Runs.{RefusedFor};
@@ -8,11 +9,10 @@ ghost use Rattle.mg_dev.specs.Streams.{AfterPut};
 ghost use Rattle.mg_dev.specs.declared.fault.Fault.TheVariants as fault;
 ghost use Rattle.mg_dev.specs.declared.part.Part.{Part as AnyPart};
 ghost use Rattle.mg_dev.specs.declared.part.Part.TheVariants as part;
-ghost use Rattle.mg_layout.specs.Stands.{Stands};
+ghost use Rattle.mg_layout.specs.Stands.{ForSetBy, Stands};
 ghost use Rattle.mg_text.specs.Decoding.{Added};
 ghost use Rattle.mg_text.specs.Reading.{ShowIsNotBad};
-ghost use Rattle.mg_make.specs.Each.{ForEach};
-ghost use Rattle.mg_make.specs.Outcomes.{Fails, ForSetBy};
+ghost use Rattle.mg_make.specs.Outcomes.{Fails};
 ghost use Rattle.mg_build.specs.Decoded.{DecodesSet};
 ghost use Rattle.mg_build.specs.Outcomes.{DecodeStops, DoneUnlessFails, ShowRefused};
 

@@ -3,28 +3,13 @@ ghost use Rattle.std.specs.Prelude.{◌≡◌, ◌+◌, ◌-◌, ◌≤◌, ℕ,
 ghost use Rattle.mg_dev.specs.Moments.{Between};
 ghost use Rattle.mg_dev.specs.Streams.{AfterPut};
 ghost use Rattle.mg_dev.specs.declared.part.Part.TheVariants as part;
-ghost use Rattle.mg_dev.specs.Faults.{show_of_put};
 ghost use Rattle.mg_front.specs.Reading.{LookedAt};
 ghost use Rattle.mg_text.specs.Decoding.{Added, IsShowCaused};
 ghost use Rattle.mg_text.specs.Reading.{SameText, ShowIsNotBad, TextFits, TextStands};
-ghost use Rattle.mg_build.specs.Documents.{IfShown, ForTextEnding, GathersClosed, is_closed};
+ghost use Rattle.mg_build.specs.Documents.{IfShown, ForTextEnding, GathersClosed};
 
-use mg_dev::{PutErr, ShowErr, Sink, Store};
-use mg_text::{ShowBuffer, TextReader};
-
-// Whether a byte closes this document of so many.
-fn is_closed(number: u32, documents: u32, open_end: bool) -> bool
-    ensures { result ≡ is_closed number documents open_end }
-{
-    if number == documents { !open_end } else { true }
-}
-
-// A sink's refusal.
-fn refused_put(refusal: PutErr) -> ShowErr
-    ensures { result ≡ show_of_put refusal }
-{
-    ShowErr::from(refusal)
-}
+use mg_dev::{ShowErr, Sink, Store, refused_put};
+use mg_text::{ShowBuffer, TextReader, is_closed};
 
 /// Gathers a document and, where it is closed, the byte that closes it.
 fn gather_closed<S: Store, O: Sink>(

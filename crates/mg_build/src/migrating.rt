@@ -4,6 +4,8 @@
 //! emptied first and appended last, so that what is left in between stands for no collection.
 ghost use Rattle.std.specs.Prelude.{◌≡◌, ◌≢◌, ◌≤◌, ◌+◌, ℕ, List, IfErr, IfOk, OnOk, IsSome, Err, Some, length};
 ghost use Rattle.mg_dev.specs.Causes.{Rose};
+ghost use Rattle.mg_dev.specs.Each.{ForEach};
+ghost use Rattle.mg_dev.specs.Faults.{ReadStops};
 ghost use Rattle.mg_dev.specs.Files.{file_at};
 ghost use Rattle.mg_dev.specs.Names.{full_name};
 ghost use Rattle.mg_dev.specs.Runs.{IsDone, RefusedFor, status_of};
@@ -13,13 +15,12 @@ ghost use Rattle.mg_dev.specs.declared.part.Part.TheVariants as part;
 ghost use Rattle.mg_defs.specs.Heads.{IsWithin};
 ghost use Rattle.mg_defs.specs.Split.{documents};
 ghost use Rattle.mg_layout.specs.HeadAnswers.{fields_of};
-ghost use Rattle.mg_layout.specs.Stands.{Stands, StandsIn};
-ghost use Rattle.mg_make.specs.Each.{ForEach};
+ghost use Rattle.mg_layout.specs.Stands.{ForSetBy, HasNoHead, IsSetBy, Stands, StandsIn};
 ghost use Rattle.mg_make.specs.Putting.{IsEmptied, IsUnbuilt, OthersSame};
-ghost use Rattle.mg_make.specs.Outcomes.{BetweenMoments, Fails, ForSetBy, Left};
-ghost use Rattle.mg_build.specs.Copying.{ChangedAlone, CopyStops};
+ghost use Rattle.mg_make.specs.Outcomes.{BetweenMoments, Fails, Left};
+ghost use Rattle.mg_build.specs.Copying.{ChangedAlone};
 ghost use Rattle.mg_build.specs.MadeAnew.{MadeAnew};
-ghost use Rattle.mg_build.specs.Migrating.{AreCopied, AreEmptied, ComesFirst, ForSetIn, HasNoHead, HasWidePlaces, IsMadeAnew, IsSetOf, MigrateStops, ReadyForHead};
+ghost use Rattle.mg_build.specs.Migrating.{AreCopied, AreEmptied, ComesFirst, ForSetIn, HasWidePlaces, IsMadeAnew, MigrateStops, ReadyForHead};
 
 use crate::copying::copy_part;
 use crate::widening::widen_places;
@@ -111,7 +112,7 @@ fn copy_parts<S: Store>(store: &mut S, name: &str, new: &str, block: &mut [u8]) 
     ensures others { OthersSame new.now (S.files store.old) (S.files store.new) }
     ensures kept { (p : AnyPart) → IsMadeAnew p → file_at (S.files store.new) (full_name new.now p) ≡ file_at (S.files store.old) (full_name new.now p) }
     ensures room { length block.new ≡ length block.old }
-    ensures refused { IfErr result (CopyStops (Rose (S.faults store.old) (S.faults store.new)) (IsSome (S.files store.old))) }
+    ensures refused { IfErr result (ReadStops (Rose (S.faults store.old) (S.faults store.new)) (IsSome (S.files store.old))) }
     ensures later { S.faults store.old ≤ S.faults store.new }
 {
     // By this law no part of one base is a part of the other.
@@ -142,7 +143,7 @@ fn copy_places<S: Store>(
     ensures places { ForSetBy head.now (S.files store.old) name.now (λ code collection. OnOk result (HasWidePlaces (S.files store.new) new.now code collection)) }
     ensures alone { ChangedAlone (full_name new.now part.Places) (S.files store.old) (S.files store.new) }
     ensures room { length block.new ≡ length block.old }
-    ensures refused { IfErr result (CopyStops (Rose (S.faults store.old) (S.faults store.new)) (IsSetOf head.now (S.files store.old) name.now)) }
+    ensures refused { IfErr result (ReadStops (Rose (S.faults store.old) (S.faults store.new)) (IsSetBy head.now (S.files store.old) name.now)) }
     ensures later { S.faults store.old ≤ S.faults store.new }
 {
     if head.version == 1 {
@@ -157,7 +158,7 @@ fn empty_parts<S: Store>(store: &mut S, new: &str) -> Result<(), Fault>
     ensures emptied { IsSome (S.files store.old) → OnOk result (AreEmptied (S.files store.new) new.now) }
     ensures unbuilt { IsUnbuilt new.now (S.files store.old) (S.files store.new) }
     ensures others { OthersSame new.now (S.files store.old) (S.files store.new) }
-    ensures refused { IfErr result (CopyStops (Rose (S.faults store.old) (S.faults store.new)) (Unit {0})) }
+    ensures refused { IfErr result (ReadStops (Rose (S.faults store.old) (S.faults store.new)) (Unit {0})) }
     ensures later { S.faults store.old ≤ S.faults store.new }
 {
     let head = FileRef {
@@ -201,7 +202,7 @@ fn make_parts<S: Store>(
     ensures ready { ForSetBy head.now (S.files store.old) name.now (ReadyForHead new.now head.now.cap (S.files store.new) result) }
     ensures unbuilt { IsUnbuilt new.now (S.files store.old) (S.files store.new) }
     ensures others { OthersSame new.now (S.files store.old) (S.files store.new) }
-    ensures refused { IfErr result (CopyStops (Rose (S.faults store.old) (S.faults store.new)) (IsSetOf head.now (S.files store.old) name.now)) }
+    ensures refused { IfErr result (ReadStops (Rose (S.faults store.old) (S.faults store.new)) (IsSetBy head.now (S.files store.old) name.now)) }
     ensures later { S.faults store.old ≤ S.faults store.new }
 {
     // By these laws the set under the other base stays as it is.
@@ -234,7 +235,7 @@ fn make_set<S: Store>(
     ensures merge_b { ForSetBy head.now (S.files store.old) name.now (λ _ _. OnOk result (IsEmptied (S.files store.new) new.now part.MergeB)) }
     ensures left { ForSetBy head.now (S.files store.old) name.now (λ _ collection. Left new.now (S.files store.old) (S.files store.new) collection) }
     ensures others { OthersSame new.now (S.files store.old) (S.files store.new) }
-    ensures refused { IfErr result (CopyStops (Rose (S.faults store.old) (S.faults store.new)) (IsSetOf head.now (S.files store.old) name.now)) }
+    ensures refused { IfErr result (ReadStops (Rose (S.faults store.old) (S.faults store.new)) (IsSetBy head.now (S.files store.old) name.now)) }
     ensures later { S.faults store.old ≤ S.faults store.new }
 {
     // By these laws a set stands with its whole head, and with an empty one for no collection.

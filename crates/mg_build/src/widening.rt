@@ -1,10 +1,11 @@
 //! Numbers of four bytes as numbers of eight.
 ghost use Rattle.std.specs.Prelude.{◌≡◌, ◌≢◌, ◌≤◌, ◌<◌, ◌*◌, IfErr, OnOk};
+ghost use Rattle.mg_dev.specs.Faults.{ReadStops};
 ghost use Rattle.mg_dev.specs.Names.{full_name};
 ghost use Rattle.mg_dev.specs.declared.part.Part.TheVariants.{Places};
 ghost use Rattle.mg_bits.specs.Pages.{Fits, SameFile};
 ghost use Rattle.mg_make.specs.Outcomes.{Fails};
-ghost use Rattle.mg_build.specs.Copying.{AreSomeNarrow, AreWide, ChangedAlone, CopyStops, ForNumberAt, ForNarrow, HasSomeFour, PutsEight};
+ghost use Rattle.mg_build.specs.Copying.{AreSomeNarrow, AreWide, ChangedAlone, ForNumberAt, ForNarrow, HasSomeFour, PutsEight};
 
 use mg_bits::{PageFeed, PageWriter};
 use mg_dev::{Bad, Fault, FileRef, Part, Store};
@@ -27,7 +28,7 @@ fn widen_one<S: Store>(
     ensures file { SameFile places.old places.new }
     ensures name { wide.new.name ≡ wide.old.name }
     ensures alone { ChangedAlone wide.old.name (S.files store.old) (S.files store.new) }
-    ensures refused { IfErr result (CopyStops (Fails S.faults store.old store.new) (HasSomeFour (S.files store.old) places.old.name index)) }
+    ensures refused { IfErr result (ReadStops (Fails S.faults store.old store.new) (HasSomeFour (S.files store.old) places.old.name index)) }
     ensures later { S.faults store.old ≤ S.faults store.new }
 {
     let mut bytes = [0u8; 4];
@@ -63,7 +64,7 @@ pub(crate) fn widen_places<S: Store>(
     requires apart { new.now ≢ name.now }
     ensures widened { ForNarrow (S.files store.old) name.now count (λ numbers. OnOk result (AreWide (S.files store.new) new.now numbers)) }
     ensures alone { ChangedAlone (full_name new.now Places) (S.files store.old) (S.files store.new) }
-    ensures refused { IfErr result (CopyStops (Fails S.faults store.old store.new) (AreSomeNarrow (S.files store.old) name.now count)) }
+    ensures refused { IfErr result (ReadStops (Fails S.faults store.old store.new) (AreSomeNarrow (S.files store.old) name.now count)) }
     ensures later { S.faults store.old ≤ S.faults store.new }
 {
     let from = FileRef {

@@ -2,7 +2,8 @@ use Rattle.std.proofs.Common.{◌∙◌}
 use Rattle.mg_dev.specs.Faults.{fault_of_part, fault_of_show}
 use Rattle.mg_dev.specs.StreamLaws.{grew_nothing}
 use Rattle.mg_text.proofs.CallerLemmas.{added_none}
-use Rattle.mg_build.proofs.StopLaws.{bad_head, decode_stops, done, head_there, no_empty_head, no_head, read_same, some_head, stands_loaded}
+use Rattle.mg_build.proofs.StopLaws.{bad_head, decode_stops, done, no_head, read_same, some_head, stands_loaded}
+use Rattle.mg_layout.proofs.CallerLemmas.{head_there, no_empty_head}
 use Rattle.mg_build.proofs.decoding.decode_files.Goals as goal
 
 pub returns-in-Err-clause-content : goal.returns-in-Err-clause-content

@@ -1,10 +1,10 @@
 use Rattle.std.proofs.Common.{arith, ◌≡◌, ◌≤◌, ◌∙◌, inr, ap, refl, sym, subst}
 use Rattle.mg_dev.specs.Causes.{Rose}
+use Rattle.mg_dev.specs.Faults.{ReadStops}
 use Rattle.mg_dev.specs.Names.{full_name, number}
 use Rattle.mg_dev.specs.declared.part.Part.TheVariants.{Head}
 use Rattle.mg_layout.specs.HeadAnswers.{fields_of}
-use Rattle.mg_build.specs.Copying.{CopyStops}
-use Rattle.mg_build.specs.Migrating.{IsSetOf}
+use Rattle.mg_layout.specs.Stands.{IsSetBy}
 use Rattle.mg_build.proofs.CopyLaws.{append_alone}
 use Rattle.mg_build.proofs.MigrateLaws.{others_of_part}
 use Rattle.mg_build.proofs.WideLaws.{head_stops, left_built, left_unbuilt, merge_a_stays, merge_b_stays, wide_grown, wide_in_part, wide_within}
@@ -66,6 +66,6 @@ returns-clause-others g c =
 
 pub returns-clause-refused : goal.returns-clause-refused
 returns-clause-refused g c =
-    let whole = IsSetOf c.args.head.now (g.S.Store.files c.args.store.now) c.args.name.now in
-    subst (λ f. CopyStops (Rose (g.S.Store.faults c.args.store.now) (g.S.Store.faults c.write.new.store)) whole f) (sym c.of_store.ensures)
+    let whole = IsSetBy c.args.head.now (g.S.Store.files c.args.store.now) c.args.name.now in
+    subst (λ f. ReadStops (Rose (g.S.Store.faults c.args.store.now) (g.S.Store.faults c.write.new.store)) whole f) (sym c.of_store.ensures)
     (head_stops (g.S.Store.faults c.args.store.now) (g.S.Store.faults c.make_parts.new.store) (g.S.Store.faults c.write.new.store) c.in-Err-write.refusal whole c.in-Ok-make_parts.ensures.later c.in-Err-write.ensures.cause)

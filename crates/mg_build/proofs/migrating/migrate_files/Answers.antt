@@ -10,7 +10,8 @@ use Rattle.mg_layout.specs.Stands.{Stands, StandsBy, StandsIn}
 use Rattle.mg_make.specs.Outcomes.{Left}
 use Rattle.mg_build.specs.Migrating.{MigrateStops}
 use Rattle.mg_build.proofs.MigrateStopLaws.{cap_is, head_refused, in_stands, made_or_lacks, set_refused}
-use Rattle.mg_build.proofs.StopLaws.{bad_head, head_there, no_empty_head, no_head, some_head, stands_loaded}
+use Rattle.mg_build.proofs.StopLaws.{bad_head, no_head, some_head, stands_loaded}
+use Rattle.mg_layout.proofs.CallerLemmas.{head_there, no_empty_head}
 use Rattle.mg_build.proofs.migrating.migrate_files.Goals as goal
 
 pub returns-in-Err-clause-cause : goal.returns-in-Err-clause-cause

@@ -2,12 +2,13 @@ use Rattle.std.proofs.Common.{arith, ◌≡◌, ◌≢◌, ◌≤◌, ◌<◌, �
 use Rattle.std.specs.List.{flat_map}
 use Rattle.std.proofs.lemmas.List.{take_all}
 use Rattle.mg_dev.specs.Causes.{Rose}
+use Rattle.mg_dev.specs.Faults.{ReadStops}
 use Rattle.mg_dev.specs.Files.{bytes_at}
 use Rattle.mg_dev.specs.Names.{full_name}
 use Rattle.mg_dev.specs.declared.part.Part.TheVariants.{Places}
 use Rattle.mg_bits.specs.Writer.{put_to}
 use Rattle.mg_defs.specs.Numbers.{eight}
-use Rattle.mg_build.specs.Copying.{AreNarrow, ChangedAlone, CopyStops, HasFour}
+use Rattle.mg_build.specs.Copying.{AreNarrow, ChangedAlone, HasFour}
 use Rattle.mg_build.proofs.CopyLaws.{alone_more, bases_apart, from_here, stops_more, told_here}
 use Rattle.mg_build.proofs.PassLaws.{rose_behind}
 use Rattle.mg_build.proofs.WidenLaws.{has_four, one_more, size_stops}
@@ -16,7 +17,7 @@ use Rattle.mg_build.proofs.widening.widen_places.Goals as goal
 pub returns-in-Err-clause-refused : goal.returns-in-Err-clause-refused
 returns-in-Err-clause-refused g c =
     let whole = IsSome (g.S.Store.files c.args.store.now) × (numbers : List ℕ) × AreNarrow numbers (bytes_at (g.S.Store.files c.args.store.now) (full_name c.args.name.now Places)) c.args.count in
-    subst (λ f. CopyStops (Rose (g.S.Store.faults c.args.store.now) (g.S.Store.faults c.expect_size.new.store)) whole f) (sym c.from-in-Err.ensures)
+    subst (λ f. ReadStops (Rose (g.S.Store.faults c.args.store.now) (g.S.Store.faults c.expect_size.new.store)) whole f) (sym c.from-in-Err.ensures)
     (size_stops c.in-Err.refusal (g.S.Store.faults c.args.store.now) (g.S.Store.faults c.expect_size.new.store) c.from.result c.args.count (bytes_at (g.S.Store.files c.args.store.now) (full_name c.args.name.now Places)) (IsSome (g.S.Store.files c.args.store.now)) c.from.ensures
     c.in-Err.ensures.answer c.in-Err.ensures.cause.device)
 
