@@ -13,12 +13,11 @@ use Rattle.mg_defs.specs.Join.{join}
 use Rattle.mg_defs.specs.Limits.{version_2}
 use Rattle.mg_defs.specs.WithinLimits.{IsWithinLimits}
 use Rattle.mg_defs.specs.Marks.{PassesFirst, start, piece}
-use Rattle.mg_layout.specs.Stands.{Stands, StandsIn}
+use Rattle.mg_layout.specs.Stands.{HasNoHead, Stands, StandsIn}
 use Rattle.mg_make.specs.Putting.{OthersSame}
 use Rattle.mg_merge.specs.Joined.{Joined}
 use Rattle.mg_make.specs.Outcomes.{IsEarly, Left, most_bytes}
 use Rattle.mg_merge.specs.Merging.{BothStand, IsSizeByHeads, MergeStops}
-use Rattle.mg_merge.specs.Stops.{IsMissing}
 use Rattle.mg_dev.proofs.CallerLemmas.{at_fault, done_or_lacks, stopped_by, stopped_for, when_ok}
 
 -- both sets stand
@@ -37,7 +36,7 @@ module _ {T : Type 0} (first second new : List ℕ) (store store_now : StoreAt) 
     (early : IfErr r (λ fault. IsEarly fault → KeptFiles store store_now))
     (cause : IfErr r (MergeStops (StoreRose store store_now) store.files first second new))
     (same : (new ≡ first) ⊎ (new ≡ second) → r ≡ Err SameName)
-    (missing : IsSome store.files → new ≢ first → new ≢ second → IsMissing store.files first ⊎ IsMissing store.files second → RefusedFor r NotBuilt)
+    (missing : IsSome store.files → new ≢ first → new ≢ second → HasNoHead store.files first ⊎ HasNoHead store.files second → RefusedFor r NotBuilt)
     (large : (size : ℕ) → IsSome store.files → new ≢ first → new ≢ second → IsSizeByHeads store.files first second size → most_bytes < size → RefusedFor r (TooLarge size most_bytes))
     (documents : (a b : List ℕ) → BothStand store.files first second a b → new ≢ first → new ≢ second → length (join a b) ≤ most_bytes → PassesFirst version_2 (join a b) start → RefusedFor r TooManyDocuments)
     (pieces : (a b : List ℕ) (stream : Stream) (word : List ℕ) → BothStand store.files first second a b → new ≢ first → new ≢ second → length (join a b) ≤ most_bytes → PassesFirst version_2 (join a b) (piece stream word) → RefusedFor r (TooManyPieces stream))

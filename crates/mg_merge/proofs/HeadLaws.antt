@@ -10,10 +10,11 @@ use Rattle.mg_dev.specs.declared.part_err.PartErr.{PartErr}
 use Rattle.mg_dev.specs.declared.part_err.PartErr.TheVariants.{Bad, Device, Memory}
 use Rattle.mg_defs.specs.Heads.{IsHead}
 use Rattle.mg_layout.specs.HeadAnswers.{AnswersHead, fields_of}
+use Rattle.mg_layout.specs.Stands.{HasNoHead}
 use Rattle.mg_layout.specs.declared.head.Head as layout
 use Rattle.mg_dev.specs.Runs.{RefusedFor}
-use Rattle.mg_merge.specs.Stops.{AreHeads, IsMissing}
-use Rattle.mg_merge.proofs.StopLaws.{no_empty_head}
+use Rattle.mg_merge.specs.Stops.{AreHeads}
+use Rattle.mg_layout.proofs.CallerLemmas.{no_empty_head}
 
 -- the head that was loaded
 pub some_head : (bytes : List ℕ) (loaded : Option layout.Head) (head : layout.Head) → loaded ≡ Some head → AnswersHead 1 2 bytes (Ok loaded) → IsHead 1 2 bytes (fields_of head)
@@ -30,5 +31,5 @@ missing_refused bytes Memory told is answer missing = inr (inr (ap Err is))
 missing_refused bytes (Bad bad) told is answer missing = absurd (answer.0 missing)
 
 -- what is read of files that are the same
-pub missing_still : (files now : Option Files) (base : List ℕ) → now ≡ files → IsMissing files base → IsMissing now base
+pub missing_still : (files now : Option Files) (base : List ℕ) → now ≡ files → HasNoHead files base → HasNoHead now base
 missing_still files now base same missing = ap (λ f. bytes_at f (full_name base Head)) same ∙ missing

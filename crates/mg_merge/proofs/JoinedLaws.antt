@@ -1,14 +1,13 @@
 -- The documents of a collection, given one after the other with the bytes that close them.
-use Rattle.std.proofs.Common.{arith, ◌≡◌, ◌≢◌, ◌+◌, ◌-◌, ◌*◌, ◌/◌, ◌^◌, ◌≤◌, ◌<◌, ◌==◌, ℕ, zero, suc, Bool, true, false, not, max, if◌then◌else◌, List, [], ◌∷◌, ◌++◌, length, drop, get_or, refl, sym, ◌∙◌, ap, subst, append-nil, append_assoc, add-one, drop-cons}
-use Rattle.std.proofs.lemmas.Bool.Decides.{nat_tests}
+use Rattle.std.proofs.Common.{arith, ◌≡◌, ◌+◌, ◌-◌, ◌*◌, ◌/◌, ◌^◌, ◌≤◌, ◌<◌, ℕ, zero, suc, Bool, max, List, [], ◌∷◌, ◌++◌, length, drop, get_or, refl, sym, ◌∙◌, ap, subst, append-nil, append_assoc, add-one, drop-cons}
 use Rattle.std.proofs.lemmas.List.{length-append}
 use Rattle.mg_defs.specs.Join.{join}
-use Rattle.mg_defs.specs.Split.{documents, has_open_end, joined}
+use Rattle.mg_defs.specs.Split.{close, documents, has_open_end, is_closed, joined}
 use Rattle.mg_defs.specs.Terms.{document}
-use Rattle.mg_defs.proofs.SplitLaws.{documents_split}
+use Rattle.mg_defs.proofs.SplitLaws.{documents_split, joined_next}
 use Rattle.mg_laws.proofs.JoinLaws.{first_document, second_document}
 use Rattle.mg_merge.specs.Merging.{budget_of}
-use Rattle.mg_merge.specs.Texts.{AreFirst, close, closed_document, is_closed, numbered}
+use Rattle.mg_merge.specs.Texts.{AreFirst, closed_document, numbered}
 
 -- ---- documents of both collections
 
@@ -19,25 +18,6 @@ pub numbered_second : (a b : List ℕ) (n m : ℕ) → 1 ≤ m → n ≡ length 
 numbered_second a b n m low is = ap (λ k. numbered k (join a b)) is ∙ second_document a b m low
 
 -- ---- the next document
-
--- a document and its byte, and then the others
-joined_next : (doc : List ℕ) (rest : List (List ℕ)) (open_end : Bool) (n all : ℕ) → n + length rest ≡ all → joined (doc ∷ rest) open_end ≡ doc ++ close (is_closed n all open_end) ++ joined rest open_end
-joined_next doc [] open_end n all is =
-    let last : (n == all) ≡ true = equal n all (omega (arith, is)) in
-    by_end open_end ∙ ap (λ b. doc ++ close (if b then not open_end else true) ++ []) (sym last)
-  where
-    equal : (a b : ℕ) → a ≡ b → (a == b) ≡ true
-    equal a b h = grind (arith, nat_tests)
-
-    by_end : (e : Bool) → doc ++ (if e then [] else 2 ∷ []) ≡ doc ++ close (not e) ++ []
-    by_end true = sym (append-nil (doc ++ []))
-    by_end false = sym (append-nil (doc ++ 2 ∷ []))
-joined_next doc (next ∷ rest) open_end n all is =
-    let more : (n == all) ≡ false = other n all (λ e. omega (arith, is, e)) in
-    sym (append_assoc doc (2 ∷ []) (joined (next ∷ rest) open_end)) ∙ ap (λ b. doc ++ close (if b then not open_end else true) ++ joined (next ∷ rest) open_end) (sym more)
-  where
-    other : (a b : ℕ) → a ≢ b → (a == b) ≡ false
-    other a b h = grind (arith, nat_tests)
 
 pub given_none : (collection : List ℕ) → AreFirst 0 [] collection
 given_none collection = (documents_split collection).whole

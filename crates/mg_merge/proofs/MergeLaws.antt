@@ -1,6 +1,7 @@
 -- What a merge answers, by what the calls that it makes answer.
 use Rattle.std.proofs.Common.{arith, ◌≡◌, ◌≢◌, ◌≤◌, ◌<◌, ◌+◌, ◌*◌, ◌/◌, ◌^◌, ◌∙◌, ◌⊎◌, cond, ℕ, Bool, List, [], length, Option, Some, Ok, Err, IsSome, refl, sym, ap, subst, inl, inr}
 use Rattle.std.specs.Prelude.{IfErr, IfOk, OnOk, Result, max}
+use Rattle.mg_dev.specs.Faults.{ReadStops}
 use Rattle.mg_dev.specs.Files.{Files, bytes_at}
 use Rattle.mg_dev.specs.Names.{full_name}
 use Rattle.mg_dev.specs.declared.fault.Fault.{Fault}
@@ -29,7 +30,7 @@ use Rattle.mg_dev.specs.Runs.{IsDone, RefusedFor}
 use Rattle.mg_make.specs.Outcomes.{IsEarly, most_bytes}
 use Rattle.mg_merge.specs.Merging.{BothStand, IsSizeByHeads, MergeStops, budget_of, joined_size}
 use Rattle.mg_merge.specs.Passes.{AreApart, ArePlanned}
-use Rattle.mg_merge.specs.Stops.{AreHeads, CountingStops, ReadStops}
+use Rattle.mg_merge.specs.Stops.{AreHeads, CountingStops}
 use Rattle.mg_merge.specs.Texts.{AreSetsBy, AreTextsOf, TextsStand, TwoTexts}
 use Rattle.mg_merge.proofs.JoinedLaws.{cap_again}
 use Rattle.mg_merge.proofs.StopLaws.{counting_cause, counting_documents, counting_only, counting_pieces, only_done, read_counts, read_late, within_passes}

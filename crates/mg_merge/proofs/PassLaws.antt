@@ -3,6 +3,7 @@ use Rattle.std.proofs.Common.{arith, ◌≡◌, ◌≢◌, ◌≤◌, ◌<◌, �
 use Rattle.std.proofs.lemmas.List.{append_assoc}
 use Rattle.std.specs.Prelude.{IfErr, Result}
 use Rattle.mg_dev.specs.Causes.{Rose}
+use Rattle.mg_dev.specs.Faults.{IsDamagedPart, ReadStops}
 use Rattle.mg_dev.specs.Files.{Files, file_at}
 use Rattle.mg_dev.specs.Names.{full_name}
 use Rattle.mg_dev.specs.declared.fault.Fault.{Fault}
@@ -17,7 +18,7 @@ use Rattle.mg_make.specs.Plans.{IsPlanOf, Plan}
 use Rattle.mg_make.specs.Putting.{HasPut, IsUnbuilt, OthersSame, Putting}
 use Rattle.mg_make.specs.Written.{SecondStops}
 use Rattle.mg_make.specs.Outcomes.{IsEarly, Left}
-use Rattle.mg_merge.specs.Stops.{CountingStops, Differ, IsDamaged, IsRetold, ReadStops}
+use Rattle.mg_merge.specs.Stops.{CountingStops, Differ, IsRetold}
 
 -- ---- counting
 
@@ -141,7 +142,7 @@ second_wider rose now same less cause.SameName grows back stop = absurd stop
 second_wider rose now same less (cause.TooManyRotations count) grows back stop = absurd stop
 
 -- damage comes where nothing stands
-damage_stops : (now whole : Type 0) (fault : Fault) → IsDamaged fault → (whole → ⊥) → ReadStops now whole fault
+damage_stops : (now whole : Type 0) (fault : Fault) → IsDamagedPart fault → (whole → ⊥) → ReadStops now whole fault
 damage_stops now whole cause.Usage is none = absurd is
 damage_stops now whole cause.StoreFault is none = absurd is
 damage_stops now whole cause.ReadFault is none = absurd is

@@ -1,6 +1,7 @@
 -- What is answered of refusals, by what the calls that refused answer.
-use Rattle.std.proofs.Common.{arith, ◌≡◌, ◌≢◌, ◌≤◌, ◌<◌, ◌+◌, ◌^◌, ◌++◌, ◌∷◌, ◌∙◌, ◌⊎◌, ℕ, List, [], length, Option, None, Some, Ok, Err, IsSome, refl, sym, ap, subst, inl, inr, append_assoc}
+use Rattle.std.proofs.Common.{arith, ◌≡◌, ◌≤◌, ◌<◌, ◌+◌, ◌^◌, ◌++◌, ◌∷◌, ◌⊎◌, ℕ, List, length, Option, Ok, Err, IsSome, refl, sym, ap, subst, inl, inr, append_assoc}
 use Rattle.std.specs.Prelude.{IfErr, OnOk, Result}
+use Rattle.mg_dev.specs.Faults.{ReadStops}
 use Rattle.mg_dev.specs.Files.{Files, bytes_at}
 use Rattle.mg_dev.specs.Names.{full_name}
 use Rattle.mg_dev.specs.declared.fault.Fault.{Fault}
@@ -8,20 +9,18 @@ use Rattle.mg_dev.specs.declared.fault.Fault.TheVariants as cause
 use Rattle.mg_dev.specs.declared.part.Part.TheVariants as part
 use Rattle.mg_defs.specs.declared.Stream.{Stream}
 use Rattle.mg_defs.specs.Heads as defs
-use Rattle.mg_defs.specs.Heads.{IsHead, first_damage}
 use Rattle.mg_defs.specs.Join.{join}
 use Rattle.mg_defs.specs.Limits.{version_2}
 use Rattle.mg_defs.specs.WithinLimits.{IsWithinLimits}
 use Rattle.mg_defs.specs.Marks.{Mark, PassesFirst, piece, start}
 use Rattle.mg_defs.specs.Stands.{head_of}
-use Rattle.mg_defs.proofs.HeadLaws.{no_damage}
-use Rattle.mg_defs.proofs.StandLaws.{stand-tells}
 use Rattle.mg_laws.proofs.FirstMarks.{first_is_beyond, one_first, within_from}
-use Rattle.mg_layout.specs.Stands.{Stands, parts_at}
+use Rattle.mg_layout.specs.Stands.{HasNoHead}
+use Rattle.mg_layout.proofs.CallerLemmas.{no_empty_head, own_head}
 use Rattle.mg_dev.specs.Runs.{IsDone, RefusedFor}
 use Rattle.mg_merge.specs.Merging.{BothStand, IsSizeByHeads, MergeStops}
 use Rattle.mg_make.specs.Outcomes.{IsEarly}
-use Rattle.mg_merge.specs.Stops.{AreHeads, CountingStops, HeadStops, IsMissing, ReadStops}
+use Rattle.mg_merge.specs.Stops.{AreHeads, CountingStops, HeadStops}
 
 -- the store failed and its failures rose, or memory lacks
 abbrev pub OnlyFails : Type 0 → Fault → Type 0
@@ -55,22 +54,10 @@ within_passes bytes mark limits first = first_is_beyond version_2 bytes mark fir
 
 -- ---- heads
 
--- no head has no bytes
-pub no_empty_head : (bytes : List ℕ) (h : defs.Head) → IsHead 1 2 bytes h → bytes ≢ []
-unfolding first_damage
-no_empty_head bytes h is empty = some_is_not (sym (no_damage 1 2 bytes h is) ∙ ap (first_damage 1 2) empty)
-  where
-    some_is_not : {x : defs.Check} → None ≡ Some x → ⊥
-    some_is_not e = cc
-
 -- heads that are there are not missing
-pub none_missing : (files : Option Files) (first second : List ℕ) (a b : defs.Head) → AreHeads files first second a b → IsMissing files first ⊎ IsMissing files second → ⊥
+pub none_missing : (files : Option Files) (first second : List ℕ) (a b : defs.Head) → AreHeads files first second a b → HasNoHead files first ⊎ HasNoHead files second → ⊥
 none_missing files first second a b are (inl missing) = no_empty_head (bytes_at files (full_name first part.Head)) a are.first_is missing
 none_missing files first second a b are (inr missing) = no_empty_head (bytes_at files (full_name second part.Head)) b are.second_is missing
-
--- sets that stand have heads
-own_head : (files : Option Files) (base collection : List ℕ) (stands : Stands files base collection) → IsHead 1 2 (bytes_at files (full_name base part.Head)) (head_of stands.stand.version stands.stand.cap stands.stand.code collection)
-own_head files base collection stands = (stand-tells stands.stand.version stands.stand.cap stands.stand.code (parts_at files base) collection stands.stand.are).head
 
 pub heads_of_both : (files : Option Files) (first second a b : List ℕ) → BothStand files first second a b → (h : defs.Head) × (k : defs.Head) × AreHeads files first second h k
 heads_of_both files first second a b both = (

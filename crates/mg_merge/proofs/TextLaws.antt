@@ -1,7 +1,7 @@
 -- Two texts that are read: what stands of them, and what their documents are.
 use Rattle.std.proofs.Common.{arith, ◌≡◌, ◌≢◌, ◌+◌, ◌-◌, ◌^◌, ◌≤◌, ◌<◌, ◌==◌, ℕ, Bool, true, false, not, if◌then◌else◌, List, [], ◌∷◌, ◌++◌, length, get_or, Option, None, Some, Ok, Err, IsSome, is_some, refl, sym, ◌∙◌, ap, subst, append-nil, append_assoc, inl, inr}
 use Rattle.std.specs.Prelude.{OnOk, Result}
-use Rattle.mg_dev.specs.Faults.{fault_of_part, fault_of_show}
+use Rattle.mg_dev.specs.Faults.{ReadStops, fault_of_part, fault_of_show}
 use Rattle.mg_dev.specs.Files.{Files, bytes_at, file_at}
 use Rattle.mg_dev.specs.Names.{full_name}
 use Rattle.mg_dev.specs.PartCauses.{HasPartCause}
@@ -18,10 +18,10 @@ use Rattle.mg_dev.specs.declared.show_err.ShowErr.TheVariants as show
 use Rattle.mg_dev.specs.Bads.{IsNotBad}
 use Rattle.mg_defs.specs.CodedText.{TextCode}
 use Rattle.mg_defs.specs.Join.{join}
-use Rattle.mg_defs.specs.Split.{documents, has_open_end}
+use Rattle.mg_defs.specs.Split.{close, documents, has_open_end, is_closed}
 use Rattle.mg_laws.proofs.JoinLaws.{count_joined, documents_joined, end_joined, size_joined}
 use Rattle.mg_layout.specs.HeadAnswers.{fields_of}
-use Rattle.mg_layout.specs.Stands.{StandsBy}
+use Rattle.mg_layout.specs.Stands.{IsSetBy, StandsBy}
 use Rattle.mg_layout.specs.declared.head.Head.{Head}
 use Rattle.mg_layout.specs.declared.head.Head as layout
 use Rattle.mg_defs.specs.Stands.{head_of}
@@ -29,8 +29,8 @@ use Rattle.mg_text.specs.Decoding.{IsShowCaused}
 use Rattle.mg_text.specs.Reading.{IsTextReader, SameText, ShowIsNotBad, TextFits, TextReading, TextStands}
 use Rattle.mg_text.proofs.CallerLemmas.{text_stays}
 use Rattle.mg_merge.specs.Merging.{joined_size}
-use Rattle.mg_merge.specs.Stops.{IsDecodeCaused, ReadStops}
-use Rattle.mg_merge.specs.Texts.{AreSetsBy, AreTexts, IsSetBy, SameTexts, TextsFit, TextsStand, TwoTexts, close, closed_document, is_closed, numbered}
+use Rattle.mg_merge.specs.Stops.{IsDecodeCaused}
+use Rattle.mg_merge.specs.Texts.{AreSetsBy, AreTexts, SameTexts, TextsFit, TextsStand, TwoTexts, closed_document, numbered}
 use Rattle.mg_merge.proofs.JoinedLaws.{numbered_first, numbered_second}
 
 -- ---- one text

@@ -12,11 +12,10 @@ use Rattle.mg_defs.specs.Join.{join}
 use Rattle.mg_defs.specs.Limits.{version_2}
 use Rattle.mg_defs.specs.WithinLimits.{IsWithinLimits}
 use Rattle.mg_defs.specs.Marks.{PassesFirst, start, piece}
-use Rattle.mg_layout.specs.Stands.{Stands, StandsIn}
+use Rattle.mg_layout.specs.Stands.{HasNoHead, Stands, StandsIn}
 use Rattle.mg_make.specs.Putting.{OthersSame}
 use Rattle.mg_make.specs.Outcomes.{AreMadeAnew, IsEarly, Left, most_bytes}
 use Rattle.mg_merge.specs.Merging.{BothStand, IsSizeByHeads, MergeStops}
-use Rattle.mg_merge.specs.Stops.{IsMissing}
 
 -- of each two collections that the sets of these names stand for, in either version, by the store before the merge and after it, and its status
 pub record Joined (first second new : List ℕ) (store store_now : StoreAt) (status : Status) : Type 0 where
@@ -32,7 +31,7 @@ pub record Joined (first second new : List ℕ) (store store_now : StoreAt) (sta
   pub cause : IfStopped status (MergeStops (StoreRose store store_now) store.files first second new)
   -- 16 comes exactly where it has it, and behind it 5, 8 and the earlier of 9 and 10, unless the store fails or memory is wanting
   pub same : (new ≡ first) ⊎ (new ≡ second) → status ≡ Stopped SameName
-  pub missing : IsSome store.files → new ≢ first → new ≢ second → IsMissing store.files first ⊎ IsMissing store.files second → StoppedFor status NotBuilt
+  pub missing : IsSome store.files → new ≢ first → new ≢ second → HasNoHead store.files first ⊎ HasNoHead store.files second → StoppedFor status NotBuilt
   pub large : (size : ℕ) → IsSome store.files → new ≢ first → new ≢ second → IsSizeByHeads store.files first second size → most_bytes < size
       → StoppedFor status (TooLarge size most_bytes)
   pub documents : (a b : List ℕ) → BothStand store.files first second a b → new ≢ first → new ≢ second → length (join a b) ≤ most_bytes

@@ -12,8 +12,8 @@ use Rattle.mg_defs.specs.Heads as heads
 use Rattle.mg_defs.specs.Join.{join}
 use Rattle.mg_defs.specs.Limits.{version_2}
 use Rattle.mg_defs.specs.Marks.{PassesFirst, piece, start}
-use Rattle.mg_layout.specs.Stands.{Stands, StandsIn}
-use Rattle.mg_merge.specs.Stops.{AreHeads, IsMissing, IsOneMissing}
+use Rattle.mg_layout.specs.Stands.{HasNoHead, Stands, StandsIn}
+use Rattle.mg_merge.specs.Stops.{AreHeads, IsOneMissing}
 use Rattle.mg_make.specs.Outcomes.{RefusesSize, most_bytes}
 
 -- ---- what it makes
@@ -52,7 +52,7 @@ pub record IsSizeByHeads (files : Option Files) (first second : List ℕ) (size 
 -- the cause of each refusal, by the files as it began and the three bases
 abbrev pub MergeStops : Type 0 → Option Files → List ℕ → List ℕ → List ℕ → Fault → Type 0
 MergeStops store_rose files first second new StoreFault = store_rose
-MergeStops store_rose files first second new NotBuilt = IsSome files → IsMissing files first ⊎ IsMissing files second
+MergeStops store_rose files first second new NotBuilt = IsSome files → HasNoHead files first ⊎ HasNoHead files second
 MergeStops store_rose files first second new (Damaged bad) = (a b : List ℕ) → BothStand files first second a b → ⊥
 MergeStops store_rose files first second new (TooLarge size most) = (most ≡ most_bytes) × (most < size) × (IsSome files → IsSizeByHeads files first second size)
 MergeStops store_rose files first second new TooManyDocuments = (a b : List ℕ) → BothStand files first second a b → PassesFirst version_2 (join a b) start

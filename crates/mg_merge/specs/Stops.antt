@@ -1,9 +1,10 @@
 -- Why the steps of a merge stop.
-use Rattle.std.specs.Prelude.{◌≡◌, ◌≢◌, ◌⊎◌, ℕ, List, [], Ok, Err}
+use Rattle.std.specs.Prelude.{◌≡◌, ◌≢◌, ◌⊎◌, ℕ, List, Ok, Err}
 use Rattle.std.specs.Option.{IsSome}
 use Rattle.std.specs.declared.option.Option.{Option}
 use Rattle.std.specs.declared.result.Result.{Result}
 use Rattle.mg_dev.specs.Causes.{Rose}
+use Rattle.mg_dev.specs.Faults.{IsDamagedPart}
 use Rattle.mg_dev.specs.Files.{Files, bytes_at}
 use Rattle.mg_dev.specs.Names.{full_name}
 use Rattle.mg_dev.specs.declared.fault.Fault.{Fault}
@@ -17,12 +18,9 @@ use Rattle.mg_defs.specs.Heads.{IsHead}
 use Rattle.mg_defs.specs.Heads as heads
 use Rattle.mg_defs.specs.Limits.{version_2}
 use Rattle.mg_defs.specs.Marks.{PassesFirst, piece, start}
+use Rattle.mg_layout.specs.Stands.{HasNoHead}
 
 -- ---- heads
-
--- the head of a base is missing or empty
-abbrev pub IsMissing : Option Files → List ℕ → Type 0
-IsMissing files base = bytes_at files (full_name base Head) ≡ []
 
 -- the heads of two bases, of version 1 or 2
 pub record AreHeads (files : Option Files) (first second : List ℕ) (a b : heads.Head) : Type 0 where
@@ -32,7 +30,7 @@ pub record AreHeads (files : Option Files) (first second : List ℕ) (a b : head
 -- why two heads are not loaded
 abbrev pub HeadStops : Type 0 → Option Files → List ℕ → List ℕ → Fault → Type 0
 HeadStops store_rose files first second StoreFault = store_rose
-HeadStops store_rose files first second NotBuilt = IsSome files → IsMissing files first ⊎ IsMissing files second
+HeadStops store_rose files first second NotBuilt = IsSome files → HasNoHead files first ⊎ HasNoHead files second
 HeadStops store_rose files first second (Damaged bad) = IsSome files → (a b : heads.Head) → AreHeads files first second a b → ⊥
 HeadStops store_rose files first second Memory = Unit {0}
 HeadStops store_rose files first second _ = ⊥
@@ -49,19 +47,12 @@ abbrev pub IsToldFirst : Type 0 → Option Files → List ℕ → PartErr → Fa
 IsToldFirst store_rose files second part.Device fault = fault ≡ StoreFault
 IsToldFirst store_rose files second part.Memory fault = fault ≡ Memory
 IsToldFirst store_rose files second (part.Bad bad) StoreFault = store_rose
-IsToldFirst store_rose files second (part.Bad bad) NotBuilt = IsSome files → IsMissing files second
+IsToldFirst store_rose files second (part.Bad bad) NotBuilt = IsSome files → HasNoHead files second
 IsToldFirst store_rose files second (part.Bad bad) (Damaged damage) = Unit {0}
 IsToldFirst store_rose files second (part.Bad bad) Memory = Unit {0}
 IsToldFirst store_rose files second (part.Bad bad) _ = ⊥
 
 -- ---- texts
-
--- why reading or writing stops; as damaged only where what is read does not stand
-abbrev pub ReadStops : Type 0 → Type 0 → Fault → Type 0
-ReadStops store_rose stand StoreFault = store_rose
-ReadStops store_rose stand (Damaged bad) = stand → ⊥
-ReadStops store_rose stand Memory = Unit {0}
-ReadStops store_rose stand _ = ⊥
 
 -- the store's failure has a cause, and the sink in memory only lacks memory
 abbrev pub IsDecodeCaused : Result (Unit {0}) ShowErr → ℕ → ℕ → Type 0
@@ -88,15 +79,11 @@ abbrev pub Differ : Fault → Type 0
 Differ (Changed what first second) = first ≢ second
 Differ _ = Unit {0}
 
-abbrev pub IsDamaged : Fault → Type 0
-IsDamaged (Damaged bad) = Unit {0}
-IsDamaged _ = ⊥
-
 -- what was counted and is written otherwise is told as damaged, all else as it is
 abbrev pub IsRetold : Fault → Fault → Type 0
-IsRetold (Changed what first second) told = IsDamaged told
+IsRetold (Changed what first second) told = IsDamagedPart told
 IsRetold fault told = told ≡ fault
 
 -- the head of the one or of the other base is missing or empty
 abbrev pub IsOneMissing : Option Files → List ℕ → List ℕ → Type 0
-IsOneMissing files first second = IsMissing files first ⊎ IsMissing files second
+IsOneMissing files first second = HasNoHead files first ⊎ HasNoHead files second

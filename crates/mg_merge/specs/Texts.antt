@@ -1,12 +1,12 @@
 -- The texts of two sets, whose documents are read one after the other.
-use Rattle.std.specs.Prelude.{◌≡◌, ◌==◌, ◌<◌, ◌+◌, ◌-◌, ◌^◌, ℕ, Bool, true, not, if◌then◌else◌, List, [], ◌∷◌, ◌++◌, length, drop, get_or, IfOk}
+use Rattle.std.specs.Prelude.{◌≡◌, ◌<◌, ◌+◌, ◌-◌, ◌^◌, ℕ, Bool, List, [], ◌++◌, length, drop, get_or, IfOk}
 use Rattle.std.specs.declared.option.Option.{Option}
 use Rattle.std.specs.declared.result.Result.{Result}
 use Rattle.mg_dev.specs.Files.{Files}
 use Rattle.mg_dev.specs.Names.{full_name}
 use Rattle.mg_dev.specs.declared.part.Part.TheVariants.{Places, Text}
 use Rattle.mg_defs.specs.Join.{join}
-use Rattle.mg_defs.specs.Split.{documents, has_open_end, joined}
+use Rattle.mg_defs.specs.Split.{close, documents, has_open_end, is_closed, joined}
 use Rattle.mg_defs.specs.CodedText.{TextCode}
 use Rattle.mg_layout.specs.Stands.{StandsBy}
 use Rattle.mg_layout.specs.declared.head.Head as layout
@@ -53,10 +53,6 @@ pub record TextsStand (t : TwoTexts) (files : Option Files) (collection : List �
 abbrev pub AreTexts : TwoTexts → Option Files → Type 0
 AreTexts t files = (collection : List ℕ) × TextsStand t files collection
 
--- the files of a base stand for some collection, by this head
-abbrev pub IsSetBy : layout.Head → Option Files → List ℕ → Type 0
-IsSetBy head files base = (code : TextCode) × (collection : List ℕ) × StandsBy head code files base collection
-
 -- the files of two bases stand for these collections, by these heads
 pub record AreSetsBy (one other : layout.Head) (files : Option Files) (first second a b : List ℕ) : Type 0 where
   pub first_code : TextCode
@@ -76,14 +72,6 @@ pub record AreTextsOf (t : TwoTexts) (first second : List ℕ) : Type 0 where
   pub second_places : t.second.places.name ≡ full_name second Places
 
 -- ---- documents
-
--- whether a byte closes document n of so many: the last one has none where the end is open
-abbrev pub is_closed : ℕ → ℕ → Bool → Bool
-is_closed n all open_end = if n == all then not open_end else true
-
--- the byte that closes a document
-abbrev pub close : Bool → List ℕ
-close closed = if closed then 2 ∷ [] else []
 
 abbrev pub numbered : ℕ → List ℕ → List ℕ
 numbered n collection = get_or (documents collection) (n - 1) []

@@ -4,9 +4,10 @@ ghost use Rattle.mg_dev.specs.Causes.{Rose};
 ghost use Rattle.mg_dev.specs.declared.fault.Fault.TheVariants as fault;
 ghost use Rattle.mg_defs.specs.Heads.{IsWithin};
 ghost use Rattle.mg_layout.specs.HeadAnswers.{fields_of};
+ghost use Rattle.mg_layout.specs.Stands.{HasNoHead};
 ghost use Rattle.mg_dev.specs.Runs.{RefusedFor};
 ghost use Rattle.mg_merge.specs.Merging.{budget_of, joined_size};
-ghost use Rattle.mg_merge.specs.Stops.{AreHeads, HeadStops, IsMissing, IsOneMissing, IsRefusedFirst, IsToldFirst};
+ghost use Rattle.mg_merge.specs.Stops.{AreHeads, HeadStops, IsOneMissing, IsRefusedFirst, IsToldFirst};
 
 use mg_dev::{Fault, PartErr, Store};
 use mg_layout::Head;
@@ -52,7 +53,7 @@ pub(crate) fn load_heads<S: Store>(
 
 // What is told where the first head was not loaded: before damage, whether the second one is missing.
 fn refused_first<S: Store>(store: &mut S, second: &str, refusal: PartErr) -> Fault
-    ensures missing { IsSome (S.files store.old) → IsMissing (S.files store.old) second.now → IsRefusedFirst result }
+    ensures missing { IsSome (S.files store.old) → HasNoHead (S.files store.old) second.now → IsRefusedFirst result }
     ensures cause { IsToldFirst (Rose (S.faults store.old) (S.faults store.new)) (S.files store.old) second.now refusal result }
     ensures files { S.files store.new ≡ S.files store.old }
     ensures later { S.faults store.old ≤ S.faults store.new }

@@ -1,13 +1,13 @@
 //! The merge of two sets.
 ghost use Rattle.std.specs.Prelude.{◌≡◌, ◌⊎◌, ◌<◌, ◌≤◌, ◌^◌, ℕ, List, IfErr, OnOk, Err};
 ghost use Rattle.mg_dev.specs.Causes.{Rose};
+ghost use Rattle.mg_dev.specs.Each.{ForEach};
 ghost use Rattle.mg_dev.specs.Runs.{status_of};
 ghost use Rattle.mg_dev.specs.declared.part.Part.TheVariants as part;
 ghost use Rattle.mg_dev.specs.declared.fault.Fault.TheVariants as fault;
 ghost use Rattle.mg_defs.specs.Join.{join};
 ghost use Rattle.mg_defs.specs.WithinLimits.{IsWithinLimits};
 ghost use Rattle.mg_layout.specs.Stands.{StandsIn};
-ghost use Rattle.mg_make.specs.Each.{ForEach};
 ghost use Rattle.mg_make.specs.Putting.{IsEmptied, OthersSame};
 ghost use Rattle.mg_merge.specs.Joined.{Joined};
 ghost use Rattle.mg_make.specs.Outcomes.{BetweenMoments, Completes, HasSummaryOf, IsEarly, Left, MakesSet, RefusesDocuments, RefusesPieces};

@@ -1,19 +1,21 @@
 //! The texts of two sets, whose documents are read one after the other.
 ghost use Rattle.std.specs.Prelude.{◌≡◌, ◌<◌, ◌≤◌, ◌^◌, ℕ, List, IfErr, IfOk, OnOk};
 ghost use Rattle.mg_dev.specs.Causes.{Rose};
+ghost use Rattle.mg_dev.specs.Faults.{ReadStops};
 ghost use Rattle.mg_defs.specs.Heads.{IsWithin};
 ghost use Rattle.mg_layout.specs.HeadAnswers.{fields_of};
+ghost use Rattle.mg_layout.specs.Stands.{ForSetBy, IsSetBy};
 ghost use Rattle.mg_text.specs.Reading.{IsTextReader, ShowIsNotBad, TextFits};
-ghost use Rattle.mg_make.specs.Outcomes.{Fails, ForSetBy};
+ghost use Rattle.mg_make.specs.Outcomes.{Fails};
 ghost use Rattle.mg_merge.specs.Merging.{joined_size};
-ghost use Rattle.mg_merge.specs.Stops.{IsDecodeCaused, ReadStops};
-ghost use Rattle.mg_merge.specs.Texts.{AreSomeSets, AreTexts, AreTextsOf, ForSetsBy, IsSetBy, LoadsText, LoadsTexts, SameTexts, TextsFit, TextsStand, closed_document, is_closed, numbered};
+ghost use Rattle.mg_merge.specs.Stops.{IsDecodeCaused};
+ghost use Rattle.mg_merge.specs.Texts.{AreSomeSets, AreTexts, AreTextsOf, ForSetsBy, LoadsText, LoadsTexts, SameTexts, TextsFit, TextsStand, closed_document, numbered};
 
 use crate::document::Document;
 use crate::heads::joined_size;
 use mg_dev::{Fault, ShowErr, Store};
 use mg_layout::Head;
-use mg_text::{TextReader, texts_stand};
+use mg_text::{TextReader, is_closed, texts_stand};
 use std::alloc::Global;
 use std::marker::Model;
 
@@ -36,13 +38,6 @@ impl<'a, S: Store> Model for Texts<'a, S> {
     ghost Value = { TwoTexts };
 
     ghost view = { λ t. record { first = t.first; second = t.second; ahead = t.ahead; all = t.all; open_end = t.open_end; size = t.size; held = t.held.bytes.items } };
-}
-
-// Whether a byte closes this document of so many.
-fn is_closed(number: u32, all: u32, open_end: bool) -> bool
-    ensures { result ≡ is_closed number all open_end }
-{
-    if number == all { !open_end } else { true }
 }
 
 // A reader of the text of a set with this head.

@@ -2,13 +2,13 @@
 ghost use Rattle.std.specs.Prelude.{◌≡◌, ◌<◌, ◌≤◌, ◌+◌, ◌^◌, ◌++◌, ℕ, List, [], length, IfErr, OnOk, Some};
 ghost use Rattle.std.specs.Option.{IsSome};
 ghost use Rattle.mg_dev.specs.Causes.{Rose};
+ghost use Rattle.mg_dev.specs.Faults.{ReadStops};
 ghost use Rattle.mg_dev.specs.Files.{file_at};
 ghost use Rattle.mg_dev.specs.Names.{full_name};
 ghost use Rattle.mg_dev.specs.declared.part.Part.TheVariants as part;
 ghost use Rattle.mg_make.specs.Plans.{IsPlan, IsRoomFor};
 ghost use Rattle.mg_make.specs.Putting.{HasPut, IsEmptied, NextRefused, OthersSame};
 ghost use Rattle.mg_make.specs.Outcomes.{HasSummaryOf, Left, MakesSet};
-ghost use Rattle.mg_merge.specs.Stops.{ReadStops};
 ghost use Rattle.mg_merge.specs.Passes.{AreAllGiven, AreApart, ArePlanned, ForPlanned};
 ghost use Rattle.mg_merge.specs.Texts.{TextsFit};
 

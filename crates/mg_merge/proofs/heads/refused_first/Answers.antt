@@ -2,7 +2,7 @@ use Rattle.mg_dev.specs.Files.{bytes_at}
 use Rattle.mg_dev.specs.Names.{full_name}
 use Rattle.mg_dev.specs.declared.part.Part.TheVariants.{Head}
 use Rattle.mg_layout.specs.HeadAnswers.{fields_of}
-use Rattle.mg_merge.proofs.StopLaws.{no_empty_head}
+use Rattle.mg_layout.proofs.CallerLemmas.{no_empty_head}
 use Rattle.mg_merge.proofs.heads.refused_first.Goals as goal
 
 pub returns-in-Ok-Some-clause-missing : goal.returns-in-Ok-Some-clause-missing

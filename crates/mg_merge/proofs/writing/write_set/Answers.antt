@@ -1,6 +1,7 @@
 use Rattle.std.proofs.Common.{arith, ◌≡◌, ◌≤◌, ◌<◌, ◌^◌, ◌∙◌, ◌⊎◌, inl, inr, [], sym, ap, subst, Some, IsSome, refl}
 use Rattle.std.specs.Prelude.{IfErr, IfOk, OnOk}
 use Rattle.mg_dev.specs.Causes.{Rose}
+use Rattle.mg_dev.specs.Faults.{ReadStops}
 use Rattle.mg_dev.specs.Files.{file_at}
 use Rattle.mg_dev.specs.Names.{full_name}
 use Rattle.mg_dev.specs.declared.part.Part.TheVariants.{Head, MergeA, MergeB}
@@ -10,7 +11,6 @@ use Rattle.mg_make.specs.Plans.{IsPlanOf}
 use Rattle.mg_make.specs.Putting.{HasPut, OthersSame}
 use Rattle.mg_make.specs.Summaries.{summary_of}
 use Rattle.mg_merge.specs.Passes.{AreAllGiven, ArePlanned}
-use Rattle.mg_merge.specs.Stops.{ReadStops}
 use Rattle.mg_merge.specs.Texts.{TextsStand}
 use Rattle.mg_merge.proofs.PassLaws.{finish_stops, left_by_start, list_differs, others_more, rose_behind, still_told}
 use Rattle.mg_merge.proofs.StayLaws.{fits_stay, texts_stay}

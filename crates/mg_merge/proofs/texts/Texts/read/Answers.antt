@@ -1,7 +1,8 @@
 use Rattle.std.proofs.Common.{◌≡◌, ◌∙◌, ◌++◌, ◌∷◌, [], ℕ, sym, ap, subst}
 use Rattle.mg_dev.specs.Causes.{Rose}
-use Rattle.mg_merge.specs.Stops.{ReadStops}
-use Rattle.mg_merge.specs.Texts.{AreTexts, TwoTexts, is_closed}
+use Rattle.mg_dev.specs.Faults.{ReadStops}
+use Rattle.mg_merge.specs.Texts.{AreTexts, TwoTexts}
+use Rattle.mg_defs.specs.Split.{is_closed}
 use Rattle.mg_merge.proofs.TextLaws.{closes, decode_stops, texts_stand_on, with_close, without_close}
 use Rattle.mg_merge.proofs.texts.Texts.read.Goals as goal
 
