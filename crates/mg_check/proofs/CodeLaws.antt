@@ -15,13 +15,14 @@ use Rattle.mg_defs.proofs.SortedLaws.{number-at, other-isnt, same-refl}
 use Rattle.mg_defs.specs.Bits.{Bits, as_bytes}
 use Rattle.mg_defs.specs.CodedText.{StreamCode, TextCode, codeword_of, coded_doc, coded_pair}
 use Rattle.mg_defs.specs.Codes.{gamma}
+use Rattle.mg_defs.specs.Heads.{as_number}
 use Rattle.mg_defs.specs.Means.{HasCodewords, IsStreamCode}
 use Rattle.mg_defs.specs.Parse.{Pair, parse}
 use Rattle.mg_defs.proofs.ParseLaws.{parse_short}
 use Rattle.mg_defs.specs.Sorted.{number_of}
 use Rattle.mg_defs.specs.Vocabulary.{count_in, piece_of_pair}
 use Rattle.mg_defs.specs.declared.Stream.TheVariants.{Words, Others}
-use Rattle.mg_text.specs.Writing.{Began, IsOnText, TextWriting, as_count, text_bytes}
+use Rattle.mg_text.specs.Writing.{Began, IsOnText, TextWriting, text_bytes}
 use Rattle.mg_check.specs.Decoding.{AreCounts, Counted, IsCodedAs, PutPairs, PutPiece, HasRoom, WherePut, WhereUnknown}
 use Rattle.mg_check.specs.declared.uses.Uses.{Uses}
 
@@ -208,7 +209,7 @@ pub doc-coded : (code : TextCode) (doc bytes : List ℕ) (n : ℕ) (w0 w1 w2 w3 
 doc-coded code doc bytes n w0 w1 w2 w3 f1 f2 f3 u0 u1 count small none on began put whole pairs closed bytes_are =
     let bits : gamma (n + 1) ++ flat_map (coded_pair code) (parse doc) ≡ coded_doc code doc = ap (λ (m : ℕ). gamma (m + 1) ++ flat_map (coded_pair code) (parse doc)) count in
     let is : bytes ≡ as_bytes (coded_doc code doc) = bytes_are ∙ append-nil (as_bytes (gamma (n + 1) ++ flat_map (coded_pair code) (parse doc))) ∙ ap as_bytes bits in
-    let one : w3.docs ≡ 1 = whole.count ∙ ap (λ (b : Bool). 1 + as_count b) closed in
+    let one : w3.docs ≡ 1 = whole.count ∙ ap (λ (b : Bool). 1 + as_number b) closed in
     let size : length (text_bytes ((gamma (n + 1) ++ flat_map (coded_pair code) (parse doc)) ∷ [])) ≡ length bytes = ap length (sym bytes_are) in
     record {
       codable = record { each = put.known; few = omega (arith, parse_short doc, small) };

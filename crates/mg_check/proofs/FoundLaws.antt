@@ -15,29 +15,16 @@ use Rattle.mg_dev.specs.declared.fault.Fault.TheVariants as fault
 use Rattle.mg_dev.specs.declared.part_err.PartErr.{PartErr}
 use Rattle.mg_dev.specs.declared.part_err.PartErr.TheVariants.{Device, Memory, Bad}
 use Rattle.mg_defs.specs.Heads as defs
-use Rattle.mg_defs.specs.Heads.{IsHead, first_damage}
+use Rattle.mg_defs.specs.Heads.{IsHead}
 use Rattle.mg_defs.specs.Means.{StandForNone}
-use Rattle.mg_defs.specs.Stands.{head_of}
-use Rattle.mg_defs.proofs.HeadLaws.{no_damage}
-use Rattle.mg_defs.proofs.StandLaws.{stand-tells}
 use Rattle.mg_layout.specs.Contents.{IsOutside}
 use Rattle.mg_layout.specs.HeadAnswers.{AnswersBack, AnswersHead, AnswersWithin, fields_of}
 use Rattle.mg_layout.specs.Stands.{Stands, parts_at}
 use Rattle.mg_layout.specs.declared.head.Head.{Head}
+use Rattle.mg_layout.proofs.CallerLemmas.{head_there, no_empty_head, own_head}
 use Rattle.mg_check.specs.Checking.{IfBad}
 use Rattle.mg_check.specs.declared.found.Found.{Found}
 use Rattle.mg_check.specs.Found.{CheckStops, StandsWith, TellsOutside}
-
--- bytes that tell a head
-pub some-head : (bytes : List ℕ) (h : defs.Head) → IsHead 1 2 bytes h → bytes ≢ []
-unfolding first_damage
-some-head bytes h is empty = some_is_not (sym (no_damage 1 2 bytes h is) ∙ ap (first_damage 1 2) empty)
-  where
-    some_is_not : {x : defs.Check} → None ≡ Some x → ⊥
-    some_is_not e = cc
-
-own-head : (files : Option Files) (base collection : List ℕ) → (stands : Stands files base collection) → IsHead 1 2 (bytes_at files (full_name base part.Head)) (head_of stands.stand.version stands.stand.cap stands.stand.code collection)
-own-head files base collection stands = (stand-tells stands.stand.version stands.stand.cap stands.stand.code (parts_at files base) collection stands.stand.are).head
 
 pub loaded-head : (bytes : List ℕ) (loaded : Option Head) (head : Head) → loaded ≡ Some head → AnswersHead 1 2 bytes (Ok loaded) → IsHead 1 2 bytes (fields_of head)
 loaded-head bytes loaded head is answer = subst (λ o. AnswersHead 1 2 bytes (Ok o)) is answer
@@ -53,14 +40,14 @@ pub head-refused : (files : Option Files) (base : List ℕ) (refusal : PartErr) 
     (IsSome files → (h : defs.Head) → IsHead 1 2 (bytes_at files (full_name base part.Head)) h → AnswersBack h (Err refusal)) → HasPartCause {T = Option Head} before now (Err refusal) → CheckStops (Rose before now) files base (fault_of_part refusal)
 head-refused files base Device before now answer back cause = cause.device
 head-refused files base Memory before now answer back cause = tt
-head-refused files base (Bad bad) before now answer back cause = λ told. record { head = (answer told).0; none = λ collection stands. back told _ (own-head files base collection stands) }
+head-refused files base (Bad bad) before now answer back cause = λ told. record { head = (answer told).0; none = λ collection stands. back told _ (own_head files base collection stands) }
 
 -- parts of a set with a head, of which one was refused
 pub set-refused : (files : Option Files) (base : List ℕ) (head : Head) (refusal : PartErr) (before now : ℕ) → (IsSome files → IsHead 1 2 (bytes_at files (full_name base part.Head)) (fields_of head)) → (IsSome files → IfBad refusal (StandForNone (parts_at files base))) →
     HasPartCause {T = Unit {0}} before now (Err refusal) → CheckStops (Rose before now) files base (fault_of_part refusal)
 set-refused files base head Device before now is none cause = cause.device
 set-refused files base head Memory before now is none cause = tt
-set-refused files base head (Bad bad) before now is none cause = λ told. record { head = some-head (bytes_at files (full_name base part.Head)) (fields_of head) (is told); none = λ collection stands. none told collection stands.stand }
+set-refused files base head (Bad bad) before now is none cause = λ told. record { head = no_empty_head (bytes_at files (full_name base part.Head)) (fields_of head) (is told); none = λ collection stands. none told collection stands.stand }
 
 -- memory is not what a head wants
 pub early-refused : (refusal : PartErr) → AnswersWithin (Err refusal) → (fault_of_part refusal ≢ fault.Memory)
@@ -109,15 +96,12 @@ pub tells-outside : (r : Result Found Fault) → IfErr r TellsOutside
 tells-outside (Ok found) = tt
 tells-outside (Err f) = told-outside f
 
-head-there : (files : Option Files) (base collection : List ℕ) → Stands files base collection → bytes_at files (full_name base part.Head) ≢ []
-head-there files base collection stands = some-head (bytes_at files (full_name base part.Head)) _ (own-head files base collection stands)
-
 only-memory : (rose : Type 0) (files : Option Files) (base collection : List ℕ) (f : Fault) → Stands files base collection → ¬ rose → CheckStops rose files base f → f ≡ fault.Memory
 only-memory rose files base collection fault.Usage stands fine stops = absurd stops
 only-memory rose files base collection fault.StoreFault stands fine stops = absurd (fine stops)
 only-memory rose files base collection fault.ReadFault stands fine stops = absurd stops
 only-memory rose files base collection fault.WriteFault stands fine stops = absurd stops
-only-memory rose files base collection fault.NotBuilt stands fine stops = absurd (head-there files base collection stands (stops stands.told))
+only-memory rose files base collection fault.NotBuilt stands fine stops = absurd (head_there files base collection stands (stops stands.told))
 only-memory rose files base collection (fault.Damaged bad) stands fine stops = absurd ((stops stands.told).none collection stands)
 only-memory rose files base collection fault.NoCollection stands fine stops = absurd stops
 only-memory rose files base collection (fault.TooLarge size most) stands fine stops = absurd stops
@@ -157,7 +141,7 @@ abbrev AnswersNotBuilt : Result Found Fault → Type 0
 AnswersNotBuilt r = (r ≡ Err fault.NotBuilt) ⊎ (r ≡ Err fault.StoreFault) ⊎ (r ≡ Err fault.Memory)
 
 pub refused-unbuilt : (rose : Type 0) (files : Option Files) (base : List ℕ) (r : Result Found Fault) → (IsSome files → IfOk r (λ found. StandsWith files base found.documents found.bytes)) → IfErr r (CheckStops rose files base) → IsSome files → bytes_at files (full_name base part.Head) ≡ [] → AnswersNotBuilt r
-refused-unbuilt rose files base (Ok found) stands cause told none = absurd (head-there files base (stands told).collection (stands told).stands none)
+refused-unbuilt rose files base (Ok found) stands cause told none = absurd (head_there files base (stands told).collection (stands told).stands none)
 refused-unbuilt rose files base (Err f) stands cause told none = elim (not-built rose files base f told none cause) [
   | inl is ↦ inl (ap Err is)
   | inr other ↦ elim other [ inl is ↦ inr (inl (ap Err is)) | inr is ↦ inr (inr (ap Err is)) ]

@@ -2,8 +2,7 @@
 use Rattle.std.proofs.Common.{arith, ◌+◌, ℕ, List, ◌∷◌, ◌∙◌}
 use Rattle.mg_defs.specs.declared.Posting.{Posting}
 use Rattle.mg_defs.specs.Lists.{Follows, Rises}
-use Rattle.mg_post.specs.Writing.{Listing, Pushed, SameFiles}
-use Rattle.mg_check.specs.Listing.{PushedMore}
+use Rattle.mg_post.specs.Writing.{Listing, Pushed, PushedMore, SameFiles}
 
 pub first_follows : (all last : ℕ) (p : Posting) (left : List Posting) → Rises all last (p ∷ left) → Follows all last p
 unfolding Rises

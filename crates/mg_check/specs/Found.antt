@@ -10,7 +10,7 @@ use Rattle.mg_dev.specs.declared.fault.Fault.TheVariants.{Damaged, Memory, NotBu
 use Rattle.mg_dev.specs.declared.part.Part.TheVariants.{Head}
 use Rattle.mg_defs.specs.Split.{documents}
 use Rattle.mg_layout.specs.Contents.{IsOutside}
-use Rattle.mg_layout.specs.Stands.{Stands, StandsForNone}
+use Rattle.mg_layout.specs.Stands.{HasNoHead, Stands, StandsForNone}
 
 -- The files of this name stand for a collection of so many documents and bytes.
 pub record StandsWith (files : Option Files) (base : List ℕ) (documents_found bytes_found : ℕ) : Type 0 where
@@ -27,7 +27,7 @@ pub record IsDamagedSet (files : Option Files) (base : List ℕ) : Type 0 where
 -- the cause of each refusal; no other comes
 abbrev pub CheckStops : Type 0 → Option Files → List ℕ → Fault → Type 0
 CheckStops store_rose files base StoreFault = store_rose
-CheckStops store_rose files base NotBuilt = IsSome files → bytes_at files (full_name base Head) ≡ []
+CheckStops store_rose files base NotBuilt = IsSome files → HasNoHead files base
 CheckStops store_rose files base (Damaged bad) = IsSome files → IsDamagedSet files base
 CheckStops store_rose files base Memory = Unit {0}
 CheckStops store_rose files base _ = ⊥
@@ -36,10 +36,6 @@ CheckStops store_rose files base _ = ⊥
 abbrev pub TellsOutside : Fault → Type 0
 TellsOutside (Damaged bad) = IsOutside bad
 TellsOutside _ = Unit {0}
-
--- there is no head, or it is empty
-abbrev pub HasNoHead : Option Files → List ℕ → Type 0
-HasNoHead files base = bytes_at files (full_name base Head) ≡ []
 
 -- that is told, or that the store failed or memory is wanting
 abbrev pub TellsNotBuilt : {T : Type 0} → Result T Fault → Type 0

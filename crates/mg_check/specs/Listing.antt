@@ -128,12 +128,6 @@ IsNotDevice (Bad bad) = Unit {0}
 abbrev pub term_of : List ℕ → TermInfo → Term
 term_of t info = record { string = t; info = info_of info }
 
--- so many postings more of the list that was begun were pushed
-pub record PushedMore (old new : Listing) (count : ℕ) : Type 0 where
-  pub docs : new.docs ≡ old.docs
-  pub pushed : new.pushed ≡ old.pushed + count
-  pub total : new.total ≡ old.total + count
-
 -- The store in memory tells its files; the lexicon has the terms below a number.
 pub record CanPush (terms : List (List ℕ)) (number : ℕ) (lex : LexWriting) (files : Option Files) : Type 0 where
   pub told : IsSome files
@@ -238,10 +232,6 @@ pub record IsIndexOf (r : TextReading) (files : Option Files) (terms : List (Lis
   pub few : length (documents collection) ≤ 2 ^ 24
 
 -- ---- claims on the text, the lists and the lexicon of a collection
-
--- for each collection whose text the reader reads
-abbrev pub ForText : TextReading → Option Files → (List ℕ → Type 0) → Type 0
-ForText reader files claim = (collection : List ℕ) → TextStands reader files collection → claim collection
 
 -- for each of them whose lists have their room
 abbrev pub ForRooms : TextReading → Option Files → Ranged → (List ℕ → Type 0) → Type 0

@@ -1,13 +1,15 @@
 -- What of a set is compared behind its text: the head's numbers that the text does not tell, and the parts that tell of terms.
-use Rattle.std.specs.Prelude.{◌≡◌, ◌*◌, ℕ, List, length}
+use Rattle.std.specs.Prelude.{◌≡◌, ◌*◌, ℕ, List, length, IfErr}
 use Rattle.std.specs.declared.option.Option.{Option}
+use Rattle.std.specs.declared.result.Result.{Result}
 use Rattle.mg_dev.specs.Files.{Files}
+use Rattle.mg_dev.specs.declared.part_err.PartErr.{PartErr}
 use Rattle.mg_defs.specs.Occurrences.{occurrences}
 use Rattle.mg_defs.specs.Stands.{Parts, post_part, skip_count}
 use Rattle.mg_defs.specs.Terms.{dictionary}
 use Rattle.mg_layout.specs.declared.head.Head.{Head}
 use Rattle.mg_check.specs.Counting.{TermsStand}
-use Rattle.mg_check.specs.Listing.{IndexStands}
+use Rattle.mg_check.specs.Listing.{IndexStands, Refutes}
 
 -- the head has as many terms and occurrences as a collection, and the sizes of its lists and skip entries
 pub record AreNumbers (head : Head) (collection : List ℕ) : Type 0 where
@@ -26,3 +28,11 @@ pub record RestStands (files : Option Files) (base : List ℕ) (head : Head) (co
   pub numbers : AreNumbers head collection
   pub terms : TermsStand base files head.cap collection
   pub index : IndexStands files base collection
+
+-- a refusal tells that Weights and Run are not those of the collection
+abbrev pub RefutesTerms : {T : Type 0} → Option Files → List ℕ → ℕ → Result T PartErr → List ℕ → Type 0
+RefutesTerms files base cap result collection = IfErr result (Refutes (TermsStand base files cap collection))
+
+-- a refusal tells that these numbers or these parts are not
+abbrev pub RefutesRest : {T : Type 0} → Option Files → List ℕ → Head → Result T PartErr → List ℕ → Type 0
+RefutesRest files base head result collection = IfErr result (Refutes (RestStands files base head collection))

@@ -5,12 +5,12 @@ ghost use Rattle.mg_defs.specs.Heads.{IsWithin};
 ghost use Rattle.mg_defs.specs.Means.{StandForNone};
 ghost use Rattle.mg_layout.specs.HeadAnswers.{fields_of};
 ghost use Rattle.mg_layout.specs.Stands.{parts_at};
-ghost use Rattle.mg_text.specs.Reading.{TextFits};
+ghost use Rattle.mg_text.specs.Reading.{TextFits, WhereTextStands};
 ghost use Rattle.mg_check.specs.Checking.{HasHead, OnBad};
 ghost use Rattle.mg_check.specs.Found.{StandsWith};
-ghost use Rattle.mg_check.specs.Listing.{Refutes, ForText};
+ghost use Rattle.mg_check.specs.Listing.{Refutes};
 ghost use Rattle.mg_check.specs.Reads.{reads_outside};
-ghost use Rattle.mg_check.specs.Rest.{HaveSizes, RestStands};
+ghost use Rattle.mg_check.specs.Rest.{HaveSizes, RefutesRest, RestStands};
 
 use crate::counting::check_terms;
 use crate::index::check_index;
@@ -98,9 +98,8 @@ fn check_rest<S: Store>(
     requires within { IsWithin (fields_of head.now) }
     requires fits { TextFits reader.old (S.files store.old) }
     requires documents { reader.old.documents ≡ head.now.documents }
-    ensures stand { ForText reader.old (S.files store.old) (λ collection. OnOk result (RestStands (S.files store.old) base.now head.now collection)) }
-    ensures other { ForText reader.old (S.files store.old)
-        (λ collection. IfErr result (Refutes (RestStands (S.files store.old) base.now head.now collection))) }
+    ensures stand { WhereTextStands reader.old (S.files store.old) (λ collection. OnOk result (RestStands (S.files store.old) base.now head.now collection)) }
+    ensures other { WhereTextStands reader.old (S.files store.old) (RefutesRest (S.files store.old) base.now head.now result) }
     ensures files { S.files store.new ≡ S.files store.old }
     ensures unread { reads_outside (S.reads store.new) ≡ reads_outside (S.reads store.old) }
     ensures cause { HasPartCause (S.faults store.old) (S.faults store.new) result }

@@ -2,15 +2,16 @@
 //!
 //! The text is read a second time. Of each document the terms are counted, which gives its weight, one more for each of
 //! its terms, and its occurrences for the runs. So one reading tells whether Weights and Run are those of the collection.
-ghost use Rattle.std.specs.Prelude.{◌≡◌, ◌<◌, ◌≤◌, ◌+◌, ◌-◌, ◌^◌, length, IfErr, IfOk, OnOk};
+ghost use Rattle.std.specs.Prelude.{◌≡◌, ◌<◌, ◌≤◌, ◌+◌, ◌-◌, ◌^◌, length, IfOk, OnOk};
 ghost use Rattle.mg_dev.specs.PartCauses.{HasPartCause};
 ghost use Rattle.mg_defs.specs.Occurrences.{occurrences};
 ghost use Rattle.mg_defs.specs.Terms.{docs};
 ghost use Rattle.mg_model.specs.Terms.{terms_and_numbers};
-ghost use Rattle.mg_text.specs.Reading.{SameText, TextFits};
+ghost use Rattle.mg_text.specs.Reading.{SameText, TextFits, WhereTextStands};
 ghost use Rattle.mg_check.specs.Counting.{AreOwn, SameParts, TalliedText, TermsStand, WhereBad};
-ghost use Rattle.mg_check.specs.Listing.{Refutes, ForText, docs_of_terms};
+ghost use Rattle.mg_check.specs.Listing.{docs_of_terms};
 ghost use Rattle.mg_check.specs.Reads.{reads_outside};
+ghost use Rattle.mg_check.specs.Rest.{RefutesTerms};
 
 use crate::doc_terms::DocTerms;
 use crate::held::Held;
@@ -30,8 +31,8 @@ pub(crate) struct Counts {
     pub(crate) occurrences: u64,
 }
 
-// A document has a word that the model has not.
-fn unknown_word(number: u32) -> Bad {
+/// A document is not the one that was counted before, or has a word that the model has not.
+pub(crate) fn damaged_document(number: u32) -> Bad {
     Bad {
         part: Part::Text,
         at: u64::from(number),
@@ -63,7 +64,7 @@ fn count_document<S: Store>(
     ensures most { held.new.most ≡ held.old.most }
     ensures tallied { OnOk result (TalliedText tally.new (S.files store.new) table.now.terms (before + 1) reader.old) }
     ensures parts { SameParts tally.old tally.new }
-    ensures other { ForText reader.old (S.files store.old) (λ collection. WhereBad (AreOwn tally.old (S.files store.old) collection → ⊥) result) }
+    ensures other { WhereTextStands reader.old (S.files store.old) (λ collection. WhereBad (AreOwn tally.old (S.files store.old) collection → ⊥) result) }
     ensures files { S.files store.new ≡ S.files store.old }
     ensures unread { reads_outside (S.reads store.new) ≡ reads_outside (S.reads store.old) }
     ensures cause { HasPartCause (S.faults store.old) (S.faults store.new) result }
@@ -75,7 +76,7 @@ fn count_document<S: Store>(
     }
     match terms.read(reader.model(), table, held.bytes()) {
         Ok(true) => {}
-        Ok(false) => return Err(PartErr::Bad(unknown_word(number))),
+        Ok(false) => return Err(PartErr::Bad(damaged_document(number))),
         Err(AllocError) => return Err(PartErr::Memory),
     }
     match tally.add(store, number, terms) {
@@ -105,7 +106,7 @@ fn count_documents<S: Store>(
     ensures same { SameText reader.old reader.new }
     ensures tallied { OnOk result (TalliedText tally.new (S.files store.new) table.now.terms documents reader.old) }
     ensures parts { SameParts tally.old tally.new }
-    ensures other { ForText reader.old (S.files store.old) (λ collection. WhereBad (AreOwn tally.old (S.files store.old) collection → ⊥) result) }
+    ensures other { WhereTextStands reader.old (S.files store.old) (λ collection. WhereBad (AreOwn tally.old (S.files store.old) collection → ⊥) result) }
     ensures files { S.files store.new ≡ S.files store.old }
     ensures unread { reads_outside (S.reads store.new) ≡ reads_outside (S.reads store.old) }
     ensures cause { HasPartCause (S.faults store.old) (S.faults store.new) result }
@@ -137,11 +138,11 @@ pub(crate) fn check_terms<S: Store>(
     requires most { cap ≤ 89478485 }
     ensures fits { TextFits reader.new (S.files store.new) }
     ensures same { SameText reader.old reader.new }
-    ensures stand { ForText reader.old (S.files store.old) (λ collection. OnOk result (TermsStand base.entry.now (S.files store.old) cap collection)) }
-    ensures docs { ForText reader.old (S.files store.old) (λ collection. IfOk result (λ counts. counts.docs.items ≡ docs_of_terms collection)) }
-    ensures occurrences { ForText reader.old (S.files store.old) (λ collection. IfOk result (λ counts. counts.occurrences ≡ length (occurrences collection))) }
-    ensures other { ForText reader.old (S.files store.old)
-        (λ collection. IfErr result (Refutes (TermsStand base.entry.now (S.files store.old) cap collection))) }
+    ensures stand { WhereTextStands reader.old (S.files store.old) (λ collection. OnOk result (TermsStand base.entry.now (S.files store.old) cap collection)) }
+    ensures docs { WhereTextStands reader.old (S.files store.old) (λ collection. IfOk result (λ counts. counts.docs.items ≡ docs_of_terms collection)) }
+    ensures occurrences { WhereTextStands reader.old (S.files store.old)
+        (λ text. IfOk result (λ counts. counts.occurrences ≡ length (occurrences text))) }
+    ensures other { WhereTextStands reader.old (S.files store.old) (RefutesTerms (S.files store.old) base.entry.now cap result) }
     ensures files { S.files store.new ≡ S.files store.old }
     ensures unread { reads_outside (S.reads store.new) ≡ reads_outside (S.reads store.old) }
     ensures cause { HasPartCause (S.faults store.old) (S.faults store.new) result }

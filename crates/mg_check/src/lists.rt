@@ -12,9 +12,9 @@ ghost use Rattle.mg_dev.specs.PartCauses.{HasPartCause};
 ghost use Rattle.mg_dev.specs.declared.part.Part.TheVariants as part;
 ghost use Rattle.mg_defs.specs.declared.Posting.{Posting};
 ghost use Rattle.mg_defs.specs.Lists.{Rises};
-ghost use Rattle.mg_post.specs.Writing.{Pushed, SameFiles, Took};
+ghost use Rattle.mg_post.specs.Writing.{Pushed, PushedMore, SameFiles, Took};
 ghost use Rattle.mg_layout.specs.Infos.{info_of};
-ghost use Rattle.mg_check.specs.Listing.{AreBehind, ArePlaces, AreRooms, CanList, CanPush, IsLaidOut, IsNotDevice, PushedMore, end_of_range, TookPosting, TookPostings, TookList, ForWritten, AreEndsOf, FindsFollowing, RefutesFollowing, CanPushIn, ForListed, ListsOn, CanCompareIn, ComparesRange, RefusesRange};
+ghost use Rattle.mg_check.specs.Listing.{AreBehind, ArePlaces, AreRooms, CanList, CanPush, IsLaidOut, IsNotDevice, end_of_range, TookPosting, TookPostings, TookList, ForWritten, AreEndsOf, FindsFollowing, RefutesFollowing, CanPushIn, ForListed, ListsOn, CanCompareIn, ComparesRange, RefusesRange};
 ghost use Rattle.mg_check.specs.Reads.{reads_outside};
 
 use crate::lexicon::Lexicon;

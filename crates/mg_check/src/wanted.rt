@@ -1,11 +1,10 @@
 //! Parts against bytes that were written anew into a store in memory.
 ghost use Rattle.std.specs.Prelude.{◌≡◌, ◌≤◌, ◌+◌, ◌^◌, IfErr, IfOk, OnOk, IsSome, length, true};
-ghost use Rattle.mg_dev.specs.Files.{bytes_at};
+ghost use Rattle.mg_dev.specs.Files.{bytes_at, file_bytes};
 ghost use Rattle.mg_dev.specs.PartCauses.{HasPartCause};
 ghost use Rattle.mg_layout.specs.Contents.{StandAt};
 ghost use Rattle.mg_check.specs.Listing.{Refutes};
 ghost use Rattle.mg_check.specs.Reads.{is_of_set, reads_outside};
-ghost use Rattle.mg_runs.specs.Reading.{file_bytes};
 
 use mg_dev::{FileRef, PartErr, Store, SureStore};
 use mg_layout::{expect_bytes, expect_size};

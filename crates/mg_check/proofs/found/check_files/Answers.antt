@@ -4,7 +4,8 @@ use Rattle.mg_dev.specs.Names.{full_name}
 use Rattle.mg_dev.specs.declared.part.Part.TheVariants as part
 use Rattle.mg_layout.specs.HeadAnswers.{fields_of}
 use Rattle.mg_check.proofs.DocumentLaws.{caused_more}
-use Rattle.mg_check.proofs.FoundLaws.{early-err, head-refused, loaded-head, no-head, set-found, set-none-here, set-refused, some-head}
+use Rattle.mg_check.proofs.FoundLaws.{early-err, head-refused, loaded-head, no-head, set-found, set-none-here, set-refused}
+use Rattle.mg_layout.proofs.CallerLemmas.{no_empty_head}
 use Rattle.mg_check.proofs.UnreadLaws.{head_read}
 use Rattle.mg_check.proofs.found.check_files.Goals as goal
 
@@ -32,7 +33,7 @@ returns-in-Err-check_set-clause-cause g c =
 
 pub returns-in-Err-check_set-clause-early : goal.returns-in-Err-check_set-clause-early
 returns-in-Err-check_set-clause-early g c = λ told none.
-    absurd (some-head (bytes_at (g.S.Store.files c.args.store.now) (full_name c.args.base.now part.Head)) (fields_of c.in-Some.head)
+    absurd (no_empty_head (bytes_at (g.S.Store.files c.args.store.now) (full_name c.args.base.now part.Head)) (fields_of c.in-Some.head)
     (loaded-head (bytes_at (g.S.Store.files c.args.store.now) (full_name c.args.base.now part.Head)) c.in-Ok.loaded c.in-Some.head c.in-Some.is (c.in-Ok.ensures.answer told)) none)
 
 pub returns-in-Err-clause-unread : goal.returns-in-Err-clause-unread

@@ -2,8 +2,7 @@ use Rattle.std.proofs.Common.{◌≡◌, ◌≤◌, ◌^◌, List, [], take, dro
 use Rattle.mg_defs.specs.declared.Posting.{Posting}
 use Rattle.mg_defs.specs.Lists.{Rises}
 use Rattle.mg_dev.specs.Shelf.{files_of}
-use Rattle.mg_post.specs.Writing.{SameFiles, Took}
-use Rattle.mg_check.specs.Listing.{PushedMore}
+use Rattle.mg_post.specs.Writing.{PushedMore, SameFiles, Took}
 use Rattle.mg_check.proofs.lists.NewLists.push_all.Given as goal
 
 abbrev pub invariant-loop-posting : goal.invariant-loop-posting
