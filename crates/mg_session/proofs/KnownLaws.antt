@@ -10,9 +10,10 @@ use Rattle.mg_defs.specs.PageBounds.{list_pages, ranked_bound}
 use Rattle.mg_defs.specs.Split.{documents}
 use Rattle.mg_defs.specs.Terms.{docs}
 use Rattle.mg_defs.specs.Weights.{Hit, has_term, hits, score}
+use Rattle.mg_defs.proofs.FirstLaws.{score_by_had}
 use Rattle.mg_bool.specs.Places.{AreInfos, IsToldOf}
+use Rattle.mg_layout.specs.Infos.{IsInfoOf}
 use Rattle.mg_layout.specs.declared.term_info.TermInfo.{TermInfo}
-use Rattle.mg_post.specs.TermLists.{IsInfoOf}
 use Rattle.mg_rank.specs.Ranked.{AreTold}
 use Rattle.mg_session.specs.Answering.{known_infos, known_terms}
 
@@ -80,15 +81,12 @@ same_hits_in collection ts infos n (doc ∷ docs) none =
     let first = misses_first doc docs ts infos none in
     let more = same_hits_in collection ts infos (n + 1) docs first.1 in
     let kept = known_terms ts infos in
-    let scores : score collection kept doc ≡ score collection ts doc = same_score collection doc kept ts (same_filter doc ts infos first.0) in
+    let scores : score collection kept doc ≡ score collection ts doc = score_by_had collection doc kept ts (same_filter doc ts infos first.0) in
     hits_cons collection kept n doc docs
     ∙ ap (λ s. if list_any (has_term doc) kept then record { number = n; score = s } ∷ hits_in collection kept (n + 1) docs else hits_in collection kept (n + 1) docs) scores
     ∙ ap (λ hs. if list_any (has_term doc) kept then record { number = n; score = score collection ts doc } ∷ hs else hs) more
     ∙ ap (λ b. if b then record { number = n; score = score collection ts doc } ∷ hits_in collection ts (n + 1) docs else hits_in collection ts (n + 1) docs) (same_any doc ts infos first.0)
     ∙ sym (hits_cons collection ts n doc docs)
-  where
-    same_score : (collection doc : List ℕ) (us vs : List (List ℕ)) → filter (has_term doc) us ≡ filter (has_term doc) vs → score collection us doc ≡ score collection vs doc
-    same_score collection doc us vs e = rw e refl
 
 -- ---- what the lexicon tells
 

@@ -23,7 +23,7 @@ use Rattle.mg_session.specs.WildServes.{IsFirst, WildStops}
 use Rattle.mg_dev.specs.Runs.{IfStopped, InputFailed, OutputFailed, RefusedFor, Run, Stops, StoreFailed, status_of}
 use Rattle.mg_session.specs.Matched.{Matched}
 use Rattle.mg_dev.proofs.CallerLemmas.{when_ok, err_by, stopped_by, unless_by}
-use Rattle.mg_session.proofs.StopLaws.{head_there}
+use Rattle.mg_layout.proofs.CallerLemmas.{head_there}
 
 true_is_not_false : true ≡ false → ⊥
 true_is_not_false e = cc

@@ -34,10 +34,10 @@ use Rattle.mg_query.specs.AllOf.{IsAllOf}
 use Rattle.mg_query.specs.RefusalOf.{refusal_of}
 use Rattle.mg_query.specs.declared.query_err.QueryErr.{QueryErr}
 use Rattle.mg_reply.specs.Refusals.{AnswerStops}
-use Rattle.mg_reply.specs.Served.{EndsFor, PartStops}
+use Rattle.mg_reply.specs.Served.{EndsFor, PartStops, fault_of_serve}
 use Rattle.mg_reply.specs.declared.serve.ServeErr.{ServeErr}
 use Rattle.mg_reply.specs.declared.serve.ServeErr.TheVariants as serve
-use Rattle.mg_session.specs.Serves.{Stops, fault_of_serve}
+use Rattle.mg_session.specs.Serves.{Stops}
 use Rattle.mg_defs.specs.InputLimit.{is_too_much}
 use Rattle.mg_defs.specs.Limits.{input_limit}
 use Rattle.mg_text.specs.Decoding as decoding

@@ -24,7 +24,7 @@ use Rattle.mg_session.specs.Searching.{AskForNoText}
 use Rattle.mg_session.specs.Serves.{ReadsWithin, StopsFor}
 use Rattle.mg_dev.specs.Runs.{IfStopped, InputFailed, OutputFailed, RefusedFor, Run, Stops, StoreFailed, status_of}
 use Rattle.mg_session.specs.Queried.{Queried}
-use Rattle.mg_session.proofs.StopLaws.{head_there}
+use Rattle.mg_layout.proofs.CallerLemmas.{head_there}
 use Rattle.mg_dev.proofs.CallerLemmas.{when_ok, err_by, stopped_by, unless_by}
 
 true_is_not_false : true ≡ false → ⊥

@@ -11,7 +11,7 @@ use Rattle.mg_dev.specs.declared.part_err.PartErr.TheVariants.{Device, Memory, B
 use Rattle.mg_dev.specs.declared.show_err.ShowErr.TheVariants as show
 use Rattle.mg_reply.specs.declared.serve.ServeErr.{ServeErr}
 use Rattle.mg_reply.specs.declared.serve.ServeErr.TheVariants as serve
-use Rattle.mg_reply.specs.Served.{EndsFor}
+use Rattle.mg_reply.specs.Served.{EndsFor, fault_of_serve}
 use Rattle.mg_defs.specs.CodedText.{TextCode}
 use Rattle.mg_defs.specs.InputLimit.{is_too_much}
 use Rattle.mg_defs.specs.Limits.{input_limit}
@@ -22,7 +22,7 @@ use Rattle.mg_defs.specs.TextBounds.{line_text_bound, session_text_bound}
 use Rattle.mg_session.specs.Parts.{is_of_text}
 use Rattle.mg_session.specs.SearchLaws.{ask_before}
 use Rattle.mg_session.specs.Searching.{AnswersBy, AskForNoText, Asked, MayStop, Over, Searching}
-use Rattle.mg_session.specs.Serves.{ReadsWithin, Stops, fault_of_serve}
+use Rattle.mg_session.specs.Serves.{ReadsWithin, Stops}
 
 pub answers_over : (s : Searching) (code : TextCode) (collection : List ℕ) → Over s code collection → AnswersBy s (reply collection)
 answers_over s code collection over = record { code = code; collection = collection; over = over; by_is = refl }

@@ -6,18 +6,15 @@ use Rattle.mg_defs.specs.declared.session.Mode.{Mode}
 use Rattle.mg_defs.specs.declared.session.Mode.TheVariants as mode
 use Rattle.mg_dev.specs.Files.{Files, Reads}
 use Rattle.mg_dev.specs.Names.{number, same_part}
-use Rattle.mg_dev.specs.PartCauses.{HasPartCause}
 use Rattle.mg_dev.specs.declared.part.Part.{Part}
 use Rattle.mg_dev.specs.declared.part.Part.TheVariants as part
-use Rattle.mg_dev.specs.declared.part_err.PartErr.{PartErr}
 use Rattle.mg_dev.specs.declared.part_err.PartErr.TheVariants.{Device, Memory, Bad}
 use Rattle.mg_dev.specs.declared.show_err.ShowErr.{ShowErr}
 use Rattle.mg_dev.specs.declared.show_err.ShowErr.TheVariants as show
 use Rattle.mg_front.specs.Reading.{LookedAt}
 use Rattle.mg_post.specs.TermLists.{ReadsLists}
 use Rattle.mg_rank.specs.Ranked.{ReadsRanked}
-use Rattle.mg_text.specs.Decoding as text
-use Rattle.mg_session.specs.Answering.{HasShowCause, IsShowCaused}
+use Rattle.mg_session.specs.Answering.{HasShowCause, IsFailureCaused}
 use Rattle.mg_session.specs.Parts.{NeverRead, ShownIn, Stepped, UnreadIn, is_of_text, is_shown_from}
 
 -- ---- what is left of the store
@@ -224,34 +221,10 @@ cause_after result s0 s1 s2 f0 f1 f2 store output cause = record {
   caused = wider result cause.caused;
 }
   where
-    wider : (r : Result (Unit {0}) ShowErr) → IsShowCaused r s1 s2 f1 f2 → IsShowCaused r s0 s2 f0 f2
+    wider : (r : Result (Unit {0}) ShowErr) → IsFailureCaused r s1 s2 f1 f2 → IsFailureCaused r s0 s2 f0 f2
     wider (Ok done) is = tt
     wider (Err (show.Part Device)) is = omega (arith, is, store)
     wider (Err (show.Part Memory)) is = tt
     wider (Err (show.Part (Bad bad))) is = tt
     wider (Err show.Write) is = omega (arith, is, output)
     wider (Err show.Memory) is = tt
-
-pub cause_done : (s t f g : ℕ) → s ≤ t → f ≤ g → HasShowCause (Ok tt) s t f g
-cause_done s t f g store output = record { store = store; output = output; caused = tt }
-
-pub cause_memory : (s t f g : ℕ) → s ≤ t → f ≤ g → HasShowCause (Err (show.Part Memory)) s t f g
-cause_memory s t f g store output = record { store = store; output = output; caused = tt }
-
--- a document was shown or not, and no memory was wanted but by the output
-pub cause_doc : (result : Result (Unit {0}) ShowErr) (s t f g l m : ℕ) → s ≤ t → f ≤ g → text.IsShowCaused result s t f g l m → HasShowCause result s t f g
-cause_doc result s t f g l m store output cause = record { store = store; output = output; caused = caused result cause }
-  where
-    caused : (r : Result (Unit {0}) ShowErr) → text.IsShowCaused r s t f g l m → IsShowCaused r s t f g
-    caused (Ok done) is = tt
-    caused (Err (show.Part Device)) is = is
-    caused (Err (show.Part Memory)) is = tt
-    caused (Err (show.Part (Bad bad))) is = tt
-    caused (Err show.Write) is = is
-    caused (Err show.Memory) is = tt
-
--- a part was refused
-pub cause_part : {T : Type 0} (error : PartErr) (s0 s1 s2 f0 f1 : ℕ) → s0 ≤ s1 → f0 ≤ f1 → HasPartCause {T = T} s1 s2 (Err error) → HasShowCause (Err (show.Part error)) s0 s2 f0 f1
-cause_part Device s0 s1 s2 f0 f1 store output cause = record { store = omega (arith, store, cause.later); output = output; caused = omega (arith, store, cause.device) }
-cause_part Memory s0 s1 s2 f0 f1 store output cause = record { store = omega (arith, store, cause.later); output = output; caused = tt }
-cause_part (Bad bad) s0 s1 s2 f0 f1 store output cause = record { store = omega (arith, store, cause.later); output = output; caused = tt }

@@ -1,5 +1,5 @@
 -- Why a session stops, by what the calls that it makes answer.
-use Rattle.std.proofs.Common.{arith, ◌+◌, ◌-◌, ◌^◌, min, max, ◌≡◌, ◌≢◌, ◌≤◌, ◌==◌, ◌⊎◌, inl, inr, ℕ, true, false, cond, List, [], Option, Some, None, Ok, Err, IsSome, sym, ◌∙◌, ap, subst}
+use Rattle.std.proofs.Common.{arith, ◌+◌, ◌-◌, ◌^◌, min, max, ◌≡◌, ◌≤◌, ◌==◌, ◌⊎◌, inl, inr, ℕ, true, false, cond, List, [], Option, Some, None, Ok, Err, IsSome, sym, ◌∙◌, ap, subst}
 use Rattle.std.specs.Prelude.{IfErr}
 use Rattle.std.proofs.lemmas.Bool.Decides.{nat_tests}
 use Rattle.std.specs.declared.result.Result.{Result}
@@ -16,35 +16,17 @@ use Rattle.mg_dev.specs.declared.part_err.PartErr.{PartErr}
 use Rattle.mg_dev.specs.declared.part_err.PartErr.TheVariants.{Device, Memory, Bad}
 use Rattle.mg_defs.specs.CodedText.{TextCode}
 use Rattle.mg_defs.specs.Heads as defs
-use Rattle.mg_defs.specs.Heads.{IsHead, first_damage}
-use Rattle.mg_defs.specs.Stands.{head_of}
-use Rattle.mg_defs.proofs.HeadLaws.{no_damage}
-use Rattle.mg_defs.proofs.StandLaws.{stand-tells}
+use Rattle.mg_defs.specs.Heads.{IsHead}
 use Rattle.mg_front.specs.Reading.{IsNotBad}
 use Rattle.mg_layout.specs.HeadAnswers.{AnswersBack, AnswersHead, fields_of}
-use Rattle.mg_layout.specs.Stands.{Stands, StandsBy, StandsForNone, parts_at}
+use Rattle.mg_layout.specs.Stands.{Stands, StandsBy, StandsForNone}
 use Rattle.mg_layout.specs.declared.head.Head.{Head}
-use Rattle.mg_layout.proofs.CallerLemmas.{loaded_set}
+use Rattle.mg_layout.proofs.CallerLemmas.{loaded_set, own_head}
 use Rattle.mg_session.specs.Parts.{NeverRead, is_of_text}
 use Rattle.mg_session.specs.Serves.{ReadsWithin, Stops, StopsFor}
 use Rattle.mg_session.proofs.StepLaws.{never_early, text_behind}
 
 -- ---- heads
-
--- no head has no bytes
-pub no_empty_head : (bytes : List ℕ) (h : defs.Head) → IsHead 1 2 bytes h → bytes ≢ []
-unfolding first_damage
-no_empty_head bytes h is empty = some_is_not (sym (no_damage 1 2 bytes h is) ∙ ap (first_damage 1 2) empty)
-  where
-    some_is_not : {x : defs.Check} → None ≡ Some x → ⊥
-    some_is_not e = cc
-
--- a set that stands has a head
-own_head : (files : Option Files) (base collection : List ℕ) → (stands : Stands files base collection) → IsHead 1 2 (bytes_at files (full_name base part.Head)) (head_of stands.stand.version stands.stand.cap stands.stand.code collection)
-own_head files base collection stands = (stand-tells stands.stand.version stands.stand.cap stands.stand.code (parts_at files base) collection stands.stand.are).head
-
-pub head_there : (files : Option Files) (base collection : List ℕ) → Stands files base collection → bytes_at files (full_name base part.Head) ≢ []
-head_there files base collection stands = no_empty_head (bytes_at files (full_name base part.Head)) _ (own_head files base collection stands)
 
 -- a head that was refused as bad is that of no set
 pub bad_head : (files : Option Files) (base : List ℕ) (refusal : PartErr) →

@@ -1,5 +1,5 @@
 -- A cursor that goes over the whole list of a term, and the documents that are marked meanwhile.
-use Rattle.std.proofs.Common.{arith, ◌≡◌, ℕ, ◌+◌, ◌<◌, ◌≤◌, ◌==◌, ◌∙◌, Bool, true, false, List, [], ◌∷◌, ◌++◌, length, Some, None, Err, nat_eq, inl, inr, refl, sym, ap}
+use Rattle.std.proofs.Common.{arith, ◌≡◌, ℕ, ◌+◌, ◌<◌, ◌≤◌, ◌==◌, ◌∙◌, Bool, true, false, List, [], ◌∷◌, ◌++◌, length, Some, Err, inl, inr, refl, sym, ap}
 use Rattle.std.specs.Prelude.{◌||◌}
 use Rattle.std.specs.List.{list_any}
 use Rattle.std.specs.declared.option.Option.{Option}
@@ -14,12 +14,12 @@ use Rattle.mg_defs.specs.Terms.{document}
 use Rattle.mg_defs.specs.Weights.{has_term}
 use Rattle.mg_defs.specs.Lists.{postings, from_doc}
 use Rattle.mg_defs.specs.PageBounds.{numbers_in}
-use Rattle.mg_defs.proofs.ListLaws.{from_here, list_rises}
+use Rattle.mg_defs.proofs.ListLaws.{list_rises}
 use Rattle.mg_post.specs.Answers.{AnswersList}
 use Rattle.mg_post.specs.Cursor.{Cursoring, head_of}
 use Rattle.mg_post.specs.TermLists.{ListsStand, MayAsk}
-use Rattle.mg_laws.proofs.LedLists.{first_of, is_number, posting_is}
-use Rattle.mg_laws.proofs.MetBlocks.{from_from, own_met}
+use Rattle.mg_post.proofs.ListHeads.{has_at}
+use Rattle.mg_laws.proofs.MetBlocks.{own_met}
 use Rattle.mg_rank.specs.Ranked.{AnswersOr, ListFor}
 use Rattle.mg_session.specs.DocumentSets.{DocumentMarks, has_doc}
 use Rattle.mg_session.specs.WildMarks.{AddsLists}
@@ -36,33 +36,6 @@ may_ask base collection t last files c stand f = record {
   cursor = list_later base collection t last (last + 1) c f (omega arith);
   among = λ k range. own_met (length (documents collection)) k (last + 1) (postings collection t) (list_rises collection t stand.short) range;
 }
-
--- ---- the head of a list from a document on
-
-first_kept : (d : ℕ) (q : List Posting) (p : Posting) → head_of q ≡ Some p → d ≤ p.doc → from_doc d q ≡ q
-first_kept d [] p is le = absurd cc
-first_kept d (h ∷ q) p is le = let same : h ≡ p = cc in from_here d h q (omega (arith, ap (λ (x : Posting). x.doc) same, le))
-
-first_head : (q : List Posting) (p : Posting) → head_of q ≡ Some p → first_of q ≡ Some p.doc
-first_head [] p is = absurd cc
-first_head (h ∷ q) p is = let same : h ≡ p = cc in ap (λ (x : Posting). Some x.doc) same
-
-no_first : (d : ℕ) (q : List Posting) → head_of q ≡ None → first_of (from_doc d q) ≡ None
-unfolding from_doc
-no_first d [] is = refl
-no_first d (h ∷ q) is = absurd cc
-
--- the list from a later document on, up to the first one
-later : (last d : ℕ) (ps : List Posting) (p : Posting) → head_of (from_doc (last + 1) ps) ≡ Some p → last < d → d ≤ p.doc → from_doc d ps ≡ from_doc (last + 1) ps
-later last d ps p is low high = sym (from_from (last + 1) d ps (omega (arith, low))) ∙ first_kept d (from_doc (last + 1) ps) p is high
-
-has_at : (collection t : List ℕ) (last d : ℕ) (p : Posting) → head_of (from_doc (last + 1) (postings collection t)) ≡ Some p → last < d → d ≤ p.doc → d ≤ length (documents collection) → has_term (document collection d) t ≡ nat_eq p.doc d
-has_at collection t last d p is low high le =
-    sym (posting_is collection t d (omega (arith, low)) le) ∙ ap (λ l. is_number (first_of l) d) (later last d (postings collection t) p is low high) ∙ ap (λ o. is_number o d) (first_head (from_doc (last + 1) (postings collection t)) p is)
-
-pub none_at : (collection t : List ℕ) (last d : ℕ) → head_of (from_doc (last + 1) (postings collection t)) ≡ None → last < d → d ≤ length (documents collection) → has_term (document collection d) t ≡ false
-none_at collection t last d is low le =
-    sym (posting_is collection t d (omega (arith, low)) le) ∙ ap (λ o. is_number o d) (ap first_of (sym (from_from (last + 1) d (postings collection t) (omega (arith, low)))) ∙ no_first d (from_doc (last + 1) (postings collection t)) is)
 
 -- ---- while a list is gone through
 

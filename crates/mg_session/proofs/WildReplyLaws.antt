@@ -17,12 +17,12 @@ use Rattle.mg_defs.specs.Session.{heard_session}
 use Rattle.mg_defs.specs.WildSession.{bad_pattern, match_text, wild_reply, wild_session}
 use Rattle.mg_defs.specs.declared.session.Hearing.TheVariants.{Questions}
 use Rattle.mg_laws.proofs.PlainLaws.{plain_heard}
-use Rattle.mg_reply.specs.Served.{EndsFor, PartStops}
+use Rattle.mg_reply.specs.Served.{EndsFor, PartStops, fault_of_serve}
 use Rattle.mg_reply.specs.declared.serve.ServeErr.{ServeErr}
 use Rattle.mg_reply.specs.declared.serve.ServeErr.TheVariants as serve
 use Rattle.mg_text.specs.Reading.{ShowIsNotBad}
 use Rattle.mg_session.specs.Answering.{HasShowCause}
-use Rattle.mg_session.specs.Serves.{Stops, fault_of_serve}
+use Rattle.mg_session.specs.Serves.{Stops}
 use Rattle.mg_session.specs.WildAnswers.{WildAnswered, WildReplied}
 use Rattle.mg_session.specs.WildSearching.{WildBy, WildMayStop, WildOver, WildState}
 

@@ -26,8 +26,9 @@ use Rattle.mg_defs.specs.WildSession.{match_text, numbers_text, term_row, with_m
 use Rattle.mg_defs.proofs.ReplyLaws.{document_at}
 use Rattle.mg_defs.proofs.SortedLaws.{same-refl}
 use Rattle.mg_laws.proofs.MatchLists.{match_lists}
+use Rattle.mg_layout.specs.Infos.{IsInfoOf}
 use Rattle.mg_layout.specs.declared.term_info.TermInfo.{TermInfo}
-use Rattle.mg_post.specs.TermLists.{IsInfoOf, ReadsLists}
+use Rattle.mg_post.specs.TermLists.{ReadsLists}
 use Rattle.mg_reply.specs.Pending.{AfterPass, Passed}
 use Rattle.mg_reply.proofs.CallerLemmas.{pass_nothing, pass_both, pass_cut, pass_more, pass_part, pass_put, pass_refused}
 use Rattle.mg_text.specs.Reading.{ShowIsNotBad}

@@ -29,19 +29,20 @@ use Rattle.mg_session.specs.Texts.{Texting, TextsStand}
 
 -- ---- causes
 
-abbrev pub IsShowCaused : Result (Unit {0}) ShowErr → ℕ → ℕ → ℕ → ℕ → Type 0
-IsShowCaused (Ok done) s t f g = Unit {0}
-IsShowCaused (Err (show.Part Device)) s t f g = Rose s t
-IsShowCaused (Err (show.Part Memory)) s t f g = Unit {0}
-IsShowCaused (Err (show.Part (Bad bad))) s t f g = Unit {0}
-IsShowCaused (Err show.Write) s t f g = Rose f g
-IsShowCaused (Err show.Memory) s t f g = Unit {0}
+-- where a device's failure is answered, it has a cause
+abbrev pub IsFailureCaused : Result (Unit {0}) ShowErr → ℕ → ℕ → ℕ → ℕ → Type 0
+IsFailureCaused (Ok done) s t f g = Unit {0}
+IsFailureCaused (Err (show.Part Device)) s t f g = Rose s t
+IsFailureCaused (Err (show.Part Memory)) s t f g = Unit {0}
+IsFailureCaused (Err (show.Part (Bad bad))) s t f g = Unit {0}
+IsFailureCaused (Err show.Write) s t f g = Rose f g
+IsFailureCaused (Err show.Memory) s t f g = Unit {0}
 
 -- the store's failure and the output's each have a cause, and no fault is forgotten
 pub record HasShowCause (result : Result (Unit {0}) ShowErr) (store_before store_now output_before output_now : ℕ) : Type 0 where
   pub store : store_before ≤ store_now
   pub output : output_before ≤ output_now
-  pub caused : IsShowCaused result store_before store_now output_before output_now
+  pub caused : IsFailureCaused result store_before store_now output_before output_now
 
 abbrev pub IsShowLacked : Result (Unit {0}) ShowErr → ℕ → ℕ → Type 0
 IsShowLacked (Ok done) before now = Unit {0}

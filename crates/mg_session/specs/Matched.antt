@@ -1,10 +1,7 @@
 -- What a run of `wild NAME` does.
-use Rattle.std.specs.Prelude.{◌≡◌, ◌⊎◌, ◌<◌, ◌≤◌, ℕ, false, List, [], Some, IsSome}
-use Rattle.mg_dev.specs.Files.{bytes_at}
-use Rattle.mg_dev.specs.Names.{full_name}
+use Rattle.std.specs.Prelude.{◌≡◌, ◌⊎◌, ◌<◌, ◌≤◌, ℕ, false, List, Some, IsSome}
 use Rattle.mg_dev.specs.Streams.{appended, GrewByPrefix}
 use Rattle.mg_dev.specs.declared.part.Part.{Part}
-use Rattle.mg_dev.specs.declared.part.Part.TheVariants as part
 use Rattle.mg_dev.specs.declared.fault.Fault.{Fault}
 use Rattle.mg_dev.specs.declared.fault.Fault.TheVariants.{NotBuilt, Memory, TooManyRotations}
 use Rattle.mg_dev.specs.declared.status.Status.TheVariants.{Done}
@@ -13,7 +10,7 @@ use Rattle.mg_defs.specs.Limits.{input_limit}
 use Rattle.mg_defs.specs.Rotations.{most_rotations, rotation_count}
 use Rattle.mg_defs.specs.Terms.{dictionary}
 use Rattle.mg_defs.specs.WildSession.{wild_session}
-use Rattle.mg_layout.specs.Stands.{Stands}
+use Rattle.mg_layout.specs.Stands.{HasNoHead, Stands}
 use Rattle.mg_reply.specs.Served.{LeftEnough}
 use Rattle.mg_session.specs.WildAnswers.{NeverReadByPatterns}
 use Rattle.mg_session.specs.WildServes.{IsFirst, WildStops}
@@ -33,7 +30,7 @@ pub record Matched (base : List ℕ) (run : Run) : Type 0 where
   pub untouched : (fault : Fault) → IsFirst fault → Stops run fault → run.input_now.left ≡ run.input.left
   -- the cause of every other status; 5 and 17 come exactly where they have it, in this order, unless the store fails or memory is wanting
   pub cause : IfStopped run.status (WildStops base (StoreFailed run) (InputFailed run) (OutputFailed run) run.store.files run.input.left)
-  pub not_built : IsSome run.store.files → bytes_at run.store.files (full_name base part.Head) ≡ [] → StopsUnless run NotBuilt
+  pub not_built : IsSome run.store.files → HasNoHead run.store.files base → StopsUnless run NotBuilt
   pub many : (collection : List ℕ) → Stands run.store.files base collection → most_rotations < rotation_count (dictionary collection)
       → StopsUnless run (TooManyRotations (rotation_count (dictionary collection)))
   -- where the files stand, the rotations are not too many, the input is not too long and no device fails, it is done, or memory is wanting

@@ -1,17 +1,14 @@
 -- What a run of `phrase NAME` does.
-use Rattle.std.specs.Prelude.{◌≡◌, ◌⊎◌, ℕ, false, List, [], Some, IsSome}
-use Rattle.mg_dev.specs.Files.{bytes_at}
-use Rattle.mg_dev.specs.Names.{full_name}
+use Rattle.std.specs.Prelude.{◌≡◌, ◌⊎◌, ℕ, false, List, Some, IsSome}
 use Rattle.mg_dev.specs.Streams.{appended, GrewByPrefix}
 use Rattle.mg_dev.specs.declared.part.Part.{Part}
-use Rattle.mg_dev.specs.declared.part.Part.TheVariants as part
 use Rattle.mg_dev.specs.declared.fault.Fault.TheVariants.{NotBuilt, Memory}
 use Rattle.mg_dev.specs.declared.status.Status.TheVariants.{Done}
 use Rattle.mg_defs.specs.CodedText.{TextCode}
 use Rattle.mg_defs.specs.InputLimit.{is_too_much}
 use Rattle.mg_defs.specs.Limits.{input_limit}
 use Rattle.mg_defs.specs.PhraseSession.{phrase_session}
-use Rattle.mg_layout.specs.Stands.{Stands, StandsBy}
+use Rattle.mg_layout.specs.Stands.{HasNoHead, Stands, StandsBy}
 use Rattle.mg_layout.specs.declared.head.Head.{Head}
 use Rattle.mg_reply.specs.Served.{LeftEnough}
 use Rattle.mg_session.specs.Parts.{NeverRead}
@@ -32,7 +29,7 @@ pub record Phrased (base : List ℕ) (run : Run) : Type 0 where
   pub silent : Stops run NotBuilt → SaysNothing run
   -- the cause of every other status; 5 comes exactly where it has it, unless the store fails or memory is wanting
   pub cause : IfStopped run.status (StopsFor base (StoreFailed run) (InputFailed run) (OutputFailed run) run.store.files run.input.left)
-  pub not_built : IsSome run.store.files → bytes_at run.store.files (full_name base part.Head) ≡ [] → StopsUnless run NotBuilt
+  pub not_built : IsSome run.store.files → HasNoHead run.store.files base → StopsUnless run NotBuilt
   -- where the files stand, the input is not too long and no device fails, it is done, or memory is wanting
   pub complete : (collection given : List ℕ) → Stands run.store.files base collection → run.input.left ≡ Some given → is_too_much input_limit given ≡ false
       → ¬ StoreFailed run → ¬ InputFailed run → ¬ OutputFailed run → (run.status ≡ Done) ⊎ Stops run Memory

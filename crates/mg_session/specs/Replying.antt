@@ -1,11 +1,13 @@
--- How queries and lines are answered, by the functions that tell what the output holds and what was read of the store.
-use Rattle.std.specs.Prelude.{◌≡◌, ℕ, Bool, List}
+-- How queries and lines are answered, by what the types of the store and the output tell.
+use Rattle.std.specs.Prelude.{ℕ, Bool, List}
 use Rattle.std.specs.List.{IsDistinct}
 use Rattle.std.specs.Str.{bytes_eq}
 use Rattle.std.specs.declared.option.Option.{Option}
 use Rattle.std.specs.declared.result.Result.{Result}
-use Rattle.mg_dev.specs.Files.{Files, Reads}
+use Rattle.mg_dev.specs.Files.{Files}
 use Rattle.mg_dev.specs.declared.show_err.ShowErr.{ShowErr}
+use Rattle.mg_dev.specs.declared.sink.Sink as sinks
+use Rattle.mg_dev.specs.declared.store.Store as stores
 use Rattle.mg_defs.specs.CodedText.{TextCode}
 use Rattle.mg_defs.specs.PageBounds.{boolean_bound, ranked_bound}
 use Rattle.mg_defs.specs.Patterns.{Pattern}
@@ -15,8 +17,13 @@ use Rattle.mg_defs.specs.Sat.{Query}
 use Rattle.mg_defs.specs.declared.session.Settings.{Settings}
 use Rattle.mg_bool.specs.Places.{AreInfos}
 use Rattle.mg_layout.specs.declared.term_info.TermInfo.{TermInfo}
+use Rattle.mg_dev.specs.Each.{ForEach}
+use Rattle.mg_text.specs.Reading.{TextReading}
 use Rattle.mg_session.specs.Answering.{Answered, AnswersFor, Replied}
 use Rattle.mg_session.specs.PhraseAnswers.{PhraseAnswered, PhraseReplied}
+use Rattle.mg_session.specs.PhraseSearching.{PartsOver, PhraseParts, PhraseSources}
+use Rattle.mg_session.specs.Searching.{Opened}
+use Rattle.mg_session.specs.Sessions.{ForOpened}
 use Rattle.mg_session.specs.Texts.{Texting}
 use Rattle.mg_session.specs.WildAnswers.{WildAnswered, WildReplied}
 
@@ -26,31 +33,35 @@ use Rattle.mg_session.specs.WildAnswers.{WildAnswered, WildReplied}
 abbrev pub ForAnswers : List ℕ → Option Files → Texting → ℕ → (TextCode → List ℕ → Type 0) → Type 0
 ForAnswers base files texts all holds = (code : TextCode) (collection : List ℕ) → AnswersFor base files texts all code collection → holds code collection
 
--- where this is told of its terms, a query is answered
-abbrev pub AnswersQuery : {X Y : Type 0} → (Y → Option (List ℕ)) → (X → Reads) → Y → Y → X → X → Result (Unit {0}) ShowErr → Query → List (Option TermInfo) → Settings → TextCode → List ℕ → Type 0
-AnswersQuery written reads out out_now store store_now result q infos now code collection =
-    AreInfos collection (query_terms q) infos → Answered code collection now (satisfying collection q) (boolean_bound collection q) (written out) (written out_now) (reads store) (reads store_now) result
+-- over the lists, weights and text of a base: where this is told of its terms, a query is answered
+abbrev pub AnswersQuery : {X Y : Type 0} → stores.Ghosts X → sinks.Ghosts Y → X → X → Y → Y → Result (Unit {0}) ShowErr → List ℕ → Texting → ℕ → Query → List (Option TermInfo) → Settings → Type 0
+AnswersQuery of_store of_out store store_now out out_now result base texts all q infos now = ForAnswers base (of_store.files store) texts all (λ code collection.
+    AreInfos collection (query_terms q) infos →
+    Answered code collection now (satisfying collection q) (boolean_bound collection q) (of_out.written out) (of_out.written out_now) (of_store.reads store) (of_store.reads store_now) result)
 
 -- where this is told of distinct terms, their ranking is the answer
-abbrev pub AnswersTerms : {X Y : Type 0} → (Y → Option (List ℕ)) → (X → Reads) → Y → Y → X → X → Result (Unit {0}) ShowErr → List (Option TermInfo) → Settings → TextCode → List ℕ → Type 0
-AnswersTerms written reads out out_now store store_now result infos now code collection =
+abbrev pub AnswersTerms : {X Y : Type 0} → stores.Ghosts X → sinks.Ghosts Y → X → X → Y → Y → Result (Unit {0}) ShowErr → List ℕ → Texting → ℕ → List (Option TermInfo) → Settings → Type 0
+AnswersTerms of_store of_out store store_now out out_now result base texts all infos now = ForAnswers base (of_store.files store) texts all (λ code collection.
     (terms : List (List ℕ)) → AreInfos collection terms infos → IsDistinct bytes_eq terms →
-    Answered code collection now (ranking collection terms) (ranked_bound collection terms) (written out) (written out_now) (reads store) (reads store_now) result
+    Answered code collection now (ranking collection terms) (ranked_bound collection terms) (of_out.written out) (of_out.written out_now) (of_store.reads store) (of_store.reads store_now) result)
 
--- a line is replied to, ranked or Boolean
-abbrev pub RepliesTo : {X Y : Type 0} → (Y → Option (List ℕ)) → (X → Reads) → Y → Y → X → X → Result (Unit {0}) ShowErr → Bool → Settings → List ℕ → TextCode → List ℕ → Type 0
-RepliesTo written reads out out_now store store_now result ranked now line code collection = Replied code collection ranked now line (written out) (written out_now) (reads store) (reads store_now) result
+-- over the open parts: a line is replied to, ranked or Boolean
+abbrev pub RepliesTo : {X Y : Type 0} → stores.Ghosts X → sinks.Ghosts Y → X → X → Y → Y → Result (Unit {0}) ShowErr → Opened → Bool → Settings → List ℕ → Type 0
+RepliesTo of_store of_out store store_now out out_now result opened ranked now line = ForOpened (of_store.files store) opened (λ code collection.
+    Replied code collection ranked now line (of_out.written out) (of_out.written out_now) (of_store.reads store) (of_store.reads store_now) result)
 
 -- ---- phrases
 
--- where this is told of its terms, which the query joins, a phrase is answered
-abbrev pub AnswersPhrase : {X Y : Type 0} → (Y → Option (List ℕ)) → (X → Reads) → Y → Y → X → X → Result (Unit {0}) ShowErr → Query → List (Option TermInfo) → List (List ℕ) → TextCode → List ℕ → Type 0
-AnswersPhrase written reads out out_now store store_now result q infos phrase code collection =
-    AreInfos collection (query_terms q) infos → PhraseAnswered code collection phrase (written out) (written out_now) (reads store) (reads store_now) result
+-- over the lists and the text of a base: where this is told of its terms, which the query joins, a phrase is answered
+abbrev pub AnswersPhrase : {X Y : Type 0} → stores.Ghosts X → sinks.Ghosts Y → X → X → Y → Y → Result (Unit {0}) ShowErr → List ℕ → TextReading → ℕ → Query → List (Option TermInfo) → List (List ℕ) → Type 0
+AnswersPhrase of_store of_out store store_now out out_now result base text all q infos phrase = ForEach (PhraseSources base (of_store.files store) text all) (λ collection.
+    AreInfos collection (query_terms q) infos →
+    PhraseAnswered text.code collection phrase (of_out.written out) (of_out.written out_now) (of_store.reads store) (of_store.reads store_now) result)
 
--- a line is replied to as a phrase
-abbrev pub RepliesToPhrase : {X Y : Type 0} → (Y → Option (List ℕ)) → (X → Reads) → Y → Y → X → X → Result (Unit {0}) ShowErr → TextCode → List ℕ → List ℕ → Type 0
-RepliesToPhrase written reads out out_now store store_now result code line collection = PhraseReplied code collection line (written out) (written out_now) (reads store) (reads store_now) result
+-- over the parts that phrases are sought in: a line is replied to as a phrase
+abbrev pub RepliesToPhrase : {X Y : Type 0} → stores.Ghosts X → sinks.Ghosts Y → X → X → Y → Y → Result (Unit {0}) ShowErr → PhraseParts → List ℕ → Type 0
+RepliesToPhrase of_store of_out store store_now out out_now result parts line = ForEach (PartsOver (of_store.files store) parts) (λ collection.
+    PhraseReplied parts.text.code collection line (of_out.written out) (of_out.written out_now) (of_store.reads store) (of_store.reads store_now) result)
 
 -- ---- patterns
 

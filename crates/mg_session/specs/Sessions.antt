@@ -1,5 +1,5 @@
 -- What a session over files prints and reads, for each collection that they are of.
-use Rattle.std.specs.Prelude.{◌≡◌, ◌+◌, ◌<◌, ◌≤◌, ℕ, true, List}
+use Rattle.std.specs.Prelude.{◌≡◌, ◌<◌, ℕ, true, List}
 use Rattle.std.specs.Option.{ForSome}
 use Rattle.std.specs.declared.option.Option.{Option}
 use Rattle.std.specs.declared.result.Result.{Result}
@@ -13,18 +13,12 @@ use Rattle.mg_defs.specs.WithinLimits.{IsWithinLimits}
 use Rattle.mg_defs.specs.Rotations.{most_rotations, rotation_count}
 use Rattle.mg_defs.specs.Terms.{dictionary}
 use Rattle.mg_front.specs.Reading.{Fronted}
-use Rattle.mg_layout.specs.Stands.{StandsBy}
-use Rattle.mg_layout.specs.declared.head.Head.{Head}
 use Rattle.mg_lex.specs.Reading.{LexStands}
 use Rattle.mg_session.specs.Parts.{is_of_text}
 use Rattle.mg_session.specs.Searching.{Opened, OpenedOver}
 use Rattle.mg_session.specs.Texts.{Texting, TextsStand}
 
 -- ---- for each collection, and the codes of its text
-
--- that the files under a base stand for with this head
-abbrev pub ForSet : Head → Option Files → List ℕ → (TextCode → List ℕ → Type 0) → Type 0
-ForSet head files base holds = (code : TextCode) (collection : List ℕ) → StandsBy head code files base collection → holds code collection
 
 -- that the open parts are of
 abbrev pub ForOpened : Option Files → Opened → (TextCode → List ℕ → Type 0) → Type 0

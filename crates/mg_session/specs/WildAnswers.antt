@@ -34,6 +34,10 @@ pub record WildSources (base : List ℕ) (files : Option Files) (terms : LexTerm
   pub infos_are : TellsOf terms collection
   pub all_is : all ≡ length (documents collection)
 
+-- for each collection whose terms these are, with what stands of each
+abbrev pub ForLexTerms : LexTerms → (List ℕ → Type 0) → Type 0
+ForLexTerms terms holds = (collection : List ℕ) → HasTermsOf terms collection → TellsOf terms collection → holds collection
+
 -- The terms that match a pattern and the documents with one of them were printed, or a part of that text; no part is bad.
 pub record WildAnswered (collection : List ℕ) (p : Pattern) (before after : Option (List ℕ)) (result : Result (Unit {0}) ShowErr) : Type 0 where
   pub put : AfterPut before after (match_text collection p) result

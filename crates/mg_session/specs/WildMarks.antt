@@ -1,19 +1,12 @@
 -- What is marked and passed on while a pattern is answered.
-use Rattle.std.specs.Prelude.{◌≡◌, ℕ, ◌+◌, ◌≤◌, ◌||◌, List, [], length, get_or, map}
+use Rattle.std.specs.Prelude.{◌≡◌, ℕ, ◌≤◌, ◌||◌, List, [], length, get_or, map}
 use Rattle.std.specs.List.{flat_map, list_any}
-use Rattle.std.specs.declared.option.Option.{Option}
 use Rattle.std.specs.declared.result.Result.{Result}
 use Rattle.mg_dev.specs.declared.part_err.PartErr.{PartErr}
-use Rattle.mg_defs.specs.Lists.{postings}
-use Rattle.mg_defs.specs.PageBounds.{numbers_in}
 use Rattle.mg_defs.specs.Split.{documents}
 use Rattle.mg_defs.specs.Terms.{dictionary, docs, document}
 use Rattle.mg_defs.specs.Weights.{has_term}
 use Rattle.mg_defs.specs.WildSession.{term_row}
-use Rattle.mg_defs.specs.declared.Posting.{Posting}
-use Rattle.mg_post.specs.Answers.{AnswersList}
-use Rattle.mg_post.specs.Cursor.{Cursoring}
-use Rattle.mg_post.specs.TermLists.{AnswersAsk}
 use Rattle.mg_rank.specs.Ranked.{AnswersOr}
 use Rattle.mg_session.specs.DocumentSets.{DocumentMarks, has_doc}
 
@@ -34,10 +27,6 @@ abbrev pub rows_at : List ℕ → List ℕ → List ℕ
 rows_at numbers collection = term_rows collection (terms_at collection numbers)
 
 -- ---- what marking answers, where the lists stand
-
--- the first posting of a term's list behind a document
-abbrev pub AnswersBehind : List ℕ → List ℕ → List ℕ → ℕ → Cursoring → Result (Option Posting) PartErr → Type 0
-AnswersBehind base collection t last cursor result = AnswersList result (λ (found : Option Posting). AnswersAsk base collection (numbers_in (postings collection t)) t (last + 1) found cursor)
 
 -- the documents that have one of these terms are marked
 abbrev pub MarksLists : List (List ℕ) → DocumentMarks → DocumentMarks → Result (Unit {0}) PartErr → List ℕ → Type 0

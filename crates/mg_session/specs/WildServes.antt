@@ -1,17 +1,15 @@
 -- Why a session of patterns over files stops.
-use Rattle.std.specs.Prelude.{◌≡◌, ◌<◌, ℕ, List, []}
+use Rattle.std.specs.Prelude.{◌≡◌, ◌<◌, ℕ, List}
 use Rattle.std.specs.Option.{IsSome}
 use Rattle.std.specs.declared.option.Option.{Option}
 use Rattle.mg_dev.specs.Faults.{fault_of_part}
-use Rattle.mg_dev.specs.Files.{Files, bytes_at}
-use Rattle.mg_dev.specs.Names.{full_name}
-use Rattle.mg_dev.specs.declared.part.Part.TheVariants as part
+use Rattle.mg_dev.specs.Files.{Files}
 use Rattle.mg_dev.specs.declared.fault.Fault.{Fault}
 use Rattle.mg_dev.specs.declared.fault.Fault.TheVariants.{NotBuilt, TooManyRotations}
 use Rattle.mg_defs.specs.CodedText.{TextCode}
 use Rattle.mg_defs.specs.Rotations.{most_rotations, rotation_count}
 use Rattle.mg_defs.specs.Terms.{dictionary}
-use Rattle.mg_layout.specs.Stands.{Stands, StandsBy, StandsForNone}
+use Rattle.mg_layout.specs.Stands.{HasNoHead, Stands, StandsBy, StandsForNone}
 use Rattle.mg_layout.specs.declared.head.Head.{Head}
 use Rattle.mg_wild.specs.declared.rotated.RotErr.{RotErr}
 use Rattle.mg_wild.specs.declared.rotated.RotErr.TheVariants as rot
@@ -30,7 +28,7 @@ AreRotationsAt files base count = (collection : List ℕ) → Stands files base 
 abbrev pub WildStops : List ℕ → Type 0 → Type 0 → Type 0 → Option Files → Option (List ℕ) → Fault → Type 0
 WildStops base store_rose input_rose output_rose files input fault =
     WildStopsBy store_rose input_rose output_rose
-    (IsSome files → bytes_at files (full_name base part.Head) ≡ []) (StandsForNone files base) (AreRotationsAt files base) input fault
+    (IsSome files → HasNoHead files base) (StandsForNone files base) (AreRotationsAt files base) input fault
 
 -- the same of a collection for which they stand with this head
 abbrev pub AreRotationsBy : Head → Option Files → List ℕ → ℕ → Type 0

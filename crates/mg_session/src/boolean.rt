@@ -5,7 +5,7 @@ ghost use Rattle.mg_defs.specs.QueryTerms.{query_terms};
 ghost use Rattle.mg_query.specs.QueryOf.{query_of};
 ghost use Rattle.mg_session.specs.Answering.{HasShowCause, HasShowLack};
 ghost use Rattle.mg_session.specs.Parts.{Stepped};
-ghost use Rattle.mg_session.specs.Replying.{AnswersQuery, ForAnswers};
+ghost use Rattle.mg_session.specs.Replying.{AnswersQuery};
 ghost use Rattle.mg_session.specs.Texts.{SameTexts, TextsFit};
 
 use crate::hit::show_hit;
@@ -37,8 +37,7 @@ pub(crate) fn answer_query<S: Store, O: Sink>(
     requires all { texts.old.head.documents ≡ all }
     ensures fits { TextsFit (S.files store.new) texts.new }
     ensures same { SameTexts texts.old texts.new }
-    ensures answer { ForAnswers base.now (S.files store.old) texts.old all
-        (AnswersQuery O.written S.reads out.old out.new store.old store.new result (query_of query.now) infos.now now.now) }
+    ensures answer { AnswersQuery S.Store O.Sink store.old store.new out.old out.new result base.now texts.old all (query_of query.now) infos.now now.now }
     ensures step { Between S.files S.reads S.faults store.old store.new (Stepped now.now.mode) }
     ensures cause { HasShowCause result (S.faults store.old) (S.faults store.new) (O.faults out.old) (O.faults out.new) }
     ensures lack { HasShowLack (O.lacks out.old) (O.lacks out.new) result }

@@ -1,15 +1,16 @@
 //! The documents that have a phrase, sought among those that have all its words.
 ghost use Rattle.std.specs.Prelude.{◌≡◌, ◌≤◌, Some, length};
 ghost use Rattle.mg_dev.specs.Causes.{HasPutCause, HasLack};
+ghost use Rattle.mg_dev.specs.Each.{ForEach};
 ghost use Rattle.mg_dev.specs.Moments.{Between};
 ghost use Rattle.mg_defs.specs.QueryTerms.{query_terms};
 ghost use Rattle.mg_query.specs.AllOf.{IsAllOf};
 ghost use Rattle.mg_query.specs.QueryOf.{query_of};
-ghost use Rattle.mg_reply.specs.Printed.{ForEach, Passes};
+ghost use Rattle.mg_reply.specs.Printed.{Passes};
 ghost use Rattle.mg_text.specs.Reading.{SameText, TextFits};
 ghost use Rattle.mg_session.specs.Answering.{HasShowCause, HasShowLack};
 ghost use Rattle.mg_session.specs.PhraseAnswers.{found_at, rows_of};
-ghost use Rattle.mg_session.specs.PhraseSearching.{OnlyReads, PhraseSources};
+ghost use Rattle.mg_session.specs.PhraseSearching.{OnlyReads};
 ghost use Rattle.mg_session.specs.Replying.{AnswersPhrase};
 
 use crate::held::HeldDocument;
@@ -64,8 +65,7 @@ pub(crate) fn answer_phrase<S: Store, O: Sink>(
     requires all { text.old.documents ≡ all }
     ensures fits { TextFits text.new (S.files store.new) }
     ensures same { SameText text.old text.new }
-    ensures answer { ForEach (PhraseSources base.now (S.files store.old) text.old all)
-        (AnswersPhrase O.written S.reads out.old out.new store.old store.new result (query_of query.now) infos.now phrase.now text.old.code) }
+    ensures answer { AnswersPhrase S.Store O.Sink store.old store.new out.old out.new result base.now text.old all (query_of query.now) infos.now phrase.now }
     ensures step { Between S.files S.reads S.faults store.old store.new OnlyReads }
     ensures cause { HasShowCause result (S.faults store.old) (S.faults store.new) (O.faults out.old) (O.faults out.new) }
     ensures lack { HasShowLack (O.lacks out.old) (O.lacks out.new) result }

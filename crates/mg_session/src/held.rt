@@ -1,5 +1,6 @@
 //! A document that is held in memory.
 ghost use Rattle.std.specs.Prelude.{◌≡◌, ◌≢◌, ◌-◌, ◌≤◌, ℕ, Some, Err, OnOk, None};
+ghost use Rattle.mg_dev.specs.Each.{ForEach};
 ghost use Rattle.mg_dev.specs.Moments.{Between};
 ghost use Rattle.mg_dev.specs.declared.part.Part.TheVariants as part;
 ghost use Rattle.mg_defs.specs.Terms.{document};
@@ -7,7 +8,6 @@ ghost use Rattle.mg_defs.specs.declared.session.Mode.TheVariants as mode;
 ghost use Rattle.mg_front.specs.Reading.{LookedAt};
 ghost use Rattle.mg_text.specs.Reading.{SameText, ShowIsNotBad, TextFits, TextStands};
 ghost use Rattle.mg_session.specs.Answering.{HasShowCause, of_allocator};
-ghost use Rattle.mg_reply.specs.Printed.{ForEach};
 ghost use Rattle.mg_session.specs.Showing.{ReadsShown};
 
 use mg_dev::{PartErr, PutErr, ShowErr, Sink, Store};

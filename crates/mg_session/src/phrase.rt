@@ -1,6 +1,7 @@
 //! A session of phrases over built files, from their head to the last reply.
 ghost use Rattle.std.specs.Prelude.{◌≡◌, ℕ, ◌≤◌, ◌^◌, List, [], Err, false, OnOk, IsSome};
 ghost use Rattle.std.specs.Option.{ForSome};
+ghost use Rattle.mg_dev.specs.Each.{ForEach};
 ghost use Rattle.mg_dev.specs.Files.{bytes_at};
 ghost use Rattle.mg_dev.specs.Names.{full_name};
 ghost use Rattle.mg_dev.specs.Runs.{RefusedFor};
@@ -10,23 +11,22 @@ ghost use Rattle.mg_dev.specs.declared.fault.Fault.TheVariants.{NotBuilt};
 ghost use Rattle.mg_defs.specs.InputLimit.{is_too_much};
 ghost use Rattle.mg_defs.specs.Limits.{input_limit};
 ghost use Rattle.mg_defs.specs.PhraseSession.{phrase_session};
-ghost use Rattle.mg_layout.specs.Stands.{Stands};
+ghost use Rattle.mg_layout.specs.Stands.{ForSetBy, Stands};
 ghost use Rattle.mg_layout.specs.declared.head.Head.{Head};
-ghost use Rattle.mg_reply.specs.Printed.{ForEach, PrintsAll, PrintsPrefix, Runs, StopsBy};
+ghost use Rattle.mg_reply.specs.Printed.{PrintsAll, PrintsPrefix, Runs, StopsBy};
 ghost use Rattle.mg_reply.specs.Served.{LeftEnough};
 ghost use Rattle.mg_session.specs.Parts.{NeverRead};
 ghost use Rattle.mg_session.specs.PhraseAnswers.{ReadsPhrases};
 ghost use Rattle.mg_session.specs.PhraseSearching.{PartsFit, PartsOver};
 ghost use Rattle.mg_session.specs.Phrased.{Phrased};
 ghost use Rattle.mg_session.specs.Serves.{PhrasesStop, SetStops, StopsFor};
-ghost use Rattle.mg_session.specs.Sessions.{ForSet, ReadBy};
+ghost use Rattle.mg_session.specs.Sessions.{ReadBy};
 
 use crate::phrase_searcher::PhraseSearcher;
-use crate::session::fault_of;
 use mg_dev::{Fault, Sink, Source, Store};
 use mg_layout::Head;
 use mg_lex::Lex;
-use mg_reply::{Hearing, serve_lines};
+use mg_reply::{Hearing, fault_of, serve_lines};
 use mg_text::TextReader;
 use std::alloc::Global;
 
@@ -48,8 +48,7 @@ fn serve_searcher<S: Store, I: Source, O: Sink>(
     ensures unread { (p : Part) → NeverRead p → S.reads store.new p ≡ S.reads store.old p }
     ensures left { ForSome (I.left input.old) (λ given. OnOk result (LeftEnough given (I.left input.new))) }
     ensures within { ForSome (I.left input.old) (λ given. OnOk result (is_too_much input_limit given ≡ false)) }
-    ensures cause { StopsBy S.files S.faults I.left I.faults O.faults
-        store.old store.new input.old input.new out.old out.new result (PhrasesStop searcher.old) }
+    ensures cause { StopsBy S.Store I.Source O.Sink store.old store.new input.old input.new out.old out.new result (PhrasesStop searcher.old) }
     ensures later { S.faults store.old ≤ S.faults store.new }
 {
     match serve_lines(Hearing::Questions, searcher, store, input, out) {
@@ -70,17 +69,16 @@ fn serve_set<S: Store, I: Source, O: Sink>(
     requires words { head.now.words ≤ 2 ^ 22 }
     requires others { head.now.others ≤ 2 ^ 22 }
     ensures files { S.files store.new ≡ S.files store.old }
-    ensures all { ForSet head.now (S.files store.old) base.now
+    ensures all { ForSetBy head.now (S.files store.old) base.now
         (λ code. PrintsAll I.left O.written input.old out.old out.new result phrase_session) }
-    ensures prefix { ForSet head.now (S.files store.old) base.now
+    ensures prefix { ForSetBy head.now (S.files store.old) base.now
         (λ code. PrintsPrefix I.left O.written input.old out.old out.new phrase_session) }
-    ensures pages { ForSet head.now (S.files store.old) base.now
+    ensures pages { ForSetBy head.now (S.files store.old) base.now
         (ReadBy I.left S.reads input.old store.old store.new ReadsPhrases) }
     ensures unread { (p : Part) → NeverRead p → S.reads store.new p ≡ S.reads store.old p }
     ensures left { ForSome (I.left input.old) (λ given. OnOk result (LeftEnough given (I.left input.new))) }
     ensures within { ForSome (I.left input.old) (λ given. OnOk result (is_too_much input_limit given ≡ false)) }
-    ensures cause { StopsBy S.files S.faults I.left I.faults O.faults
-        store.old store.new input.old input.new out.old out.new result (SetStops head.now base.now) }
+    ensures cause { StopsBy S.Store I.Source O.Sink store.old store.new input.old input.new out.old out.new result (SetStops head.now base.now) }
     ensures later { S.faults store.old ≤ S.faults store.new }
 {
     let lex = match Lex::load(alloc, store, base, head) {
@@ -112,13 +110,12 @@ fn serve_files<S: Store, I: Source, O: Sink>(
     ensures left { ForSome (I.left input.old) (λ given. OnOk result (LeftEnough given (I.left input.new))) }
     ensures within { ForSome (I.left input.old) (λ given. OnOk result (is_too_much input_limit given ≡ false)) }
     // What is read of the lists and of the text is bounded by the phrases; some parts are never read.
-    ensures pages { (head : Head) → ForSet head (S.files store.old) base.now
+    ensures pages { (head : Head) → ForSetBy head (S.files store.old) base.now
         (ReadBy I.left S.reads input.old store.old store.new ReadsPhrases) }
     ensures unread { (p : Part) → NeverRead p → S.reads store.new p ≡ S.reads store.old p }
     ensures files { S.files store.new ≡ S.files store.old }
     // The cause of each refusal.
-    ensures cause { StopsBy S.files S.faults I.left I.faults O.faults
-        store.old store.new input.old input.new out.old out.new result (StopsFor base.now) }
+    ensures cause { StopsBy S.Store I.Source O.Sink store.old store.new input.old input.new out.old out.new result (StopsFor base.now) }
     ensures silent { result ≡ Err NotBuilt → O.written out.new ≡ O.written out.old }
     ensures not_built { IsSome (S.files store.old) → bytes_at (S.files store.old) (full_name base.now part.Head) ≡ [] → RefusedFor result NotBuilt }
     ensures later { S.faults store.old ≤ S.faults store.new }
@@ -155,8 +152,7 @@ pub fn serve_phrase<S: Store, I: Source, O: Sink>(
     out: &mut O,
 ) -> Result<(), Fault>
     // What a run does that asks a session of phrases, whatever its error output is.
-    ensures phrased { Runs S.files S.reads S.faults I.left I.faults O.written O.faults O.lacks
-        store.old store.new input.old input.new out.old out.new result (Phrased base.now) }
+    ensures phrased { Runs S.Store I.Source O.Sink store.old store.new input.old input.new out.old out.new result (Phrased base.now) }
     ensures later { S.faults store.old ≤ S.faults store.new }
 {
     serve_files(alloc, store, base, input, out)

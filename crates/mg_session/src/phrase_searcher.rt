@@ -1,10 +1,11 @@
 //! An answerer of phrases over the open parts of a set.
 ghost use Rattle.std.specs.Prelude.{◌≡◌, ◌≤◌, length};
+ghost use Rattle.mg_dev.specs.Each.{ForEach};
 ghost use Rattle.mg_dev.specs.Moments.{Between};
-ghost use Rattle.mg_reply.specs.Printed.{ForEach};
 ghost use Rattle.mg_session.specs.Answering.{HasShowCause, HasShowLack};
 ghost use Rattle.mg_session.specs.Replying.{RepliesToPhrase};
-ghost use Rattle.mg_session.specs.PhraseSearching.{OnlyReads, PartsFit, PartsOver, PhraseMayStop, PhraseState, PhrasesAsked, PhrasesBy, PhrasesFit, SamePhraseParts, phrase_state};
+ghost use Rattle.mg_session.specs.PhraseSearching.{OnlyReads, PartsFit, PhraseState, SamePhraseParts, phrase_state};
+ghost use Rattle.mg_session.specs.PhraseSearching.{PhraseMayStop, PhrasesAsked, PhrasesBy, PhrasesFit};
 ghost use Rattle.mg_session.specs.PhraseSearchLaws.{phrases_later, phrases_more, phrases_none, phrases_stop};
 
 use crate::candidates::answer_phrase;
@@ -73,8 +74,7 @@ impl<'a, S: Store> PhraseSearcher<'a, S> {
         requires fits { PartsFit (S.files store.old) self.old }
         ensures fits { PartsFit (S.files store.new) self.new }
         ensures same { SamePhraseParts self.old self.new }
-        ensures replied { ForEach (PartsOver (S.files store.old) self.old)
-            (RepliesToPhrase O.written S.reads out.old out.new store.old store.new result self.old.text.code line.now) }
+        ensures replied { RepliesToPhrase S.Store O.Sink store.old store.new out.old out.new result self.old line.now }
         ensures step { Between S.files S.reads S.faults store.old store.new OnlyReads }
         ensures cause { HasShowCause result (S.faults store.old) (S.faults store.new) (O.faults out.old) (O.faults out.new) }
         ensures lack { HasShowLack (O.lacks out.old) (O.lacks out.new) result }

@@ -5,7 +5,7 @@ ghost use Rattle.mg_rank.specs.Ranked.{IsNumbered};
 ghost use Rattle.mg_text.specs.Reading.{ShowIsNotBad};
 ghost use Rattle.mg_session.specs.Answering.{HasShowCause, HasShowLack, rows_asked};
 ghost use Rattle.mg_session.specs.Parts.{ShownIn, Stepped};
-ghost use Rattle.mg_session.specs.Replying.{AnswersTerms, ForAnswers};
+ghost use Rattle.mg_session.specs.Replying.{AnswersTerms};
 ghost use Rattle.mg_session.specs.Sessions.{ForText};
 ghost use Rattle.mg_session.specs.Showing.{PassesRows, ReadsRows};
 ghost use Rattle.mg_session.specs.Texts.{SameTexts, TextsFit};
@@ -86,8 +86,7 @@ pub(crate) fn answer_terms<S: Store, O: Sink>(
     requires all { texts.old.head.documents ≡ all }
     ensures fits { TextsFit (S.files store.new) texts.new }
     ensures same { SameTexts texts.old texts.new }
-    ensures answer { ForAnswers base.now (S.files store.old) texts.old all
-        (AnswersTerms O.written S.reads out.old out.new store.old store.new result infos.now now.now) }
+    ensures answer { AnswersTerms S.Store O.Sink store.old store.new out.old out.new result base.now texts.old all infos.now now.now }
     ensures step { Between S.files S.reads S.faults store.old store.new (Stepped now.now.mode) }
     ensures cause { HasShowCause result (S.faults store.old) (S.faults store.new) (O.faults out.old) (O.faults out.new) }
     ensures lack { HasShowLack (O.lacks out.old) (O.lacks out.new) result }

@@ -6,7 +6,6 @@ ghost use Rattle.mg_session.specs.Answering.{HasShowCause, HasShowLack};
 ghost use Rattle.mg_session.specs.Parts.{Stepped};
 ghost use Rattle.mg_session.specs.Replying.{RepliesTo};
 ghost use Rattle.mg_session.specs.Searching.{AnswersBy, Asked, Fits, MayStop, Over, SameOpened, SearchFits, Searching, opened_at, state_of};
-ghost use Rattle.mg_session.specs.Sessions.{ForOpened};
 ghost use Rattle.mg_session.specs.SearchLaws.{answers_later, asked_more, asked_none, stops_later};
 
 use crate::boolean::answer_query;
@@ -66,8 +65,7 @@ impl<'a, S: Store> Searcher<'a, S> {
         requires fits { SearchFits (S.files store.old) self.old }
         ensures fits { SearchFits (S.files store.new) self.new }
         ensures same { SameOpened self.old self.new }
-        ensures replied { ForOpened (S.files store.old) self.old
-            (RepliesTo O.written S.reads out.old out.new store.old store.new result false now.now line.now) }
+        ensures replied { RepliesTo S.Store O.Sink store.old store.new out.old out.new result self.old false now.now line.now }
         ensures step { Between S.files S.reads S.faults store.old store.new (Stepped now.now.mode) }
         ensures cause { HasShowCause result (S.faults store.old) (S.faults store.new) (O.faults out.old) (O.faults out.new) }
         ensures lack { HasShowLack (O.lacks out.old) (O.lacks out.new) result }
@@ -109,8 +107,7 @@ impl<'a, S: Store> Searcher<'a, S> {
         requires fits { SearchFits (S.files store.old) self.old }
         ensures fits { SearchFits (S.files store.new) self.new }
         ensures same { SameOpened self.old self.new }
-        ensures replied { ForOpened (S.files store.old) self.old
-            (RepliesTo O.written S.reads out.old out.new store.old store.new result true now.now line.now) }
+        ensures replied { RepliesTo S.Store O.Sink store.old store.new out.old out.new result self.old true now.now line.now }
         ensures step { Between S.files S.reads S.faults store.old store.new (Stepped now.now.mode) }
         ensures cause { HasShowCause result (S.faults store.old) (S.faults store.new) (O.faults out.old) (O.faults out.new) }
         ensures lack { HasShowLack (O.lacks out.old) (O.lacks out.new) result }
@@ -147,8 +144,7 @@ impl<'a, S: Store> Searcher<'a, S> {
         requires fits { SearchFits (S.files store.old) self.old }
         ensures fits { SearchFits (S.files store.new) self.new }
         ensures same { SameOpened self.old self.new }
-        ensures replied { ForOpened (S.files store.old) self.old
-            (RepliesTo O.written S.reads out.old out.new store.old store.new result now.now.ranked now.now line.now) }
+        ensures replied { RepliesTo S.Store O.Sink store.old store.new out.old out.new result self.old now.now.ranked now.now line.now }
         ensures step { Between S.files S.reads S.faults store.old store.new (Stepped now.now.mode) }
         ensures cause { HasShowCause result (S.faults store.old) (S.faults store.new) (O.faults out.old) (O.faults out.new) }
         ensures lack { HasShowLack (O.lacks out.old) (O.lacks out.new) result }

@@ -1,6 +1,7 @@
 //! A session over built files, from their head to the last reply.
 ghost use Rattle.std.specs.Prelude.{◌≡◌, ℕ, ◌≤◌, ◌^◌, List, [], Err, false, OnOk, IsSome};
 ghost use Rattle.std.specs.Option.{ForSome};
+ghost use Rattle.mg_dev.specs.Each.{ForEach};
 ghost use Rattle.mg_dev.specs.Files.{bytes_at};
 ghost use Rattle.mg_dev.specs.Names.{full_name};
 ghost use Rattle.mg_dev.specs.Runs.{RefusedFor};
@@ -11,33 +12,22 @@ ghost use Rattle.mg_defs.specs.InputLimit.{is_too_much};
 ghost use Rattle.mg_defs.specs.Limits.{input_limit};
 ghost use Rattle.mg_defs.specs.Replies.{session};
 ghost use Rattle.mg_defs.specs.Session.{questions_of};
-ghost use Rattle.mg_layout.specs.Stands.{Stands};
+ghost use Rattle.mg_layout.specs.Stands.{ForSetBy, Stands};
 ghost use Rattle.mg_layout.specs.declared.head.Head.{Head};
-ghost use Rattle.mg_reply.specs.Printed.{ForEach, PrintsAll, PrintsPrefix, Runs, StopsBy};
+ghost use Rattle.mg_reply.specs.Printed.{PrintsAll, PrintsPrefix, Runs, StopsBy};
 ghost use Rattle.mg_reply.specs.Served.{LeftEnough};
 ghost use Rattle.mg_session.specs.Parts.{NeverRead};
 ghost use Rattle.mg_session.specs.Queried.{Queried};
 ghost use Rattle.mg_session.specs.Searching.{AskForNoText, SearchFits};
-ghost use Rattle.mg_session.specs.Serves.{OpenedStops, ReadsWithin, SetStops, StopsFor, fault_of_serve};
-ghost use Rattle.mg_session.specs.Sessions.{ForOpened, ForSet, ReadBy, ReadsNoDocument};
+ghost use Rattle.mg_session.specs.Serves.{OpenedStops, ReadsWithin, SetStops, StopsFor};
+ghost use Rattle.mg_session.specs.Sessions.{ForOpened, ReadBy, ReadsNoDocument};
 
 use crate::searcher::Searcher;
 use mg_dev::{Fault, Sink, Source, Store};
 use mg_layout::Head;
 use mg_lex::Lex;
-use mg_reply::{Hearing, ServeErr, serve_lines};
+use mg_reply::{Hearing, fault_of, serve_lines};
 use std::alloc::Global;
-
-/// The fault of a session that stopped.
-pub(crate) fn fault_of(error: ServeErr) -> Fault
-    ensures { result ≡ fault_of_serve error }
-{
-    match error {
-        ServeErr::Read => Fault::ReadFault,
-        ServeErr::TooMuch => Fault::InputTooLong,
-        ServeErr::Show(error) => Fault::from(error),
-    }
-}
 
 /// Prints the session that the input asks of the parts that a searcher reads.
 fn serve_searcher<S: Store, I: Source, O: Sink>(
@@ -59,8 +49,7 @@ fn serve_searcher<S: Store, I: Source, O: Sink>(
         (λ given. AskForNoText (questions_of given) → ReadsNoDocument (S.reads store.old) (S.reads store.new)) }
     ensures left { ForSome (I.left input.old) (λ given. OnOk result (LeftEnough given (I.left input.new))) }
     ensures within { ForSome (I.left input.old) (λ given. OnOk result (is_too_much input_limit given ≡ false)) }
-    ensures cause { StopsBy S.files S.faults I.left I.faults O.faults
-        store.old store.new input.old input.new out.old out.new result (OpenedStops searcher.old) }
+    ensures cause { StopsBy S.Store I.Source O.Sink store.old store.new input.old input.new out.old out.new result (OpenedStops searcher.old) }
     ensures later { S.faults store.old ≤ S.faults store.new }
 {
     match serve_lines(Hearing::Commands, searcher, store, input, out) {
@@ -81,19 +70,18 @@ fn serve_set<S: Store, I: Source, O: Sink>(
     requires words { head.now.words ≤ 2 ^ 22 }
     requires others { head.now.others ≤ 2 ^ 22 }
     ensures files { S.files store.new ≡ S.files store.old }
-    ensures all { ForSet head.now (S.files store.old) base.now
+    ensures all { ForSetBy head.now (S.files store.old) base.now
         (λ code. PrintsAll I.left O.written input.old out.old out.new result session) }
-    ensures prefix { ForSet head.now (S.files store.old) base.now
+    ensures prefix { ForSetBy head.now (S.files store.old) base.now
         (λ code. PrintsPrefix I.left O.written input.old out.old out.new session) }
-    ensures pages { ForSet head.now (S.files store.old) base.now
+    ensures pages { ForSetBy head.now (S.files store.old) base.now
         (ReadBy I.left S.reads input.old store.old store.new ReadsWithin) }
     ensures unread { (p : Part) → NeverRead p → S.reads store.new p ≡ S.reads store.old p }
     ensures texts_unread { ForSome (I.left input.old)
         (λ given. AskForNoText (questions_of given) → ReadsNoDocument (S.reads store.old) (S.reads store.new)) }
     ensures left { ForSome (I.left input.old) (λ given. OnOk result (LeftEnough given (I.left input.new))) }
     ensures within { ForSome (I.left input.old) (λ given. OnOk result (is_too_much input_limit given ≡ false)) }
-    ensures cause { StopsBy S.files S.faults I.left I.faults O.faults
-        store.old store.new input.old input.new out.old out.new result (SetStops head.now base.now) }
+    ensures cause { StopsBy S.Store I.Source O.Sink store.old store.new input.old input.new out.old out.new result (SetStops head.now base.now) }
     ensures later { S.faults store.old ≤ S.faults store.new }
 {
     let lex = match Lex::load(alloc, store, base, head) {
@@ -122,15 +110,14 @@ fn serve_files<S: Store, I: Source, O: Sink>(
     ensures within { ForSome (I.left input.old) (λ given. OnOk result (is_too_much input_limit given ≡ false)) }
     // What is read of the lists and of the text is bounded by the query lines; some parts are never read,
     // and the models and the text not where no query line asks for texts.
-    ensures pages { (head : Head) → ForSet head (S.files store.old) base.now
+    ensures pages { (head : Head) → ForSetBy head (S.files store.old) base.now
         (ReadBy I.left S.reads input.old store.old store.new ReadsWithin) }
     ensures unread { (p : Part) → NeverRead p → S.reads store.new p ≡ S.reads store.old p }
     ensures texts_unread { ForSome (I.left input.old)
         (λ given. AskForNoText (questions_of given) → ReadsNoDocument (S.reads store.old) (S.reads store.new)) }
     ensures files { S.files store.new ≡ S.files store.old }
     // The cause of each refusal.
-    ensures cause { StopsBy S.files S.faults I.left I.faults O.faults
-        store.old store.new input.old input.new out.old out.new result (StopsFor base.now) }
+    ensures cause { StopsBy S.Store I.Source O.Sink store.old store.new input.old input.new out.old out.new result (StopsFor base.now) }
     ensures silent { result ≡ Err NotBuilt → O.written out.new ≡ O.written out.old }
     ensures not_built { IsSome (S.files store.old) → bytes_at (S.files store.old) (full_name base.now part.Head) ≡ [] → RefusedFor result NotBuilt }
     ensures later { S.faults store.old ≤ S.faults store.new }
@@ -167,8 +154,7 @@ pub fn serve<S: Store, I: Source, O: Sink>(
     out: &mut O,
 ) -> Result<(), Fault>
     // What a run does that asks a session, whatever its error output is.
-    ensures queried { Runs S.files S.reads S.faults I.left I.faults O.written O.faults O.lacks
-        store.old store.new input.old input.new out.old out.new result (Queried base.now) }
+    ensures queried { Runs S.Store I.Source O.Sink store.old store.new input.old input.new out.old out.new result (Queried base.now) }
     ensures later { S.faults store.old ≤ S.faults store.new }
 {
     serve_files(alloc, store, base, input, out)

@@ -1,6 +1,7 @@
 //! A session of patterns over built files, from their head to the last reply.
 ghost use Rattle.std.specs.Prelude.{◌≡◌, ◌≤◌, [], false, OnOk, IfErr, IsSome};
 ghost use Rattle.std.specs.Option.{ForSome};
+ghost use Rattle.mg_dev.specs.Each.{ForEach};
 ghost use Rattle.mg_dev.specs.Files.{bytes_at};
 ghost use Rattle.mg_dev.specs.Names.{full_name};
 ghost use Rattle.mg_dev.specs.Runs.{RefusedFor};
@@ -10,22 +11,21 @@ ghost use Rattle.mg_dev.specs.declared.fault.Fault.TheVariants.{NotBuilt};
 ghost use Rattle.mg_defs.specs.InputLimit.{is_too_much};
 ghost use Rattle.mg_defs.specs.Limits.{input_limit};
 ghost use Rattle.mg_defs.specs.WildSession.{wild_session};
-ghost use Rattle.mg_layout.specs.Stands.{Stands};
-ghost use Rattle.mg_reply.specs.Printed.{ForEach, PrintsAll, PrintsPrefix, Runs, StopsBy};
+ghost use Rattle.mg_layout.specs.Stands.{ForSetBy, Stands};
+ghost use Rattle.mg_reply.specs.Printed.{PrintsAll, PrintsPrefix, Runs, StopsBy};
 ghost use Rattle.mg_reply.specs.Served.{LeftEnough};
 ghost use Rattle.mg_session.specs.Matched.{Matched};
 ghost use Rattle.mg_session.specs.Serves.{PatternsStop};
-ghost use Rattle.mg_session.specs.Sessions.{ForSet, RefusesMany};
+ghost use Rattle.mg_session.specs.Sessions.{RefusesMany};
 ghost use Rattle.mg_session.specs.WildAnswers.{NeverReadByPatterns};
 ghost use Rattle.mg_session.specs.WildSearching.{HasRoom, PartsAreOf};
 ghost use Rattle.mg_session.specs.WildServes.{IsFirst, WildSetStops, WildStops, fault_of_rotated as fault_of_rotated_spec};
 
 use crate::document_set::DocumentSet;
-use crate::session::fault_of;
 use crate::wild_searcher::WildSearcher;
 use mg_dev::{Fault, Sink, Source, Store};
 use mg_layout::Head;
-use mg_reply::{Hearing, serve_lines};
+use mg_reply::{Hearing, fault_of, serve_lines};
 use mg_wild::{RotErr, Rotated};
 use std::alloc::Global;
 
@@ -55,8 +55,7 @@ fn serve_searcher<S: Store, I: Source, O: Sink>(
     ensures unread { (p : Part) → NeverReadByPatterns p → S.reads store.new p ≡ S.reads store.old p }
     ensures left { ForSome (I.left input.old) (λ given. OnOk result (LeftEnough given (I.left input.new))) }
     ensures within { ForSome (I.left input.old) (λ given. OnOk result (is_too_much input_limit given ≡ false)) }
-    ensures cause { StopsBy S.files S.faults I.left I.faults O.faults
-        store.old store.new input.old input.new out.old out.new result (PatternsStop searcher.old) }
+    ensures cause { StopsBy S.Store I.Source O.Sink store.old store.new input.old input.new out.old out.new result (PatternsStop searcher.old) }
     ensures later { S.faults store.old ≤ S.faults store.new }
 {
     match serve_lines(Hearing::Questions, searcher, store, input, out) {
@@ -75,18 +74,17 @@ fn serve_set<S: Store, I: Source, O: Sink>(
     out: &mut O,
 ) -> Result<(), Fault>
     ensures files { S.files store.new ≡ S.files store.old }
-    ensures all { ForSet head.now (S.files store.old) base.now
+    ensures all { ForSetBy head.now (S.files store.old) base.now
         (λ code. PrintsAll I.left O.written input.old out.old out.new result wild_session) }
-    ensures prefix { ForSet head.now (S.files store.old) base.now
+    ensures prefix { ForSetBy head.now (S.files store.old) base.now
         (λ code. PrintsPrefix I.left O.written input.old out.old out.new wild_session) }
     ensures unread { (p : Part) → NeverReadByPatterns p → S.reads store.new p ≡ S.reads store.old p }
     ensures left { ForSome (I.left input.old) (λ given. OnOk result (LeftEnough given (I.left input.new))) }
     ensures within { ForSome (I.left input.old) (λ given. OnOk result (is_too_much input_limit given ≡ false)) }
-    ensures cause { StopsBy S.files S.faults I.left I.faults O.faults
-        store.old store.new input.old input.new out.old out.new result (WildSetStops head.now base.now) }
+    ensures cause { StopsBy S.Store I.Source O.Sink store.old store.new input.old input.new out.old out.new result (WildSetStops head.now base.now) }
     ensures silent { IfErr result (λ fault. IsFirst fault → O.written out.new ≡ O.written out.old) }
     ensures untouched { IfErr result (λ fault. IsFirst fault → I.left input.new ≡ I.left input.old) }
-    ensures many { ForSet head.now (S.files store.old) base.now (λ code. RefusesMany result) }
+    ensures many { ForSetBy head.now (S.files store.old) base.now (λ code. RefusesMany result) }
     ensures later { S.faults store.old ≤ S.faults store.new }
 {
     let terms = match Rotated::load(alloc, store, base, head) {
@@ -121,8 +119,7 @@ fn serve_files<S: Store, I: Source, O: Sink>(
     ensures unread { (p : Part) → NeverReadByPatterns p → S.reads store.new p ≡ S.reads store.old p }
     ensures files { S.files store.new ≡ S.files store.old }
     // The cause of each refusal; at the first ones nothing was printed and no input was taken.
-    ensures cause { StopsBy S.files S.faults I.left I.faults O.faults
-        store.old store.new input.old input.new out.old out.new result (WildStops base.now) }
+    ensures cause { StopsBy S.Store I.Source O.Sink store.old store.new input.old input.new out.old out.new result (WildStops base.now) }
     ensures silent { IfErr result (λ fault. IsFirst fault → O.written out.new ≡ O.written out.old) }
     ensures untouched { IfErr result (λ fault. IsFirst fault → I.left input.new ≡ I.left input.old) }
     ensures not_built { IsSome (S.files store.old) → bytes_at (S.files store.old) (full_name base.now part.Head) ≡ [] → RefusedFor result NotBuilt }
@@ -161,8 +158,7 @@ pub fn serve_wild<S: Store, I: Source, O: Sink>(
     out: &mut O,
 ) -> Result<(), Fault>
     // What a run does that asks a session of patterns, whatever its error output is.
-    ensures matched { Runs S.files S.reads S.faults I.left I.faults O.written O.faults O.lacks
-        store.old store.new input.old input.new out.old out.new result (Matched base.now) }
+    ensures matched { Runs S.Store I.Source O.Sink store.old store.new input.old input.new out.old out.new result (Matched base.now) }
     ensures later { S.faults store.old ≤ S.faults store.new }
 {
     serve_files(alloc, store, base, input, out)

@@ -1,21 +1,21 @@
 //! The answer to a pattern: the terms that match it, and the documents that have one of them.
-ghost use Rattle.std.specs.Prelude.{◌≡◌, ◌≢◌, ℕ, ◌+◌, ◌-◌, ◌^◌, ◌<◌, List, [], ◌∷◌, All, Err, IfOk, IfSome, OnOk, length};
+ghost use Rattle.std.specs.Prelude.{◌≡◌, ◌≢◌, ◌+◌, ◌-◌, ◌^◌, ◌<◌, [], ◌∷◌, All, Err, IfOk, IfSome, OnOk, length};
 ghost use Rattle.mg_dev.specs.Causes.{HasPutCause, HasLack};
+ghost use Rattle.mg_dev.specs.Each.{ForEach};
 ghost use Rattle.mg_dev.specs.Moments.{Between};
 ghost use Rattle.mg_dev.specs.PartCauses.{HasPartCause};
-ghost use Rattle.mg_defs.specs.Split.{documents};
 ghost use Rattle.mg_defs.specs.WildSession.{numbers_text, term_row};
+ghost use Rattle.mg_post.specs.Answers.{AnswersList};
 ghost use Rattle.mg_post.specs.Cursor.{CursorFits, IsFrom, SameList};
-ghost use Rattle.mg_post.specs.TermLists.{IsInfoOf, ListsStand, ReadsLists};
-ghost use Rattle.mg_rank.specs.Ranked.{ListFor};
-ghost use Rattle.mg_reply.specs.Printed.{ForEach, Passes};
-ghost use Rattle.mg_wild.specs.Loading.{HasTermsOf, TellsOf};
+ghost use Rattle.mg_post.specs.TermLists.{ReadsLists};
+ghost use Rattle.mg_rank.specs.Ranked.{AnswersBehind, ForList, ForTerm};
+ghost use Rattle.mg_reply.specs.Printed.{Passes};
 ghost use Rattle.mg_wild.specs.Patterns.{sides_of};
 ghost use Rattle.mg_session.specs.Answering.{HasShowCause, HasShowLack};
 ghost use Rattle.mg_session.specs.DocumentSets.{marked_to};
 ghost use Rattle.mg_session.specs.Replying.{AnswersPattern};
-ghost use Rattle.mg_session.specs.WildAnswers.{ReadsNoText, WildSources};
-ghost use Rattle.mg_session.specs.WildMarks.{AnswersBehind, MarksLists, MarksTerms, rows_at};
+ghost use Rattle.mg_session.specs.WildAnswers.{ForLexTerms, ReadsNoText, WildSources};
+ghost use Rattle.mg_session.specs.WildMarks.{MarksLists, MarksTerms, rows_at};
 
 use crate::document_set::DocumentSet;
 use mg_defs::Posting;
@@ -36,8 +36,7 @@ fn next_posting<S: Store>(
     requires few { last < 2 ^ 32 - 1 }
     ensures fits { OnOk result (CursorFits cursor.new (S.files store.new)) }
     ensures same { SameList cursor.old cursor.new }
-    ensures answer { (base collection t : List ℕ) → ListsStand base (S.files store.old) collection → ListFor base collection t last cursor.old →
-        AnswersBehind base collection t last cursor.new result }
+    ensures answer { ForList (S.files store.old) last cursor.old (λ base collection t. AnswersList result (AnswersBehind base collection t last cursor.new)) }
     ensures sound { IfOk result (λ found. IfSome found (IsFrom (last + 1) cursor.old.all)) }
     ensures reads { ReadsLists (S.reads store.old) (S.reads store.new) }
     ensures files { S.files store.new ≡ S.files store.old }
@@ -58,8 +57,7 @@ fn mark_list<S: Store>(
 ) -> Result<(), PartErr>
     requires room { marked.old.all ≡ all }
     ensures room { marked.new.all ≡ all }
-    ensures answer { (collection t : List ℕ) → ListsStand base.now (S.files store.old) collection → IsInfoOf collection t info.now →
-        all ≡ length (documents collection) → MarksLists (t ∷ []) marked.old marked.new result collection }
+    ensures answer { ForTerm base.now (S.files store.old) info.now all (λ collection t. MarksLists (t ∷ []) marked.old marked.new result collection) }
     ensures reads { ReadsLists (S.reads store.old) (S.reads store.new) }
     ensures files { S.files store.new ≡ S.files store.old }
     ensures cause { HasPartCause (S.faults store.old) (S.faults store.new) result }
@@ -144,8 +142,8 @@ fn pass_terms<O: Sink>(
 ) -> Result<(), PutErr>
     requires each { length terms.now.infos ≡ length terms.now.terms }
     requires terms { All (λ n. n < length terms.now.terms) numbers.now }
-    ensures content { (collection : List ℕ) → HasTermsOf terms.now collection → TellsOf terms.now collection →
-        Passes O.written out.old out.new pending.old pending.new result (rows_at numbers.now collection) }
+    ensures content { ForLexTerms terms.now
+        (λ collection. Passes O.written out.old out.new pending.old pending.new result (rows_at numbers.now collection)) }
     ensures cause { HasPutCause (O.faults out.old) (O.faults out.new) result }
     ensures lack { HasLack (O.lacks out.old) (O.lacks out.new) result }
 {

@@ -2,8 +2,9 @@
 ghost use Rattle.std.specs.Prelude.{◌≡◌, ◌≤◌, length};
 ghost use Rattle.mg_defs.specs.WildSession.{bad_pattern};
 ghost use Rattle.mg_dev.specs.Causes.{HasPutCause, HasLack};
+ghost use Rattle.mg_dev.specs.Each.{ForEach};
 ghost use Rattle.mg_dev.specs.Moments.{Between};
-ghost use Rattle.mg_reply.specs.Printed.{ForEach, Puts};
+ghost use Rattle.mg_reply.specs.Printed.{Puts};
 ghost use Rattle.mg_session.specs.Answering.{HasShowCause, HasShowLack};
 ghost use Rattle.mg_session.specs.WildAnswers.{ReadsNoText};
 ghost use Rattle.mg_session.specs.Replying.{RepliesToPattern};

@@ -6,7 +6,8 @@ use Rattle.mg_dev.specs.declared.part.Part.TheVariants as part
 use Rattle.mg_layout.specs.Stands.{StandsBy}
 use Rattle.mg_session.proofs.PhraseReplyLaws.{no_pages_within, pages_from}
 use Rattle.mg_session.proofs.SetLaws.{loaded_too}
-use Rattle.mg_session.proofs.StopLaws.{bad_head, head_read, head_unread, no_empty_head, some_head, stands_loaded, stops_for}
+use Rattle.mg_session.proofs.StopLaws.{bad_head, head_read, head_unread, some_head, stands_loaded, stops_for}
+use Rattle.mg_layout.proofs.CallerLemmas.{no_empty_head}
 use Rattle.mg_session.proofs.phrase.serve_files.Goals as goal
 
 pub returns-in-Err-clause-prefix : goal.returns-in-Err-clause-prefix

@@ -5,7 +5,8 @@ use Rattle.mg_dev.specs.StreamLaws.{grew_nothing}
 use Rattle.mg_dev.specs.declared.part.Part.TheVariants as part
 use Rattle.mg_layout.specs.Stands.{StandsBy}
 use Rattle.mg_session.proofs.SetLaws.{loaded_too}
-use Rattle.mg_session.proofs.StopLaws.{bad_head, head_no_text, head_read, head_unread, no_empty_head, nothing_within, some_head, stands_loaded, stops_for, within_from}
+use Rattle.mg_session.proofs.StopLaws.{bad_head, head_no_text, head_read, head_unread, nothing_within, some_head, stands_loaded, stops_for, within_from}
+use Rattle.mg_layout.proofs.CallerLemmas.{no_empty_head}
 use Rattle.mg_session.proofs.session.serve_files.Goals as goal
 
 pub returns-in-Err-clause-prefix : goal.returns-in-Err-clause-prefix

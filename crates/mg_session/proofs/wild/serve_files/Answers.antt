@@ -1,7 +1,8 @@
 use Rattle.std.proofs.Common.{◌∙◌}
 use Rattle.mg_dev.specs.Faults.{fault_of_part}
 use Rattle.mg_dev.specs.StreamLaws.{grew_nothing}
-use Rattle.mg_session.proofs.StopLaws.{bad_head, head_read, head_there, no_empty_head, no_head, some_head, stands_loaded}
+use Rattle.mg_session.proofs.StopLaws.{bad_head, head_read, no_head, some_head, stands_loaded}
+use Rattle.mg_layout.proofs.CallerLemmas.{head_there, no_empty_head}
 use Rattle.mg_session.proofs.WildSetLaws.{behind_head}
 use Rattle.mg_session.proofs.WildStopLaws.{as_others, head_refused, wild_stops_for}
 use Rattle.mg_session.proofs.wild.serve_files.Goals as goal

@@ -2,7 +2,8 @@ use Rattle.std.proofs.Common.{arith, ◌≤◌, ◌<◌, ◌+◌, sym, ◌∙◌
 use Rattle.mg_defs.specs.Lists.{postings}
 use Rattle.mg_defs.specs.PageBounds.{numbers_in}
 use Rattle.mg_post.specs.TermLists.{ListsStand}
-use Rattle.mg_session.proofs.WildListLaws.{list_later, marking_end, marking_next, marking_start, none_at, or_list}
+use Rattle.mg_session.proofs.WildListLaws.{list_later, marking_end, marking_next, marking_start, or_list}
+use Rattle.mg_post.proofs.ListHeads.{none_at}
 use Rattle.mg_session.proofs.wild_answer.mark_list.Goals as goal
 
 pub loop-last-init : goal.loop-last-init

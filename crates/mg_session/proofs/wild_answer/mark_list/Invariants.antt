@@ -1,7 +1,8 @@
 use Rattle.std.proofs.Common.{◌-◌, ◌≡◌, ◌≤◌, ℕ, List, length}
 use Rattle.mg_defs.specs.Split.{documents}
 use Rattle.mg_post.specs.Cursor.{CursorFits}
-use Rattle.mg_post.specs.TermLists.{IsInfoOf, ListsStand, ReadsLists}
+use Rattle.mg_post.specs.TermLists.{ListsStand, ReadsLists}
+use Rattle.mg_layout.specs.Infos.{IsInfoOf}
 use Rattle.mg_rank.specs.Ranked.{ListFor}
 use Rattle.mg_session.proofs.WildListLaws.{Marking}
 use Rattle.mg_session.proofs.wild_answer.mark_list.Given as goal
