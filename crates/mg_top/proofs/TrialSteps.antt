@@ -1,5 +1,5 @@
 -- Where the set stands and the text is there, its callees refuse only where the store fails or memory is wanting.
-use Rattle.std.proofs.Common.{◌≡◌, ◌≢◌, ◌∙◌, ◌≤◌, ℕ, true, List, [], length, Some, None, IsSome, Option, refl, sym, ap, unwrap_or, arith}
+use Rattle.std.proofs.Common.{◌≡◌, ◌∙◌, ◌≤◌, ℕ, true, List, [], length, Some, None, IsSome, Option, refl, sym, ap, unwrap_or, arith}
 use Rattle.std.proofs.lemmas.Bool.{and_parts, ltb-true}
 use Rattle.std.specs.Prelude.{nat_lt, not, take}
 use Rattle.std.specs.Str.{bytes_eq}
@@ -11,15 +11,11 @@ use Rattle.mg_dev.specs.Moments.{SinkAt, SourceAt}
 use Rattle.mg_dev.specs.Streams.{appended}
 use Rattle.mg_dev.specs.declared.fault.Fault.{Fault}
 use Rattle.mg_dev.specs.declared.fault.Fault.TheVariants.{Usage, StoreFault, ReadFault, WriteFault, NotBuilt, Damaged, NoCollection, TooLarge, TooManyDocuments, TooManyPieces, Changed, Memory, NameClash, InputTooLong, SameName, TooManyRotations}
-use Rattle.mg_defs.specs.Heads.{first_damage}
 use Rattle.mg_defs.specs.Replies.{session}
 use Rattle.mg_defs.specs.InputLimit.{has_quit, is_too_much}
 use Rattle.mg_defs.specs.Limits.{input_limit}
-use Rattle.mg_defs.proofs.HeadLaws.{no_damage}
-use Rattle.mg_defs.proofs.StandLaws.{stand-tells}
-use Rattle.mg_dev.specs.Names.{full_name}
-use Rattle.mg_dev.specs.declared.part.Part.TheVariants as part
-use Rattle.mg_layout.specs.Stands.{Stands, parts_at}
+use Rattle.mg_layout.specs.Stands.{Stands}
+use Rattle.mg_layout.proofs.CallerLemmas.{head_there}
 use Rattle.mg_build.specs.Outcomes.{DecodeStops}
 use Rattle.mg_session.specs.Serves as serves
 use Rattle.mg_plain.specs.Stops.{ScanStops}
@@ -33,14 +29,6 @@ pub told : (files : Option Files) (name bytes : List ℕ) → file_at files name
 unfolding file_at
 told None name bytes there = cc
 told (Some f) name bytes there = refl
-
--- the head of files that stand is not empty
-head_there : (files : Option Files) (base collection : List ℕ) → Stands files base collection → bytes_at files (full_name base part.Head) ≢ []
-unfolding first_damage
-head_there files base collection stands empty =
-    let tells = stand-tells stands.stand.version stands.stand.cap stands.stand.code (parts_at files base) collection stands.stand.are in
-    let some : None ≡ first_damage 1 2 [] = sym (no_damage 1 2 (bytes_at files (full_name base part.Head)) _ tells.head) ∙ ap (first_damage 1 2) empty in
-    cc
 
 pub never_rose : Rose 0 0 → ⊥
 never_rose rose = omega (arith, rose)

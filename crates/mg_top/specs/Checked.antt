@@ -1,16 +1,14 @@
 -- What a run of `check NAME` does.
-use Rattle.std.specs.Prelude.{◌≡◌, ◌⊎◌, ℕ, List, [], length, IsSome}
+use Rattle.std.specs.Prelude.{◌≡◌, ◌⊎◌, ℕ, List, length, IsSome}
 use Rattle.std.specs.declared.option.Option.{Option}
-use Rattle.mg_dev.specs.Files.{Files, bytes_at}
-use Rattle.mg_dev.specs.Names.{full_name}
+use Rattle.mg_dev.specs.Files.{Files}
 use Rattle.mg_dev.specs.Streams.{appended, GrewByPrefix}
 use Rattle.mg_dev.specs.declared.bad.Bad.{Bad}
-use Rattle.mg_dev.specs.declared.part.Part.TheVariants as part
 use Rattle.mg_dev.specs.declared.fault.Fault.{Fault}
 use Rattle.mg_dev.specs.declared.fault.Fault.TheVariants.{Damaged, StoreFault, WriteFault, NotBuilt, Memory}
 use Rattle.mg_dev.specs.declared.status.Status.TheVariants.{Done}
 use Rattle.mg_defs.specs.Split.{documents}
-use Rattle.mg_layout.specs.Stands.{Stands, StandsForNone}
+use Rattle.mg_layout.specs.Stands.{HasNoHead, Stands, StandsForNone}
 use Rattle.mg_check.specs.Found as found
 use Rattle.mg_check.specs.Found.{IsDamagedSet}
 use Rattle.mg_check.specs.Reads.{ReadsSet}
@@ -46,7 +44,7 @@ pub record Checked (name : List ℕ) (run : Run) : Type 0 where
   pub cause : IfStopped run.status (CheckStops (StoreFailed run) (OutputFailed run) run.store.files name)
   -- 6 comes exactly where there is a head and the files stand for none, and 5 exactly where there is none, unless the store fails or memory is wanting
   pub damaged : IsSome run.store.files → IsDamagedSet run.store.files name → TellsDamage run ⊎ Stops run StoreFault ⊎ Stops run Memory
-  pub not_built : IsSome run.store.files → bytes_at run.store.files (full_name name part.Head) ≡ [] → StopsUnless run NotBuilt
+  pub not_built : IsSome run.store.files → HasNoHead run.store.files name → StopsUnless run NotBuilt
   -- where the files stand and no device fails, it is done, or memory is wanting
   pub complete : (collection : List ℕ) → Stands run.store.files name collection → ¬ StoreFailed run → ¬ OutputFailed run
       → (run.status ≡ Done) ⊎ Stops run Memory

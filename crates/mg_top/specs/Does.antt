@@ -1,8 +1,8 @@
 -- What a run does for what the words ask: a line a tool.
-use Rattle.std.specs.Prelude.{◌≡◌, ◌⊎◌, Some, None}
+use Rattle.std.specs.Prelude.{◌≡◌, ◌⊎◌, List, Some, None, String, map, string_bytes}
 use Rattle.std.specs.declared.option.Option.{Option}
 use Rattle.mg_dev.specs.declared.fault.Fault.TheVariants.{Usage, Memory}
-use Rattle.mg_words.specs.Tasks.{Task, build, query, decode, scan, migrate, merge, trial, check, phrase, wild}
+use Rattle.mg_words.specs.Tasks.{Task, build, query, decode, scan, migrate, merge, trial, check, phrase, wild, task_of}
 use Rattle.mg_top.specs.Ends.{ToldWhy}
 use Rattle.mg_dev.specs.Runs.{Run, Stops}
 use Rattle.mg_top.specs.Built.{Built}
@@ -43,3 +43,7 @@ pub record Ran (task : Option Task) (run : Run) : Type 0 where
   pub does : Does task run
   -- the fault's line goes to the error output, or a prefix of it where that failed or lacked memory
   pub told : ToldWhy run.status run.err.written run.err_now.written run.err.faults run.err_now.faults run.err.lacks run.err_now.lacks
+
+-- the same by the words of a command line
+abbrev pub RanFor : {A : Type 0} → List (String A) → Run → Type 0
+RanFor words run = Ran (task_of (map string_bytes words)) run

@@ -5,14 +5,7 @@ use Rattle.mg_defs.specs.Summaries.{number_line}
 use Rattle.mg_make.specs.declared.summary.Summary.{Summary}
 use Rattle.mg_top.specs.declared.lines.Line.{Line}
 use Rattle.mg_top.specs.declared.lines.Line.TheVariants.{Number, Bytes, Compared, Pool}
-use Rattle.mg_top.specs.declared.lines.Piece.{Piece}
-use Rattle.mg_top.specs.declared.lines.Piece.TheVariants as piece
 use Rattle.mg_top.specs.declared.trial_summary.TrialSummary.{TrialSummary}
-
--- the bytes of a piece of a line
-abbrev pub piece_text : Piece → List ℕ
-piece_text (piece.Text text) = text.now
-piece_text (piece.Number number) = decimal number
 
 -- the most bytes of a pool at one time, and its size
 unfoldable pub pool_line : ℕ → ℕ → List ℕ

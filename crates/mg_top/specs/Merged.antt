@@ -12,12 +12,11 @@ use Rattle.mg_defs.specs.Limits.{version_2}
 use Rattle.mg_defs.specs.WithinLimits.{IsWithinLimits}
 use Rattle.mg_defs.specs.Marks.{PassesFirst, start, piece}
 use Rattle.mg_defs.specs.Summaries.{summary_text}
-use Rattle.mg_layout.specs.Stands.{Stands, StandsIn}
+use Rattle.mg_layout.specs.Stands.{HasNoHead, Stands, StandsIn}
 use Rattle.mg_make.specs.Putting.{OthersSame}
 use Rattle.mg_merge.specs.Merging as merging
 use Rattle.mg_make.specs.Outcomes.{AreMadeAnew, IsEarly, Left, most_bytes}
 use Rattle.mg_merge.specs.Merging.{BothStand, IsSizeByHeads, budget_of}
-use Rattle.mg_merge.specs.Stops.{IsMissing}
 use Rattle.mg_dev.specs.Runs.{IfStopped, Run, StoreFailed, OutputFailed, SaysNothing, KeepsFiles, Stops, StopsUnless}
 
 -- the cause of each refusal: that of the call, or the output failed
@@ -47,7 +46,7 @@ pub record Merged (first second new : List ℕ) (run : Run) : Type 0 where
   pub cause : IfStopped run.status (MergeStops (StoreFailed run) (OutputFailed run) run.store.files first second new)
   -- 16, 5, 8 and the earlier of 9 and 10 come exactly where they have it, in this order, unless the store fails or memory is wanting
   pub same : (new ≡ first) ⊎ (new ≡ second) → Stops run SameName ⊎ Stops run Memory
-  pub missing : IsSome run.store.files → new ≢ first → new ≢ second → IsMissing run.store.files first ⊎ IsMissing run.store.files second → StopsUnless run NotBuilt
+  pub missing : IsSome run.store.files → new ≢ first → new ≢ second → HasNoHead run.store.files first ⊎ HasNoHead run.store.files second → StopsUnless run NotBuilt
   pub large : (size : ℕ) → IsSome run.store.files → new ≢ first → new ≢ second → IsSizeByHeads run.store.files first second size → most_bytes < size
       → StopsUnless run (TooLarge size most_bytes)
   pub documents : (a b : List ℕ) → BothStand run.store.files first second a b → new ≢ first → new ≢ second → length (join a b) ≤ most_bytes

@@ -1,16 +1,14 @@
 -- What a run of `migrate NAME NEW` does.
-use Rattle.std.specs.Prelude.{◌≡◌, ◌≢◌, ◌⊎◌, ℕ, List, [], length, codes, IsSome}
+use Rattle.std.specs.Prelude.{◌≡◌, ◌≢◌, ◌⊎◌, ℕ, List, length, codes, IsSome}
 use Rattle.std.specs.declared.option.Option.{Option}
-use Rattle.mg_dev.specs.Files.{Files, bytes_at}
-use Rattle.mg_dev.specs.Names.{full_name}
+use Rattle.mg_dev.specs.Files.{Files}
 use Rattle.mg_dev.specs.Streams.{appended, GrewByPrefix}
-use Rattle.mg_dev.specs.declared.part.Part.TheVariants as part
 use Rattle.mg_dev.specs.declared.fault.Fault.{Fault}
 use Rattle.mg_dev.specs.declared.fault.Fault.TheVariants.{WriteFault, NotBuilt, Memory, SameName}
 use Rattle.mg_dev.specs.declared.status.Status.TheVariants.{Done}
 use Rattle.mg_defs.specs.Split.{documents}
 use Rattle.mg_defs.specs.Summaries.{number_line}
-use Rattle.mg_layout.specs.Stands.{Stands, StandsIn}
+use Rattle.mg_layout.specs.Stands.{HasNoHead, Stands, StandsIn}
 use Rattle.mg_make.specs.Putting.{OthersSame}
 use Rattle.mg_make.specs.Outcomes.{AreMadeAnew, Left}
 use Rattle.mg_build.specs.Migrating as migrating
@@ -47,7 +45,7 @@ pub record Migrated (name new : List ℕ) (run : Run) : Type 0 where
   pub cause : IfStopped run.status (MigrateStops (StoreFailed run) (OutputFailed run) run.store.files name new)
   -- 16 and 5 come exactly where they have it, in this order, unless the store fails or memory is wanting
   pub same : new ≡ name → Stops run SameName ⊎ Stops run Memory
-  pub not_built : IsSome run.store.files → new ≢ name → bytes_at run.store.files (full_name name part.Head) ≡ [] → StopsUnless run NotBuilt
+  pub not_built : IsSome run.store.files → new ≢ name → HasNoHead run.store.files name → StopsUnless run NotBuilt
   -- where the set stands, the names differ and no device fails, it is done, or memory is wanting
   pub complete : (collection : List ℕ) → Stands run.store.files name collection → new ≢ name → ¬ StoreFailed run → ¬ OutputFailed run
       → (run.status ≡ Done) ⊎ Stops run Memory

@@ -93,6 +93,14 @@ IsAllowed seed docs = IsWithinLimits 2 (made_collection seed docs)
 abbrev pub IsBeyondAt : ℕ → ℕ → Mark → Type 0
 IsBeyondAt seed docs mark = PassesFirst version_2 (made_collection seed docs) mark
 
+-- a fact where its text can be held, and at this mark it first goes beyond one of them
+abbrev pub WhereBeyond : ℕ → ℕ → Mark → Type 0 → Type 0
+WhereBeyond seed docs mark fact = IsHeld seed docs → IsBeyondAt seed docs mark → fact
+
+-- a fact where its text can be held, and it is within them
+abbrev pub WhereAllowed : ℕ → ℕ → Type 0 → Type 0
+WhereAllowed seed docs fact = IsHeld seed docs → IsAllowed seed docs → fact
+
 -- How the work before the first line ends, by whether the store failed, and by what was made.
 pub record WorkEnds (store_rose : Type 0) (docs : ℕ) (collection input : List ℕ) (result : Result TrialSummary Fault) : Type 0 where
   pub done : IfOk result (λ summary. summary ≡ trial_summary docs collection input)

@@ -1,10 +1,10 @@
 // What a set and the collection's text tell, compared.
 ghost use Rattle.std.specs.Prelude.{◌≡◌, ◌≤◌, true, length, IfErr, IfOk, OnOk, Ok};
 ghost use Rattle.mg_dev.specs.Causes.{Rose};
+ghost use Rattle.mg_dev.specs.Each.{ForEach};
 ghost use Rattle.mg_layout.specs.Stands.{Stands};
 ghost use Rattle.mg_defs.specs.Generator.{made_session};
 ghost use Rattle.mg_defs.specs.Replies.{session};
-ghost use Rattle.mg_reply.specs.Printed.{ForEach};
 ghost use Rattle.mg_top.specs.Trials.{HoldsText, IsBuilt, Lacks, replies_of, set_name};
 
 use crate::trials::{SET, TEXT};

@@ -7,19 +7,11 @@ ghost use Rattle.std.specs.List.{flat_map};
 ghost use Rattle.mg_dev.specs.Streams.{AfterPut};
 ghost use Rattle.mg_dev.specs.Causes.{HasPutCause, HasLack};
 ghost use Rattle.mg_defs.specs.Summaries.{number_line};
-ghost use Rattle.mg_top.specs.Lines.{piece_text, line_text, bytes_line, compared_line, summary_lines, pool_line, stands_line, trial_summary_lines};
+ghost use Rattle.mg_top.specs.Lines.{line_text, bytes_line, compared_line, summary_lines, pool_line, stands_line, trial_summary_lines};
 
 use crate::trial_summary::TrialSummary;
-use itoa::Buffer;
-use mg_dev::{PutErr, Sink};
+use mg_dev::{Piece, PutErr, Sink, put_pieces};
 use mg_make::Summary;
-
-// A piece of a line.
-#[derive(Clone, Copy)]
-pub(crate) enum Piece<'a> {
-    Text(&'a str),
-    Number(u64),
-}
 
 /// A line with its line feed.
 #[derive(Clone, Copy)]
@@ -32,35 +24,6 @@ pub(crate) enum Line<'a> {
     Compared { name: &'a str, same: bool },
     /// The most bytes of a pool at one time, and its size.
     Pool { peak: u64, budget: u64 },
-}
-
-fn put_piece<O: Sink>(out: &mut O, piece: Piece<'_>) -> Result<(), PutErr>
-    ensures content { AfterPut (O.written out.old) (O.written out.new) (piece_text piece.entry) result }
-    ensures cause { HasPutCause (O.faults out.old) (O.faults out.new) result }
-    ensures lack { HasLack (O.lacks out.old) (O.lacks out.new) result }
-{
-    match piece {
-        Piece::Text(text) => out.put(text.as_bytes()),
-        Piece::Number(number) => {
-            let mut buffer = Buffer::new();
-            out.put(buffer.format(number).as_bytes())
-        }
-    }
-}
-
-#[tactic(auto, using(mg_dev::specs::StreamLaws::stream_laws))]
-fn put_pieces<O: Sink>(out: &mut O, pieces: &[Piece<'_>]) -> Result<(), PutErr>
-    ensures content { AfterPut (O.written out.old) (O.written out.new) (flat_map piece_text pieces.now) result }
-    ensures cause { HasPutCause (O.faults out.old) (O.faults out.new) result }
-    ensures lack { HasLack (O.lacks out.old) (O.lacks out.new) result }
-{
-    match pieces {
-        [] => Ok(()),
-        [first, rest @ ..] => {
-            put_piece(out, *first)?;
-            put_pieces(out, rest)
-        }
-    }
 }
 
 #[tactic(auto, unfolding(crate::specs::Lines::pool_line))]

@@ -1,8 +1,7 @@
 // The words of a command line are carried out.
-ghost use Rattle.std.specs.Prelude.{◌≡◌, ◌⊎◌, map, string_bytes, Some, None};
-ghost use Rattle.mg_words.specs.Tasks.{task_of};
+ghost use Rattle.std.specs.Prelude.{◌≡◌, ◌⊎◌, Some, None};
 ghost use Rattle.mg_top.specs.Running.{RunsBy};
-ghost use Rattle.mg_top.specs.Does.{Ran};
+ghost use Rattle.mg_top.specs.Does.{RanFor};
 
 use crate::building::run_build;
 use crate::checking::run_check;
@@ -47,8 +46,7 @@ pub fn run<S: Store, I: Source, O: Sink, E: Sink>(
     out: &mut O,
     err: &mut E,
 ) -> Status
-    ensures { RunsBy S.files S.reads S.faults I.left I.faults O.written O.faults O.lacks E.written E.faults E.lacks
-        store.old store.new input.old input.new out.old out.new err.old err.new result (Ran (task_of (map string_bytes words.now))) }
+    ensures { RunsBy S.Store I.Source O.Sink E.Sink store.old store.new input.old input.new out.old out.new err.old err.new result (RanFor words.now) }
 {
     match read_words(alloc, words) {
         Ok(

@@ -10,7 +10,7 @@ ghost use Rattle.mg_defs.specs.Limits.{held_bytes};
 ghost use Rattle.mg_defs.specs.Marks.{start as start_mark, piece as piece_mark};
 ghost use Rattle.mg_defs.specs.Summaries.{trial_text};
 ghost use Rattle.mg_dev.specs.Runs.{IsDone, RefusedFor};
-ghost use Rattle.mg_top.specs.Trials.{HoldsText, IsAllowed, IsBeyondAt, IsHeld, Lacks, SilentAfter, TrialStopsBy, WorkEnds, text_name};
+ghost use Rattle.mg_top.specs.Trials.{HoldsText, Lacks, SilentAfter, TrialStopsBy, WhereAllowed, WhereBeyond, WorkEnds, text_name};
 
 use crate::comparing::{ask_both, is_decoded};
 use crate::lines::put_trial_summary;
@@ -136,12 +136,12 @@ pub fn trial<S: Store, O: Sink>(
     ensures later { S.faults store.old ≤ S.faults store.new }
     // What the collection has too much of is told, in this order.
     ensures large { held_bytes < length (made_collection seed docs) → RefusedFor result (fault.TooLarge (length (made_collection seed docs)) held_bytes) }
-    ensures documents { IsHeld seed docs → IsBeyondAt seed docs start_mark → RefusedFor result fault.TooManyDocuments }
-    ensures pieces { (stream : Kind) (piece : List ℕ) → IsHeld seed docs → IsBeyondAt seed docs (piece_mark stream piece) →
-        RefusedFor result (fault.TooManyPieces stream) }
+    ensures documents { WhereBeyond seed docs start_mark (RefusedFor result fault.TooManyDocuments) }
+    ensures pieces { (stream : Kind) (piece : List ℕ) →
+        WhereBeyond seed docs (piece_mark stream piece) (RefusedFor result (fault.TooManyPieces stream)) }
     // Within the limits it is done, or memory lacks.
-    ensures complete { IsHeld seed docs → IsAllowed seed docs →
-        ¬ Rose (S.faults store.old) (S.faults store.new) → ¬ Rose (O.faults out.old) (O.faults out.new) → IsDone result }
+    ensures complete { WhereAllowed seed docs
+        (¬ Rose (S.faults store.old) (S.faults store.new) → ¬ Rose (O.faults out.old) (O.faults out.new) → IsDone result) }
 {
     match try_all(alloc, store, seed, docs) {
         Ok(summary) => match put_trial_summary(out, &summary) {
