@@ -1,10 +1,9 @@
 // A list that is read while another part is written.
-ghost use Rattle.std.specs.Prelude.{◌≡◌, ℕ, List, codes, OnOk};
+ghost use Rattle.std.specs.Prelude.{◌≡◌, List, codes, OnOk};
 ghost use Rattle.mg_dev.specs.Names.{full_name};
 ghost use Rattle.mg_dev.specs.declared.part.Part.TheVariants as part;
 ghost use Rattle.mg_defs.specs.declared.Posting.{Posting};
-ghost use Rattle.mg_post.specs.Answers.{AnswersList};
-ghost use Rattle.mg_post.specs.Cursor.{CursorFits, CursorStands, SameList, StandsAt, after, head_of};
+ghost use Rattle.mg_post.specs.Cursor.{AnswersRest, CursorFits, CursorStands, ForList, SameList, after};
 
 use crate::tests::{one_list, spaced};
 use mg_dev::{FileRef, Part, PartErr, Store, SureStore};
@@ -23,8 +22,7 @@ fn next_beside_weights<S: Store>(
     requires skip { cursor.old.skip.name ≡ full_name base.now part.Skip }
     ensures fits { OnOk result (CursorFits cursor.new (S.files store.new)) }
     ensures same { SameList cursor.old cursor.new }
-    ensures answer { (ps left : List Posting) → CursorStands cursor.old (S.files store.old) ps → StandsAt cursor.old ps left →
-        AnswersList result (λ found. (found ≡ head_of (after cursor.old.held left)) × StandsAt cursor.new ps (after cursor.old.held left)) }
+    ensures answer { ForList cursor.old (S.files store.old) (λ ps left. AnswersRest result cursor.new ps (after cursor.old.held left)) }
     ensures stands { OnOk result ((ps : List Posting) → CursorStands cursor.old (S.files store.old) ps → CursorStands cursor.new (S.files store.new) ps) }
 {
     let weights = FileRef {

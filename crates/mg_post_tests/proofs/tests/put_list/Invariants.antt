@@ -1,4 +1,4 @@
-use Rattle.std.proofs.Common.{◌≡◌, ◌+◌, ℕ, List}
+use Rattle.std.proofs.Common.{◌≡◌, ◌+◌, List}
 use Rattle.mg_defs.specs.declared.Posting.{Posting}
 use Rattle.mg_post.specs.Writing.{Took}
 use Rattle.mg_post_tests.proofs.tests.put_list.Given as goal
