@@ -154,6 +154,9 @@ fn lines_are_answered(rt: HostRuntime) -> Result<(), Fail> {
     assert!(rt; gives(alloc, &mut store, b"cat\r", terms, 3, &[1, 3])?);
     assert!(rt; gives(alloc, &mut store, b"zebra", terms, 3, &[])?);
     assert!(rt; gives(alloc, &mut store, b"!zebra", terms, 3, &[1, 2, 3])?);
+    assert!(rt; gives(alloc, &mut store, b"sat | cat", terms, 3, &[1, 3])?);
+    assert!(rt; gives(alloc, &mut store, b"zebra | dog", terms, 3, &[2, 3])?);
+    assert!(rt; gives(alloc, &mut store, b"dog | !the", terms, 3, &[2, 3])?);
     // Two empty documents, and none.
     let mut empty = MemStore::new(alloc);
     assert!(rt; gives(alloc, &mut empty, b"!x", &[], 2, &[1, 2])?);
@@ -166,7 +169,7 @@ fn lists_of_several_blocks_are_joined(rt: HostRuntime) -> Result<(), Fail> {
     let alloc = rt.alloc();
     let mut store = store_of(alloc, &POST, &SKIP)?;
     // How many documents, and the sum of their numbers.
-    let rows: [(&[u8], usize, u64); 16] = [
+    let rows: [(&[u8], usize, u64); 26] = [
         (b"a", 176, 26559),
         (b"a & b", 55, 8735),
         (b"a & c", 1, 122),
@@ -183,6 +186,16 @@ fn lists_of_several_blocks_are_joined(rt: HostRuntime) -> Result<(), Fail> {
         (b"!(a | b | e)", 60, 6657),
         (b"c c", 6, 1269),
         (b"!d", 299, 44860),
+        (b"a | b", 219, 33157),
+        (b"a | b | c", 223, 34015),
+        (b"b | c | d", 102, 16191),
+        (b"z | c", 6, 1269),
+        (b"z | z", 0, 0),
+        (b"(a & b) | (c & d)", 55, 8735),
+        (b"(c & e) | (d & a)", 4, 1139),
+        (b"(c | d) & (b | e)", 5, 1261),
+        (b"a | !b", 257, 38552),
+        (b"!(a & b)", 245, 36415),
     ];
     for (line, count, sum) in rows {
         let found = answers(alloc, &mut store, line, &TERMS, 300)?.unwrap_or(Vec::new(alloc));
