@@ -1,5 +1,5 @@
 //! Boolean and ranked answers over a million documents, from the lists of a common and of a rare term.
-ghost use Rattle.std.specs.Prelude.{◌≡◌, ◌≤◌, ℕ, List, IfOk, IfSome, length};
+ghost use Rattle.std.specs.Prelude.{◌≡◌, ◌≤◌, ℕ, List, IfOk, length};
 ghost use Rattle.mg_defs.specs.QueryTerms.{query_terms};
 ghost use Rattle.mg_query.specs.QueryOf.{query_of};
 ghost use Rattle.mg_post.specs.Answers.{AnswersList};
