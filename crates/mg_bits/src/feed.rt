@@ -1,5 +1,5 @@
 // Bytes of a file, through pages.
-ghost use Rattle.std.specs.Prelude.{◌≡◌, ◌+◌, ◌*◌, ℕ, Option, IfOk, IfSome, IsSome, OnSome, slice_get};
+ghost use Rattle.std.specs.Prelude.{◌≡◌, ◌+◌, ◌*◌, Option, IfOk, IfSome, IsSome, OnSome, slice_get};
 ghost use Rattle.mg_dev.specs.Files.{Files};
 ghost use Rattle.mg_dev.specs.Causes.{HasCause};
 ghost use Rattle.mg_defs.specs.Bits.{Begins, digits};

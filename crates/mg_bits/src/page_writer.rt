@@ -1,8 +1,8 @@
 // Bytes into a file, through one page.
-ghost use Rattle.std.specs.Prelude.{◌≡◌, ◌≤◌, ◌<◌, ◌+◌, ◌++◌, ◌∷◌, ℕ, List, [], IfOk, OnOk, length, take, IsSome};
+ghost use Rattle.std.specs.Prelude.{◌≡◌, ◌<◌, ◌+◌, ◌++◌, ◌∷◌, [], IfOk, OnOk, length, take, IsSome};
 ghost use Rattle.mg_dev.specs.Names.{full_name};
 ghost use Rattle.mg_dev.specs.Causes.{HasPutCause};
-ghost use Rattle.mg_dev.specs.Files.{AfterAppend, AfterReset, GrewInPart, SameReads, bytes_at, grown};
+ghost use Rattle.mg_dev.specs.Files.{AfterAppend, AfterReset, GrewInPart, SameReads, grown};
 ghost use Rattle.mg_bits.specs.Writer.{Writing, put_to, KeepsBytes, WroteTo, Wrote};
 
 use mg_dev::{FileRef, PutErr, Store};
