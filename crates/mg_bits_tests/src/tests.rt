@@ -1,5 +1,5 @@
 // Files read and written, over a slice, a page and a slot.
-ghost use Rattle.std.specs.Prelude.{◌≡◌, ◌≤◌, ◌<◌, length};
+ghost use Rattle.std.specs.Prelude.{◌<◌};
 
 use mg_bits::{
     BitErr, BitReader, BitWriter, Feed, NoDev, PageFeed, PageWriter, SliceFeed, SmallFeed,
