@@ -133,18 +133,18 @@ asking_first_next base collection asked ts doc i first first_now old now there t
 
 -- ---- which terms the first document has
 
--- the list from a document on is that from the first one on
-here : (n : ℕ) (ps : List Posting) → IfSome (first_of ps) (λ m. n ≤ m) → from_doc n ps ≡ ps
+-- a list from a document on has the same first one, where that is not before it
+here : (n : ℕ) (ps : List Posting) → IfSome (first_of ps) (λ m. n ≤ m) → first_of (from_doc n ps) ≡ first_of ps
 unfolding from_doc
 here n [] le = refl
-here n (p ∷ ps) le = from_here n p ps le
+here n (p ∷ ps) le = ap first_of (from_here n p ps le)
 
 has_first : (collection t : List ℕ) (doc n : ℕ) → 1 ≤ doc → doc ≤ n → n ≤ length (documents collection) → IsNoLater (Some n) (first_from collection doc t) → is_first (Some n) (first_from collection doc t) ≡ has_term (document collection n) t
 has_first collection t doc n some le within least =
     let number : first_from collection doc t ≡ first_of (from_doc doc (postings collection t)) = first_number (from_doc doc (postings collection t)) in
-    let same : from_doc n (postings collection t) ≡ from_doc doc (postings collection t) =
-    sym (from_from doc n (postings collection t) le) ∙ here n (from_doc doc (postings collection t)) (subst (λ (o : Option ℕ). IfSome o (λ m. n ≤ m)) number least) in
-    is_same n (first_from collection doc t) ∙ ap (λ o. is_number o n) number ∙ ap (λ l. is_number (first_of l) n) (sym same) ∙ posting_is collection t n (omega (arith, some, le)) within
+    let same : first_of (from_doc n (postings collection t)) ≡ first_of (from_doc doc (postings collection t)) =
+    ap first_of (sym (from_from doc n (postings collection t) le)) ∙ here n (from_doc doc (postings collection t)) (subst (λ (o : Option ℕ). IfSome o (λ m. n ≤ m)) number least) in
+    is_same n (first_from collection doc t) ∙ ap (λ o. is_number o n) number ∙ ap (λ o. is_number o n) (sym same) ∙ posting_is collection t n (omega (arith, some, le)) within
 
 -- ---- where the first document of a list stands
 

@@ -1,7 +1,6 @@
 // The laws of the documents that satisfy a query.
 ghost use Rattle.std.specs.Prelude.{◌≡◌, ℕ, List, Option};
 ghost use Rattle.mg_dev.specs.Files.{Files};
-ghost use Rattle.mg_dev.specs.declared.part.Part.TheVariants as part;
 ghost use Rattle.mg_query.specs.QueryOf.{query_of};
 ghost use Rattle.mg_defs.specs.ShownAnswers.{satisfying};
 ghost use Rattle.mg_bool.specs.Matches.{MatchesFit, Matching, left_of, WhereListsStay};
