@@ -2,11 +2,9 @@
 //!
 //! A page is kept, so the store is asked once a page. The size is asked once: where the file ends before
 //! it, the collection changed while it was read.
-ghost use Rattle.std.specs.Prelude.{◌≡◌, ◌≢◌, ◌-◌, ◌<◌, ◌≤◌, ◌^◌, ℕ, List, Option, Some, None, IfOk, IfErr, IsSome, slice_get, length, false};
+ghost use Rattle.std.specs.Prelude.{◌≡◌, ◌-◌, ◌<◌, ◌≤◌, ◌^◌, Some, None, IfOk, IfErr, IsSome, slice_get};
 ghost use Rattle.mg_dev.specs.Causes.{Rose};
-ghost use Rattle.mg_dev.specs.Files.{Files, HasSize, SameReads, bytes_at, file_at};
-ghost use Rattle.mg_dev.specs.Names.{full_name, same_part};
-ghost use Rattle.mg_dev.specs.declared.part.Part.{Part as AnyPart};
+ghost use Rattle.mg_dev.specs.Files.{HasSize, SameReads, bytes_at};
 ghost use Rattle.mg_dev.specs.declared.part.Part.TheVariants.{Plain};
 ghost use Rattle.mg_bits.specs.Pages.{Fits, Looked, SameFile};
 ghost use Rattle.mg_build.specs.Sources.{ByteStops, OpenStops};
