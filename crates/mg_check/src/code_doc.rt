@@ -3,7 +3,6 @@
 //! Nothing is known of what decoding damaged text gives. So a document is kept only once its own code is found in the
 //! text: it is coded by the same model into a store of its own, and the bytes are compared.
 ghost use Rattle.std.specs.Prelude.{◌≡◌, ◌+◌, ◌*◌, ◌<◌, ◌^◌, ◌∷◌, [], ℕ, Contains, IsSome, length};
-ghost use Rattle.mg_dev.specs.declared.part.Part.TheVariants as part;
 ghost use Rattle.mg_defs.specs.Bits.{Bits};
 ghost use Rattle.mg_defs.specs.Marks.{code_of};
 ghost use Rattle.mg_defs.specs.Means.{HasCodewords, IsCodable, IsModel, IsStreamCode};

@@ -2,7 +2,6 @@
 ghost use Rattle.std.specs.Prelude.{◌≡◌, ◌≢◌, ◌≤◌, Err, IfErr, IfOk, IsSome};
 ghost use Rattle.mg_dev.specs.Causes.{Rose};
 ghost use Rattle.mg_dev.specs.declared.fault.Fault.TheVariants as fault;
-ghost use Rattle.mg_dev.specs.declared.part.Part.TheVariants as part;
 ghost use Rattle.mg_layout.specs.Stands.{HasNoHead};
 ghost use Rattle.mg_check.specs.Found.{CheckStops, StandsWith, TellsOutside, TellsNotBuilt, IfStands};
 ghost use Rattle.mg_check.specs.Reads.{ReadsSet, reads_outside};

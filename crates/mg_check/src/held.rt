@@ -2,7 +2,7 @@
 //!
 //! Damaged text can tell of a document of any length, so the bytes that are kept are bounded by what is left of the
 //! collection's own.
-ghost use Rattle.std.specs.Prelude.{◌≡◌, ◌≤◌, ◌+◌, ℕ, List, [], Some};
+ghost use Rattle.std.specs.Prelude.{◌≡◌, ◌≤◌, [], Some};
 ghost use Rattle.mg_dev.specs.Causes.{HasLack, HasPutCause};
 ghost use Rattle.mg_dev.specs.Streams.{AfterPut};
 

@@ -1,5 +1,5 @@
 //! Ranges of terms whose postings are held in memory at once.
-ghost use Rattle.std.specs.Prelude.{◌≡◌, ◌<◌, ◌≤◌, ◌+◌, ◌-◌, ◌^◌, ◌↔◌, ℕ, IsTrue, length, take, drop, sum, slice_index};
+ghost use Rattle.std.specs.Prelude.{◌<◌, ◌≤◌, ◌+◌, ◌-◌, ◌^◌, ◌↔◌, ℕ, IsTrue, length, take, drop, sum, slice_index};
 ghost use Rattle.mg_check.specs.Listing.{AreSizes};
 
 /// So many postings end a range.

@@ -2,7 +2,7 @@
 //!
 //! A code is that of a collection only where each of its pieces comes, and where its lengths cost no more bits than those
 //! of Huffman's method. So the pieces are counted while the text is read.
-ghost use Rattle.std.specs.Prelude.{Err, ◌≡◌, ◌≢◌, ◌+◌, ◌<◌, ◌≤◌, ◌^◌, [], All, sum, length, get_or, slice_index, IfOk, OnOk};
+ghost use Rattle.std.specs.Prelude.{Err, ◌≡◌, ◌≢◌, ◌+◌, ◌<◌, ◌≤◌, ◌^◌, [], All, sum, length, get_or, IfOk, OnOk};
 ghost use Rattle.std.proofs.Math.ListN.{set};
 ghost use Rattle.mg_defs.specs.Cost.{cost_of};
 ghost use Rattle.mg_defs.specs.Means.{IsModel};
