@@ -1,5 +1,5 @@
 // The gamma code.
-ghost use Rattle.std.specs.Prelude.{◌≡◌, ◌+◌, ◌-◌, ◌*◌, ◌≤◌, ◌<◌, ◌^◌, ℕ, IfOk, OnOk, OnErr, MatchResult, length};
+ghost use Rattle.std.specs.Prelude.{◌≡◌, ◌+◌, ◌-◌, ◌*◌, ◌≤◌, ◌<◌, ◌^◌, IfOk, OnOk, OnErr, MatchResult, length};
 ghost use Rattle.mg_defs.specs.Codes.{gamma};
 ghost use Rattle.mg_defs.specs.Answers.{UpTo};
 ghost use Rattle.mg_bits.specs.Feed.{Calm};

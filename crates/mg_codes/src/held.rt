@@ -2,7 +2,7 @@
 //
 // A code of two parts is read from 57 bits at once, with no division: a value's quotient is counted,
 // and the value is compared with the limit.
-ghost use Rattle.std.specs.Prelude.{◌≡◌, ◌+◌, ◌-◌, ◌*◌, ◌≤◌, ◌<◌, ◌^◌, ◌/◌, ◌%◌, ℕ, Option, IfSome, length};
+ghost use Rattle.std.specs.Prelude.{◌≡◌, ◌+◌, ◌-◌, ◌*◌, ◌≤◌, ◌<◌, ◌^◌, ◌%◌, Option, IfSome, length};
 ghost use Rattle.mg_defs.specs.Bits.{Begins};
 ghost use Rattle.mg_defs.specs.Codes.{gamma, golomb};
 ghost use Rattle.mg_defs.specs.Answers.{UpTo};

@@ -1,5 +1,5 @@
 // Codes that were written are read.
-ghost use Rattle.std.specs.Prelude.{◌≡◌, ◌++◌, ℕ, ◌^◌, ◌<◌, ◌≤◌};
+ghost use Rattle.std.specs.Prelude.{◌≡◌, ℕ, ◌^◌, ◌<◌, ◌≤◌};
 ghost use Rattle.mg_defs.specs.Bits.{Bits};
 ghost use Rattle.mg_defs.specs.Codes.{unary, gamma, short, golomb};
 ghost use Rattle.mg_defs.specs.Answers.{Answer, UpTo, Below, value};

@@ -1,5 +1,5 @@
 // The short code of a remainder.
-ghost use Rattle.std.specs.Prelude.{◌≡◌, ◌+◌, ◌-◌, ◌*◌, ◌≤◌, ◌<◌, ◌^◌, ℕ, IfOk, OnOk, OnErr, MatchResult, length};
+ghost use Rattle.std.specs.Prelude.{◌≡◌, ◌+◌, ◌-◌, ◌≤◌, ◌<◌, ◌^◌, IfOk, OnOk, OnErr, MatchResult, length};
 ghost use Rattle.mg_defs.specs.Codes.{short};
 ghost use Rattle.mg_defs.specs.Answers.{Below};
 ghost use Rattle.mg_bits.specs.Feed.{Calm};

@@ -1,5 +1,5 @@
 // The unary code.
-ghost use Rattle.std.specs.Prelude.{◌≡◌, ◌+◌, ◌≤◌, ◌<◌, ◌^◌, ℕ, ◌-◌, ◌*◌, Option, IfOk, IfSome, OnOk, OnErr, MatchResult, length};
+ghost use Rattle.std.specs.Prelude.{◌≡◌, ◌+◌, ◌≤◌, ◌<◌, ◌^◌, ◌-◌, ◌*◌, Option, IfOk, IfSome, OnOk, OnErr, MatchResult, length};
 ghost use Rattle.mg_defs.specs.Bits.{Begins};
 ghost use Rattle.mg_defs.specs.Codes.{unary};
 ghost use Rattle.mg_defs.specs.Answers.{UpTo};
