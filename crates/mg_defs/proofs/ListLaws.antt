@@ -1,10 +1,12 @@
 -- Laws of lists of postings.
-use Rattle.std.proofs.Common.{arith, ◌≡◌, ◌+◌, ◌*◌, ◌≤◌, ◌<◌, ◌-◌, ℕ, zero, suc, subst, Bool, true, false, List, [], ◌∷◌, ◌++◌, length, take, drop, refl, sym, ◌∙◌, ap, ◌⊎◌, inl, inr, append_assoc, nat_lt}
+use Rattle.std.proofs.Common.{arith, ◌≡◌, ◌+◌, ◌*◌, ◌≤◌, ◌<◌, ◌-◌, ℕ, zero, suc, subst, Bool, true, false, List, [], ◌∷◌, ◌++◌, length, take, drop, refl, sym, ◌∙◌, ap, ◌⊎◌, inl, inr, append_assoc, nat_lt, nat_le}
 use Rattle.std.proofs.lemmas.List.{take-append-drop, take_all}
 use Rattle.std.proofs.Math.Seq.{take-add}
 use Rattle.std.proofs.lemmas.Bool.{cases_lt, cond_both, ltb-true}
 use Rattle.std.proofs.lemmas.List.Sums.{count_by-le-length}
 use Rattle.std.proofs.lemmas.List.{length-map}
+use Rattle.std.proofs.lemmas.List.Elements.{filter-append}
+use Rattle.std.proofs.lemmas.List.FromFn.{length-map-range_with_len, map-range_with_len_more}
 use Rattle.mg_defs.specs.Parse.{Pair, parse}
 use Rattle.mg_defs.proofs.ParseLaws.{parse_short}
 use Rattle.std.specs.Prelude.{map, filter, ◌==◌, ◌^◌}
@@ -13,7 +15,7 @@ use Rattle.mg_defs.specs.Split.{documents}
 use Rattle.mg_defs.specs.Terms.{freq_in, same_term, terms}
 use Rattle.mg_defs.specs.declared.Posting.{Posting}
 use Rattle.mg_defs.specs.Bits.{Bits, Begins}
-use Rattle.mg_defs.specs.Lists.{posting_bits, bits_after, last_doc, doc_before, bits_before, block_of, block_count, InRange, Rises, from_doc, postings}
+use Rattle.mg_defs.specs.Lists.{posting_bits, bits_after, last_doc, doc_before, bits_before, block_of, block_count, InRange, Rises, entries_to, entry_of, from_doc, postings}
 use Rattle.mg_defs.proofs.FrontLaws.{begins_first, begins_second}
 use Rattle.mg_defs.proofs.TermLaws.{words_short}
 
@@ -72,33 +74,34 @@ unfolding Rises last_doc from_doc
 from_past all d doc [] b h lt = refl
 from_past all d doc (p ∷ a) b h lt =
     let low : p.doc ≤ last_doc p.doc a = last_above all p.doc a h.1 in
-    let t : nat_lt p.doc doc ≡ true = grind arith in
+    let t : nat_le doc p.doc ≡ false = grind arith in
     rw t (from_past all p.doc doc a b h.1 lt)
 
-pub from_here : (doc : ℕ) (p : Posting) (ps : List Posting) → doc ≤ p.doc → from_doc doc (p ∷ ps) ≡ p ∷ ps
+pub from_here : (doc : ℕ) (p : Posting) (ps : List Posting) → doc ≤ p.doc → from_doc doc (p ∷ ps) ≡ p ∷ from_doc doc ps
 unfolding from_doc
 from_here doc p ps le =
-    let t : nat_lt p.doc doc ≡ false = grind arith in
+    let t : nat_le doc p.doc ≡ true = grind arith in
     rw t refl
 
 pub from_next : (doc : ℕ) (p : Posting) (ps : List Posting) → p.doc < doc → from_doc doc (p ∷ ps) ≡ from_doc doc ps
 unfolding from_doc
 from_next doc p ps lt =
-    let t : nat_lt p.doc doc ≡ true = grind arith in
+    let t : nat_le doc p.doc ≡ false = grind arith in
     rw t refl
 
+-- rising documents of which the first is not before the one asked for
+pub from_above : (all d doc : ℕ) (ps : List Posting) → Rises all d ps → doc ≤ d + 1 → from_doc doc ps ≡ ps
+unfolding Rises from_doc
+from_above all d doc [] h le = refl
+from_above all d doc (p ∷ ps) h le =
+    let above : doc ≤ p.doc = omega (arith, h.0.after, le) in
+    from_here doc p ps above ∙ ap (λ l. p ∷ l) (from_above all p.doc doc ps h.1 (omega (arith, above)))
+
 -- the document asked for is at most the last one of the front: it stands there
-pub from_within : (all d doc : ℕ) (a b : List Posting) → Rises all d a → d < doc → doc ≤ last_doc d a → from_doc doc (a ++ b) ≡ from_doc doc a ++ b
-unfolding Rises last_doc
-from_within all d doc [] b h lt le = absurd (omega arith)
-from_within all d doc (p ∷ a) b h lt le =
-    elim (order p.doc doc) [
-      | inl below ↦ rw (from_next doc p (a ++ b) below, from_next doc p a below) (from_within all p.doc doc a b h.1 below le)
-      | inr above ↦ rw (from_here doc p (a ++ b) above, from_here doc p a above) refl
-    ]
-  where
-    order : (a b : ℕ) → (a < b) ⊎ (b ≤ a)
-    order a b = grind arith
+pub from_within : (all d doc : ℕ) (a b : List Posting) → Rises all d (a ++ b) → doc ≤ last_doc d a → from_doc doc (a ++ b) ≡ from_doc doc a ++ b
+unfolding from_doc
+from_within all d doc a b h le =
+    filter-append (λ (p : Posting). nat_le doc p.doc) a b ∙ ap (λ l. from_doc doc a ++ l) (from_above all (last_doc d a) doc b (rises_right all d a b h) (omega (arith, le)))
 
 pub from_some : (all d doc : ℕ) (a : List Posting) → Rises all d a → d < doc → doc ≤ last_doc d a → 0 < length (from_doc doc a)
 unfolding Rises last_doc
@@ -112,11 +115,15 @@ from_some all d doc (p ∷ a) h lt le =
     order : (a b : ℕ) → (a < b) ⊎ (b ≤ a)
     order a b = grind arith
 
--- asking for the document after the current one goes to the next posting
-pub from_after : (all : ℕ) (d : ℕ) (ps : List Posting) → Rises all d ps → from_doc (d + 1) ps ≡ ps
-unfolding Rises from_doc
-from_after all d [] h = refl
-from_after all d (p ∷ ps) h = let t : nat_lt p.doc (d + 1) ≡ false = (let lt : d < p.doc = h.0.after in grind arith) in rw t refl
+-- ---- the skip entries of the first blocks
+
+pub length_entries_to : (b n : ℕ) (ps : List Posting) → length (entries_to b n ps) ≡ n
+unfolding entries_to
+length_entries_to b n ps = length-map-range_with_len (λ k. entry_of b k ps) 0 n
+
+pub entries_next : (b n : ℕ) (ps : List Posting) → entries_to b (n + 1) ps ≡ entries_to b n ps ++ entry_of b n ps ∷ []
+unfolding entries_to
+entries_next b n ps = map-range_with_len_more (λ k. entry_of b k ps) 0 n n (omega arith)
 
 -- ---- the range that holds a document
 

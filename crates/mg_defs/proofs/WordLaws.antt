@@ -1,11 +1,8 @@
 -- Laws of the words of a command line.
-use Rattle.std.proofs.Common.{◌≡◌, ℕ, ◌<◌, Bool, true, false, not, List, [], ◌∷◌, take, drop, refl, sym, ◌∙◌, ap, inl, inr, suc, one-add, subst, arith, length}
+use Rattle.std.proofs.Common.{◌≡◌, ℕ, ◌<◌, true, false, List, [], ◌∷◌, take, drop, refl, sym, ◌∙◌, ap, inl, inr, suc, one-add, subst, arith, length}
 use Rattle.std.specs.List.{prefix_len, onto_first}
 use Rattle.std.proofs.lemmas.Bool.{cases_Bool}
-use Rattle.mg_defs.specs.Commands.{is_blank, words, begins_blank}
-
-abbrev pub is_word : ℕ → Bool
-is_word b = not (is_blank b)
+use Rattle.mg_defs.specs.Commands.{is_blank, is_word, words, begins_blank}
 
 pub words-blank : (b : ℕ) (line : List ℕ) → is_blank b ≡ true → words (b ∷ line) ≡ words line
 unfolding words

@@ -1,5 +1,5 @@
 -- What a line of a session is.
-use Rattle.std.specs.Prelude.{ℕ, ◌+◌, ◌-◌, ◌*◌, nat_le, Bool, true, false, ◌==◌, ◌&&◌, ◌||◌, if◌then◌else◌, List, [], ◌∷◌, length, codes, Some, None}
+use Rattle.std.specs.Prelude.{ℕ, ◌+◌, ◌-◌, ◌*◌, nat_le, Bool, true, false, not, ◌==◌, ◌&&◌, ◌||◌, if◌then◌else◌, List, [], ◌∷◌, length, codes, Some, None}
 use Rattle.std.specs.List.{list_all, onto_first}
 use Rattle.mg_defs.specs.Limits.{shown_documents, shown_digits}
 use Rattle.mg_defs.specs.Terms.{same_term}
@@ -13,6 +13,10 @@ first_settings = record { ranked = false; mode = Docnums; most = None }
 
 abbrev pub is_blank : ℕ → Bool
 is_blank b = b == 32 || b == 9
+
+-- a byte of a word of a line
+abbrev pub is_word : ℕ → Bool
+is_word b = not (is_blank b)
 
 -- the longest runs of bytes that are no blanks
 abbrev pub begin_word : Bool → ℕ → List (List ℕ) → List (List ℕ)

@@ -1,6 +1,6 @@
 -- Inverted lists: their bits, their blocks of 64 postings, and the skip entries that lead to a block.
-use Rattle.std.specs.Prelude.{◌≡◌, ℕ, zero, suc, ◌+◌, ◌-◌, ◌*◌, ◌/◌, ◌^◌, ◌<◌, ◌≤◌, nat_lt, List, [], ◌∷◌, ◌++◌, length, filter, map, flat_map, take, drop, if◌then◌else◌}
-use Rattle.std.specs.List.{enumerate_from}
+use Rattle.std.specs.Prelude.{◌≡◌, ℕ, ◌+◌, ◌-◌, ◌*◌, ◌/◌, ◌^◌, ◌<◌, ◌≤◌, nat_lt, nat_le, List, [], ◌∷◌, ◌++◌, length, filter, map, flat_map, take, drop}
+use Rattle.std.specs.List.{enumerate_from, range_with_len}
 use Rattle.mg_defs.specs.declared.Posting.{Posting}
 use Rattle.mg_defs.specs.Split.{documents}
 use Rattle.mg_defs.specs.Terms.{freq_in, dictionary}
@@ -69,10 +69,9 @@ pub record InRange (k : ℕ) (ps : List Posting) (doc : ℕ) : Type 0 where
 unfoldable pub block_pages : ℕ → ℕ → ℕ → List Posting → ℕ
 block_pages b at k ps = pages (at + bits_before b (64 * k) ps) (at + bits_before b (64 * (k + 1)) ps)
 
--- the postings from the first whose document is at least this one
+-- the postings whose document is at least this one
 unfoldable pub from_doc : ℕ → List Posting → List Posting
-from_doc doc [] = []
-from_doc doc (p ∷ ps) = if nat_lt p.doc doc then from_doc doc ps else p ∷ ps
+from_doc doc ps = filter (λ (p : Posting). nat_le doc p.doc) ps
 
 -- ---- skip entries
 
@@ -86,8 +85,7 @@ entry_of b k ps = record { last = doc_before (64 * (k + 1)) ps; bits = bits_befo
 
 -- of the first n blocks
 unfoldable pub entries_to : ℕ → ℕ → List Posting → List SkipEntry
-entries_to b zero ps = []
-entries_to b (suc n) ps = entries_to b n ps ++ entry_of b n ps ∷ []
+entries_to b n ps = map (λ k. entry_of b k ps) (range_with_len 0 n)
 
 -- of a whole list among so many documents
 abbrev pub entries_of_list : ℕ → List Posting → List SkipEntry
