@@ -1,5 +1,5 @@
 // Laws of writers, walks and readers while other files change.
-ghost use Rattle.std.specs.Prelude.{◌≡◌, ℕ, List, Option};
+ghost use Rattle.std.specs.Prelude.{List, Option};
 ghost use Rattle.mg_dev.specs.Files.{Files};
 ghost use Rattle.mg_defs.specs.Front.{Entry};
 ghost use Rattle.mg_front.specs.Fronting.{Fronting, Took, WhereSameFronts};

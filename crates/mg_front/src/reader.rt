@@ -1,10 +1,10 @@
 // Entries of a part by their number.
-ghost use Rattle.std.specs.Prelude.{◌⊎◌, Err, ◌≡◌, ◌≢◌, ◌-◌, if◌then◌else◌, ◌≤◌, ◌<◌, ◌+◌, ◌*◌, ◌%◌, ◌/◌, ◌^◌, List, IfErr, IfOk, IfSome, IsSome, None, Some, ℕ, true, false};
+ghost use Rattle.std.specs.Prelude.{Err, ◌≡◌, ◌≢◌, ◌-◌, if◌then◌else◌, ◌≤◌, ◌<◌, ◌+◌, ◌*◌, ◌%◌, ◌/◌, ◌^◌, List, IfErr, IfOk, IfSome, IsSome, None, Some, true, false};
 ghost use Rattle.mg_dev.specs.Files.{bytes_at};
 ghost use Rattle.mg_dev.specs.Causes.{HasCause};
 ghost use Rattle.mg_bits.specs.Pages.{Fits, SameFile, Looked};
 ghost use Rattle.mg_defs.specs.Numbers.{four};
-ghost use Rattle.mg_defs.specs.Front.{Entry, front};
+ghost use Rattle.mg_defs.specs.Front.{Entry};
 ghost use Rattle.mg_front.specs.Entries.{string_of};
 ghost use Rattle.mg_front.specs.Reading.{AnswersPlace, Fronted, FrontFits, FrontStands, AnswersAt, AnswersBlock, AnswersFind, AnswersIn, IsNotBad, IsInBlock, IsLost, IsLostAmong, IsReader, LookedAt, SameParts, GivesEntry, ScansBlock, AnswersPlacesOf, AtBlock, WherePlacesStand, ReaderLooks};
 ghost use Rattle.mg_dev.specs.Files.{SameReads};
