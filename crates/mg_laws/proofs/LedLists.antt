@@ -27,7 +27,7 @@ unfolding from_doc
 from_least t n m [] le = refl
 from_least t n m (doc ∷ ds) le =
     elim (cases_Bool (has_term doc t)) [
-      | inl hit ↦ rw (list_hit t m doc ds hit) (from_here n (posting_in t (m, doc)) (list_from t (m + 1) ds) le)
+      | inl hit ↦ rw (list_hit t m doc ds hit) (from_here n (posting_in t (m, doc)) (list_from t (m + 1) ds) le ∙ ap (λ ps. posting_in t (m, doc) ∷ ps) (from_least t n (m + 1) ds (omega (arith, le))))
       | inr miss ↦ rw (list_miss t m doc ds miss) (from_least t n (m + 1) ds (omega (arith, le)))
     ]
 

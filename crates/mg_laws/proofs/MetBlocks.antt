@@ -21,7 +21,14 @@ use Rattle.mg_laws.proofs.LedLists.{first_of}
 pub from_zero : (ps : List Posting) → from_doc 0 ps ≡ ps
 unfolding from_doc
 from_zero [] = refl
-from_zero (p ∷ ps) = from_here 0 p ps (omega arith)
+from_zero (p ∷ ps) = from_here 0 p ps (omega arith) ∙ ap (λ l. p ∷ l) (from_zero ps)
+
+from_same : (d : ℕ) (p : Posting) (ps qs : List Posting) → from_doc d ps ≡ from_doc d qs → from_doc d (p ∷ ps) ≡ from_doc d (p ∷ qs)
+from_same d p ps qs same =
+    elim (cases_lt p.doc d) [
+      | inl below ↦ from_next d p ps below ∙ same ∙ sym (from_next d p qs below)
+      | inr above ↦ from_here d p ps above ∙ ap (λ l. p ∷ l) same ∙ sym (from_here d p qs above)
+    ]
 
 pub from_from : (c d : ℕ) (ps : List Posting) → c ≤ d → from_doc d (from_doc c ps) ≡ from_doc d ps
 unfolding from_doc
@@ -29,7 +36,7 @@ from_from c d [] le = refl
 from_from c d (p ∷ ps) le =
     elim (cases_lt p.doc c) [
       | inl below ↦ ap (from_doc d) (from_next c p ps below) ∙ from_from c d ps le ∙ sym (from_next d p ps (omega (arith, below, le)))
-      | inr above ↦ ap (from_doc d) (from_here c p ps above)
+      | inr above ↦ ap (from_doc d) (from_here c p ps above) ∙ from_same d p (from_doc c ps) ps (from_from c d ps le)
     ]
 
 pub few_postings : (all before : ℕ) (ps : List Posting) → before ≤ all → Rises all before ps → length ps + before ≤ all

@@ -20,7 +20,7 @@ use Rattle.mg_defs.specs.Heads.{run_count}
 use Rattle.mg_defs.specs.Limits.{limits}
 use Rattle.mg_defs.specs.PostingLists.{by_terms, term_list}
 use Rattle.mg_defs.specs.WithinLimits.{IsWithinLimits}
-use Rattle.mg_defs.specs.Lists.{bits_after, bits_of_list, block_count, entries_of_list, entries_to, entry_of, inverted, lists_bits, lists_entries, post_bits, posting_bits, postings}
+use Rattle.mg_defs.specs.Lists.{bits_after, bits_of_list, block_count, entries_of_list, inverted, lists_bits, lists_entries, post_bits, posting_bits, postings}
 use Rattle.mg_defs.specs.Marks.{pair_counts}
 use Rattle.mg_defs.specs.Occurrences.{occurrences}
 use Rattle.mg_defs.specs.Parse.{Pair, parse}
@@ -33,7 +33,7 @@ use Rattle.mg_defs.proofs.BitLaws.{length_digits}
 use Rattle.mg_defs.proofs.CodeLaws.{length_golomb, length_short, length_unary_after}
 use Rattle.mg_defs.proofs.CodedTextLaws.{length-as_bytes}
 use Rattle.mg_laws.proofs.InOrderLaws.{posting_in, is_there, list_from, met_from, postings_are_lists}
-use Rattle.mg_defs.proofs.ListLaws.{terms_short}
+use Rattle.mg_defs.proofs.ListLaws.{length_entries_to, terms_short}
 use Rattle.mg_defs.proofs.ParseLaws.{parse_short}
 use Rattle.mg_defs.proofs.SortedLaws.{distinct_short}
 use Rattle.mg_defs.proofs.SplitLaws.{docs_within}
@@ -126,18 +126,13 @@ few_postings collection =
 
 -- ---- skip entries
 
-entries_count : (b n : ℕ) (ps : List Posting) → length (entries_to b n ps) ≡ n
-unfolding entries_to
-entries_count b zero ps = refl
-entries_count b (suc n) ps = omega (arith, length-append (entries_to b n ps) (entry_of b n ps ∷ []), entries_count b n ps)
-
 entries_short : (all : ℕ) (lists : List (List Posting)) → length (flat_map (entries_of_list all) lists) ≤ sum_by (λ (ps : List Posting). length ps) lists
 entries_short all [] = omega arith
 entries_short all (ps ∷ lists) =
     omega (
       arith,
       length-append (entries_of_list all ps) (flat_map (entries_of_list all) lists),
-      entries_count (golomb_parameter all (length ps)) (block_count (length ps)) ps,
+      length_entries_to (golomb_parameter all (length ps)) (block_count (length ps)) ps,
       entries_short all lists,
       sum_by-cons (λ (qs : List Posting). length qs) ps lists,
     )

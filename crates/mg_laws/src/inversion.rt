@@ -3,12 +3,11 @@ ghost use Rattle.std.specs.Prelude.{◌≡◌, ◌<◌, ◌≤◌, ◌+◌, ◌^
 ghost use Rattle.mg_defs.specs.declared.Posting.{Posting};
 ghost use Rattle.mg_defs.specs.Fixed.{isqrt};
 ghost use Rattle.mg_defs.specs.PostingLists.{by_terms};
-ghost use Rattle.mg_defs.specs.Lists.{inverted, postings};
+ghost use Rattle.mg_defs.specs.Lists.{inverted};
 ghost use Rattle.mg_defs.specs.Occurrences.{occurrences};
 ghost use Rattle.mg_defs.specs.Postings as runs;
 ghost use Rattle.mg_defs.specs.Split.{documents};
 ghost use Rattle.mg_defs.specs.Squares.{squares, squares_to};
-ghost use Rattle.mg_defs.specs.Terms.{docs};
 ghost use Rattle.mg_defs.specs.Weights.{weight};
 
 /// The postings of all occurrences are the lists of the terms in a row, each with its term's number.

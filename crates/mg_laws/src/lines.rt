@@ -5,7 +5,6 @@ ghost use Rattle.mg_defs.specs.Lines.{lines};
 ghost use Rattle.mg_defs.specs.Session.{heard_session, heard_questions, Question};
 ghost use Rattle.mg_defs.specs.declared.session.Hearing.TheVariants.{Questions};
 ghost use Rattle.mg_defs.specs.InputLimit.{is_quit};
-ghost use Rattle.mg_defs.specs.declared.session.Settings.{Settings};
 ghost use Rattle.mg_laws.specs.Words.{question_text};
 
 /// In a session without commands a line prints what it prints where commands are heard as questions,
