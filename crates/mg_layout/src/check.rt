@@ -1,5 +1,5 @@
 // What is found in a part against the range in which it is to be.
-ghost use Rattle.std.specs.Prelude.{◌≡◌, ℕ, None, Some, MatchResult, find, map, true, false};
+ghost use Rattle.std.specs.Prelude.{◌≡◌, None, Some, MatchResult, find, map, true};
 ghost use Rattle.mg_defs.specs.Heads.{is_wrong, exactly, within};
 ghost use Rattle.mg_layout.specs.HeadAnswers.{TellsOf, check_of};
 

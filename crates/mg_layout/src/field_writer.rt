@@ -1,5 +1,5 @@
 // Numbers behind each other, the highest byte first.
-ghost use Rattle.std.specs.Prelude.{◌≡◌, ◌+◌, ◌≤◌, ◌++◌, [], length, take, drop};
+ghost use Rattle.std.specs.Prelude.{◌≡◌, ◌+◌, ◌≤◌, ◌++◌, [], length, take};
 ghost use Rattle.mg_defs.specs.Numbers.{four, eight};
 
 use mg_fields::{eight_bytes, four_bytes};

@@ -1,5 +1,5 @@
 // The head of a set.
-ghost use Rattle.std.specs.Prelude.{◌≡◌, ◌≢◌, ◌⊎◌, ◌+◌, ◌≤◌, IsSome, length};
+ghost use Rattle.std.specs.Prelude.{◌≡◌, ◌⊎◌, ◌+◌, ◌≤◌, IsSome, length};
 ghost use Rattle.mg_dev.specs.Causes.{HasPutCause};
 ghost use Rattle.mg_dev.specs.Files.{AfterAppend, OneRead, SameReads, part_bytes};
 ghost use Rattle.mg_dev.specs.Names.{full_name};

@@ -1,5 +1,5 @@
 // The head that bytes write, or what is wrong first in them.
-ghost use Rattle.std.specs.Prelude.{◌≡◌, ◌+◌, ◌≤◌, ◌<◌, ◌++◌, ◌^◌, ℕ, List, IfOk, length, map, min, slice_index, take};
+ghost use Rattle.std.specs.Prelude.{◌≡◌, ◌+◌, ◌≤◌, ◌<◌, ℕ, List, IfOk, length, map, min, slice_index, take};
 ghost use Rattle.mg_defs.specs.Heads as defs;
 ghost use Rattle.mg_defs.specs.Numbers.{four_at};
 ghost use Rattle.mg_layout.specs.HeadAnswers.{AnswersChecks, AnswersParse, check_of, checks_of_narrow, checks_of_wide, fields_of};
