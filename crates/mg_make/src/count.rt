@@ -1,7 +1,7 @@
 //! The first pass over the bytes of a collection.
-ghost use Rattle.std.specs.Prelude.{◌≡◌, ◌<◌, ◌≤◌, ◌-◌, ◌^◌, ◌++◌, ◌∷◌, ℕ, List, [], length, IfErr, IfOk, OnOk};
+ghost use Rattle.std.specs.Prelude.{◌<◌, ◌≤◌, ◌-◌, ◌^◌, ◌++◌, ◌∷◌, ℕ, List, [], length, IfErr, IfOk, OnOk};
 ghost use Rattle.mg_defs.specs.Marks.{Mark, marks};
-ghost use Rattle.mg_make.specs.Counting.{AreFew, CountStops, EndStops, HasCounted, IsCountOf};
+ghost use Rattle.mg_make.specs.Counting.{AreFew, CountStops, EndStops, HasCounted};
 ghost use Rattle.mg_make.specs.Plans.{IsPlan, IsPlanOf, IsRoomFor};
 ghost use Rattle.mg_make.specs.Scanning.{HasMet, Scanning};
 

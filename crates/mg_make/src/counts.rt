@@ -1,5 +1,5 @@
 //! What is met in a collection, counted.
-ghost use Rattle.std.specs.Prelude.{◌≡◌, ◌<◌, ◌≤◌, ◌+◌, ◌-◌, ◌^◌, ◌++◌, ◌∷◌, ℕ, List, [], false, length, IfErr, OnOk};
+ghost use Rattle.std.specs.Prelude.{◌≡◌, ◌<◌, ◌≤◌, ◌+◌, ◌-◌, ◌^◌, ◌++◌, List, [], length, IfErr, OnOk};
 ghost use Rattle.mg_dev.specs.declared.fault.Fault.TheVariants.{Memory};
 ghost use Rattle.mg_defs.specs.Marks.{Mark, piece, start, stop};
 ghost use Rattle.mg_defs.specs.Vocabulary.{counted, has_piece, total};

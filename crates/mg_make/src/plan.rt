@@ -2,7 +2,7 @@
 //!
 //! Both are made before anything is written. So a build that lacks memory for them has left all files
 //! as they were.
-ghost use Rattle.std.specs.Prelude.{◌≡◌, ◌≤◌, ◌<◌, ◌^◌, ℕ, Bool, List, length, replicate, IfOk};
+ghost use Rattle.std.specs.Prelude.{◌≡◌, ◌≤◌, ◌<◌, ◌^◌, ℕ, List, length, replicate, IfOk};
 ghost use Rattle.mg_make.specs.Counting.{IsCountOf};
 ghost use Rattle.mg_make.specs.Plans.{IsPlan, IsPlanOf, IsRoomFor};
 
