@@ -2,7 +2,7 @@
 //!
 //! The store is lent to a reader of texts as long as it decodes a document, so no pass can take the bytes as they come: they
 //! are kept here, in memory that is used again for the next document.
-ghost use Rattle.std.specs.Prelude.{◌≡◌, ◌++◌, ◌∷◌, ℕ, List, [], Some, OnOk};
+ghost use Rattle.std.specs.Prelude.{◌≡◌, ◌++◌, ◌∷◌, [], Some, OnOk};
 ghost use Rattle.mg_dev.specs.Causes.{HasLack, HasPutCause};
 ghost use Rattle.mg_dev.specs.Streams.{AfterPut};
 

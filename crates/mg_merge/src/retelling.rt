@@ -1,5 +1,5 @@
 //! What is told where the texts are not what their heads and their first reading tell.
-ghost use Rattle.std.specs.Prelude.{◌≡◌, ◌≢◌, ◌<◌, ◌≤◌};
+ghost use Rattle.std.specs.Prelude.{◌<◌};
 ghost use Rattle.mg_merge.specs.Stops.{Differ, IsRetold};
 
 use mg_dev::{Bad, Fault, Part};
