@@ -1,9 +1,9 @@
 // The documents of a ranked answer, found and scored in two passes over the collection.
-ghost use Rattle.std.specs.Prelude.{◌≡◌, ℕ, List, ◌+◌, ◌^◌, ◌<◌, ◌≤◌, true, false, [], length, get_or, nat_lt, cond, All, IfOk, MatchOption};
+ghost use Rattle.std.specs.Prelude.{◌≡◌, ℕ, ◌+◌, ◌^◌, ◌<◌, ◌≤◌, length, get_or, nat_lt, cond, All, IfOk};
 ghost use Rattle.std.specs.List.{list_any};
 ghost use Rattle.mg_defs.specs.Split.{documents};
 ghost use Rattle.mg_defs.specs.Terms.{docs};
-ghost use Rattle.mg_defs.specs.Weights.{hits_over, has_term, weight_of_term, wt};
+ghost use Rattle.mg_defs.specs.Weights.{hits_over, weight_of_term, wt};
 ghost use Rattle.mg_plain.specs.Counts.{AreCounts};
 ghost use Rattle.mg_plain.specs.RankedRows.{hits_of, IsPlaced};
 ghost use Rattle.mg_plain.specs.Scores.{IsScoreFor};
@@ -172,43 +172,4 @@ pub(crate) fn rows_of(alloc: Global, bytes: &[u8], terms: &Terms) -> Result<Vec<
     let mut weights = vec![in alloc; 0u32; terms.len()]?;
     weigh_terms(bytes, terms.as_slice(), &mut counts, &mut weights);
     rows_by(alloc, bytes, terms.as_slice(), &mut counts, &weights)
-}
-
-#[cfg(test)]
-mod tests {
-    use super::rows_of;
-    use mg_query::parse_ranked;
-    use std::test::Fail;
-
-    #[test]
-    fn documents_with_a_term_are_scored_where_they_begin(rt: HostRuntime) -> Result<(), Fail> {
-        let bytes = b"the cat sat\n\x02the dog\n\x02Cat, cat & dog!\n\x02";
-        let lines: [(&[u8], &[(u32, u32, u64)]); 4] = [
-            (b"cat", &[(1, 0, 50002), (3, 22, 77451)]),
-            (
-                b"the cat",
-                &[(1, 0, 100005), (2, 13, 61191), (3, 22, 77451)],
-            ),
-            (b"dog zebra", &[(2, 13, 61191), (3, 22, 38725)]),
-            (b"zebra", &[]),
-        ];
-        for (line, wanted) in lines {
-            if line.len() <= 1024 {
-                let terms = match parse_ranked(rt.alloc(), line) {
-                    Ok(terms) => terms,
-                    Err(_) => return Err(Fail::from("no line")),
-                };
-                if terms.len() <= 64 {
-                    let rows = rows_of(rt.alloc(), bytes, &terms)?;
-                    assert_eq!(rt; rows.len(), wanted.len());
-                    for (row, wanted) in rows.iter().zip(wanted) {
-                        assert!(rt; row.number == wanted.0);
-                        assert!(rt; row.place == wanted.1);
-                        assert!(rt; row.score == wanted.2);
-                    }
-                }
-            }
-        }
-        Ok(())
-    }
 }

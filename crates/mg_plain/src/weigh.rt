@@ -107,31 +107,3 @@ pub(crate) fn document_weight<'a>(
     sort_words(words);
     Ok(isqrt(sum_of_squares(words)))
 }
-
-#[cfg(test)]
-mod tests {
-    use super::document_weight;
-    use std::test::Fail;
-
-    #[test]
-    fn documents_have_their_weights(rt: HostRuntime) -> Result<(), Fail> {
-        let rows: [(&[u8], u32); 9] = [
-            (b"", 0),
-            (b", ;", 0),
-            (b"cat", 256),
-            (b"the cat sat\n", 443),
-            (b"the dog\n", 362),
-            (b"Cat, cat & dog!\n", 572),
-            (b"cat CAT cAt", 661),
-            (b"a A b B a", 836),
-            (b"ab abc ABC a AB", 768),
-        ];
-        let mut words = Vec::new(rt.alloc());
-        for (doc, weight) in rows {
-            if doc.len() < 100 {
-                assert_eq!(rt; document_weight(doc, &mut words)?, weight);
-            }
-        }
-        Ok(())
-    }
-}
