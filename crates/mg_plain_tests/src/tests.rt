@@ -3,10 +3,10 @@ ghost use Rattle.std.specs.Prelude.{None};
 
 use mg_defs::{Mode, Settings};
 use mg_dev::{
-    Failed, Fault, FileRef, MemSink, MemStore, Part, PutErr, ShowErr, Sink, Store, SureSink,
-    SureStore, What,
+    Failed, Fault, FileRef, MemSink, MemSource, MemStore, Part, PutErr, ShowErr, Sink, Store,
+    SureSink, SureStore, What,
 };
-use mg_plain::PlainText;
+use mg_plain::{PlainText, scan};
 use std::test::Fail;
 
 const K: &[u8; 39] = b"the cat sat\n\x02the dog\n\x02Cat, cat & dog!\n\x02";
@@ -20,6 +20,7 @@ fn lines_are_answered_in_both_languages(rt: HostRuntime) -> Result<(), Fail> {
     store.put_file("k", K)?;
     store.put_file("empty", b"")?;
     store.put_file("closed", b"\x02\x02")?;
+    store.put_file("ties", b"a b\x02c\x02B a\x02a b b\x02")?;
     let start = Settings::start();
     let text = Settings {
         mode: Mode::Text,
@@ -50,7 +51,7 @@ fn lines_are_answered_in_both_languages(rt: HostRuntime) -> Result<(), Fail> {
         most: Some(2),
         ..ranked
     };
-    let rows: [(&str, Settings, &[u8], &[u8]); 26] = [
+    let rows: [(&str, Settings, &[u8], &[u8]); 28] = [
         ("k", start, b"cat", b"1\n3\n= 2\n"),
         ("k", start, b"cat & !the", b"3\n= 1\n"),
         ("k", start, b"cat dog | sat", b"1\n3\n= 2\n"),
@@ -85,6 +86,13 @@ fn lines_are_answered_in_both_languages(rt: HostRuntime) -> Result<(), Fail> {
         ),
         ("k", ranked_count, b"the cat", b"= 3\n"),
         ("k", ranked_two, b"the cat", b"1 100005\n3 77451\n= 3\n"),
+        ("ties", ranked, b"a", b"1 56484\n3 56484\n4 35746\n= 3\n"),
+        (
+            "ties",
+            ranked,
+            b"b c",
+            b"2 152064\n4 71493\n1 56484\n3 56484\n= 4\n",
+        ),
         ("empty", ranked, b"cat", b"= 0\n"),
         ("closed", ranked, b"x", b"= 0\n"),
     ];
@@ -242,5 +250,43 @@ fn a_collection_too_large_or_cut_short_is_refused(rt: HostRuntime) -> Result<(),
     );
     let Claims { held, .. } = store;
     assert_eq!(rt; held.reads_of(Part::Plain), 1);
+    Ok(())
+}
+
+#[test]
+fn sessions_are_printed_and_stop_for_their_cause(rt: HostRuntime) -> Result<(), Fail> {
+    let alloc = rt.alloc();
+    let mut store = MemStore::new(alloc);
+    store.put_file("k", K)?;
+    store.fail_at(8, 0)?;
+    let mut out = MemSink::new(alloc);
+    out.fail_at(2, 1)?;
+
+    let mut input = MemSource::new(alloc, b"cat & !the\n.set mode count\ncat\n.quit\ndog\n", 7)?;
+    assert_eq!(rt; scan(alloc, &mut store, "k", &mut input, &mut out), Ok(()));
+    assert!(rt; out.bytes() == b"3\n= 1\n= 2\n".as_slice());
+    assert_eq!(rt; store.reads_of(Part::Plain), 1);
+
+    // The output fails after one byte, and keeps that.
+    let mut input = MemSource::new(alloc, b"dog\n", 7)?;
+    let stopped = scan(alloc, &mut store, "k", &mut input, &mut out);
+    assert_eq!(rt; stopped, Err(Fault::WriteFault));
+    assert!(rt; out.bytes() == b"3\n= 1\n= 2\n2".as_slice());
+
+    let mut out = MemSink::new(alloc);
+    let mut input = MemSource::new(alloc, b"cat\ncat\n", 4)?;
+    input.fail_at(1)?;
+    let stopped = scan(alloc, &mut store, "k", &mut input, &mut out);
+    assert_eq!(rt; stopped, Err(Fault::ReadFault));
+    assert!(rt; out.bytes() == b"1\n3\n= 2\n".as_slice());
+
+    let mut out = MemSink::new(alloc);
+    let mut input = MemSource::new(alloc, b"cat\n", 4)?;
+    let stopped = scan(alloc, &mut store, "n", &mut input, &mut out);
+    assert_eq!(rt; stopped, Err(Fault::NoCollection));
+    // The store's ninth call reads the collection.
+    let stopped = scan(alloc, &mut store, "k", &mut input, &mut out);
+    assert_eq!(rt; stopped, Err(Fault::StoreFault));
+    assert!(rt; out.bytes().is_empty());
     Ok(())
 }
