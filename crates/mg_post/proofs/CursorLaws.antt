@@ -8,14 +8,15 @@ use Rattle.mg_bits.specs.Pages.{Paging, SameFile, feeding_of}
 use Rattle.mg_bits.proofs.CallerLemmas.{same_name}
 use Rattle.mg_defs.specs.declared.Posting.{Posting}
 use Rattle.mg_defs.specs.Lists.{last_doc, Rises, doc_before, block_of, from_doc}
-use Rattle.mg_defs.proofs.ListLaws.{last_append, rises_left, rises_right, from_past, from_after, from_within, from_here, from_next, from_some, last_above}
+use Rattle.mg_defs.proofs.ListLaws.{last_append, rises_left, rises_right, from_above, from_past, from_within, from_here, from_next, from_some, last_above}
 use Rattle.mg_dev.specs.declared.part_err.PartErr.{PartErr}
 use Rattle.mg_post.specs.declared.refusal.Refusal.{Refusal}
 use Rattle.mg_post.specs.declared.refusal.Refusal.TheVariants.{Device, Damaged}
 use Rattle.mg_post.specs.Answers.{IsRefused, OrDevice, AnswersList}
 use Rattle.mg_post.specs.Finding.{IsFoundAt}
-use Rattle.mg_post.specs.Cursor.{Cursoring, Walks, Entered, StandsOn, after, next_doc, head_of, ReadsTwo, entered_pages, post_pages, skip_pages}
+use Rattle.mg_post.specs.Cursor.{Cursoring, Walks, Entered, StandsOn, after, next_doc, forward_to, head_of, ReadsTwo, entered_pages, post_pages, skip_pages}
 use Rattle.mg_post.proofs.FindLaws.{rises_front}
+use Rattle.mg_post.proofs.ForwardLaws.{forward_from, forward_here, forward_next, forward_nothing, from_nothing}
 use Rattle.mg_post.proofs.EnterLaws.{blocks_next, doc_next, block_rises}
 
 -- the postings that are passed when one goes on to a document
@@ -26,27 +27,16 @@ pub record Suffix (whole left : List Posting) : Type 0 where
 order : (a b : ℕ) → (a < b) ⊎ (b ≤ a)
 order a b = grind arith
 
-pub from_nothing : (doc : ℕ) → from_doc doc [] ≡ []
-unfolding from_doc
-from_nothing doc = refl
-
-from_suffix : (doc : ℕ) (ps : List Posting) → Suffix ps (from_doc doc ps)
-from_suffix doc [] = record { passed = []; is = from_nothing doc }
-from_suffix doc (p ∷ ps) =
+forward_suffix : (doc : ℕ) (ps : List Posting) → Suffix ps (forward_to doc ps)
+forward_suffix doc [] = record { passed = []; is = forward_nothing doc }
+forward_suffix doc (p ∷ ps) =
     elim (order p.doc doc) [
-      | inl below ↦ (let s = from_suffix doc ps in record { passed = p ∷ s.passed; is = rw (from_next doc p ps below) (ap (λ l. p ∷ l) s.is) })
-      | inr above ↦ record { passed = []; is = from_here doc p ps above }
+      | inl below ↦ (let s = forward_suffix doc ps in record { passed = p ∷ s.passed; is = rw (forward_next doc p ps below) (ap (λ l. p ∷ l) s.is) })
+      | inr above ↦ record { passed = []; is = forward_here doc p ps above }
     ]
 
--- the document asked for is at most the last one, and there are some: it stands there
-from_inside : (all d doc : ℕ) (a b : List Posting) → Rises all d a → 0 < length a → doc ≤ last_doc d a → from_doc doc (a ++ b) ≡ from_doc doc a ++ b
-unfolding Rises last_doc
-from_inside all d doc [] b h some le = absurd (omega arith)
-from_inside all d doc (p ∷ a) b h some le =
-    elim (order p.doc doc) [
-      | inl below ↦ rw (from_next doc p (a ++ b) below, from_next doc p a below) (from_within all p.doc doc a b h.1 below le)
-      | inr above ↦ rw (from_here doc p (a ++ b) above, from_here doc p a above) refl
-    ]
+from_suffix : (all d doc : ℕ) (ps : List Posting) → Rises all d ps → Suffix ps (from_doc doc ps)
+from_suffix all d doc ps h = subst (Suffix ps) (forward_from all d doc ps h) (forward_suffix doc ps)
 
 inside_some : (all d doc : ℕ) (a : List Posting) → Rises all d a → 0 < length a → doc ≤ last_doc d a → 0 < length (from_doc doc a)
 unfolding Rises last_doc
@@ -73,9 +63,17 @@ front_last : (ps passed held : List Posting) (reached last : ℕ) → last ≡ d
 unfolding doc_before
 front_last ps passed held reached last is front = is ∙ ap (last_doc 0) (sym front) ∙ last_append 0 passed held
 
+-- the postings passed and those left are all
+walk_whole : (ps : List Posting) (reached last : ℕ) (held left : List Posting) → (w : Walks ps reached last held left) → w.passed ++ left ≡ ps
+walk_whole ps reached last held left w =
+    ap (λ l. w.passed ++ l) (sym w.left_is) ∙ sym (append_assoc w.passed held (drop (64 * reached) ps)) ∙ ap (λ l. l ++ drop (64 * reached) ps) w.front ∙ take-append-drop (64 * reached) ps
+
+left_rises : (all : ℕ) (ps : List Posting) (reached last : ℕ) (held left : List Posting) → Rises all 0 ps → (w : Walks ps reached last held left) → Rises all (last_doc 0 w.passed) left
+left_rises all ps reached last held left rises w = rises_right all 0 w.passed left (rw (walk_whole ps reached last held left w) rises)
+
 -- what was asked for lies in the block that is at hand
 walks_in : (all doc : ℕ) (ps : List Posting) (reached last : ℕ) (held left : List Posting) → Rises all 0 ps → 1 ≤ doc → doc ≤ last → Walks ps reached last held left →
-    Walks ps reached last (from_doc doc held) (from_doc doc left) × (head_of (from_doc doc held) ≡ head_of (from_doc doc left))
+    Walks ps reached last (forward_to doc held) (from_doc doc left) × (head_of (forward_to doc held) ≡ head_of (from_doc doc left))
 walks_in all doc ps reached last held left rises some le w =
     elim (no_length held) [
       | inl none ↦ absurd (
@@ -87,10 +85,12 @@ walks_in all doc ps reached last held left rises some le w =
           let mine : Rises all (last_doc 0 w.passed) held = rises_right all 0 w.passed held whole in
           let end : last ≡ last_doc (last_doc 0 w.passed) held = front_last ps w.passed held reached last w.last_is w.front in
           let within : doc ≤ last_doc (last_doc 0 w.passed) held = omega arith in
-          let go : from_doc doc (held ++ drop (64 * reached) ps) ≡ from_doc doc held ++ drop (64 * reached) ps = from_inside all (last_doc 0 w.passed) doc held (drop (64 * reached) ps) mine there within in
+          let go : from_doc doc (held ++ drop (64 * reached) ps) ≡ from_doc doc held ++ drop (64 * reached) ps = from_within all (last_doc 0 w.passed) doc held (drop (64 * reached) ps) (rw (sym w.left_is) at (left_rises all ps reached last held left rises w)) within in
           let go : from_doc doc left ≡ from_doc doc held ++ drop (64 * reached) ps = ap (from_doc doc) (sym w.left_is) ∙ go in
           let more : 0 < length (from_doc doc held) = inside_some all (last_doc 0 w.passed) doc held mine there within in
-          let s : Suffix held (from_doc doc held) = from_suffix doc held in (
+          let same : from_doc doc held ≡ forward_to doc held = sym (forward_from all (last_doc 0 w.passed) doc held mine) in
+          let s : Suffix held (from_doc doc held) = from_suffix all (last_doc 0 w.passed) doc held mine in
+          subst (λ now. Walks ps reached last now (from_doc doc left) × (head_of now ≡ head_of (from_doc doc left))) same (
             record {
               last_is = w.last_is;
               passed = w.passed ++ s.passed;
@@ -101,11 +101,6 @@ walks_in all doc ps reached last held left rises some le w =
             sym (ap head_of go ∙ head_front (from_doc doc held) (drop (64 * reached) ps) more),
           ))
     ]
-
--- the postings passed and those left are all
-walk_whole : (ps : List Posting) (reached last : ℕ) (held left : List Posting) → (w : Walks ps reached last held left) → w.passed ++ left ≡ ps
-walk_whole ps reached last held left w =
-    ap (λ l. w.passed ++ l) (sym w.left_is) ∙ sym (append_assoc w.passed held (drop (64 * reached) ps)) ∙ ap (λ l. l ++ drop (64 * reached) ps) w.front ∙ take-append-drop (64 * reached) ps
 
 -- beyond the block at hand, what is left and the whole list go on alike
 from_whole : (all doc : ℕ) (ps : List Posting) (reached last : ℕ) (held left : List Posting) → Rises all 0 ps → last < doc → Walks ps reached last held left →
@@ -133,23 +128,26 @@ walks_on : (all doc b : ℕ) (ps : List Posting) (reached last blocks block befo
 unfolding doc_before
 walks_on all doc b ps reached last blocks block before to at post_at count held left now p rises lt w found inside =
     let mine : Rises all (last_doc 0 (take (64 * block) ps)) (block_of block ps) = block_rises all block ps rises in
+    let held_is : now ≡ from_doc doc (block_of block ps) = inside.held_is ∙ forward_from all (last_doc 0 (take (64 * block) ps)) doc (block_of block ps) mine in
     let within : doc ≤ last_doc (last_doc 0 (take (64 * block) ps)) (block_of block ps) = rw (doc_next block ps) at found.range.within in
     let some : 0 < length (from_doc doc (block_of block ps)) = from_some all (last_doc 0 (take (64 * block) ps)) doc (block_of block ps) mine found.range.after within in
     let split : ps ≡ take (64 * block) ps ++ (block_of block ps ++ drop (64 * (block + 1)) ps) =
     sym (take-append-drop (64 * (block + 1)) ps) ∙ ap (λ l. l ++ drop (64 * (block + 1)) ps) (blocks_next block ps) ∙ append_assoc (take (64 * block) ps) (block_of block ps) (drop (64 * (block + 1)) ps) in
+    let whole : Rises all (last_doc 0 (take (64 * block) ps)) (block_of block ps ++ drop (64 * (block + 1)) ps) =
+    rises_right all 0 (take (64 * block) ps) (block_of block ps ++ drop (64 * (block + 1)) ps) (subst (Rises all 0) split rises) in
     let go : from_doc doc left ≡ from_doc doc (block_of block ps) ++ drop (64 * (block + 1)) ps =
     from_whole all doc ps reached last held left rises lt w ∙ ap (from_doc doc) split
     ∙ from_past all 0 doc (take (64 * block) ps) (block_of block ps ++ drop (64 * (block + 1)) ps) (rises_front all (64 * block) ps rises) found.range.after
-    ∙ from_within all (last_doc 0 (take (64 * block) ps)) doc (block_of block ps) (drop (64 * (block + 1)) ps) mine found.range.after within in
-    let s : Suffix (block_of block ps) (from_doc doc (block_of block ps)) = from_suffix doc (block_of block ps) in (
+    ∙ from_within all (last_doc 0 (take (64 * block) ps)) doc (block_of block ps) (drop (64 * (block + 1)) ps) whole within in
+    let s : Suffix (block_of block ps) (from_doc doc (block_of block ps)) = from_suffix all (last_doc 0 (take (64 * block) ps)) doc (block_of block ps) mine in (
       record {
         last_is = found.to;
         passed = take (64 * block) ps ++ s.passed;
-        front = rw inside.held_is (append_assoc (take (64 * block) ps) s.passed (from_doc doc (block_of block ps)) ∙ ap (λ l. take (64 * block) ps ++ l) s.is ∙ sym (blocks_next block ps));
-        left_is = rw inside.held_is (sym go);
-        some = λ none. absurd (let e : length now ≡ length (from_doc doc (block_of block ps)) = ap length inside.held_is in omega arith);
+        front = rw held_is (append_assoc (take (64 * block) ps) s.passed (from_doc doc (block_of block ps)) ∙ ap (λ l. take (64 * block) ps ++ l) s.is ∙ sym (blocks_next block ps));
+        left_is = rw held_is (sym go);
+        some = λ none. absurd (let e : length now ≡ length (from_doc doc (block_of block ps)) = ap length held_is in omega arith);
       },
-      sym (ap head_of go ∙ head_front (from_doc doc (block_of block ps)) (drop (64 * (block + 1)) ps) some ∙ ap head_of (sym inside.held_is) ∙ inside.current),
+      sym (ap head_of go ∙ head_front (from_doc doc (block_of block ps)) (drop (64 * (block + 1)) ps) some ∙ ap head_of (sym held_is) ∙ inside.current),
     )
 
 -- ---- calls
@@ -170,7 +168,7 @@ stands_of true ps reached last held left is walks = absurd cc
 stands_of false ps reached last held left is walks = walks
 
 pub in_block : (b : Bool) (all doc : ℕ) (ps : List Posting) (reached last : ℕ) (held left now : List Posting) (result : Option Posting) → b ≡ false → Rises all 0 ps → 1 ≤ doc → doc ≤ last →
-    StandsOn b ps reached last held left → now ≡ from_doc doc held → result ≡ head_of now → (result ≡ head_of (from_doc doc left)) × StandsOn b ps reached last now (from_doc doc left)
+    StandsOn b ps reached last held left → now ≡ forward_to doc held → result ≡ head_of now → (result ≡ head_of (from_doc doc left)) × StandsOn b ps reached last now (from_doc doc left)
 in_block b all doc ps reached last held left now result is rises some le stands went got =
     let w = walks_in all doc ps reached last held left rises some le (walks_of b ps reached last held left is stands) in
     (got ∙ ap head_of went ∙ w.1, stands_of b ps reached last now (from_doc doc left) is (subst (λ l. Walks ps reached last l (from_doc doc left)) (sym went) w.0))
@@ -200,12 +198,9 @@ starts ps = record {
 
 -- ---- the next posting
 
-left_rises : (all : ℕ) (ps : List Posting) (reached last : ℕ) (held left : List Posting) → Rises all 0 ps → (w : Walks ps reached last held left) → Rises all (last_doc 0 w.passed) left
-left_rises all ps reached last held left rises w = rises_right all 0 w.passed left (rw (walk_whole ps reached last held left w) rises)
-
 after_current : (all d : ℕ) (p : Posting) (rest : List Posting) → Rises all d (p ∷ rest) → (p.doc ≤ all) × (from_doc (p.doc + 1) (p ∷ rest) ≡ rest)
 unfolding Rises
-after_current all d p rest h = (h.0.within, from_next (p.doc + 1) p rest (omega arith) ∙ from_after all p.doc rest h.1)
+after_current all d p rest h = (h.0.within, from_next (p.doc + 1) p rest (omega arith) ∙ from_above all p.doc (p.doc + 1) rest h.1 (omega arith))
 
 one_left : (d : ℕ) (p : Posting) → last_doc d (p ∷ []) ≡ p.doc
 unfolding last_doc
@@ -219,7 +214,7 @@ next_beyond false all ps reached last [] left is rises few w =
     let zero_reached : reached ≡ 0 = w.some refl in
     let e : left ≡ ps = sym w.left_is ∙ ap (λ n. drop (64 * n) ps) zero_reached in
     let l : last ≡ 0 = w.last_is ∙ ap (λ n. doc_before (64 * n) ps) zero_reached ∙ nothing_before ps in
-    (ap (λ n. n + 1) l, ap (λ n. from_doc (n + 1) left) l ∙ ap (from_doc 1) e ∙ from_after all 0 ps rises ∙ sym e)
+    (ap (λ n. n + 1) l, ap (λ n. from_doc (n + 1) left) l ∙ ap (from_doc 1) e ∙ from_above all 0 1 ps rises (omega arith) ∙ sym e)
 next_beyond false all ps reached last (p ∷ []) left is rises few w =
     let l : left ≡ p ∷ drop (64 * reached) ps = sym w.left_is in
     let d : last ≡ p.doc = front_last ps w.passed (p ∷ []) reached last w.last_is w.front ∙ one_left (last_doc 0 w.passed) p in

@@ -5,14 +5,15 @@ use Rattle.std.proofs.lemmas.List.{take-append-drop, drop-drop, length-drop}
 use Rattle.std.proofs.Math.Seq.{take-add}
 use Rattle.mg_defs.specs.Bits.{Shows}
 use Rattle.mg_defs.specs.declared.Posting.{Posting}
-use Rattle.mg_defs.specs.Lists.{bits_after, last_doc, Rises, doc_before, bits_before, block_of, block_pages, from_doc}
+use Rattle.mg_defs.specs.Lists.{bits_after, last_doc, Rises, doc_before, bits_before, block_of, block_pages}
 use Rattle.mg_defs.specs.PagesOf.{pages}
-use Rattle.mg_defs.proofs.ListLaws.{bits_append, rises_left, rises_right, rest_stands, from_some, block_last}
+use Rattle.mg_defs.proofs.ListLaws.{bits_append, rises_left, rises_right, rest_stands, block_last}
 use Rattle.mg_bits.specs.Feed.{Feeding, Device as Seen, ReadsWithin, to_read}
 use Rattle.mg_post.specs.declared.refusal.Refusal.{Refusal}
 use Rattle.mg_post.specs.Stands.{BlockStands}
 use Rattle.mg_post.specs.Finding.{IsFoundAt}
-use Rattle.mg_post.specs.Cursor.{Entered, head_of}
+use Rattle.mg_post.specs.Cursor.{Entered, forward_to, head_of}
+use Rattle.mg_post.proofs.ForwardLaws.{forward_some}
 use Rattle.mg_post.specs.Answers.{OrDevice}
 
 parted : (b n : ℕ) (ps : List Posting) → bits_after b 0 ps ≡ bits_after b 0 (take n ps) ++ bits_after b (doc_before n ps) (drop n ps)
@@ -80,9 +81,9 @@ pub head_none : (qs : List Posting) → head_of qs ≡ None → length qs ≡ 0
 head_none [] h = refl
 head_none (q ∷ qs) h = absurd cc
 
-pub found_some : (all b blocks doc k before last at : ℕ) (ps : List Posting) → Rises all 0 ps → IsFoundAt b ps blocks doc k before last at → 0 < length (from_doc doc (block_of k ps))
+pub found_some : (all b blocks doc k before last at : ℕ) (ps : List Posting) → Rises all 0 ps → IsFoundAt b ps blocks doc k before last at → 0 < length (forward_to doc (block_of k ps))
 found_some all b blocks doc k before last at ps rises found =
-    from_some all (doc_before (64 * k) ps) doc (block_of k ps) (block_rises all k ps rises) found.range.after (rw doc_next at found.range.within)
+    forward_some all (doc_before (64 * k) ps) doc (block_of k ps) (block_rises all k ps rises) found.range.after (rw doc_next at found.range.within)
 
 -- a block that was read ends with the document that was found
 pub block_ends : (b blocks doc k before last at end : ℕ) (ps held : List Posting) → IsFoundAt b ps blocks doc k before last at → held ≡ block_of k ps → end ≡ last_doc before held → end ≡ last
@@ -109,10 +110,10 @@ pages_is b post_at place end k before ps filled is from at ends =
     let end_is : end ≡ post_at + bits_before b (64 * (k + 1)) ps = omega (arith, bits_next b k ps) in
     ap (λ n. pages n end) at ∙ ap (λ n. pages (post_at + bits_before b (64 * k) ps) n) end_is
 
-pub entered : (b post_at place end block doc before counted : ℕ) (ps filled held : List Posting) (p : Posting) → filled ≡ block_of block ps → held ≡ from_doc doc filled → head_of held ≡ Some p →
+pub entered : (b post_at place end block doc before counted : ℕ) (ps filled held : List Posting) (p : Posting) → filled ≡ block_of block ps → held ≡ forward_to doc filled → head_of held ≡ Some p →
     before ≡ doc_before (64 * block) ps → place ≡ post_at + bits_before b (64 * block) ps → end ≡ place + length (bits_after b before filled) → counted ≡ pages place end → Entered b ps post_at block doc p held counted
 entered b post_at place end block doc before counted ps filled held p is forward current from at ends pages_are = record {
-  held_is = forward ∙ ap (from_doc doc) is;
+  held_is = forward ∙ ap (forward_to doc) is;
   current = current;
   pages = pages_are ∙ pages_is b post_at place end block before ps filled is from at ends;
 }
@@ -145,5 +146,5 @@ block_filled told all b at count before last place ps held result stands is answ
     subst (λ l. OrDevice result (λ u. held ≡ l)) (whole_front count ps stands.count_is) got
 
 -- it has a posting from a document of its range on
-pub filled_some : (told : Option (List ℕ)) (all b at count before last doc : ℕ) (ps : List Posting) → before < doc → doc ≤ last → BlockStands all b told at count before last ps → 0 < length (from_doc doc ps)
-filled_some told all b at count before last doc ps after within stands = from_some all before doc ps stands.rises after (omega (arith, within, stands.last_is))
+pub filled_some : (told : Option (List ℕ)) (all b at count before last doc : ℕ) (ps : List Posting) → before < doc → doc ≤ last → BlockStands all b told at count before last ps → 0 < length (forward_to doc ps)
+filled_some told all b at count before last doc ps after within stands = forward_some all before doc ps stands.rises after (omega (arith, within, stands.last_is))

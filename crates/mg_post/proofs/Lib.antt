@@ -3,6 +3,7 @@ mod WriterLaws
 mod ReadLaws
 mod AheadLaws
 mod FindLaws
+mod ForwardLaws
 mod EnterLaws
 mod CursorLaws
 mod StandLaws

@@ -7,14 +7,15 @@ use Rattle.mg_dev.specs.declared.part.Part.TheVariants.{Post, Skip}
 use Rattle.mg_dev.specs.declared.part_err.PartErr.{PartErr}
 use Rattle.mg_dev.specs.declared.part_err.PartErr.TheVariants as err
 use Rattle.mg_defs.specs.declared.Posting.{Posting}
-use Rattle.mg_defs.specs.Lists.{last_doc, Rises, Follows, from_doc}
-use Rattle.mg_defs.proofs.ListLaws.{from_here, from_next, last_above}
+use Rattle.mg_defs.specs.Lists.{last_doc, Rises, Follows}
+use Rattle.mg_defs.proofs.ListLaws.{last_above}
 use Rattle.mg_post.specs.declared.refusal.Refusal.{Refusal}
 use Rattle.mg_post.specs.declared.refusal.Refusal.TheVariants.{Device, Damaged}
 use Rattle.mg_post.specs.Answers.{IsRefused, OnDamage, OrDevice}
-use Rattle.mg_post.specs.Cursor.{Cursoring, GoesOn, HeldRises, IsFrom, NamesItsPart, StandsOn, head_of, next_doc}
+use Rattle.mg_post.specs.Cursor.{Cursoring, GoesOn, HeldRises, IsFrom, NamesItsPart, StandsOn, forward_to, head_of, next_doc}
 use Rattle.mg_post.specs.Damages.{BlockIsMissing, HasPostCause, IfNames, NamesPart}
 use Rattle.mg_post.proofs.FindLaws.{doc_within}
+use Rattle.mg_post.proofs.ForwardLaws.{forward_here, forward_next}
 
 order : (a b : ℕ) → (a < b) ⊎ (b ≤ a)
 order a b = grind arith
@@ -32,8 +33,8 @@ unfolding last_doc
 last_low d e [] le = le
 last_low d e (p ∷ ps) le = omega arith
 
-from_rises : (all d doc : ℕ) (ps : List Posting) → Rises all d ps → Rises all d (from_doc doc ps) × (last_doc d (from_doc doc ps) ≤ last_doc d ps)
-unfolding Rises last_doc from_doc
+from_rises : (all d doc : ℕ) (ps : List Posting) → Rises all d ps → Rises all d (forward_to doc ps) × (last_doc d (forward_to doc ps) ≤ last_doc d ps)
+unfolding Rises last_doc forward_to
 from_rises all d doc [] h = (tt, omega arith)
 from_rises all d doc (p ∷ ps) h =
     let f : Follows all d p = h.0 in
@@ -41,21 +42,21 @@ from_rises all d doc (p ∷ ps) h =
       | inl below ↦ (
           let more = from_rises all p.doc doc ps h.1 in
           let low : d ≤ p.doc = omega (arith, f.after) in
-          rw (from_next doc p ps below) (rises_low all d p.doc (from_doc doc ps) low more.0, omega (arith, more.1, last_low d p.doc (from_doc doc ps) low)))
-      | inr above ↦ rw (from_here doc p ps above) (h, omega arith)
+          rw (forward_next doc p ps below) (rises_low all d p.doc (forward_to doc ps) low more.0, omega (arith, more.1, last_low d p.doc (forward_to doc ps) low)))
+      | inr above ↦ rw (forward_here doc p ps above) (h, omega arith)
     ]
 
 pub nothing_held : (all last : ℕ) (held : List Posting) → held ≡ [] → HeldRises all last held
 unfolding Rises last_doc
 nothing_held all last held none = rw none record { rises = tt; within = omega arith }
 
-pub forward_held : (all last doc : ℕ) (held now : List Posting) → HeldRises all last held → now ≡ from_doc doc held → HeldRises all last now
+pub forward_held : (all last doc : ℕ) (held now : List Posting) → HeldRises all last held → now ≡ forward_to doc held → HeldRises all last now
 forward_held all last doc held now h is =
     let more = from_rises all 0 doc held h.rises in
     rw is record { rises = more.0; within = omega (arith, more.1, h.within) }
 
 -- a block that was read and ends with the last document
-pub block_held : (all before last end doc : ℕ) (block now : List Posting) → Rises all before block → end ≡ last_doc before block → end ≡ last → now ≡ from_doc doc block → HeldRises all last now
+pub block_held : (all before last end doc : ℕ) (block now : List Posting) → Rises all before block → end ≡ last_doc before block → end ≡ last → now ≡ forward_to doc block → HeldRises all last now
 block_held all before last end doc block now rises is same went =
     let low : Rises all 0 block = rises_low all 0 before block (omega arith) rises in
     let within : last_doc 0 block ≤ last = omega (arith, last_low 0 before block (omega arith), is, same) in
@@ -74,13 +75,13 @@ step_rises all last (Some p) held now went h = step_held all last held now h wen
 
 -- ---- what is answered
 
-from_low : (doc : ℕ) (ps : List Posting) (p : Posting) → head_of (from_doc doc ps) ≡ Some p → doc ≤ p.doc
-unfolding from_doc
+from_low : (doc : ℕ) (ps : List Posting) (p : Posting) → head_of (forward_to doc ps) ≡ Some p → doc ≤ p.doc
+unfolding forward_to
 from_low doc [] p is = absurd cc
 from_low doc (q ∷ ps) p is =
     elim (order q.doc doc) [
-      | inl below ↦ from_low doc ps p (sym (ap head_of (from_next doc q ps below)) ∙ is)
-      | inr above ↦ (let e : Some q ≡ Some p = sym (ap head_of (from_here doc q ps above)) ∙ is in let same : q ≡ p = cc in omega (arith, ap (λ (x : Posting). x.doc) same, above))
+      | inl below ↦ from_low doc ps p (sym (ap head_of (forward_next doc q ps below)) ∙ is)
+      | inr above ↦ (let e : Some q ≡ Some p = sym (ap head_of (forward_here doc q ps above)) ∙ is in let same : q ≡ p = cc in omega (arith, ap (λ (x : Posting). x.doc) same, above))
     ]
 
 first_is : (all last doc : ℕ) (held : List Posting) (p : Posting) → HeldRises all last held → head_of held ≡ Some p → doc ≤ p.doc → IsFrom doc all p
@@ -92,10 +93,10 @@ first_is all last doc (q ∷ held) p h is le =
     subst (IsFrom doc all) same record { from = omega (arith, le, ap (λ (x : Posting). x.doc) same); within = f.within; some = f.some }
 
 -- of a block that went to a document
-pub from_held : (all last doc : ℕ) (block now : List Posting) (p : Posting) → HeldRises all last now → now ≡ from_doc doc block → head_of now ≡ Some p → IsFrom doc all p
+pub from_held : (all last doc : ℕ) (block now : List Posting) (p : Posting) → HeldRises all last now → now ≡ forward_to doc block → head_of now ≡ Some p → IsFrom doc all p
 from_held all last doc block now p h went is = first_is all last doc now p h is (from_low doc block p (sym (ap head_of went) ∙ is))
 
-pub in_held : (all last doc : ℕ) (held now : List Posting) (found : Option Posting) → HeldRises all last held → now ≡ from_doc doc held → found ≡ head_of now → IfSome found (IsFrom doc all)
+pub in_held : (all last doc : ℕ) (held now : List Posting) (found : Option Posting) → HeldRises all last held → now ≡ forward_to doc held → found ≡ head_of now → IfSome found (IsFrom doc all)
 in_held all last doc held now None h went is = tt
 in_held all last doc held now (Some p) h went is = from_held all last doc held now p (forward_held all last doc held now h went) went (sym is)
 
@@ -108,11 +109,11 @@ current_low all last (q ∷ held) p h is =
     omega (arith, ap (λ (x : Posting). x.doc) same, last_above all q.doc held h.rises.1, h.within)
 
 -- it stays where the document asked for is not behind it
-pub stays_here : (doc : ℕ) (held now : List Posting) (found : Option Posting) (p : Posting) → head_of held ≡ Some p → doc ≤ p.doc → now ≡ from_doc doc held → found ≡ head_of now → (found ≡ Some p) × (now ≡ held)
+pub stays_here : (doc : ℕ) (held now : List Posting) (found : Option Posting) (p : Posting) → head_of held ≡ Some p → doc ≤ p.doc → now ≡ forward_to doc held → found ≡ head_of now → (found ≡ Some p) × (now ≡ held)
 stays_here doc [] now found p is le went got = absurd cc
 stays_here doc (q ∷ held) now found p is le went got =
     let same : q ≡ p = cc in
-    let here : from_doc doc (q ∷ held) ≡ q ∷ held = from_here doc q held (omega (arith, le, ap (λ (x : Posting). x.doc) same)) in
+    let here : forward_to doc (q ∷ held) ≡ q ∷ held = forward_here doc q held (omega (arith, le, ap (λ (x : Posting). x.doc) same)) in
     (got ∙ ap head_of (went ∙ here) ∙ is, went ∙ here)
 
 -- the next one of the block at hand

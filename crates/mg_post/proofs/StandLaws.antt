@@ -11,13 +11,13 @@ use Rattle.mg_defs.specs.Terms.{dictionary}
 use Rattle.mg_defs.specs.Lists.{SkipEntry, Rises, entry_of, entries_to, entry_bits, entries_of_list, bits_of_list, block_count, lists_bits, lists_entries, postings, inverted, post_bits, skip_bits, list_byte, first_entry}
 use Rattle.mg_defs.proofs.FrontLaws.{begins_first, begins_second, begins_self}
 use Rattle.mg_defs.proofs.BitLaws.{length_digits}
-use Rattle.mg_defs.proofs.ListLaws.{list_rises}
+use Rattle.mg_defs.proofs.ListLaws.{entries_next, length_entries_to, list_rises}
 use Rattle.mg_post.specs.Stands.{ListStands}
 use Rattle.std.specs.declared.option.Option.{Option}
 use Rattle.mg_dev.specs.Files.{Files, file_at}
 use Rattle.mg_bits.specs.Feed.{told_at}
 use Rattle.mg_post.specs.Cursor.{CursorFits, Cursoring, CursorStands, SameList, StandsAt}
-use Rattle.mg_post.proofs.WriterLaws.{lists_whole, length_entries_to}
+use Rattle.mg_post.proofs.WriterLaws.{lists_whole}
 use Rattle.mg_post.proofs.CursorLaws.{ended_after}
 use Rattle.mg_bits.proofs.CallerLemmas.{bits_stay, held_page_stays, holds_stay}
 use Rattle.mg_post.specs.Writing.{Listing, Took}
@@ -38,7 +38,9 @@ entry_stands : (b n k : ℕ) (ps : List Posting) (s : Bits) → k < n → Begins
 unfolding entries_to
 entry_stands b zero k ps s lt h = absurd (omega arith)
 entry_stands b (suc n) k ps s lt h =
-    let split : flat_map entry_bits (entries_to b n ps ++ entry_of b n ps ∷ []) ≡ flat_map entry_bits (entries_to b n ps) ++ flat_map entry_bits (entry_of b n ps ∷ []) = flat_map-append entry_bits (entries_to b n ps) (entry_of b n ps ∷ []) in
+    let more : entries_to b (suc n) ps ≡ entries_to b n ps ++ entry_of b n ps ∷ [] = (let e : suc n ≡ n + 1 = omega arith in ap (λ m. entries_to b m ps) e ∙ entries_next b n ps) in
+    let split : flat_map entry_bits (entries_to b (suc n) ps) ≡ flat_map entry_bits (entries_to b n ps) ++ flat_map entry_bits (entry_of b n ps ∷ []) =
+    ap (flat_map entry_bits) more ∙ flat_map-append entry_bits (entries_to b n ps) (entry_of b n ps ∷ []) in
     let both : Begins (flat_map entry_bits (entries_to b n ps) ++ flat_map entry_bits (entry_of b n ps ∷ [])) s = subst (λ l. Begins l s) split h in
     elim (order k n) [
       | inl below ↦ entry_stands b n k ps s below (begins_first _ _ s both)

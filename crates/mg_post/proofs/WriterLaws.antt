@@ -13,7 +13,7 @@ use Rattle.mg_defs.specs.Bits.{Bits, bits_of, digits, filled, to_byte, as_bytes}
 use Rattle.mg_defs.specs.Codes.{golomb_parameter}
 use Rattle.mg_defs.specs.Lists.{SkipEntry, posting_bits, bits_after, last_doc, doc_before, bits_before, block_count, entry_of, entries_to, entry_bits, bits_of_list, entries_of_list, lists_bits, lists_entries}
 use Rattle.mg_defs.proofs.BitLaws.{length_digits}
-use Rattle.mg_defs.proofs.ListLaws.{bits_append, last_append}
+use Rattle.mg_defs.proofs.ListLaws.{bits_append, entries_next, last_append, length_entries_to}
 use Rattle.mg_post.specs.Writing.{Listing, Took, Finished, InBytes, entry_bytes, skip_entry}
 use Rattle.mg_post.proofs.EntryBytes.{are_bytes_of, bits_of_entries}
 
@@ -61,16 +61,9 @@ entries_keep : (b n : ℕ) (ps qs : List Posting) → 64 * n ≤ length ps → e
 unfolding entries_to
 entries_keep b zero ps qs le = refl
 entries_keep b (suc n) ps qs le =
-    ap (λ l. l ++ entry_of b n (ps ++ qs) ∷ []) (entries_keep b n ps qs (omega arith)) ∙ ap (λ e. entries_to b n ps ++ e ∷ []) (entry_keep b n ps qs (omega arith))
-
-entries_next : (b n : ℕ) (ps : List Posting) → entries_to b (n + 1) ps ≡ entries_to b n ps ++ entry_of b n ps ∷ []
-unfolding entries_to
-entries_next b n ps = (let e : n + 1 ≡ suc n = omega arith in ap (λ m. entries_to b m ps) e)
-
-pub length_entries_to : (b n : ℕ) (ps : List Posting) → length (entries_to b n ps) ≡ n
-unfolding entries_to
-length_entries_to b zero ps = refl
-length_entries_to b (suc n) ps = length-append (entries_to b n ps) (entry_of b n ps ∷ []) ∙ omega (arith, length_entries_to b n ps)
+    let more : (xs : List Posting) → entries_to b (suc n) xs ≡ entries_to b n xs ++ entry_of b n xs ∷ [] =
+    λ xs. (let e : suc n ≡ n + 1 = omega arith in ap (λ m. entries_to b m xs) e ∙ entries_next b n xs) in
+    more (ps ++ qs) ∙ ap (λ l. l ++ entry_of b n (ps ++ qs) ∷ []) (entries_keep b n ps qs (omega arith)) ∙ ap (λ e. entries_to b n ps ++ e ∷ []) (entry_keep b n ps qs (omega arith)) ∙ sym (more ps)
 
 all_bits : (b n : ℕ) (ps : List Posting) → n ≡ length ps → bits_before b n ps ≡ length (bits_after b 0 ps)
 unfolding bits_before

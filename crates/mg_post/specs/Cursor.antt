@@ -1,5 +1,6 @@
 -- A cursor over a list: what contracts see of it, and where it stands in its list.
-use Rattle.std.specs.Prelude.{◌≡◌, ◌≢◌, ℕ, ◌+◌, ◌-◌, ◌*◌, ◌^◌, ◌<◌, ◌≤◌, ◌⊎◌, Bool, true, false, List, [], ◌∷◌, ◌++◌, length, take, drop, min, Option, Some, None, Result, Ok, Err}
+use Rattle.std.specs.Prelude.{◌≡◌, ◌≢◌, ℕ, ◌+◌, ◌-◌, ◌*◌, ◌^◌, ◌<◌, ◌≤◌, nat_lt, ◌⊎◌, Bool, true, false, List, [], ◌∷◌, ◌++◌, length, take, drop, min, Option, Some, None, Result, Ok, Err}
+use Rattle.std.specs.List.{prefix_len}
 use Rattle.mg_dev.specs.Bads.{IsBad}
 use Rattle.mg_dev.specs.Files.{Files, Reads}
 use Rattle.mg_dev.specs.declared.part.Part.{Part}
@@ -10,7 +11,7 @@ use Rattle.mg_bits.specs.Feed.{told_at, raised}
 use Rattle.mg_bits.specs.Pages.{Paging, Fits}
 use Rattle.mg_bits.specs.Alike.{WhereSame}
 use Rattle.mg_defs.specs.declared.Posting.{Posting}
-use Rattle.mg_defs.specs.Lists.{from_doc, block_of, block_count, block_pages, InRange, Rises, doc_before, last_doc}
+use Rattle.mg_defs.specs.Lists.{block_of, block_count, block_pages, InRange, Rises, doc_before, last_doc}
 use Rattle.mg_post.specs.Stands.{ListStands}
 use Rattle.mg_post.specs.Finding.{SkipReads}
 use Rattle.mg_post.specs.Answers.{AnswersList}
@@ -39,9 +40,13 @@ abbrev pub IsPlace : Option ℕ → ℕ → ℕ → Type 0
 IsPlace (Some place) byte bits = place ≡ 8 * byte + bits
 IsPlace None byte bits = 2 ^ 63 < 8 * byte + bits
 
+-- the postings of a block from the first on whose document is at least this one
+unfoldable pub forward_to : ℕ → List Posting → List Posting
+forward_to doc ps = drop (prefix_len (λ (p : Posting). nat_lt p.doc doc) ps) ps
+
 -- the block that was entered, from the document asked for on, and its pages
 pub record Entered (b : ℕ) (ps : List Posting) (post_at block doc : ℕ) (p : Posting) (held : List Posting) (count : ℕ) : Type 0 where
-  pub held_is : held ≡ from_doc doc (block_of block ps)
+  pub held_is : held ≡ forward_to doc (block_of block ps)
   pub current : head_of held ≡ Some p
   pub pages : count ≡ block_pages b post_at block ps
 

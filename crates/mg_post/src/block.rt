@@ -1,10 +1,10 @@
 // The postings of one block, from the current one on.
-ghost use Rattle.std.specs.Prelude.{◌≡◌, ◌+◌, ◌-◌, ◌*◌, ◌<◌, ◌≤◌, ◌^◌, ℕ, List, [], ◌++◌, length, take, drop, IfOk, OnOk, OnErr, MatchResult};
+ghost use Rattle.std.specs.Prelude.{◌≡◌, ◌+◌, ◌-◌, ◌<◌, ◌≤◌, ◌^◌, List, [], length, take, drop, IfOk, OnOk, OnErr, MatchResult};
 ghost use Rattle.mg_bits.specs.Feed.{Calm};
 ghost use Rattle.mg_defs.specs.Bits.{Begins};
 ghost use Rattle.mg_defs.specs.declared.Posting.{Posting};
-ghost use Rattle.mg_defs.specs.Lists.{bits_after, Rises, from_doc, last_doc};
-ghost use Rattle.mg_post.specs.Cursor.{head_of, GoesOn};
+ghost use Rattle.mg_defs.specs.Lists.{bits_after, Rises, last_doc};
+ghost use Rattle.mg_post.specs.Cursor.{head_of, forward_to, GoesOn};
 ghost use Rattle.mg_post.specs.Answers.{IfDamaged, OrDevice, RefusalCause};
 ghost use Rattle.mg_post.specs.Missing.{LacksPosting};
 ghost use Rattle.mg_post.specs.Reading.{OnlyListPages, ForNextList, told_bytes};
@@ -41,7 +41,7 @@ fn first_from(postings: &Vec<Posting>, len: usize, from: usize, doc: u32) -> usi
     requires len { len ≤ length postings.now.items }
     requires from { from ≤ len }
     ensures within { result ≤ len }
-    ensures left { drop result (take len postings.now.items) ≡ from_doc doc (drop from (take len postings.now.items)) }
+    ensures left { drop result (take len postings.now.items) ≡ forward_to doc (drop from (take len postings.now.items)) }
 {
     for i in from..len {
         if doc <= postings[i].doc {
@@ -95,7 +95,7 @@ impl Block {
 
     /// Goes to the first posting whose document is at least `doc`.
     pub fn forward(&mut self, doc: u32)
-        ensures { self.new ≡ from_doc doc self.old }
+        ensures { self.new ≡ forward_to doc self.old }
     {
         self.index = first_from(&self.postings, self.len, self.index, doc);
     }

@@ -1,12 +1,11 @@
 // A cursor over a list.
-ghost use Rattle.std.specs.Prelude.{◌≡◌, ◌≢◌, ◌+◌, ◌*◌, ◌/◌, ◌<◌, ◌≤◌, ◌^◌, ℕ, List, [], true, false, Option, Some, None, Ok, Err, IfOk, IfErr, IfSome, OnOk, OnErr};
+ghost use Rattle.std.specs.Prelude.{◌≡◌, ◌≢◌, ◌+◌, ◌/◌, ◌<◌, ◌≤◌, ◌^◌, List, [], true, false, Option, Some, None, Ok, Err, IfOk, IfErr, IfSome, OnOk, OnErr};
 ghost use Rattle.mg_dev.specs.Files.{Files};
 ghost use Rattle.mg_dev.specs.PartCauses.{HasPartCause};
 ghost use Rattle.mg_dev.specs.declared.part.Part.TheVariants as part;
 ghost use Rattle.mg_defs.specs.declared.Posting.{Posting};
 ghost use Rattle.mg_defs.specs.Codes.{golomb_parameter};
 ghost use Rattle.mg_defs.specs.Lists.{block_count, from_doc};
-ghost use Rattle.mg_defs.specs.Split.{documents};
 ghost use Rattle.mg_post.specs.Damages.{EntriesStand, HasPostCause, HasSkipCause, NamesPart};
 ghost use Rattle.mg_post.specs.Finding.{entries_pages};
 ghost use Rattle.mg_post.specs.Cursor.{head_of, after, next_doc, post_pages, entered_pages, skip_pages, CursorFits, SameList, SamePlace, StandsAt, IsFrom, NamesItsPart, ReadsTwo, Enters, AnswersRest, ForList};

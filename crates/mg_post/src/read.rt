@@ -1,5 +1,5 @@
 // Postings from bits.
-ghost use Rattle.std.specs.Prelude.{◌≡◌, ◌+◌, ◌-◌, ◌*◌, ◌<◌, ◌≤◌, ◌^◌, ℕ, ◌++◌, length, take, IfOk, OnOk, OnErr, MatchResult};
+ghost use Rattle.std.specs.Prelude.{◌≡◌, ◌+◌, ◌-◌, ◌*◌, ◌<◌, ◌≤◌, ◌^◌, length, take, IfOk, OnOk, OnErr, MatchResult};
 ghost use Rattle.mg_bits.specs.Feed.{Calm};
 ghost use Rattle.mg_defs.specs.Bits.{Begins};
 ghost use Rattle.mg_defs.specs.declared.Posting.{Posting};

@@ -1,7 +1,7 @@
 // Lists and their skip entries into two parts.
-ghost use Rattle.std.specs.Prelude.{◌≡◌, ◌≢◌, ◌+◌, ◌*◌, ◌/◌, ◌<◌, ◌≤◌, ◌^◌, ◌++◌, ◌∷◌, [], ℕ, List, Ok, OnOk, IfOk};
+ghost use Rattle.std.specs.Prelude.{◌≡◌, ◌+◌, ◌*◌, ◌/◌, ◌<◌, ◌≤◌, ◌^◌, [], List, Ok, OnOk, IfOk};
 ghost use Rattle.std.specs.Option.{is_some};
-ghost use Rattle.mg_dev.specs.Files.{written, SameReads};
+ghost use Rattle.mg_dev.specs.Files.{SameReads};
 ghost use Rattle.mg_dev.specs.Names.{full_name};
 ghost use Rattle.mg_dev.specs.Causes.{HasPutCause};
 ghost use Rattle.mg_dev.specs.declared.part.Part.TheVariants as part;

@@ -1,6 +1,7 @@
 use Rattle.std.proofs.Common.{arith, ◌≡◌, ◌+◌, ◌*◌, ◌≤◌, length, sym, ◌∙◌, ap, inl, inr, Ok, Err}
-use Rattle.mg_defs.specs.Lists.{from_doc, block_of, bits_before, last_doc}
-use Rattle.mg_defs.proofs.ListLaws.{from_some}
+use Rattle.mg_defs.specs.Lists.{block_of, bits_before, last_doc}
+use Rattle.mg_post.specs.Cursor.{forward_to}
+use Rattle.mg_post.proofs.ForwardLaws.{forward_some}
 use Rattle.mg_post.proofs.FindLaws.{bits_fit, damaged_weaker}
 use Rattle.mg_post.proofs.ReadLaws.{any_refused}
 use Rattle.mg_post.proofs.EnterLaws.{block_answer, block_ends, block_filled, filled_some, head_none, found_some, entered, count_most, refused_pages}
@@ -50,7 +51,7 @@ returns-in-None-clause-told g c = λ ps blocks rises whole shows small found.
     let got : c.fill.new.self ≡ block_of c.args.found.block ps =
     block_answer _ (8 * c.args.post_at) c.args.all c.args.parameter c.seek.new.self.place c.args.found.before _ c.args.docs c.args.found.block ps c.fill.new.self (Ok c.in-Ok.last) c.min.ensures whole found.from at rises (rw (← c.seek.ensures.feed) at shows) small c.in-Ok.ensures.told in
     let none : length c.forward.new.self ≡ 0 = head_none c.forward.new.self (sym c.in-None.ensures) in
-    let same : length c.forward.new.self ≡ length (from_doc c.args.doc (block_of c.args.found.block ps)) = ap length (c.forward.ensures ∙ ap (from_doc c.args.doc) got) in
+    let same : length c.forward.new.self ≡ length (forward_to c.args.doc (block_of c.args.found.block ps)) = ap length (c.forward.ensures ∙ ap (forward_to c.args.doc) got) in
     absurd (omega (arith, found_some c.args.all c.args.parameter blocks c.args.doc c.args.found.block c.args.found.before c.args.found.last c.args.found.at ps rises found))
 
 pub returns-in-None-clause-most : goal.returns-in-None-clause-most
@@ -84,7 +85,7 @@ returns-in-None-clause-block g c = λ ps after within stands.
     let at : c.seek.new.self.place ≡ 8 * c.args.post_at + c.args.found.at = c.seek.ensures.place ∙ c.in-Some.ensures in
     let got : c.fill.new.self ≡ ps = block_filled _ c.args.all c.args.parameter (8 * c.args.post_at + c.args.found.at) c.min.result c.args.found.before c.args.found.last c.seek.new.self.place ps c.fill.new.self (Ok c.in-Ok.last) (rw (c.min.ensures, c.seek.ensures.feed) stands) at c.in-Ok.ensures.told in
     let none : length c.forward.new.self ≡ 0 = head_none c.forward.new.self (sym c.in-None.ensures) in
-    let same : length c.forward.new.self ≡ length (from_doc c.args.doc ps) = ap length (c.forward.ensures ∙ ap (from_doc c.args.doc) got) in
+    let same : length c.forward.new.self ≡ length (forward_to c.args.doc ps) = ap length (c.forward.ensures ∙ ap (forward_to c.args.doc) got) in
     absurd (omega (arith, none, same, filled_some _ c.args.all c.args.parameter _ _ c.args.found.before c.args.found.last c.args.doc ps after within stands))
 
 pub returns-in-Err-clause-block : goal.returns-in-Err-clause-block
@@ -113,9 +114,9 @@ returns-then-last-found-clause-lacks g c = λ after within.
 pub returns-in-None-clause-lacks : goal.returns-in-None-clause-lacks
 returns-in-None-clause-lacks g c = λ after within.
     let none : length c.forward.new.self ≡ 0 = head_none c.forward.new.self (sym c.in-None.ensures) in
-    let same : length c.forward.new.self ≡ length (from_doc c.args.doc c.fill.new.self) = ap length c.forward.ensures in
+    let same : length c.forward.new.self ≡ length (forward_to c.args.doc c.fill.new.self) = ap length c.forward.ensures in
     let low : c.args.doc ≤ last_doc c.args.found.before c.fill.new.self = omega (arith, within, c.in-Ok.ensures.last, c.if-last-found.false) in
-    absurd (omega (arith, none, same, from_some c.args.all c.args.found.before c.args.doc c.fill.new.self c.in-Ok.ensures.rises after low))
+    absurd (omega (arith, none, same, forward_some c.args.all c.args.found.before c.args.doc c.fill.new.self c.in-Ok.ensures.rises after low))
 
 pub returns-in-Err-clause-lacks : goal.returns-in-Err-clause-lacks
 returns-in-Err-clause-lacks g c =
