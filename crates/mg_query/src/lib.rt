@@ -33,6 +33,3 @@ pub use terms::Terms;
 
 /// The most bytes of a line.
 pub const LINE_LIMIT: usize = 1024;
-
-#[cfg(test)]
-mod tests;
