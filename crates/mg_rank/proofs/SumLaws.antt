@@ -75,7 +75,7 @@ freq_is collection t p some le is h =
 
 pub head_freq : (collection t : List ℕ) (last : ℕ) (p : Posting) → head_of (from_doc (last + 1) (postings collection t)) ≡ Some p → last < p.doc → p.doc ≤ length (documents collection) → p.freq ≡ freq_in (document collection p.doc) t
 head_freq collection t last p is low le =
-    freq_is collection t p (omega (arith, low)) le (ap head_of (later last p.doc (postings collection t) p is low (omega arith)) ∙ is) (has_at collection t last p.doc p is low (omega arith) le ∙ eq-eqb p.doc p.doc refl)
+    freq_is collection t p (omega (arith, low)) le (later last p.doc (postings collection t) p is low (omega arith)) (has_at collection t last p.doc p is low (omega arith) le ∙ eq-eqb p.doc p.doc refl)
 
 -- ---- one term more
 

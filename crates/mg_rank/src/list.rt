@@ -1,7 +1,6 @@
 //! What the list of a term adds to the sums.
 ghost use Rattle.std.specs.Prelude.{◌≡◌, ◌≢◌, ℕ, ◌+◌, ◌-◌, ◌*◌, ◌≤◌, ◌<◌, ◌^◌, Ok, Err, IfOk, IfSome, OnOk, OnErr};
 ghost use Rattle.mg_dev.specs.PartCauses.{HasPartCause};
-ghost use Rattle.mg_dev.specs.declared.part.Part.TheVariants as part;
 ghost use Rattle.mg_defs.specs.Weights.{weight_of_term, weight_in_doc};
 ghost use Rattle.mg_post.specs.Answers.{AnswersList};
 ghost use Rattle.mg_post.specs.Cursor.{CursorFits, IsFrom, SameList, post_pages};
