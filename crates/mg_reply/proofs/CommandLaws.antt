@@ -6,8 +6,8 @@ use Rattle.std.proofs.lemmas.List.{drop_all}
 use Rattle.std.proofs.Math.Nat.{pow-suc, pow-le-pow_right}
 use Rattle.std.proofs.lemmas.Bool.{and_right, and_left, and_from, le-leb, lt-leb}
 use Rattle.mg_defs.specs.Terms.{same_term}
-use Rattle.mg_defs.specs.Commands.{value, is_digit, is_most, is_blank, begins_with_stop, begins_blank, words}
-use Rattle.mg_defs.proofs.WordLaws.{is_word, words-skip, words-run, skipped-begins}
+use Rattle.mg_defs.specs.Commands.{value, is_digit, is_most, is_blank, is_word, begins_with_stop, begins_blank, words}
+use Rattle.mg_defs.proofs.WordLaws.{words-skip, words-run, skipped-begins}
 use Rattle.mg_reply.proofs.ReadingLaws.{empty}
 
 pub same_step : (a b : List ℕ) (i : ℕ) → i < length a → i < length b → same_term (drop i a) (drop i b) ≡ (get_or a i 0 == get_or b i 0 && same_term (drop (i + 1) a) (drop (i + 1) b))

@@ -1,9 +1,8 @@
 // What a line of a session is.
-ghost use Rattle.std.specs.Prelude.{◌≡◌, ℕ, ◌+◌, ◌*◌, ◌-◌, ◌<◌, ◌≤◌, ◌^◌, List, [], ◌∷◌, ◌++◌, length, take, drop, IfSome, IfNone, codes, true, false};
+ghost use Rattle.std.specs.Prelude.{◌≡◌, ◌+◌, ◌*◌, ◌-◌, ◌<◌, ◌≤◌, [], ◌∷◌, length, IfSome, IfNone, true, false};
 ghost use Rattle.std.specs.List.{prefix_len, list_all};
 ghost use Rattle.mg_defs.specs.Terms.{same_term};
-ghost use Rattle.mg_defs.specs.Commands.{is_blank as is_blank_spec, begins_with_stop as begins_with_stop_spec, words, command, dot_of, set_of, set_query as set_query_spec, set_mode as set_mode_spec, set_most as set_most_spec, is_digit, value, is_most};
-ghost use Rattle.mg_defs.proofs.WordLaws.{is_word as is_word_spec};
+ghost use Rattle.mg_defs.specs.Commands.{is_blank as is_blank_spec, is_word as is_word_spec, begins_with_stop as begins_with_stop_spec, words, command, dot_of, set_of, set_query as set_query_spec, set_mode as set_mode_spec, set_most as set_most_spec, is_digit, value, is_most};
 
 use mg_defs::{Command, Mode, Settings};
 use mg_query::{blank_len, is_blank};

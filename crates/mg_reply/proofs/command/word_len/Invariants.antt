@@ -1,6 +1,6 @@
 use Rattle.std.proofs.Common.{◌≡◌, ◌+◌, drop}
 use Rattle.std.specs.List.{prefix_len}
-use Rattle.mg_defs.proofs.WordLaws.{is_word}
+use Rattle.mg_defs.specs.Commands.{is_word}
 use Rattle.mg_reply.proofs.command.word_len.Given as goal
 
 abbrev pub invariant-loop-byte : goal.invariant-loop-byte
