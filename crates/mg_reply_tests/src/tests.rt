@@ -1,5 +1,5 @@
 // Lines, commands, texts and sessions, on whole examples.
-ghost use Rattle.std.specs.Prelude.{◌≡◌, ℕ, List, ⊤, refl};
+ghost use Rattle.std.specs.Prelude.{◌≡◌, ℕ, List, ⊤};
 ghost use Rattle.mg_defs.specs.declared.session.Settings.{Settings};
 
 use mg_dev::{MemSink, MemSource, ShowErr, Sink, SureSink, SureSource};
