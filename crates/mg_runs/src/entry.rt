@@ -1,6 +1,6 @@
 // Entries as bytes.
 ghost use Rattle.std.specs.Prelude.{◌≡◌, ◌≤◌, ◌<◌, ◌+◌, ◌*◌, ◌++◌, [], ◌∷◌, length};
-ghost use Rattle.mg_runs.specs.Bytes.{entries_in, entry_in, bytes_of, number_in};
+ghost use Rattle.mg_runs.specs.Bytes.{entries_in, bytes_of, number_in};
 
 use mg_fields::{four_at, four_bytes};
 

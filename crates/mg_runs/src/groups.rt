@@ -1,8 +1,7 @@
 // The postings of entries, sorted in their place.
-ghost use Rattle.std.specs.Prelude.{◌≡◌, ◌≤◌, ◌<◌, ◌+◌, ◌-◌, ◌*◌, ◌^◌, ◌++◌, [], ◌∷◌, length, map, drop, IfOk, slice_index_or};
+ghost use Rattle.std.specs.Prelude.{◌≡◌, ◌≤◌, ◌<◌, ◌+◌, ◌-◌, length, map};
 ghost use Rattle.std.specs.List.{All};
 ghost use Rattle.std.specs.List.Sorted.{IsPermutation};
-ghost use Rattle.mg_defs.specs.Postings.{gathered, with_count};
 ghost use Rattle.mg_runs.specs.PostingOrder.{NotFalling};
 ghost use Rattle.mg_runs.specs.Bytes.{entry_in, number_in};
 ghost use Rattle.mg_runs.specs.Groups.{IsGroup};
