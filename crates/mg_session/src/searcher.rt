@@ -1,11 +1,10 @@
 //! An answerer over the open parts of a set.
 ghost use Rattle.std.specs.Prelude.{◌≡◌, ◌≤◌, false, true, length};
 ghost use Rattle.mg_dev.specs.Moments.{Between};
-ghost use Rattle.mg_defs.specs.Replies.{reply};
 ghost use Rattle.mg_session.specs.Answering.{HasShowCause, HasShowLack};
 ghost use Rattle.mg_session.specs.Parts.{Stepped};
 ghost use Rattle.mg_session.specs.Replying.{RepliesTo};
-ghost use Rattle.mg_session.specs.Searching.{AnswersBy, Asked, Fits, MayStop, Over, SameOpened, SearchFits, Searching, opened_at, state_of};
+ghost use Rattle.mg_session.specs.Searching.{AnswersBy, Asked, Fits, MayStop, SameOpened, SearchFits, Searching, opened_at, state_of};
 ghost use Rattle.mg_session.specs.SearchLaws.{answers_later, asked_more, asked_none, stops_later};
 
 use crate::boolean::answer_query;

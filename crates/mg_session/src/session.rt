@@ -1,5 +1,5 @@
 //! A session over built files, from their head to the last reply.
-ghost use Rattle.std.specs.Prelude.{◌≡◌, ℕ, ◌≤◌, ◌^◌, List, [], Err, false, OnOk, IsSome};
+ghost use Rattle.std.specs.Prelude.{◌≡◌, ◌≤◌, ◌^◌, [], Err, false, OnOk, IsSome};
 ghost use Rattle.std.specs.Option.{ForSome};
 ghost use Rattle.mg_dev.specs.Each.{ForEach};
 ghost use Rattle.mg_dev.specs.Files.{bytes_at};
