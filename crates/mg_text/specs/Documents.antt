@@ -11,7 +11,6 @@ use Rattle.mg_defs.specs.CodedText.{IsTextCode, TextCode, coded_doc, text_part, 
 use Rattle.mg_defs.specs.Pieces.{other_kind}
 use Rattle.mg_defs.specs.Split.{documents}
 use Rattle.mg_defs.specs.Marks.{piece_bits}
-use Rattle.mg_defs.specs.TextBits.{text_bits}
 use Rattle.mg_text.specs.Writing.{DocumentsStand, turn}
 
 abbrev pub coded_docs : TextCode → List ℕ → List Bits
@@ -34,10 +33,6 @@ ForCoded fact = (base : List ℕ) (files : Option Files) (code : TextCode) (coll
 abbrev pub ForWrittenDocuments : (List ℕ → Option Files → List ℕ → Type 0) → Type 0
 ForWrittenDocuments fact = (base : List ℕ) (files : Option Files) (code : TextCode) (collection : List ℕ) →
     IsTextCode collection code → DocumentsStand base files (coded_docs code collection) → fact base files collection
-
--- the bits of a collection's text as bytes, and a byte for each document
-abbrev pub most_text_bytes : List ℕ → ℕ
-most_text_bytes collection = text_bits collection / 8 + length (documents collection)
 
 -- the parts of a base hold the documents of a collection, and their places in 8 bytes each
 pub record TextHolds (base : List ℕ) (files : Option Files) (code : TextCode) (collection : List ℕ) : Type 0 where

@@ -1,5 +1,5 @@
 //! The bytes of a document, decoded piece by piece.
-ghost use Rattle.std.specs.Prelude.{◌≡◌, ◌+◌, ◌≤◌, ◌<◌, ◌^◌, ◌++◌, ℕ, []};
+ghost use Rattle.std.specs.Prelude.{◌≡◌, ◌<◌, []};
 ghost use Rattle.mg_bits.specs.Feed.{Calm};
 ghost use Rattle.mg_defs.specs.Marks.{code_of};
 ghost use Rattle.mg_text.specs.Decoding.{Added, ShowsPiece, ShowsPairs, ShowsWhole, ShowCaused, ShowsPair, ShowsDoc};

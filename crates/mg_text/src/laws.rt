@@ -7,8 +7,9 @@ ghost use Rattle.mg_defs.specs.Bits.{Bits};
 ghost use Rattle.mg_defs.specs.Codes.{gamma};
 ghost use Rattle.mg_defs.specs.CodedText.{TextCode, coded_doc, text_part};
 ghost use Rattle.mg_defs.specs.Parse.{parse};
+ghost use Rattle.mg_defs.specs.TextBits.{most_text_bytes};
 ghost use Rattle.mg_defs.specs.Pieces.{pieces};
-ghost use Rattle.mg_text.specs.Documents.{TextHolds, coded_docs, pieces_bits, AddsPiece, ForCoded, ForWrittenDocuments, most_text_bytes};
+ghost use Rattle.mg_text.specs.Documents.{TextHolds, coded_docs, pieces_bits, AddsPiece, ForCoded, ForWrittenDocuments};
 ghost use Rattle.mg_text.specs.Writing.{DocumentsStand, IsOnText, TextWriting, text_bytes, turn, WhereSameBase, text_at};
 
 /// The pieces of a document, put in turn behind the number of its pairs, are its bits. The stream

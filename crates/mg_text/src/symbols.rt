@@ -1,5 +1,5 @@
 //! The numbers that are read of a document: how many pairs it has, and the symbols of its pieces.
-ghost use Rattle.std.specs.Prelude.{◌≡◌, ◌+◌, ◌<◌, ◌^◌, ℕ, IfOk, length};
+ghost use Rattle.std.specs.Prelude.{◌+◌, ◌<◌, ◌^◌, ℕ, IfOk, length};
 ghost use Rattle.mg_bits.specs.Feed.{Calm};
 ghost use Rattle.mg_defs.specs.Canon.{codeword};
 ghost use Rattle.mg_defs.specs.Codes.{gamma};
