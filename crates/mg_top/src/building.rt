@@ -1,5 +1,5 @@
 // The tool `build`.
-ghost use Rattle.std.specs.Prelude.{◌≡◌, ◌≤◌, ◌⊎◌, ◌^◌};
+ghost use Rattle.std.specs.Prelude.{◌≤◌, ◌^◌};
 ghost use Rattle.mg_top.specs.Running.{RunsByStore};
 ghost use Rattle.mg_top.specs.Built.{Built};
 ghost use Rattle.mg_top.specs.Ends.{ToldWhy};

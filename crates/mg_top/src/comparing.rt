@@ -1,5 +1,5 @@
 // What a set and the collection's text tell, compared.
-ghost use Rattle.std.specs.Prelude.{◌≡◌, ◌≤◌, true, length, IfErr, IfOk, OnOk, Ok};
+ghost use Rattle.std.specs.Prelude.{◌≡◌, ◌≤◌, true, length, IfErr, IfOk, Ok};
 ghost use Rattle.mg_dev.specs.Causes.{Rose};
 ghost use Rattle.mg_dev.specs.Each.{ForEach};
 ghost use Rattle.mg_layout.specs.Stands.{Stands};

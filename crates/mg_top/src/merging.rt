@@ -1,5 +1,4 @@
 // The tool `merge`.
-ghost use Rattle.std.specs.Prelude.{◌≡◌, ◌⊎◌};
 ghost use Rattle.mg_top.specs.Running.{RunsByStore};
 ghost use Rattle.mg_top.specs.Merged.{Merged};
 ghost use Rattle.mg_top.specs.Ends.{ToldWhy};

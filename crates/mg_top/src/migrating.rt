@@ -1,5 +1,4 @@
 // The tool `migrate`.
-ghost use Rattle.std.specs.Prelude.{◌≡◌, ◌⊎◌};
 ghost use Rattle.mg_top.specs.Running.{RunsByStore};
 ghost use Rattle.mg_top.specs.Migrated.{Migrated};
 ghost use Rattle.mg_top.specs.Ends.{ToldWhy};

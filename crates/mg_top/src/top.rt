@@ -1,5 +1,5 @@
 // The words of a command line are carried out.
-ghost use Rattle.std.specs.Prelude.{◌≡◌, ◌⊎◌, Some, None};
+ghost use Rattle.std.specs.Prelude.{Some, None};
 ghost use Rattle.mg_top.specs.Running.{RunsBy};
 ghost use Rattle.mg_top.specs.Does.{RanFor};
 

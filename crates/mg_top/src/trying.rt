@@ -1,5 +1,5 @@
 // The tool `trial`.
-ghost use Rattle.std.specs.Prelude.{◌≡◌, ◌≤◌, ◌⊎◌};
+ghost use Rattle.std.specs.Prelude.{◌≤◌};
 ghost use Rattle.mg_top.specs.Running.{RunsAlone};
 ghost use Rattle.mg_top.specs.Tried.{Tried};
 ghost use Rattle.mg_top.specs.Ends.{ToldWhy};
