@@ -1,7 +1,7 @@
 //! The pattern of a line.
 ghost use Rattle.std.specs.Prelude.{◌≡◌, ◌≤◌, ◌<◌, ◌+◌, ◌-◌, length, take, IfOk, IfErr, IfSome};
 ghost use Rattle.std.specs.Bool.{OnTrue, OnFalse};
-ghost use Rattle.mg_defs.specs.Patterns.{body, blanks_before, pattern_at, pattern_of, right_of, sides, star_of, without_end_blanks};
+ghost use Rattle.mg_defs.specs.Patterns.{body, pattern_at, pattern_of, right_of, sides, star_of, without_end_blanks};
 ghost use Rattle.mg_defs.specs.Terms.{folded};
 ghost use Rattle.mg_wild.specs.Patterns.{bad_of, sides_of};
 

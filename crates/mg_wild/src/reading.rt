@@ -6,7 +6,7 @@ ghost use Rattle.mg_dev.specs.Files.{bytes_at};
 ghost use Rattle.mg_dev.specs.Moments.{Between};
 ghost use Rattle.mg_dev.specs.Names.{full_name};
 ghost use Rattle.mg_dev.specs.PartCauses.{HasPartCause};
-ghost use Rattle.mg_wild.specs.Loading.{AnswersTerms, AnswersTotal, ForEntries};
+ghost use Rattle.mg_wild.specs.Loading.{AnswersTermsOf, AnswersTotal, ForEntries};
 ghost use Rattle.mg_wild.specs.Terms.{AreNumbered};
 
 use crate::term_block::{TermBlock, string_in};
@@ -52,7 +52,7 @@ pub(crate) fn read_terms<S: Store>(
 ) -> Result<TermBlock, PartErr>
     requires { size + count ≤ most_rotations }
     ensures answer { ForEntries (S.files store.old) (full_name file.entry.base.now file.entry.part) count size
-        (λ es. AnswersTerms (λ terms. terms) es result) }
+        (λ es. AnswersTermsOf (λ terms. terms) es result) }
     ensures numbered { IfOk result (λ terms. AreNumbered 0 terms.infos) }
     ensures looked { Between S.files S.reads S.faults store.old store.new (Looked file.entry.part) }
     ensures cause { HasPartCause (S.faults store.old) (S.faults store.new) result }
