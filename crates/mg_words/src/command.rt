@@ -1,7 +1,6 @@
 // The tools' commands: arguments, ranges and the default, as `clap` reads them.
-ghost use Rattle.std.specs.Prelude.{◌≡◌, ◌≢◌, ◌≤◌, IfOk, IfErr, OnOk, IsErrOf, MatchResult, [], codes, map, option_map, string_bytes, Some, None, List, ℕ, length, true};
-ghost use Rattle.std.specs.Option.{option_copied};
-ghost use Rattle.clap.specs.Words.{App, app_of, is_simple, is_simple_and_free, rows_of, found_of, kind_of, IsParsedFrom};
+ghost use Rattle.std.specs.Prelude.{◌≡◌, ◌≢◌, IfOk, OnOk, IsErrOf, [], codes, map, string_bytes, true};
+ghost use Rattle.clap.specs.Words.{app_of, is_simple, is_simple_and_free, rows_of, found_of, kind_of, IsParsedFrom};
 ghost use Rattle.mg_words.specs.declared.command.NotTaken.TheVariants.{Memory};
 ghost use Rattle.mg_words.specs.Commands.{faults, rows, name_rule, number_rule, budget_rule, name_app, build_app, trial_app, migrate_app, merge_app, IsArg, TakesNumbers, IsPlainCommand, Gives, IsOwnId};
 

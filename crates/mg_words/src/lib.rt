@@ -13,8 +13,6 @@ mod plain_words;
 mod read;
 mod taken;
 mod task;
-#[cfg(test)]
-mod tests;
 
 pub use read::read_words;
 pub use task::Task;

@@ -1,7 +1,7 @@
 // Plain words: each tool's names and numbers in order.
-ghost use Rattle.std.specs.Prelude.{◌≡◌, ◌≤◌, ◌∷◌, [], IfSome, map, option_map, string_bytes};
+ghost use Rattle.std.specs.Prelude.{◌≡◌, ◌∷◌, [], IfSome, map, option_map, string_bytes};
 ghost use Rattle.std.specs.Option.{option_copied};
-ghost use Rattle.mg_words.specs.Plain.{budget_in_one as budget_in_one_spec, budget_in_two as budget_in_two_spec, plain_budget as plain_budget_spec, default_budget, IsBudget};
+ghost use Rattle.mg_words.specs.Plain.{budget_in_one as budget_in_one_spec, budget_in_two as budget_in_two_spec, plain_budget as plain_budget_spec, IsBudget};
 ghost use Rattle.mg_words.specs.Tasks.{as_task, IsWithin, plain_name as plain_name_spec, plain_names as plain_names_spec, plain_build as plain_build_spec, plain_trial as plain_trial_spec, plain_migrate as plain_migrate_spec, plain_merge as plain_merge_spec};
 
 use crate::plain::{is_plain_name, plain_number};

@@ -1,5 +1,4 @@
 // What a command line asks for.
-ghost use Rattle.std.specs.Prelude.{◌≡◌};
 
 /// A tool, and the values of its arguments.
 #[derive(Clone, Copy, Debug, PartialEq, Eq)]
