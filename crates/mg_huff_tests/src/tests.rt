@@ -1,7 +1,7 @@
 ghost use Rattle.std.specs.Prelude.{◌*◌, ◌^◌, ◌<◌, ◌≤◌, IfOk, sum};
 ghost use Rattle.std.specs.List.{All};
 
-use super::*;
+use mg_huff::lengths;
 use std::alloc::{AllocError, Global};
 use std::test::Fail;
 
