@@ -1,4 +1,4 @@
-use crate::{doc_term_weight, isqrt, lg, score, term_weight};
+use mg_fixed::{doc_term_weight, isqrt, lg, score, term_weight};
 use std::test::Fail;
 
 /// A number, its logarithm and its root, as an independent reference gives them.
