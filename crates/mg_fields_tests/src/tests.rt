@@ -1,5 +1,5 @@
 // The bytes of numbers, from outside, and that what was written is read.
-use crate::{eight_at, eight_bytes, four_at, four_bytes};
+use mg_fields::{eight_at, eight_bytes, four_at, four_bytes};
 use std::test::Fail;
 
 #[test]
