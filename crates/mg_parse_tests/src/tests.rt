@@ -4,7 +4,7 @@ ghost use Rattle.mg_defs.specs.Pieces.{pieces, left_at_end, other_kind};
 ghost use Rattle.mg_defs.specs.Split.{closed_count, has_open_end};
 ghost use Rattle.mg_parse.specs.Told.{lists};
 
-use super::*;
+use mg_parse::{Offer, Pairs, PieceReader, Splitter, fold, is_word_byte};
 use std::alloc::{AllocError, Global};
 use std::process::Abort;
 use std::test::Fail;
