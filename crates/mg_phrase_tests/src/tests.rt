@@ -1,5 +1,5 @@
 //! Worked places, and the edges of 64 words and of 255 bytes.
-use crate::{QueryErr, parse_phrase, phrase_places};
+use mg_phrase::{QueryErr, parse_phrase, phrase_places};
 use std::alloc::{AllocError, Global};
 use std::test::Fail;
 
