@@ -107,17 +107,10 @@ fn codes_are_those_of_the_book(rt: HostRuntime) -> Result<(), Fail> {
     let alloc = rt.alloc();
     let mut store = SureStore::new(alloc);
     let ten: &[u64] = &[1, 2, 3, 4, 5, 6, 7, 8, 9, 10];
+    let ones: &[u8] = &[0x5b, 0xbd, 0xf7, 0xef, 0xef, 0xf7, 0xfc];
     let cases: [(Kind, &[u64], &[u8]); 5] = [
-        (
-            Kind::Unary,
-            ten,
-            &[0x5b, 0xbd, 0xf7, 0xef, 0xef, 0xf7, 0xfc],
-        ),
-        (
-            Kind::Golomb(1),
-            ten,
-            &[0x5b, 0xbd, 0xf7, 0xef, 0xef, 0xf7, 0xfc],
-        ),
+        (Kind::Unary, ten, ones),
+        (Kind::Golomb(1), ten, ones),
         (Kind::Golomb(3), ten, &[0x13, 0x95, 0x79, 0xad, 0xf0]),
         (Kind::Golomb(6), ten, &[0x05, 0x15, 0x9e, 0x26, 0x95]),
         (Kind::Gamma, &[1, 2, 3, 4, 5, 10], &[0x4b, 0x8c, 0xf2]),
