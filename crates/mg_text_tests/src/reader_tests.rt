@@ -251,16 +251,12 @@ fn three_places(alloc: Global) -> Result<Vec<u8>, AllocError> {
 
 // A store with three documents of such a text each.
 fn three(alloc: Global) -> Result<MemStore, AllocError> {
+    let mut store = store_of(alloc, &EIGHT)?;
     let text = three_texts(alloc)?;
+    store.put_file("set.text", &text)?;
     let places = three_places(alloc)?;
-    let set = Set {
-        version: 2,
-        counts: EIGHT.counts,
-        models: EIGHT.models,
-        text: text.as_slice(),
-        places: places.as_slice(),
-    };
-    store_of(alloc, &set)
+    store.put_file("set.places", &places)?;
+    Ok(store)
 }
 
 // What showing these of the three documents takes: the bytes that are shown, the reads of Text and those of Places.
