@@ -5,6 +5,4 @@
 #![tactic(auto)]
 
 #[cfg(test)]
-mod damage_tests;
-#[cfg(test)]
 mod tests;

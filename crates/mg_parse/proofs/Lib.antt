@@ -1,2 +1,3 @@
 mod Fed
 mod Read
+mod Turned

@@ -7,6 +7,4 @@
 #[cfg(test)]
 mod beside_tests;
 #[cfg(test)]
-mod damage_tests;
-#[cfg(test)]
 mod tests;

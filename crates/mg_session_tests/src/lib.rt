@@ -7,8 +7,6 @@
 #[cfg(test)]
 mod phrase_tests;
 #[cfg(test)]
-mod sessions;
-#[cfg(test)]
 mod tests;
 #[cfg(test)]
 mod wild_tests;
