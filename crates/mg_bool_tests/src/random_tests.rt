@@ -4,7 +4,7 @@ ghost use Rattle.mg_defs.specs.declared.Posting.{Posting};
 ghost use Rattle.mg_post.specs.Writing.{Took};
 
 use crate::tests::answers;
-use mg_dev::{MemStore, PutErr, Store};
+use mg_dev::{MemStore, PartErr, PutErr, Store};
 use mg_post::ListWriter;
 use std::alloc::{AllocError, Global};
 use std::test::Fail;
@@ -167,6 +167,16 @@ fn drawn_word(alloc: Global, seed: &mut u64, sets: &[Documents; 7]) -> Result<Dr
     })
 }
 
+// Appends two lines in brackets, with a sign between them.
+fn put_joined(line: &mut Vec<u8>, left: &[u8], sign: u8, right: &[u8]) -> Result<(), AllocError> {
+    line.push(b'(')?;
+    line.extend_from_slice(left)?;
+    line.push(sign)?;
+    line.extend_from_slice(right)?;
+    line.push(b')')?;
+    Ok(())
+}
+
 // Both, or either, or the rest of these.
 fn joined(alloc: Global, seed: &mut u64, left: &Drawn, right: &Drawn) -> Result<Drawn, AllocError> {
     let signs = [b'&', b'|', b' ', b'|'];
@@ -176,11 +186,7 @@ fn joined(alloc: Global, seed: &mut u64, left: &Drawn, right: &Drawn) -> Result<
     if negated {
         line.push(b'!')?;
     }
-    line.push(b'(')?;
-    line.extend_from_slice(&left.line)?;
-    line.push(sign)?;
-    line.extend_from_slice(&right.line)?;
-    line.push(b')')?;
+    put_joined(&mut line, &left.line, sign, &right.line)?;
     let mut found = if sign == b'|' {
         in_either(&left.found, &right.found)
     } else {
@@ -263,12 +269,36 @@ fn is_answered<S: Store>(
     store: &mut S,
     told: &[(&[u8], u32, u64, u32)],
     query: &Drawn,
-) -> Result<bool, Fail> {
+) -> Result<bool, PartErr> {
     let wanted = numbers_of(alloc, &query.found)?;
     match answers(alloc, store, &query.line, told, ALL)? {
         Some(found) => Ok(found == wanted),
         None => Ok(false),
     }
+}
+
+// Whether a drawn query is answered.
+fn drawn_is_answered<S: Store>(
+    alloc: Global,
+    seed: &mut u64,
+    store: &mut S,
+    told: &[(&[u8], u32, u64, u32)],
+    sets: &[Documents; 7],
+) -> Result<bool, PartErr> {
+    let query = drawn_query(alloc, seed, sets)?;
+    is_answered(alloc, store, told, &query)
+}
+
+// Whether a drawn query of 400 places is answered.
+fn long_is_answered<S: Store>(
+    alloc: Global,
+    seed: &mut u64,
+    store: &mut S,
+    told: &[(&[u8], u32, u64, u32)],
+    sets: &[Documents; 7],
+) -> Result<bool, PartErr> {
+    let query = long_query(alloc, seed, sets)?;
+    is_answered(alloc, store, told, &query)
 }
 
 #[test]
@@ -279,13 +309,13 @@ fn drawn_queries_are_answered(rt: HostRuntime) -> Result<(), Fail> {
         let sets = drawn_sets(&mut seed);
         let mut store = MemStore::new(alloc);
         let mut told = Vec::new(alloc);
-        assert!(rt; put_lists(alloc, &mut store, &sets, &mut told)?);
+        assert!(rt; put_lists(alloc, &mut store, &sets, &mut told) == Ok(true));
         for _line in 0..100u32 {
-            let query = drawn_query(alloc, &mut seed, &sets)?;
-            assert!(rt; is_answered(alloc, &mut store, &told, &query)?);
+            let answered = drawn_is_answered(alloc, &mut seed, &mut store, &told, &sets);
+            assert!(rt; answered == Ok(true));
         }
-        let long = long_query(alloc, &mut seed, &sets)?;
-        assert!(rt; is_answered(alloc, &mut store, &told, &long)?);
+        let answered = long_is_answered(alloc, &mut seed, &mut store, &told, &sets);
+        assert!(rt; answered == Ok(true));
     }
     Ok(())
 }

@@ -50,15 +50,20 @@ const TERMS: [(&[u8], u32, u64, u32); 5] = [
     (b"e", 100, 141, 7),
 ];
 
-// A store with these parts; the numbers of Skip have 8 bytes each.
-fn store_of(alloc: Global, post: &[u8], skip: &[u64]) -> Result<MemStore, AllocError> {
-    let mut store = MemStore::new(alloc);
+// Puts the numbers of Skip, of 8 bytes each.
+fn put_skip(alloc: Global, store: &mut MemStore, skip: &[u64]) -> Result<(), AllocError> {
     let mut bytes = Vec::new(alloc);
     for number in skip {
         bytes.extend_from_slice(&number.to_be_bytes())?;
     }
+    store.put_file("set.skip", bytes.as_slice())
+}
+
+// A store with these parts.
+fn store_of(alloc: Global, post: &[u8], skip: &[u64]) -> Result<MemStore, AllocError> {
+    let mut store = MemStore::new(alloc);
     store.put_file("set.post", post)?;
-    store.put_file("set.skip", bytes.as_slice())?;
+    put_skip(alloc, &mut store, skip)?;
     Ok(store)
 }
 
@@ -143,25 +148,45 @@ fn gives<S: Store>(
     }
 }
 
+// Whether these are the documents without the word `x`, of so many empty ones.
+fn empty_gives(alloc: Global, all: u32, wanted: &[u32]) -> Result<bool, PartErr> {
+    let mut empty = MemStore::new(alloc);
+    gives(alloc, &mut empty, b"!x", &[], all, wanted)
+}
+
 #[test]
 fn lines_are_answered(rt: HostRuntime) -> Result<(), Fail> {
     let alloc = rt.alloc();
-    let mut store = store_of(alloc, &CAT_POST, &CAT_SKIP)?;
-    let terms = &CAT_TERMS;
-    assert!(rt; gives(alloc, &mut store, b"cat & !the", terms, 3, &[3])?);
-    assert!(rt; gives(alloc, &mut store, b"cat dog | sat", terms, 3, &[1, 3])?);
-    assert!(rt; gives(alloc, &mut store, b"cat", terms, 3, &[1, 3])?);
-    assert!(rt; gives(alloc, &mut store, b"cat\r", terms, 3, &[1, 3])?);
-    assert!(rt; gives(alloc, &mut store, b"zebra", terms, 3, &[])?);
-    assert!(rt; gives(alloc, &mut store, b"!zebra", terms, 3, &[1, 2, 3])?);
-    assert!(rt; gives(alloc, &mut store, b"sat | cat", terms, 3, &[1, 3])?);
-    assert!(rt; gives(alloc, &mut store, b"zebra | dog", terms, 3, &[2, 3])?);
-    assert!(rt; gives(alloc, &mut store, b"dog | !the", terms, 3, &[2, 3])?);
     // Two empty documents, and none.
-    let mut empty = MemStore::new(alloc);
-    assert!(rt; gives(alloc, &mut empty, b"!x", &[], 2, &[1, 2])?);
-    assert!(rt; gives(alloc, &mut empty, b"!x", &[], 0, &[])?);
+    assert!(rt; empty_gives(alloc, 2, &[1, 2])?);
+    assert!(rt; empty_gives(alloc, 0, &[])?);
+    let mut store = store_of(alloc, &CAT_POST, &CAT_SKIP)?;
+    let rows: [(&str, &[u32]); 9] = [
+        ("cat & !the", &[3]),
+        ("cat dog | sat", &[1, 3]),
+        ("cat", &[1, 3]),
+        ("cat\r", &[1, 3]),
+        ("zebra", &[]),
+        ("!zebra", &[1, 2, 3]),
+        ("sat | cat", &[1, 3]),
+        ("zebra | dog", &[2, 3]),
+        ("dog | !the", &[2, 3]),
+    ];
+    for (line, wanted) in rows {
+        let given = gives(alloc, &mut store, line.as_bytes(), &CAT_TERMS, 3, wanted)?;
+        assert!(rt; given, "{line}");
+    }
     Ok(())
+}
+
+// How many documents satisfy a line, and the sum of their numbers.
+fn counted(alloc: Global, store: &mut MemStore, line: &[u8]) -> Result<(usize, u64), PartErr> {
+    let found = answers(alloc, store, line, &TERMS, 300)?.unwrap_or(Vec::new(alloc));
+    let mut total = 0u64;
+    for doc in &found {
+        total = total.saturating_add(u64::from(*doc));
+    }
+    Ok((found.len(), total))
 }
 
 #[test]
@@ -198,22 +223,15 @@ fn lists_of_several_blocks_are_joined(rt: HostRuntime) -> Result<(), Fail> {
         (b"!(a & b)", 245, 36415),
     ];
     for (line, count, sum) in rows {
-        let found = answers(alloc, &mut store, line, &TERMS, 300)?.unwrap_or(Vec::new(alloc));
-        assert_eq!(rt; found.len(), count);
-        let mut total = 0u64;
-        for doc in &found {
-            total = total.saturating_add(u64::from(*doc));
-        }
-        assert_eq!(rt; total, sum);
+        let (found, total) = counted(alloc, &mut store, line)?;
+        assert!(rt; found == count);
+        assert!(rt; total == sum);
     }
     Ok(())
 }
 
-#[test]
-fn a_rare_word_reads_two_pages(rt: HostRuntime) -> Result<(), Fail> {
-    let alloc = rt.alloc();
-    // `y x` and then 199,999 times `x`: every posting is of zeros, two bits each in the list of `x`.
-    let post = vec![in alloc; 0u8; 50_003]?;
+// Skip of `y x` and then 199,999 times `x`: every posting is of zeros, two bits each in the list of `x`.
+fn rare_skip(alloc: Global) -> Result<Vec<u64>, AllocError> {
     let mut skip = Vec::new(alloc);
     for block in 0..3_125u64 {
         skip.push(64 * block + 64)?;
@@ -221,14 +239,47 @@ fn a_rare_word_reads_two_pages(rt: HostRuntime) -> Result<(), Fail> {
     }
     skip.push(1)?;
     skip.push(0)?;
+    Ok(skip)
+}
+
+// A store with the parts of these documents.
+fn rare_store(alloc: Global) -> Result<MemStore, AllocError> {
+    let post = vec![in alloc; 0u8; 50_003]?;
+    let skip = rare_skip(alloc)?;
+    store_of(alloc, post.as_slice(), skip.as_slice())
+}
+
+// Whether these of the 200,000 documents are answered, and how many pages of Post that reads.
+fn rare_gives(alloc: Global, line: &[u8], wanted: &[u32]) -> Result<(bool, u64), PartErr> {
+    let mut store = rare_store(alloc)?;
     let terms: [(&[u8], u32, u64, u32); 2] = [(b"x", 200_000, 0, 0), (b"y", 1, 50_000, 3_125)];
-    let mut store = store_of(alloc, post.as_slice(), skip.as_slice())?;
-    assert!(rt; gives(alloc, &mut store, b"y & !x", &terms, 200_000, &[])?);
-    assert!(rt; store.reads_of(Part::Post) <= 2);
-    let mut store = store_of(alloc, post.as_slice(), skip.as_slice())?;
-    assert!(rt; gives(alloc, &mut store, b"y & (x | z)", &terms, 200_000, &[1])?);
-    assert!(rt; store.reads_of(Part::Post) <= 2);
+    let given = gives(alloc, &mut store, line, &terms, 200_000, wanted)?;
+    Ok((given, store.reads_of(Part::Post)))
+}
+
+#[test]
+fn a_rare_word_reads_two_pages(rt: HostRuntime) -> Result<(), Fail> {
+    let alloc = rt.alloc();
+    let (given, pages) = rare_gives(alloc, b"y & !x", &[])?;
+    assert!(rt; given);
+    assert!(rt; pages <= 2);
+    let (given, pages) = rare_gives(alloc, b"y & (x | z)", &[1])?;
+    assert!(rt; given);
+    assert!(rt; pages <= 2);
     Ok(())
+}
+
+// A store whose call of this number fails.
+fn failing_store(alloc: Global, call: u64) -> Result<MemStore, AllocError> {
+    let mut store = store_of(alloc, &POST, &SKIP)?;
+    store.fail_at(call, 0)?;
+    Ok(store)
+}
+
+// How many documents satisfy a query of four places.
+fn count_of_four(alloc: Global, store: &mut MemStore) -> Result<Option<usize>, PartErr> {
+    let found = answers(alloc, store, b"(a | b) & !e | c", &TERMS, 300)?;
+    Ok(found.map(|docs| docs.len()))
 }
 
 #[test]
@@ -236,15 +287,14 @@ fn a_failing_store_is_told_at_each_call(rt: HostRuntime) -> Result<(), Fail> {
     let alloc = rt.alloc();
     // Each of the four places reads a page of Skip and a page of Post; nothing else is called.
     for call in 0..10u64 {
-        let mut store = store_of(alloc, &POST, &SKIP)?;
-        store.fail_at(call, 0)?;
-        let found = answers(alloc, &mut store, b"(a | b) & !e | c", &TERMS, 300);
+        let mut store = failing_store(alloc, call)?;
+        let found = count_of_four(alloc, &mut store);
         if call < 8 {
-            assert_eq!(rt; found.err(), Some(PartErr::Device));
+            assert!(rt; found == Err(PartErr::Device));
             // It is the last call: nothing more is read after a refusal.
-            assert_eq!(rt; store.calls(), call + 1);
+            assert!(rt; store.calls() == call + 1);
         } else {
-            assert_eq!(rt; found?.map(|docs| docs.len()), Some(145));
+            assert!(rt; found == Ok(Some(145)));
         }
     }
     Ok(())

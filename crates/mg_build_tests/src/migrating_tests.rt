@@ -54,9 +54,9 @@ fn both_versions_become_version_2(rt: HostRuntime) -> Result<(), Fail> {
     for (head, places) in [(HEAD, PLACES), (WIDE_HEAD, WIDE_PLACES)] {
         let mut store = old_set(alloc, head, places)?;
         store.put_file("new.text", b"what was there before")?;
-        assert_eq!(rt; migrate(alloc, &mut store, "old", "new"), Ok(1));
+        assert!(rt; migrate(alloc, &mut store, "old", "new") == Ok(1));
         for (_, name, bytes) in COPIED {
-            assert_eq!(rt; store.file(name), Some(bytes), "{name}");
+            assert!(rt; store.file(name) == Some(bytes), "{name}");
         }
         for (name, bytes) in [
             ("new.head", WIDE_HEAD),
@@ -66,10 +66,31 @@ fn both_versions_become_version_2(rt: HostRuntime) -> Result<(), Fail> {
             ("old.head", head),
             ("old.places", places),
         ] {
-            assert_eq!(rt; store.file(name), Some(bytes), "{name}");
+            assert!(rt; store.file(name) == Some(bytes), "{name}");
         }
     }
     Ok(())
+}
+
+// Puts the file of this name, where there is one, in another store too.
+fn copy_file(store: &MemStore, copy: &mut MemStore, name: &str) -> Result<(), AllocError> {
+    if let Some(bytes) = store.file(name) {
+        copy.put_file(name, bytes)?;
+    }
+    Ok(())
+}
+
+// A store with the same sets, no call of which is to fail.
+fn healed(alloc: Global, store: &MemStore) -> Result<MemStore, AllocError> {
+    let mut copy = MemStore::new(alloc);
+    for (old, new, _) in COPIED {
+        copy_file(store, &mut copy, old)?;
+        copy_file(store, &mut copy, new)?;
+    }
+    for name in ["old.head", "old.places", "new.head", "new.places"] {
+        copy_file(store, &mut copy, name)?;
+    }
+    Ok(copy)
 }
 
 // How decoding a base in a store with these files ends; None where it prints other bytes than the set's.
@@ -78,25 +99,18 @@ fn decoded(
     store: &MemStore,
     base: &str,
 ) -> Result<Option<Result<(), Fault>>, AllocError> {
-    let mut copy = MemStore::new(alloc);
-    for (old, new, _) in COPIED {
-        for name in [old, new] {
-            if let Some(bytes) = store.file(name) {
-                copy.put_file(name, bytes)?;
-            }
-        }
-    }
-    for name in ["old.head", "old.places", "new.head", "new.places"] {
-        if let Some(bytes) = store.file(name) {
-            copy.put_file(name, bytes)?;
-        }
-    }
+    let mut copy = healed(alloc, store)?;
     let mut out = MemSink::new(alloc);
     let status = decode(alloc, &mut copy, base, &mut out);
-    if status == Ok(()) && out.bytes() != b"a a a a ".as_slice() {
-        return Ok(None);
-    }
-    Ok(Some(status))
+    let others = status == Ok(()) && out.bytes() != b"a a a a ".as_slice();
+    Ok(if others { None } else { Some(status) })
+}
+
+// How many calls of the store it takes to make the set anew; none where that does not end with one document.
+fn calls_of_migrating(alloc: Global) -> Result<u64, AllocError> {
+    let mut whole = old_set(alloc, HEAD, PLACES)?;
+    let made = migrate(alloc, &mut whole, "old", "new");
+    Ok(if made == Ok(1) { whole.calls() } else { 0 })
 }
 
 #[test]
@@ -104,19 +118,15 @@ fn a_call_that_fails_leaves_the_other_set_and_no_half_of_the_new_one(
     rt: HostRuntime,
 ) -> Result<(), Fail> {
     let alloc = rt.alloc();
-    let mut whole = old_set(alloc, HEAD, PLACES)?;
-    assert_eq!(rt; migrate(alloc, &mut whole, "old", "new"), Ok(1));
-    let calls = whole.calls();
+    let calls = calls_of_migrating(alloc)?;
     assert!(rt; calls > 40);
     for call in 0..calls {
         let mut store = old_set(alloc, HEAD, PLACES)?;
         store.fail_from(call);
-        assert_eq!(rt;
-            migrate(alloc, &mut store, "old", "new"),
-            Err(Fault::StoreFault),
-            "call {call}"
-        );
-        assert_eq!(rt; decoded(alloc, &store, "old")?, Some(Ok(())), "call {call}");
+        let told = migrate(alloc, &mut store, "old", "new");
+        assert!(rt; told == Err(Fault::StoreFault), "call {call}");
+        let kept = decoded(alloc, &store, "old")?;
+        assert!(rt; kept == Some(Ok(())), "call {call}");
         let left = decoded(alloc, &store, "new")?;
         assert!(rt;
             matches!(
@@ -133,15 +143,9 @@ fn a_call_that_fails_leaves_the_other_set_and_no_half_of_the_new_one(
 fn a_set_is_not_made_from_itself_or_from_none(rt: HostRuntime) -> Result<(), Fail> {
     let alloc = rt.alloc();
     let mut store = old_set(alloc, HEAD, PLACES)?;
-    assert_eq!(rt;
-        migrate(alloc, &mut store, "old", "old"),
-        Err(Fault::SameName)
-    );
-    assert_eq!(rt;
-        migrate(alloc, &mut store, "none", "new"),
-        Err(Fault::NotBuilt)
-    );
-    assert_eq!(rt; store.file("new.head"), None);
+    assert!(rt; migrate(alloc, &mut store, "old", "old") == Err(Fault::SameName));
+    assert!(rt; migrate(alloc, &mut store, "none", "new") == Err(Fault::NotBuilt));
+    assert!(rt; store.file("new.head").is_none());
     store.put_file("old.places", b"\0\0\0\0")?;
     let bad = Bad {
         part: Part::Places,
@@ -150,11 +154,8 @@ fn a_set_is_not_made_from_itself_or_from_none(rt: HostRuntime) -> Result<(), Fai
         high: 8,
         found: 4,
     };
-    assert_eq!(rt;
-        migrate(alloc, &mut store, "old", "new"),
-        Err(Fault::Damaged(bad))
-    );
-    assert_eq!(rt; decoded(alloc, &store, "new")?, Some(Err(Fault::NotBuilt)));
+    assert!(rt; migrate(alloc, &mut store, "old", "new") == Err(Fault::Damaged(bad)));
+    assert!(rt; decoded(alloc, &store, "new")? == Some(Err(Fault::NotBuilt)));
     Ok(())
 }
 
@@ -171,9 +172,9 @@ fn giving_less(
     for (name, _, bytes) in COPIED {
         held.put_file(name, bytes)?;
     }
-    held.put_file("old.head", head)?;
-    held.put_file("old.places", places)?;
-    held.put_file(other, given)?;
+    for (name, bytes) in [("old.head", head), ("old.places", places), (other, given)] {
+        held.put_file(name, bytes)?;
+    }
     let mut store = OtherStore::new(held);
     store.changes = part;
     store.from = 0;
@@ -215,12 +216,9 @@ fn a_part_that_gives_fewer_bytes_than_its_size_is_told(rt: HostRuntime) -> Resul
             high: size,
             found: given.len() as u64,
         };
-        assert_eq!(rt;
-            migrate(alloc, &mut store, "old", "new"),
-            Err(Fault::Damaged(bad)),
-            "{other}"
-        );
-        assert_eq!(rt; store.held.file("new.head"), Some(b"".as_slice()));
+        let told = migrate(alloc, &mut store, "old", "new");
+        assert!(rt; told == Err(Fault::Damaged(bad)), "{other}");
+        assert!(rt; store.held.file("new.head") == Some(b"".as_slice()));
     }
     // Places of four bytes are read a number at a time: the second one is not there.
     let given = b"\0\0\0\0";
@@ -232,9 +230,6 @@ fn a_part_that_gives_fewer_bytes_than_its_size_is_told(rt: HostRuntime) -> Resul
         high: 1,
         found: 0,
     };
-    assert_eq!(rt;
-        migrate(alloc, &mut store, "old", "new"),
-        Err(Fault::Damaged(bad))
-    );
+    assert!(rt; migrate(alloc, &mut store, "old", "new") == Err(Fault::Damaged(bad)));
     Ok(())
 }

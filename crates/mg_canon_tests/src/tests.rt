@@ -50,24 +50,53 @@ fn reads_each<F: Feed>(
     true
 }
 
+/// Whether so many symbols are written in their order as the text, and end at this place.
+fn writes_each(
+    alloc: Global,
+    code: &Canon,
+    store: &mut SureStore,
+    symbols: u32,
+    place: u64,
+) -> Result<bool, PutErr>
+    requires { symbols ≤ length code.now }
+{
+    let mut writer = BitWriter::start(alloc, store, TEXT)?;
+    let whole = put_each(code, &mut writer, store, symbols)?;
+    let end = writer.place();
+    if end > 1 << 40 {
+        return Ok(false);
+    }
+    writer.finish(store)?;
+    Ok(whole && end == place)
+}
+
+/// Whether so many symbols stand in their order at the start of the text, and end at this place.
+fn reads_back(
+    alloc: Global,
+    code: &Canon,
+    store: &mut SureStore,
+    symbols: u32,
+    place: u64,
+) -> Result<bool, AllocError>
+    requires { 0 < length code.now }
+{
+    let mut reader = BitReader::new(PageFeed::new(alloc, TEXT)?, 0);
+    Ok(reads_each(code, &mut reader, store, symbols) && reader.place() == place)
+}
+
 #[test]
 fn codewords_are_written_and_read(rt: HostRuntime) -> Result<(), Fail> {
     let alloc = rt.alloc();
     let code = Canon::new(alloc, &[3, 2, 2, 3, 2])?;
-    assert_eq!(rt; code.count(), 5);
-    assert_eq!(rt; [code.length(0), code.length(1), code.length(4)], [3, 2, 2]);
+    assert!(rt; code.count() == 5);
+    assert!(rt; code.length(0) == 3 && code.length(1) == 2 && code.length(4) == 2);
     let mut store = SureStore::new(alloc);
-    let mut writer = BitWriter::start(alloc, &mut store, TEXT)?;
-    assert!(rt; put_each(&code, &mut writer, &mut store, 5)?);
-    assert_eq!(rt; writer.place(), 12);
-    writer.finish(&mut store)?;
+    assert!(rt; writes_each(alloc, &code, &mut store, 5, 12)?);
     // 000 01 10 001 11
     let bytes: &[u8] = &[0x0c, 0x70];
-    assert_eq!(rt; store.file("x.text"), Some(bytes));
-    let mut reader = BitReader::new(PageFeed::new(alloc, TEXT)?, 0);
-    assert!(rt; reads_each(&code, &mut reader, &mut store, 5));
-    assert_eq!(rt; reader.place(), 12);
-    assert_eq!(rt; store.reads_of(Part::Text), 1);
+    assert!(rt; store.file("x.text") == Some(bytes));
+    assert!(rt; reads_back(alloc, &code, &mut store, 5, 12)?);
+    assert!(rt; store.reads_of(Part::Text) == 1);
     Ok(())
 }
 
@@ -76,16 +105,11 @@ fn codewords_up_to_eleven_bits_are_read(rt: HostRuntime) -> Result<(), Fail> {
     let alloc = rt.alloc();
     let code = Canon::new(alloc, &[1, 2, 3, 4, 5, 6, 7, 8, 9, 10, 11, 11])?;
     let mut store = SureStore::new(alloc);
-    let mut writer = BitWriter::start(alloc, &mut store, TEXT)?;
-    assert!(rt; put_each(&code, &mut writer, &mut store, 12)?);
-    assert_eq!(rt; writer.place(), 77);
-    writer.finish(&mut store)?;
+    assert!(rt; writes_each(alloc, &code, &mut store, 12, 77)?);
     // 1, 01, 001 and so on up to 0000000001, then 00000000000 and 00000000001
     let bytes: &[u8] = &[0xa4, 0x42, 0x08, 0x10, 0x10, 0x08, 0x02, 0x00, 0x00, 0x08];
-    assert_eq!(rt; store.file("x.text"), Some(bytes));
-    let mut reader = BitReader::new(PageFeed::new(alloc, TEXT)?, 0);
-    assert!(rt; reads_each(&code, &mut reader, &mut store, 12));
-    assert_eq!(rt; reader.place(), 77);
+    assert!(rt; store.file("x.text") == Some(bytes));
+    assert!(rt; reads_back(alloc, &code, &mut store, 12, 77)?);
     Ok(())
 }
 
@@ -111,17 +135,15 @@ fn a_codeword_cut_at_any_bit_ends(rt: HostRuntime) -> Result<(), Fail> {
         (0b11, 2, 4, 8),
         (0b0111_1111, 8, 1, 2),
     ] {
-        assert_eq!(rt;
-            answer(&code, byte, bits),
-            (Ok(symbol), place),
+        assert!(rt;
+            answer(&code, byte, bits) == (Ok(symbol), place),
             "{bits} bits of {byte}"
         );
     }
     for (byte, bits, at) in [(0, 0, 8), (0b0, 1, 7), (0b1, 1, 7), (0b00, 2, 6)] {
         let end = Err(CodeErr::End { at });
-        assert_eq!(rt;
-            answer(&code, byte, bits),
-            (end, at),
+        assert!(rt;
+            answer(&code, byte, bits) == (end, at),
             "{bits} bits of {byte}"
         );
     }
@@ -131,13 +153,12 @@ fn a_codeword_cut_at_any_bit_ends(rt: HostRuntime) -> Result<(), Fail> {
 #[test]
 fn a_single_symbol_is_a_zero_bit(rt: HostRuntime) -> Result<(), Fail> {
     let code = Canon::new(rt.alloc(), &[1])?;
-    assert_eq!(rt; code.count(), 1);
-    assert_eq!(rt; answer(&code, 0b01, 2), (Ok(0), 7));
-    assert_eq!(rt;
-        answer(&code, 0b01, 1),
-        (Err(CodeErr::Over { at: 7, limit: 1 }), 7)
-    );
-    assert_eq!(rt; answer(&code, 0b01, 0), (Err(CodeErr::End { at: 8 }), 8));
+    assert!(rt; code.count() == 1);
+    assert!(rt; answer(&code, 0b01, 2) == (Ok(0), 7));
+    let over = Err(CodeErr::Over { at: 7, limit: 1 });
+    assert!(rt; answer(&code, 0b01, 1) == (over, 7));
+    let end = Err(CodeErr::End { at: 8 });
+    assert!(rt; answer(&code, 0b01, 0) == (end, 8));
     Ok(())
 }
 
@@ -152,7 +173,7 @@ fn refusal(alloc: Global, lengths: &[u8]) -> Option<CanonErr> {
 #[test]
 fn lengths_of_no_code_are_refused(rt: HostRuntime) -> Result<(), Fail> {
     let alloc = rt.alloc();
-    assert_eq!(rt; refusal(alloc, &[]), None);
+    assert!(rt; refusal(alloc, &[]).is_none());
     let cases: [(&[u8], u32, u8); 5] = [
         (&[0], 0, 0),
         (&[2], 0, 2),
@@ -161,25 +182,23 @@ fn lengths_of_no_code_are_refused(rt: HostRuntime) -> Result<(), Fail> {
         (&[255, 1, 1, 0], 0, 255),
     ];
     for (lengths, symbol, length) in cases {
-        assert_eq!(rt;
-            refusal(alloc, lengths),
-            Some(CanonErr::BadLength { symbol, length }),
-            "{lengths:?}"
+        assert!(rt;
+            refusal(alloc, lengths) == Some(CanonErr::BadLength { symbol, length }),
+            "symbol {symbol} of {length} bits"
         );
     }
     let half = 1u128 << 47;
-    assert_eq!(rt;
-        refusal(alloc, &[2, 2]),
-        Some(CanonErr::Kraft { sum: half })
-    );
-    assert_eq!(rt;
-        refusal(alloc, &[1, 1, 1]),
-        Some(CanonErr::Kraft { sum: 3 * half })
-    );
-    assert_eq!(rt;
-        refusal(alloc, &[1, 48]),
-        Some(CanonErr::Kraft { sum: half + 1 })
-    );
+    let cases: [(&[u8], u128); 3] = [
+        (&[2, 2], half),
+        (&[1, 1, 1], 3 * half),
+        (&[1, 48], half + 1),
+    ];
+    for (lengths, sum) in cases {
+        assert!(rt;
+            refusal(alloc, lengths) == Some(CanonErr::Kraft { sum }),
+            "{sum}"
+        );
+    }
     Ok(())
 }
 
@@ -190,20 +209,50 @@ fn equal_lengths(alloc: Global, many: usize) -> Result<Vec<u8>, AllocError>
     vec![in alloc; 22; many]
 }
 
+/// Whether the symbol is written alone as the text, in so many bits.
+fn writes_one(
+    alloc: Global,
+    code: &Canon,
+    store: &mut SureStore,
+    symbol: u32,
+    bits: u64,
+) -> Result<bool, PutErr>
+    requires { symbol < length code.now }
+{
+    let mut writer = BitWriter::start(alloc, store, TEXT)?;
+    code.put(&mut writer, store, symbol)?;
+    let end = writer.place();
+    if end > 1 << 40 {
+        return Ok(false);
+    }
+    writer.finish(store)?;
+    Ok(end == bits)
+}
+
+/// Whether this symbol stands at the start of the text.
+fn reads_one(
+    alloc: Global,
+    code: &Canon,
+    store: &mut SureStore,
+    symbol: u32,
+) -> Result<bool, AllocError>
+    requires { 0 < length code.now }
+{
+    let mut reader = BitReader::new(PageFeed::new(alloc, TEXT)?, 0);
+    Ok(code.get(&mut reader, store) == Ok(symbol))
+}
+
 #[test]
 fn four_million_symbols_have_a_code(rt: HostRuntime) -> Result<(), Fail> {
     let alloc = rt.alloc();
     let lengths = equal_lengths(alloc, 4_194_304)?;
     let code = Canon::new(alloc, &lengths)?;
-    assert_eq!(rt; code.count(), 4_194_304);
+    drop(lengths);
+    assert!(rt; code.count() == 4_194_304);
     let mut store = SureStore::new(alloc);
-    let mut writer = BitWriter::start(alloc, &mut store, TEXT)?;
-    code.put(&mut writer, &mut store, 4_194_303)?;
-    assert_eq!(rt; writer.place(), 22);
-    writer.finish(&mut store)?;
+    assert!(rt; writes_one(alloc, &code, &mut store, 4_194_303, 22)?);
     let bytes: &[u8] = &[0xff, 0xff, 0xfc];
-    assert_eq!(rt; store.file("x.text"), Some(bytes));
-    let mut reader = BitReader::new(PageFeed::new(alloc, TEXT)?, 0);
-    assert_eq!(rt; code.get(&mut reader, &mut store), Ok(4_194_303));
+    assert!(rt; store.file("x.text") == Some(bytes));
+    assert!(rt; reads_one(alloc, &code, &mut store, 4_194_303)?);
     Ok(())
 }

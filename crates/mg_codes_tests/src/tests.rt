@@ -78,38 +78,95 @@ fn reads_all<F: Feed>(r: &mut BitReader<F>, dev: &mut F::Dev, kind: Kind, number
     true
 }
 
+/// Whether the codes of the numbers are read from a slice.
+fn slice_reads(bytes: &[u8], kind: Kind, numbers: &[u64]) -> bool {
+    let mut slice = BitReader::new(SliceFeed::new(bytes), 0);
+    reads_all(&mut slice, &mut NoDev, kind, numbers)
+}
+
+/// Whether the codes of the numbers are read from the pages of the text.
+fn pages_read(
+    alloc: Global,
+    store: &mut SureStore,
+    kind: Kind,
+    numbers: &[u64],
+) -> Result<bool, AllocError> {
+    let mut paged = BitReader::new(PageFeed::new(alloc, TEXT)?, 0);
+    Ok(reads_all(&mut paged, store, kind, numbers))
+}
+
+/// Whether the codes of the numbers are read from slots of the text.
+fn slots_read(store: &mut SureStore, kind: Kind, numbers: &[u64]) -> bool {
+    let mut slot = [0; 64];
+    let mut small = BitReader::new(SmallFeed::new(TEXT, &mut slot), 0);
+    reads_all(&mut small, store, kind, numbers)
+}
+
 #[test]
 fn codes_are_those_of_the_book(rt: HostRuntime) -> Result<(), Fail> {
     let alloc = rt.alloc();
     let mut store = SureStore::new(alloc);
     let ten: &[u64] = &[1, 2, 3, 4, 5, 6, 7, 8, 9, 10];
+    let ones: &[u8] = &[0x5b, 0xbd, 0xf7, 0xef, 0xef, 0xf7, 0xfc];
     let cases: [(Kind, &[u64], &[u8]); 5] = [
-        (
-            Kind::Unary,
-            ten,
-            &[0x5b, 0xbd, 0xf7, 0xef, 0xef, 0xf7, 0xfc],
-        ),
-        (
-            Kind::Golomb(1),
-            ten,
-            &[0x5b, 0xbd, 0xf7, 0xef, 0xef, 0xf7, 0xfc],
-        ),
+        (Kind::Unary, ten, ones),
+        (Kind::Golomb(1), ten, ones),
         (Kind::Golomb(3), ten, &[0x13, 0x95, 0x79, 0xad, 0xf0]),
         (Kind::Golomb(6), ten, &[0x05, 0x15, 0x9e, 0x26, 0x95]),
         (Kind::Gamma, &[1, 2, 3, 4, 5, 10], &[0x4b, 0x8c, 0xf2]),
     ];
     for (kind, numbers, wanted) in cases {
         write_all(alloc, &mut store, kind, numbers)?;
-        assert_eq!(rt; store.file("x.text"), Some(wanted));
-        let mut slice = BitReader::new(SliceFeed::new(wanted), 0);
-        assert!(rt; reads_all(&mut slice, &mut NoDev, kind, numbers));
-        let mut paged = BitReader::new(PageFeed::new(alloc, TEXT)?, 0);
-        assert!(rt; reads_all(&mut paged, &mut store, kind, numbers));
-        let mut slot = [0; 64];
-        let mut small = BitReader::new(SmallFeed::new(TEXT, &mut slot), 0);
-        assert!(rt; reads_all(&mut small, &mut store, kind, numbers));
+        assert!(rt; store.file("x.text") == Some(wanted));
+        assert!(rt; slice_reads(wanted, kind, numbers));
+        assert!(rt; pages_read(alloc, &mut store, kind, numbers)?);
+        assert!(rt; slots_read(&mut store, kind, numbers));
     }
     Ok(())
+}
+
+/// A number or why there is none; None where no code is read at all.
+type Answer = Option<Result<u64, CodeErr>>;
+
+/// The number at the reader's place, of at most `limit`.
+fn get_one<F: Feed>(r: &mut BitReader<F>, dev: &mut F::Dev, kind: Kind, limit: u64) -> Answer
+    requires fits { F.fits r.old.feed (F.device dev.old).files }
+{
+    if r.place() > 1 << 60 || limit < 1 || limit >= 1 << 48 {
+        return None;
+    }
+    match kind {
+        Kind::Unary => Some(get_unary(r, dev, limit)),
+        Kind::Gamma => Some(get_gamma(r, dev, limit)),
+        Kind::Golomb(b) if b >= 1 && b < 1 << 48 => Some(get_golomb(r, dev, b, limit)),
+        _ => None,
+    }
+}
+
+/// The gamma code at a place of a slice.
+fn gamma_of_slice(bytes: &[u8], place: u64, limit: u64) -> Answer {
+    let mut slice = BitReader::new(SliceFeed::new(bytes), place);
+    get_one(&mut slice, &mut NoDev, Kind::Gamma, limit)
+}
+
+/// The number at a place of the text, read from its pages, and the reader's place afterwards.
+fn number_of_pages(
+    alloc: Global,
+    store: &mut SureStore,
+    kind: Kind,
+    place: u64,
+    limit: u64,
+) -> Result<(Answer, u64), AllocError> {
+    let mut paged = BitReader::new(PageFeed::new(alloc, TEXT)?, place);
+    let answer = get_one(&mut paged, store, kind, limit);
+    Ok((answer, paged.place()))
+}
+
+/// The gamma code at a place of the text, read from its slots.
+fn gamma_of_slots(store: &mut SureStore, place: u64, limit: u64) -> Answer {
+    let mut slot = [0; 64];
+    let mut small = BitReader::new(SmallFeed::new(TEXT, &mut slot), place);
+    get_one(&mut small, store, Kind::Gamma, limit)
 }
 
 #[test]
@@ -125,14 +182,13 @@ fn a_limit_tells_an_end_from_a_number_too_large(rt: HostRuntime) -> Result<(), F
     for (byte, place, wanted) in cases {
         let bytes = [byte];
         store.put_file("x.text", &bytes)?;
-        let mut slice = BitReader::new(SliceFeed::new(&bytes), place);
-        assert_eq!(rt; get_gamma(&mut slice, &mut NoDev, 10), wanted);
-        let mut paged = BitReader::new(PageFeed::new(alloc, TEXT)?, place);
-        assert_eq!(rt; get_gamma(&mut paged, &mut store, 10), wanted);
-        assert_eq!(rt; paged.place() == place, wanted.is_err());
-        let mut slot = [0; 64];
-        let mut small = BitReader::new(SmallFeed::new(TEXT, &mut slot), place);
-        assert_eq!(rt; get_gamma(&mut small, &mut store, 10), wanted);
+        let stays = wanted.is_err();
+        let wanted = Some(wanted);
+        assert!(rt; gamma_of_slice(&bytes, place, 10) == wanted);
+        let (paged, end) = number_of_pages(alloc, &mut store, Kind::Gamma, place, 10)?;
+        assert!(rt; paged == wanted);
+        assert!(rt; (end == place) == stays);
+        assert!(rt; gamma_of_slots(&mut store, place, 10) == wanted);
     }
     Ok(())
 }
@@ -145,33 +201,10 @@ fn remainders_near_powers_of_two_are_read_back(rt: HostRuntime) -> Result<(), Fa
     for b in 1..10 {
         let kind = Kind::Short(b as u64);
         write_all(alloc, &mut store, kind, &numbers[..b])?;
-        let mut paged = BitReader::new(PageFeed::new(alloc, TEXT)?, 0);
-        assert!(rt;
-            reads_all(&mut paged, &mut store, kind, &numbers[..b]),
-            "parameter {b}"
-        );
+        let read = pages_read(alloc, &mut store, kind, &numbers[..b])?;
+        assert!(rt; read, "parameter {b}");
     }
     Ok(())
-}
-
-/// The number at the reader's place, of at most `limit`.
-fn get_one<F: Feed>(
-    r: &mut BitReader<F>,
-    dev: &mut F::Dev,
-    kind: Kind,
-    limit: u64,
-) -> Option<Result<u64, CodeErr>>
-    requires fits { F.fits r.old.feed (F.device dev.old).files }
-{
-    if r.place() > 1 << 60 || limit < 1 || limit >= 1 << 48 {
-        return None;
-    }
-    match kind {
-        Kind::Unary => Some(get_unary(r, dev, limit)),
-        Kind::Gamma => Some(get_gamma(r, dev, limit)),
-        Kind::Golomb(b) if b >= 1 && b < 1 << 48 => Some(get_golomb(r, dev, b, limit)),
-        _ => None,
-    }
 }
 
 #[test]
@@ -203,21 +236,18 @@ fn a_number_at_the_limit_is_read_and_one_above_it_is_not(rt: HostRuntime) -> Res
     ];
     for (kind, number) in cases {
         write_all(alloc, &mut store, kind, &[number])?;
-        let mut whole = BitReader::new(PageFeed::new(alloc, TEXT)?, 0);
-        let answer = get_one(&mut whole, &mut store, kind, number);
-        assert_eq!(rt; answer, Some(Ok(number)));
+        let (whole, _end) = number_of_pages(alloc, &mut store, kind, 0, number)?;
+        assert!(rt; whole == Some(Ok(number)));
         let limit = number.saturating_sub(1);
-        let mut less = BitReader::new(PageFeed::new(alloc, TEXT)?, 0);
-        let answer = get_one(&mut less, &mut store, kind, limit);
-        assert_eq!(rt; answer, Some(Err(CodeErr::Over { at: 0, limit })));
-        assert_eq!(rt; less.place(), 0);
+        let (less, place) = number_of_pages(alloc, &mut store, kind, 0, limit)?;
+        assert!(rt; less == Some(Err(CodeErr::Over { at: 0, limit })));
+        assert!(rt; place == 0);
     }
     for b in [half - 1, half, half + 1, most] {
         let kind = Kind::Short(b);
         let numbers = [0, 1, b / 2, b - 2, b - 1];
         write_all(alloc, &mut store, kind, &numbers)?;
-        let mut paged = BitReader::new(PageFeed::new(alloc, TEXT)?, 0);
-        assert!(rt; reads_all(&mut paged, &mut store, kind, &numbers));
+        assert!(rt; pages_read(alloc, &mut store, kind, &numbers)?);
     }
     Ok(())
 }
@@ -246,8 +276,8 @@ fn checksum(bytes: &[u8]) -> u64 {
 #[test]
 fn ten_thousand_numbers_have_the_codes_of_the_reference(rt: HostRuntime) -> Result<(), Fail> {
     let alloc = rt.alloc();
-    let mut store = SureStore::new(alloc);
     let numbers = noise(alloc)?;
+    let mut store = SureStore::new(alloc);
     let cases = [
         (Kind::Gamma, 10344095689174709969),
         (Kind::Golomb(100), 10475281718320723322),
@@ -255,12 +285,11 @@ fn ten_thousand_numbers_have_the_codes_of_the_reference(rt: HostRuntime) -> Resu
         (Kind::Golomb(1000), 3300435713251683687),
     ];
     for (kind, sum) in cases {
-        write_all(alloc, &mut store, kind, &numbers)?;
+        let put = write_all(alloc, &mut store, kind, &numbers);
+        assert!(rt; put == Ok(()));
         let written = store.file("x.text").map(checksum);
-        assert_eq!(rt; written, Some(sum));
-        let mut slot = [0; 64];
-        let mut small = BitReader::new(SmallFeed::new(TEXT, &mut slot), 0);
-        assert!(rt; reads_all(&mut small, &mut store, kind, &numbers));
+        assert!(rt; written == Some(sum));
+        assert!(rt; slots_read(&mut store, kind, &numbers));
     }
     Ok(())
 }

@@ -21,13 +21,13 @@ fn plain(name: &str) -> FileRef<'_> {
 fn a_real_store_keeps_files(rt: HostRuntime) -> Result<(), Fail> {
     let mut store = HostStore::new(rt.alloc(), rt.clone()?);
     let mut buf = [0u8; 4];
-    store.append(&TEXT, b"abc")?;
-    store.append(&TEXT, b"def")?;
-    assert_eq!(rt; store.size(&TEXT)?, Some(6));
-    assert_eq!(rt; store.read_at(&TEXT, 4, &mut buf)?, 2);
-    assert_eq!(rt; &buf[..2], b"ef".as_slice());
-    assert_eq!(rt; store.read_at(&TEXT, 6, &mut buf)?, 0);
-    assert_eq!(rt; store.read_at(&TEXT, u64::MAX, &mut buf)?, 0);
+    assert!(rt; store.append(&TEXT, b"abc") == Ok(()));
+    assert!(rt; store.append(&TEXT, b"def") == Ok(()));
+    assert!(rt; store.size(&TEXT) == Ok(Some(6)));
+    assert!(rt; store.read_at(&TEXT, 4, &mut buf) == Ok(2));
+    assert!(rt; &buf[..2] == b"ef".as_slice());
+    assert!(rt; store.read_at(&TEXT, 6, &mut buf) == Ok(0));
+    assert!(rt; store.read_at(&TEXT, u64::MAX, &mut buf) == Ok(0));
     Ok(())
 }
 
@@ -36,11 +36,11 @@ fn a_real_store_resets_a_file(rt: HostRuntime) -> Result<(), Fail> {
     let mut store = HostStore::new(rt.alloc(), rt.clone()?);
     let mut buf = [0u8; 4];
     let text = plain("mg_dev_reset");
-    assert_eq!(rt; store.size(&text)?, None);
-    assert_eq!(rt; store.read_at(&text, 0, &mut buf)?, 0);
-    store.append(&text, b"abc")?;
-    store.reset(&text)?;
-    assert_eq!(rt; store.size(&text)?, Some(0));
+    assert!(rt; store.size(&text) == Ok(None));
+    assert!(rt; store.read_at(&text, 0, &mut buf) == Ok(0));
+    assert!(rt; store.append(&text, b"abc") == Ok(()));
+    assert!(rt; store.reset(&text) == Ok(()));
+    assert!(rt; store.size(&text) == Ok(Some(0)));
     Ok(())
 }
 
@@ -62,13 +62,14 @@ fn a_real_store_fails_at_directories_and_full_devices(rt: HostRuntime) -> Result
 #[test]
 fn real_sources_and_sinks_move_bytes(rt: HostRuntime) -> Result<(), Fail> {
     let mut out = HostSink::new(fs::create(&rt, "mg_dev_stream")?);
-    out.put(b"some ")?;
-    out.put(b"bytes")?;
+    assert!(rt; out.put(b"some ") == Ok(()));
+    assert!(rt; out.put(b"bytes") == Ok(()));
+    drop(out);
     let mut input = HostSource::new(fs::open(&rt, "mg_dev_stream")?);
     let mut buf = [0u8; 16];
-    assert_eq!(rt; input.read(&mut buf)?, 10);
-    assert_eq!(rt; &buf[..10], b"some bytes".as_slice());
-    assert_eq!(rt; input.read(&mut buf)?, 0);
+    assert!(rt; input.read(&mut buf) == Ok(10));
+    assert!(rt; &buf[..10] == b"some bytes".as_slice());
+    assert!(rt; input.read(&mut buf) == Ok(0));
     Ok(())
 }
 
@@ -77,6 +78,7 @@ fn real_sources_and_sinks_fail(rt: HostRuntime) -> Result<(), Fail> {
     let mut input = HostSource::new(fs::open(&rt, ".")?);
     let mut buf = [0u8; 4];
     assert!(rt; input.read(&mut buf).is_err());
+    drop(input);
     let full = OpenOptions::new().write(true).open(&rt, "/dev/full")?;
     assert!(rt; HostSink::new(full).put(b"a").is_err());
     let (reader, writer) = io::pipe(&rt)?;

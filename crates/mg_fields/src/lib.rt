@@ -49,6 +49,3 @@ pub fn eight_at(bytes: &[u8], at: usize) -> u64
 {
     BigEndian::read_u64(&bytes[at..])
 }
-
-#[cfg(test)]
-mod tests;

@@ -16,6 +16,3 @@ mod weights;
 pub use logarithm::lg;
 pub use root::isqrt;
 pub use weights::{doc_term_weight, score, term_weight};
-
-#[cfg(test)]
-mod tests;

@@ -5,4 +5,6 @@
 #![tactic(auto)]
 
 #[cfg(test)]
+mod damage_tests;
+#[cfg(test)]
 mod tests;

@@ -9,38 +9,43 @@ use mg_front::{FrontEntry, FrontReader, FrontWalk, FrontWriter};
 use std::alloc::{AllocError, Global};
 use std::test::Fail;
 
-const STRINGS: FileRef<'_> = FileRef {
+pub const STRINGS: FileRef<'_> = FileRef {
     base: "set",
     part: Part::Lex,
 };
 
-const PLACES: FileRef<'_> = FileRef {
+pub const PLACES: FileRef<'_> = FileRef {
     base: "set",
     part: Part::LexAt,
 };
 
 // car, card, care, cat, dog, with no field.
-const WORDS: &[u8] = b"\x03car\x03\x01d\x03\x01e\x02\x01t\x03dog";
+pub const WORDS: &[u8] = b"\x03car\x03\x01d\x03\x01e\x02\x01t\x03dog";
 
-const WHOLE_AT: &[u8] = b"\x00\x00\x00\x00\x00\x00\x00\x0d";
+pub const WHOLE_AT: &[u8] = b"\x00\x00\x00\x00\x00\x00\x00\x0d";
 
-fn store_of(alloc: Global, strings: &[u8], places: &[u8]) -> Result<MemStore, PartErr> {
+pub fn store_of(alloc: Global, strings: &[u8], places: &[u8]) -> Result<MemStore, PartErr> {
     let mut store = MemStore::new(alloc);
     store.put_file("set.lex", strings)?;
     store.put_file("set.lexat", places)?;
     Ok(store)
 }
 
+// Whether a reader of the five words tells care by its number, and then dog.
+fn tells_two(alloc: Global, store: &mut MemStore) -> Result<bool, PartErr> {
+    let mut reader = FrontReader::load(alloc, store, STRINGS, PLACES, 0, 5)?;
+    let mut entry = FrontEntry::new();
+    reader.at(store, 2, &mut entry)?;
+    let care = entry.bytes() == b"care".as_slice();
+    reader.at(store, 4, &mut entry)?;
+    Ok(care && entry.bytes() == b"dog".as_slice())
+}
+
 #[test]
 fn entries_are_read_by_number(rt: HostRuntime) -> Result<(), Fail> {
     let alloc = rt.alloc();
     let mut store = store_of(alloc, WORDS, WHOLE_AT)?;
-    let mut reader = FrontReader::load(alloc, &mut store, STRINGS, PLACES, 0, 5)?;
-    let mut entry = FrontEntry::new();
-    reader.at(&mut store, 2, &mut entry)?;
-    assert_eq!(rt; entry.bytes(), b"care".as_slice());
-    reader.at(&mut store, 4, &mut entry)?;
-    assert_eq!(rt; entry.bytes(), b"dog".as_slice());
+    assert!(rt; tells_two(alloc, &mut store)?);
     Ok(())
 }
 
@@ -48,6 +53,12 @@ fn entries_are_read_by_number(rt: HostRuntime) -> Result<(), Fail> {
 fn number_in(alloc: Global, store: &mut MemStore, string: &[u8]) -> Result<Option<u32>, PartErr> {
     let mut reader = FrontReader::load(alloc, store, STRINGS, PLACES, 0, 5)?;
     reader.find(store, string, &mut FrontEntry::new())
+}
+
+// The number of a string among the five words.
+fn number_of(alloc: Global, string: &[u8]) -> Result<Option<u32>, PartErr> {
+    let mut store = store_of(alloc, WORDS, WHOLE_AT)?;
+    number_in(alloc, &mut store, string)
 }
 
 #[test]
@@ -66,8 +77,7 @@ fn strings_are_found_and_others_are_not(rt: HostRuntime) -> Result<(), Fail> {
         (b"cow", None),
         (b"dogs", None),
     ] {
-        let mut store = store_of(alloc, WORDS, WHOLE_AT)?;
-        assert_eq!(rt; number_in(alloc, &mut store, string)?, number);
+        assert!(rt; number_of(alloc, string)? == number);
     }
     Ok(())
 }
@@ -95,7 +105,7 @@ fn is_entry(width: usize, number: u32, before: &[u8], string: &[u8], field: &[u8
 }
 
 // Writes entries, each a string and its field.
-fn written<S: Store>(
+pub fn written<S: Store>(
     alloc: Global,
     store: &mut S,
     width: usize,
@@ -175,9 +185,27 @@ fn entries_are_written(rt: HostRuntime) -> Result<(), Fail> {
         let mut store = MemStore::new(alloc);
         assert!(rt; width <= 24);
         written(alloc, &mut store, width, items)?;
-        assert_eq!(rt; store.file("set.lex"), Some(strings));
-        assert_eq!(rt; store.file("set.lexat"), Some(places));
+        assert!(rt; store.file("set.lex") == Some(strings));
+        assert!(rt; store.file("set.lexat") == Some(places));
     }
+    Ok(())
+}
+
+// The place, bounds and number of a damage.
+pub type Damage = (u64, u64, u64, u64);
+
+// The damage that a call told; None where it succeeded.
+fn damage_of(outcome: Result<(), PartErr>) -> Result<Option<Damage>, PartErr> {
+    match outcome {
+        Ok(()) => Ok(None),
+        Err(PartErr::Bad(bad)) => Ok(Some((bad.at, bad.low, bad.high, bad.found))),
+        Err(refusal) => Err(refusal),
+    }
+}
+
+// Whether five entries without fields are loaded, or the refusal.
+fn loaded(alloc: Global, store: &mut MemStore) -> Result<(), PartErr> {
+    let _reader = FrontReader::load(alloc, store, STRINGS, PLACES, 0, 5)?;
     Ok(())
 }
 
@@ -185,18 +213,13 @@ fn entries_are_written(rt: HostRuntime) -> Result<(), Fail> {
 fn too_few_places_are_refused(rt: HostRuntime) -> Result<(), Fail> {
     let alloc = rt.alloc();
     let mut store = store_of(alloc, WORDS, &WHOLE_AT[..7])?;
-    match FrontReader::load(alloc, &mut store, STRINGS, PLACES, 0, 5) {
-        Err(PartErr::Bad(bad)) => assert_eq!(rt;
-            (bad.at, bad.low, bad.high, bad.found),
-            (0, 8, 8, 7)
-        ),
-        _ => assert!(rt; false, "the size is compared"),
-    }
+    let damage = damage_of(loaded(alloc, &mut store))?;
+    assert!(rt; damage == Some((0, 8, 8, 7)), "the size is compared");
     Ok(())
 }
 
 // The strings of a part, each with a full stop behind it.
-fn walked<S: Store>(
+pub fn walked<S: Store>(
     alloc: Global,
     store: &mut S,
     count: u32,
@@ -211,6 +234,20 @@ fn walked<S: Store>(
     Ok(())
 }
 
+// Whether a walk over so many entries tells these strings, each with a full stop behind it, and this
+// damage.
+pub fn tells(
+    alloc: Global,
+    store: &mut MemStore,
+    count: u32,
+    strings: &[u8],
+    damage: Option<Damage>,
+) -> Result<bool, PartErr> {
+    let mut told = Vec::new(alloc);
+    let found = damage_of(walked(alloc, store, count, &mut told))?;
+    Ok(found == damage && told.as_slice() == strings)
+}
+
 #[test]
 fn a_walk_tells_entries_and_damage(rt: HostRuntime) -> Result<(), Fail> {
     let alloc = rt.alloc();
@@ -222,154 +259,8 @@ fn a_walk_tells_entries_and_damage(rt: HostRuntime) -> Result<(), Fail> {
         (b"\x03car\x02\x01q\x02\x01b", 3, b"car.", Some((4, 1, 1, 0))),
         (b"\x03ca", 1, b"", Some((0, 1, 1, 0))),
     ] {
-        let mut told = Vec::new(alloc);
         let mut store = store_of(alloc, bytes, &[])?;
-        let found = match walked(alloc, &mut store, count, &mut told) {
-            Ok(()) => None,
-            Err(PartErr::Bad(bad)) => Some((bad.at, bad.low, bad.high, bad.found)),
-            Err(_) => Some((0, 0, 0, 0)),
-        };
-        assert_eq!(rt; told.as_slice(), strings);
-        assert_eq!(rt; found, damage);
-    }
-    Ok(())
-}
-
-// How many bytes an entry shares with the one before, its suffix, and what is behind it.
-fn first_entry(rest: &[u8], number: u32) -> Option<(usize, &[u8], &[u8])> {
-    let (shared, rest) = if number % 4 == 0 {
-        (0, rest)
-    } else {
-        let (shared, rest) = rest.split_first()?;
-        (usize::from(*shared), rest)
-    };
-    let (length, rest) = rest.split_first()?;
-    let suffix = rest.get(..usize::from(*length))?;
-    let behind = rest.get(usize::from(*length)..)?;
-    Some((shared, suffix, behind))
-}
-
-// Whether a string that shares so many bytes with the one before may stand behind it.
-fn may_stand(before: &[u8], string: &[u8], number: u32, shared: usize) -> bool {
-    if string.len() > 255 {
-        return false;
-    }
-    if number == 0 {
-        return true;
-    }
-    let mut same = 0usize;
-    for (x, y) in before.iter().zip(string) {
-        if x != y {
-            break;
-        }
-        same = same.wrapping_add(1);
-    }
-    before < string && (number % 4 == 0 || same == shared)
-}
-
-// What a walk over entries without fields is to tell, by a plain decoder: their strings, each with a
-// full stop behind it, and the place, bounds and number of the damage.
-fn decoded(
-    alloc: Global,
-    bytes: &[u8],
-    count: u32,
-    told: &mut Vec<u8>,
-) -> Result<Option<(u64, u64, u64, u64)>, AllocError> {
-    let mut rest = bytes;
-    let mut before: Vec<u8> = Vec::new(alloc);
-    for number in 0..count {
-        let bad = Ok(Some((bytes.len().saturating_sub(rest.len()) as u64, 1, 1, 0)));
-        let Some((shared, suffix, behind)) = first_entry(rest, number) else {
-            return bad;
-        };
-        let Some(prefix) = before.as_slice().get(..shared) else {
-            return bad;
-        };
-        let mut string = Vec::new(alloc);
-        string.extend_from_slice(prefix)?;
-        string.extend_from_slice(suffix)?;
-        if !may_stand(&before, &string, number, shared) {
-            return bad;
-        }
-        told.extend_from_slice(&string)?;
-        told.push(b'.')?;
-        before = string;
-        rest = behind;
-    }
-    let left = rest.len() as u64;
-    if left == 0 {
-        return Ok(None);
-    }
-    Ok(Some((bytes.len().saturating_sub(rest.len()) as u64, 0, 0, left)))
-}
-
-// Whether a walk over these bytes tells what the plain decoder tells; look-ups end too.
-fn tells_what_stands(alloc: Global, bytes: &[u8]) -> Result<bool, PartErr> {
-    let mut wanted = Vec::new(alloc);
-    let damage = decoded(alloc, bytes, 5, &mut wanted)?;
-    let mut store = store_of(alloc, bytes, WHOLE_AT)?;
-    let mut told = Vec::new(alloc);
-    let found = match walked(alloc, &mut store, 5, &mut told) {
-        Ok(()) => None,
-        Err(PartErr::Bad(bad)) => Some((bad.at, bad.low, bad.high, bad.found)),
-        Err(refusal) => return Err(refusal),
-    };
-    let mut reader = FrontReader::load(alloc, &mut store, STRINGS, PLACES, 0, 5)?;
-    let mut entry = FrontEntry::new();
-    let _ = reader.find(&mut store, b"cat", &mut entry);
-    let _ = reader.at(&mut store, 4, &mut entry);
-    Ok(found == damage && told.as_slice() == wanted.as_slice())
-}
-
-#[test]
-fn each_damage_is_told(rt: HostRuntime) -> Result<(), Fail> {
-    let alloc = rt.alloc();
-    for cut in 0..WORDS.len() + 1 {
-        assert!(rt; tells_what_stands(alloc, &WORDS[..cut])?, "cut at {cut}");
-    }
-    for at in 0..WORDS.len() {
-        for change in 1..=255u8 {
-            let mut bytes = WORDS.to_vec(alloc)?;
-            if let Some(byte) = bytes.get_mut(at) {
-                *byte ^= change;
-            }
-            assert!(rt; tells_what_stands(alloc, &bytes)?, "a change at {at}");
-        }
-    }
-    Ok(())
-}
-
-#[test]
-fn a_failed_call_is_told_and_the_next_goes_on(rt: HostRuntime) -> Result<(), Fail> {
-    let alloc = rt.alloc();
-    let items: &[(&[u8], &[u8])] = &[(b"car", b""), (b"card", b"")];
-    for call in 0..5 {
-        let mut store = MemStore::new(alloc);
-        store.fail_at(call, 0)?;
-        let refused = written(alloc, &mut store, 0, items).is_err();
-        assert_eq!(rt; refused, call < 4, "a failure at call {call} of a writer");
-    }
-    for call in 0..3 {
-        let mut store = store_of(alloc, WORDS, WHOLE_AT)?;
-        store.fail_at(call, 0)?;
-        let refused = walked(alloc, &mut store, 5, &mut Vec::new(alloc)).is_err();
-        assert_eq!(rt; refused, call < 2, "a failure at call {call} of a walk");
-    }
-    for call in 0..4 {
-        let mut store = store_of(alloc, WORDS, WHOLE_AT)?;
-        store.fail_at(call, 0)?;
-        let Ok(mut reader) = FrontReader::load(alloc, &mut store, STRINGS, PLACES, 0, 5) else {
-            assert_eq!(rt; call, 0, "a failure at call {call} of a reader");
-            continue;
-        };
-        let mut entry = FrontEntry::new();
-        let first = reader.find(&mut store, b"care", &mut entry);
-        assert_eq!(rt;
-            first.is_err(),
-            call < 3,
-            "a failure at call {call} of a reader"
-        );
-        assert_eq!(rt; reader.find(&mut store, b"care", &mut entry)?, Some(2));
+        assert!(rt; tells(alloc, &mut store, count, strings, damage)?);
     }
     Ok(())
 }
@@ -417,23 +308,51 @@ fn tells_each<S: Store>(
     Ok(true)
 }
 
+// Writes the strings that stand in nine bytes each.
+fn put_strings(alloc: Global, store: &mut MemStore, bytes: &[u8]) -> Result<(), PutErr> {
+    let mut items: Vec<(&[u8], &[u8])> = Vec::new(alloc);
+    for nine in bytes.chunks_exact(9) {
+        items.push((string_of(nine, 1), b""))?;
+    }
+    written(alloc, store, 0, &items)
+}
+
+// Whether each of 100,000 strings is found at its number, and none of its neighbours is.
+fn tells_strings(alloc: Global, store: &mut MemStore, bytes: &[u8]) -> Result<bool, PartErr> {
+    let mut nines: Vec<&[u8]> = Vec::new(alloc);
+    for nine in bytes.chunks_exact(9) {
+        nines.push(nine)?;
+    }
+    let mut reader = FrontReader::load(alloc, store, STRINGS, PLACES, 0, 100_000)?;
+    tells_each(&mut reader, store, &nines)
+}
+
 #[test]
 fn many_strings_are_found_and_their_neighbours_are_not(rt: HostRuntime) -> Result<(), Fail> {
     let alloc = rt.alloc();
     let bytes = random_bytes(alloc, 100_000)?;
-    let mut nines: Vec<&[u8]> = Vec::new(alloc);
-    let mut items: Vec<(&[u8], &[u8])> = Vec::new(alloc);
-    for nine in bytes.chunks_exact(9) {
-        nines.push(nine)?;
-        items.push((string_of(nine, 1), b""))?;
-    }
     let mut store = MemStore::new(alloc);
-    written(alloc, &mut store, 0, &items)?;
-    let mut reader = FrontReader::load(alloc, &mut store, STRINGS, PLACES, 0, 100_000)?;
-    assert!(rt; tells_each(&mut reader, &mut store, &nines)?);
+    put_strings(alloc, &mut store, &bytes)?;
+    assert!(rt; tells_strings(alloc, &mut store, &bytes)?);
     assert!(rt; store.reads_of(Part::Lex) <= 300_000 * 32);
     assert!(rt; store.reads_of(Part::LexAt) <= 300_000 * 16);
     Ok(())
+}
+
+// Whether the strings have these bytes: the first of five whole, of three the last byte alone, and the
+// fifth whole.
+fn shares_all_but_a_byte(
+    alloc: Global,
+    store: &MemStore,
+    first: &[u8],
+    fifth: &[u8],
+) -> Result<bool, AllocError> {
+    let mut wanted = Vec::new(alloc);
+    wanted.push(255)?;
+    wanted.extend_from_slice(first)?;
+    wanted.extend_from_slice(b"\xfe\x01c\xfe\x01d\xfe\x01e\xff")?;
+    wanted.extend_from_slice(fifth)?;
+    Ok(store.file("set.lex") == Some(wanted.as_slice()))
 }
 
 #[test]
@@ -455,15 +374,10 @@ fn long_strings_share_all_but_a_byte(rt: HostRuntime) -> Result<(), Fail> {
     ];
     let mut store = MemStore::new(alloc);
     written(alloc, &mut store, 0, items)?;
-    let mut wanted = Vec::new(alloc);
-    wanted.push(255)?;
-    wanted.extend_from_slice(first)?;
-    wanted.extend_from_slice(b"\xfe\x01c\xfe\x01d\xfe\x01e\xff")?;
-    wanted.extend_from_slice(fifth)?;
-    assert_eq!(rt; store.file("set.lex"), Some(wanted.as_slice()));
+    assert!(rt; shares_all_but_a_byte(alloc, &store, first, fifth)?);
     for (string, number) in [(first, 0), (second, 1), (third, 2), (fourth, 3), (fifth, 4)] {
-        assert_eq!(rt; number_in(alloc, &mut store, string)?, Some(number));
-        assert_eq!(rt; number_in(alloc, &mut store, &string[..254])?, None);
+        assert!(rt; number_in(alloc, &mut store, string)? == Some(number));
+        assert!(rt; number_in(alloc, &mut store, &string[..254])?.is_none());
     }
     Ok(())
 }

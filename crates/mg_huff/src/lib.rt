@@ -72,6 +72,3 @@ pub fn lengths(alloc: Global, counts: &[u64], out: &mut Vec<u8>) -> Result<(), A
     *out = any_lengths(alloc, counts)?;
     Ok(())
 }
-
-#[cfg(test)]
-mod tests;

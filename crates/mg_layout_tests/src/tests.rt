@@ -1,7 +1,7 @@
 // What no clause says: the bytes of real heads, the damages by their numbers, and that calls succeed.
 use mg_dev::{FileRef, MemStore, Part, PartErr};
 use mg_layout::{BUILT, Head, TermInfo, expect_bytes, expect_size};
-use std::alloc::Global;
+use std::alloc::{AllocError, Global};
 use std::test::Fail;
 
 // The head of the eight bytes "a a a a ", which end in no control-B.
@@ -55,12 +55,17 @@ fn load(alloc: Global, bytes: &[u8]) -> Result<Option<Head>, PartErr> {
     Head::load(&mut store, "set")
 }
 
-// The damage that is told, as place, range and number.
-fn damage(alloc: Global, bytes: &[u8]) -> Option<(u64, u64, u64, u64)> {
-    match load(alloc, bytes) {
-        Err(PartErr::Bad(bad)) => Some((bad.at, bad.low, bad.high, bad.found)),
+// The damage that a refusal tells, as place, range and number.
+fn damage_in(refusal: Option<PartErr>) -> Option<(u64, u64, u64, u64)> {
+    match refusal {
+        Some(PartErr::Bad(bad)) => Some((bad.at, bad.low, bad.high, bad.found)),
         _ => None,
     }
+}
+
+// The damage that is told of a head.
+fn damage(alloc: Global, bytes: &[u8]) -> Option<(u64, u64, u64, u64)> {
+    damage_in(load(alloc, bytes).err())
 }
 
 // The head of this version with one number in place of another, highest byte first.
@@ -84,12 +89,51 @@ fn changed(
     Ok(bytes)
 }
 
+// The head of the second version, or of the first, with one number in place of another.
+fn changed_head(
+    alloc: Global,
+    wide: bool,
+    at: usize,
+    width: usize,
+    number: u64,
+) -> Result<Vec<u8>, PartErr> {
+    if wide {
+        changed(alloc, &SECOND, at, width, number)
+    } else {
+        changed(alloc, &FIRST, at, width, number)
+    }
+}
+
+// The damage that is told of such a head.
+fn damage_of(
+    alloc: Global,
+    wide: bool,
+    at: usize,
+    width: usize,
+    number: u64,
+) -> Result<Option<(u64, u64, u64, u64)>, PartErr> {
+    let bytes = changed_head(alloc, wide, at, width, number)?;
+    Ok(damage(alloc, &bytes))
+}
+
+// Whether such a head is read.
+fn is_read(
+    alloc: Global,
+    wide: bool,
+    at: usize,
+    width: usize,
+    number: u64,
+) -> Result<bool, PartErr> {
+    let bytes = changed_head(alloc, wide, at, width, number)?;
+    Ok(load(alloc, &bytes)?.is_some())
+}
+
 #[test]
 fn heads_of_both_versions_are_written_in_one_append(rt: HostRuntime) -> Result<(), Fail> {
     let mut store = MemStore::new(rt.alloc());
     SMALL.write(&mut store, "one")?;
     WIDE.write(&mut store, "two")?;
-    assert_eq!(rt; store.calls(), 2);
+    assert!(rt; store.calls() == 2);
     assert!(rt; store.file("one.head") == Some(FIRST.as_slice()));
     assert!(rt; store.file("two.head") == Some(SECOND.as_slice()));
     Ok(())
@@ -98,10 +142,11 @@ fn heads_of_both_versions_are_written_in_one_append(rt: HostRuntime) -> Result<(
 #[test]
 fn heads_of_both_versions_are_read(rt: HostRuntime) -> Result<(), Fail> {
     let alloc = rt.alloc();
-    assert_eq!(rt; load(alloc, &FIRST)?, Some(SMALL));
-    assert_eq!(rt; load(alloc, &SECOND)?, Some(WIDE));
-    assert_eq!(rt; load(alloc, &[])?, None);
-    assert_eq!(rt; Head::load(&mut MemStore::new(alloc), "set")?, None);
+    assert!(rt; load(alloc, &FIRST)? == Some(SMALL));
+    assert!(rt; load(alloc, &SECOND)? == Some(WIDE));
+    assert!(rt; load(alloc, &[])?.is_none());
+    let mut empty = MemStore::new(alloc);
+    assert!(rt; Head::load(&mut empty, "set") == Ok(None));
     Ok(())
 }
 
@@ -134,17 +179,8 @@ fn each_damage_is_told_with_its_range(rt: HostRuntime) -> Result<(), Fail> {
         (false, 56, 8, 5, 56, 0, 4),
         (true, 72, 8, 5, 72, 0, 4),
     ] {
-        let head = if wide {
-            SECOND.as_slice()
-        } else {
-            FIRST.as_slice()
-        };
-        let bytes = changed(alloc, head, at, width, number)?;
-        assert_eq!(rt;
-            damage(alloc, &bytes),
-            Some((place, low, high, number)),
-            "at {at}"
-        );
+        let told = damage_of(alloc, wide, at, width, number)?;
+        assert!(rt; told == Some((place, low, high, number)), "at {at}");
     }
     Ok(())
 }
@@ -173,13 +209,7 @@ fn fields_at_their_bounds_are_read(rt: HostRuntime) -> Result<(), Fail> {
         (false, 56, 8, 0),
         (true, 72, 8, 4),
     ] {
-        let head = if wide {
-            SECOND.as_slice()
-        } else {
-            FIRST.as_slice()
-        };
-        let bytes = changed(alloc, head, at, width, number)?;
-        assert!(rt; load(alloc, &bytes)?.is_some(), "at {at}");
+        assert!(rt; is_read(alloc, wide, at, width, number)?, "at {at}");
     }
     Ok(())
 }
@@ -197,38 +227,35 @@ fn sizes_are_compared_with_the_version(rt: HostRuntime) -> Result<(), Fail> {
         (80, Some((0, 64, 64, 80))),
         (81, Some((0, 64, 64, 81))),
     ] {
-        assert_eq!(rt;
-            damage(alloc, bytes.get(..size).unwrap_or(&[])),
-            told,
-            "{size} bytes"
-        );
+        let found = damage(alloc, bytes.get(..size).unwrap_or(&[]));
+        assert!(rt; found == told, "{size} bytes");
     }
     if let Some(digit) = bytes.get_mut(6) {
         *digit = b'2';
     }
     for size in [64, 79, 81] {
         let told = Some((0, 80, 80, size as u64));
-        assert_eq!(rt;
-            damage(alloc, bytes.get(..size).unwrap_or(&[])),
-            told,
-            "{size} bytes"
-        );
+        let found = damage(alloc, bytes.get(..size).unwrap_or(&[]));
+        assert!(rt; found == told, "{size} bytes");
     }
     Ok(())
+}
+
+// A store with a head, whose call of this number fails.
+fn failing_store(alloc: Global, call: u64) -> Result<MemStore, AllocError> {
+    let mut store = MemStore::new(alloc);
+    store.put_file("set.head", &FIRST)?;
+    store.fail_at(call, 0)?;
+    Ok(store)
 }
 
 #[test]
 fn a_failing_store_is_no_damage(rt: HostRuntime) -> Result<(), Fail> {
     let alloc = rt.alloc();
     for call in 0..2 {
-        let mut store = MemStore::new(alloc);
-        store.put_file("set.head", &FIRST)?;
-        store.fail_at(call, 0)?;
-        assert_eq!(rt;
-            Head::load(&mut store, "set"),
-            Err(PartErr::Device),
-            "call {call}"
-        );
+        let mut store = failing_store(alloc, call)?;
+        let loaded = Head::load(&mut store, "set");
+        assert!(rt; loaded == Err(PartErr::Device), "call {call}");
     }
     let mut store = MemStore::new(alloc);
     store.fail_at(0, 3)?;
@@ -239,10 +266,9 @@ fn a_failing_store_is_no_damage(rt: HostRuntime) -> Result<(), Fail> {
 
 #[test]
 fn sets_are_built_in_version_2_and_no_version_0_is_read(rt: HostRuntime) -> Result<(), Fail> {
-    assert_eq!(rt; BUILT, 2);
-    let alloc = rt.alloc();
-    let bytes = changed(alloc, &SECOND, 6, 1, 0x30)?;
-    assert_eq!(rt; damage(alloc, &bytes), Some((6, 49, 50, 48)));
+    assert!(rt; BUILT == 2);
+    let told = damage_of(rt.alloc(), true, 6, 1, 0x30)?;
+    assert!(rt; told == Some((6, 49, 50, 48)));
     Ok(())
 }
 
@@ -258,15 +284,10 @@ fn a_size_is_compared(rt: HostRuntime) -> Result<(), Fail> {
         base: "set",
         part: Part::Post,
     };
-    expect_size(&mut store, text, 3)?;
-    expect_size(&mut store, post, 0)?;
-    match expect_size(&mut store, text, 2) {
-        Err(PartErr::Bad(bad)) => assert_eq!(rt;
-            (bad.at, bad.low, bad.high, bad.found),
-            (0, 2, 2, 3)
-        ),
-        _ => assert!(rt; false, "another size is refused"),
-    }
+    assert!(rt; expect_size(&mut store, text, 3) == Ok(()));
+    assert!(rt; expect_size(&mut store, post, 0) == Ok(()));
+    let told = damage_in(expect_size(&mut store, text, 2).err());
+    assert!(rt; told == Some((0, 2, 2, 3)), "another size is refused");
     Ok(())
 }
 
@@ -281,16 +302,12 @@ fn refused(alloc: Global, stored: &[u8], at: u64, wanted: &[u8]) -> Option<(u64,
         base: "set",
         part: Part::Text,
     };
-    match expect_bytes(&mut store, text, at, wanted) {
-        Err(PartErr::Bad(bad)) => Some((bad.at, bad.low, bad.high, bad.found)),
-        _ => None,
-    }
+    damage_in(expect_bytes(&mut store, text, at, wanted).err())
 }
 
 #[test]
 fn bytes_are_compared_from_a_place_on(rt: HostRuntime) -> Result<(), Fail> {
     let alloc = rt.alloc();
-    let mut long = vec![in alloc; 7u8; 9000]?;
     for (at, wanted, told) in [
         (0, b"abc".as_slice(), None),
         (1, b"bc".as_slice(), None),
@@ -299,14 +316,15 @@ fn bytes_are_compared_from_a_place_on(rt: HostRuntime) -> Result<(), Fail> {
         (1, b"bd".as_slice(), Some((2, 100, 100, 99))),
         (2, b"cd".as_slice(), Some((2, 2, 2, 1))),
     ] {
-        assert_eq!(rt; refused(alloc, b"abc", at, wanted), told, "at {at}");
+        assert!(rt; refused(alloc, b"abc", at, wanted) == told, "at {at}");
     }
+    let mut long = vec![in alloc; 7u8; 9000]?;
     let whole = long.to_vec(alloc)?;
-    assert_eq!(rt; refused(alloc, &whole, 0, &long), None);
+    assert!(rt; refused(alloc, &whole, 0, &long).is_none());
     if let Some(byte) = long.get_mut(8999) {
         *byte = 8;
     }
-    assert_eq!(rt; refused(alloc, &whole, 0, &long), Some((8999, 8, 8, 7)));
+    assert!(rt; refused(alloc, &whole, 0, &long) == Some((8999, 8, 8, 7)));
     Ok(())
 }
 
@@ -319,6 +337,6 @@ fn a_term_keeps_what_is_told_of_it(rt: HostRuntime) {
         skip_at: 3,
     };
     let field = info.field();
-    assert_eq!(rt; field, [0, 0, 0, 2, 0, 0, 0, 0, 0, 0, 1, 2, 0, 0, 0, 3]);
-    assert_eq!(rt; TermInfo::of_field(7, &field), info);
+    assert!(rt; field == [0, 0, 0, 2, 0, 0, 0, 0, 0, 0, 1, 2, 0, 0, 0, 3]);
+    assert!(rt; TermInfo::of_field(7, &field) == info);
 }

@@ -3,7 +3,7 @@ ghost use Rattle.std.specs.Prelude.{◌≡◌, ◌==◌, ◌||◌};
 ghost use Rattle.mg_defs.specs.Front.{is_below};
 ghost use Rattle.mg_front.specs.Reading.{FrontFits};
 
-use mg_dev::{MemStore, Part, PartErr, PutErr, Store};
+use mg_dev::{Bad, MemStore, Part, PartErr, PutErr, Store};
 use mg_layout::{Head, TermInfo};
 use mg_lex::{Lex, LexWriter};
 use std::alloc::{AllocError, Global};
@@ -24,6 +24,8 @@ const LEX: &[u8] = b"\x03cat\0\0\0\x02\0\0\0\0\0\0\0\0\0\0\0\0\
     \0\x03dog\0\0\0\x02\0\0\0\0\0\0\0\x01\0\0\0\x01\
     \0\x03sat\0\0\0\x01\0\0\0\0\0\0\0\x02\0\0\0\x02\
     \0\x03the\0\0\0\x02\0\0\0\0\0\0\0\x03\0\0\0\x03";
+
+const LEX_AT: &[u8] = b"\0\0\0\0";
 
 fn head_of(terms: u32) -> Head {
     Head {
@@ -98,11 +100,11 @@ fn a_lexicon_is_written_and_tells_its_terms(rt: HostRuntime) -> Result<(), Fail>
     let mut store = MemStore::new(alloc);
     written(alloc, &mut store, &[(b"a", 1, 0, 0)])?;
     let small: &[u8] = b"\x01a\0\0\0\x01\0\0\0\0\0\0\0\0\0\0\0\0";
-    assert_eq!(rt; store.file("set.lex"), Some(small));
-    assert_eq!(rt; store.file("set.lexat"), Some(b"\0\0\0\0".as_slice()));
+    assert!(rt; store.file("set.lex") == Some(small));
+    assert!(rt; store.file("set.lexat") == Some(LEX_AT));
     written(alloc, &mut store, &TERMS)?;
-    assert_eq!(rt; store.file("set.lex"), Some(LEX));
-    assert_eq!(rt; store.file("set.lexat"), Some(b"\0\0\0\0".as_slice()));
+    assert!(rt; store.file("set.lex") == Some(LEX));
+    assert!(rt; store.file("set.lexat") == Some(LEX_AT));
     let mut number = 0u32;
     for (term, docs, post_at, skip_at) in TERMS {
         let info = TermInfo {
@@ -111,7 +113,7 @@ fn a_lexicon_is_written_and_tells_its_terms(rt: HostRuntime) -> Result<(), Fail>
             post_at,
             skip_at,
         };
-        assert_eq!(rt; told(&mut store, alloc, 4, term)?, Some(info));
+        assert!(rt; told(&mut store, alloc, 4, term)? == Some(info));
         number = number.wrapping_add(1);
     }
     for term in [
@@ -125,10 +127,10 @@ fn a_lexicon_is_written_and_tells_its_terms(rt: HostRuntime) -> Result<(), Fail>
         b"them",
         b"z",
     ] {
-        assert_eq!(rt; told(&mut store, alloc, 4, term)?, None);
+        assert!(rt; told(&mut store, alloc, 4, term)?.is_none());
     }
     written(alloc, &mut store, &[])?;
-    assert_eq!(rt; told(&mut store, alloc, 0, b"cat")?, None);
+    assert!(rt; told(&mut store, alloc, 0, b"cat")?.is_none());
     Ok(())
 }
 
@@ -170,36 +172,73 @@ fn tells_each<S: Store>(
     Ok(true)
 }
 
-#[test]
-fn many_terms_are_told_with_few_reads(rt: HostRuntime) -> Result<(), Fail> {
-    let alloc = rt.alloc();
-    let bytes = many_bytes(alloc, 100_000)?;
+// Writes the lexicon of 100,000 terms of five bytes each, and says whether it tells them all.
+fn tells_terms(alloc: Global, store: &mut MemStore, bytes: &[u8]) -> Result<bool, PartErr> {
     let mut lines: Vec<Line<'_>> = Vec::new(alloc);
     let mut number = 0u32;
     for term in bytes.chunks_exact(5) {
         lines.push((term, number, u64::from(number) << 20, number / 2))?;
         number = number.wrapping_add(1);
     }
+    let Ok(()) = written(alloc, store, &lines) else {
+        return Err(PartErr::Device);
+    };
+    let mut lex = Lex::load(alloc, store, "set", &head_of(100_000))?;
+    tells_each(&mut lex, store, &lines)
+}
+
+#[test]
+fn many_terms_are_told_with_few_reads(rt: HostRuntime) -> Result<(), Fail> {
+    let alloc = rt.alloc();
+    let bytes = many_bytes(alloc, 100_000)?;
     let mut store = MemStore::new(alloc);
-    written(alloc, &mut store, &lines)?;
-    let mut lex = Lex::load(alloc, &mut store, "set", &head_of(100_000))?;
-    assert!(rt; tells_each(&mut lex, &mut store, &lines)?);
+    assert!(rt; tells_terms(alloc, &mut store, &bytes)?);
     assert!(rt; store.reads_of(Part::Lex) <= 200_000 * 32);
     assert!(rt; store.reads_of(Part::LexAt) <= 200_000 * 16);
     Ok(())
 }
 
+// A store with these two parts of a lexicon.
+fn store_of(alloc: Global, lex: &[u8], places: &[u8]) -> Result<MemStore, AllocError> {
+    let mut store = MemStore::new(alloc);
+    store.put_file("set.lex", lex)?;
+    store.put_file("set.lexat", places)?;
+    Ok(store)
+}
+
 // Whether each look-up over these bytes ends, and without a refusal that has no cause.
 fn ends(alloc: Global, bytes: &[u8]) -> Result<bool, AllocError> {
-    let mut store = MemStore::new(alloc);
-    store.put_file("set.lex", bytes)?;
-    store.put_file("set.lexat", &[0; 4])?;
+    let mut store = store_of(alloc, bytes, LEX_AT)?;
     for line in TERMS {
         if let Err(PartErr::Device | PartErr::Memory) = told(&mut store, alloc, 4, line.0) {
             return Ok(false);
         }
     }
     Ok(true)
+}
+
+// Whether each ends where a byte is changed.
+fn ends_changed(alloc: Global, at: usize, change: u8) -> Result<bool, AllocError> {
+    let mut bytes = LEX.to_vec(alloc)?;
+    if let Some(byte) = bytes.get_mut(at) {
+        *byte ^= change;
+    }
+    ends(alloc, &bytes)
+}
+
+// The damage that a look-up over these parts tells.
+fn damage_in(
+    alloc: Global,
+    lex: &[u8],
+    places: &[u8],
+    term: &[u8],
+) -> Result<Option<Bad>, PartErr> {
+    let mut store = store_of(alloc, lex, places)?;
+    match told(&mut store, alloc, 4, term) {
+        Err(PartErr::Bad(bad)) => Ok(Some(bad)),
+        Err(refusal) => Err(refusal),
+        Ok(_) => Ok(None),
+    }
 }
 
 #[test]
@@ -210,59 +249,72 @@ fn damaged_parts_end_a_look_up(rt: HostRuntime) -> Result<(), Fail> {
     }
     for at in 0..LEX.len() {
         for change in [1u8, 2, 4, 8, 16, 32, 64, 128, 255] {
-            let mut bytes = LEX.to_vec(alloc)?;
-            if let Some(byte) = bytes.get_mut(at) {
-                *byte ^= change;
-            }
-            assert!(rt; ends(alloc, &bytes)?, "a change at {at}");
+            assert!(rt; ends_changed(alloc, at, change)?, "a change at {at}");
         }
     }
-    let mut store = MemStore::new(alloc);
-    store.put_file("set.lex", &LEX[..21])?;
-    store.put_file("set.lexat", &[0; 4])?;
-    match told(&mut store, alloc, 4, b"the") {
-        Err(PartErr::Bad(bad)) => assert_eq!(rt; (bad.part, bad.at), (Part::Lex, 0)),
-        other => assert!(rt; false, "a cut part: {other:?}"),
+    match damage_in(alloc, &LEX[..21], LEX_AT, b"the")? {
+        Some(bad) => assert!(rt; bad.part == Part::Lex && bad.at == 0),
+        None => assert!(rt; false, "a cut part"),
     }
     for size in [0, 3, 5, 8] {
-        store.put_file("set.lexat", &[0; 8][..size])?;
-        match told(&mut store, alloc, 4, b"cat") {
-            Err(PartErr::Bad(bad)) => assert_eq!(rt;
-                (bad.part, bad.at, bad.low, bad.high, bad.found),
-                (Part::LexAt, 0, 4, 4, size as u64)
-            ),
-            other => assert!(rt; false, "{size} bytes of places: {other:?}"),
+        match damage_in(alloc, &LEX[..21], &[0; 8][..size], b"cat")? {
+            Some(bad) => {
+                assert!(rt;
+                    bad.part == Part::LexAt && bad.at == 0,
+                    "{size} bytes of places"
+                );
+                let bounds = bad.low == 4 && bad.high == 4;
+                assert!(rt;
+                    bounds && bad.found == size as u64,
+                    "{size} bytes of places"
+                );
+            }
+            None => assert!(rt; false, "{size} bytes of places"),
         }
     }
     Ok(())
+}
+
+// Whether a writer of the terms is refused where one call fails.
+fn write_fails(alloc: Global, call: u64) -> Result<bool, AllocError> {
+    let mut store = MemStore::new(alloc);
+    store.fail_at(call, 0)?;
+    Ok(written(alloc, &mut store, &TERMS).is_err())
+}
+
+// Whether the first look-up of a reader of the terms is refused where one call fails, and the number
+// of what the next finds; None where there is no reader.
+fn look_ups(alloc: Global, call: u64) -> Result<Option<(bool, Option<u32>)>, PartErr> {
+    let mut store = store_of(alloc, LEX, LEX_AT)?;
+    store.fail_at(call, 0)?;
+    let Ok(mut lex) = Lex::load(alloc, &mut store, "set", &head_of(4)) else {
+        return Ok(None);
+    };
+    let fails = lex.find(&mut store, b"sat").is_err();
+    let next = lex.find(&mut store, b"sat")?.map(|info| info.number);
+    Ok(Some((fails, next)))
 }
 
 #[test]
 fn a_failed_call_is_told_and_the_next_goes_on(rt: HostRuntime) -> Result<(), Fail> {
     let alloc = rt.alloc();
     for call in 0..5 {
-        let mut store = MemStore::new(alloc);
-        store.fail_at(call, 0)?;
-        let refused = written(alloc, &mut store, &TERMS).is_err();
-        assert_eq!(rt; refused, call < 4, "a failure at call {call} of a writer");
+        let refused = write_fails(alloc, call)?;
+        assert!(rt;
+            refused == (call < 4),
+            "a failure at call {call} of a writer"
+        );
     }
     for call in 0..4 {
-        let mut store = MemStore::new(alloc);
-        store.put_file("set.lex", LEX)?;
-        store.put_file("set.lexat", &[0; 4])?;
-        store.fail_at(call, 0)?;
-        let Ok(mut lex) = Lex::load(alloc, &mut store, "set", &head_of(4)) else {
-            assert_eq!(rt; call, 0, "a failure at call {call} of a reader");
-            continue;
+        let expected = if call == 0 {
+            None
+        } else {
+            Some((call < 3, Some(2)))
         };
-        let first = lex.find(&mut store, b"sat");
-        assert_eq!(rt;
-            first.is_err(),
-            call < 3,
+        assert!(rt;
+            look_ups(alloc, call)? == expected,
             "a failure at call {call} of a reader"
         );
-        let again = lex.find(&mut store, b"sat")?.map(|info| info.number);
-        assert_eq!(rt; again, Some(2));
     }
     Ok(())
 }

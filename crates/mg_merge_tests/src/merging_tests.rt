@@ -103,13 +103,13 @@ fn make(
 /// A store with the sets of two collections, under `one` and `other`.
 fn sets(alloc: Global, first: &[u8], second: &[u8], budget: u64) -> Result<MemStore, Fail> {
     let mut store = MemStore::new(alloc);
-    if make(alloc, &mut store, first, "one", budget).is_err() {
-        return Err(Fail::from("the first is not built"));
+    let one = make(alloc, &mut store, first, "one", budget).is_ok();
+    let other = make(alloc, &mut store, second, "other", budget).is_ok();
+    if one && other {
+        Ok(store)
+    } else {
+        Err(Fail::from("the first or the second is not built"))
     }
-    if make(alloc, &mut store, second, "other", budget).is_err() {
-        return Err(Fail::from("the second is not built"));
-    }
-    Ok(store)
 }
 
 /// What decoding prints of a set, and how it ends.
@@ -117,6 +117,12 @@ fn decoded(alloc: Global, store: &mut MemStore, base: &str) -> (MemSink, Result<
     let mut out = MemSink::new(alloc);
     let status = decode(alloc, store, base, &mut out);
     (out, status)
+}
+
+/// Whether decoding a set ends well, and prints just these bytes.
+fn prints(alloc: Global, store: &mut MemStore, base: &str, wanted: &[u8]) -> bool {
+    let (out, status) = decoded(alloc, store, base);
+    status == Ok(()) && out.bytes() == wanted
 }
 
 /// The sets under `new` and under `whole` have the same parts.
@@ -135,13 +141,11 @@ fn a_merged_set_is_the_one_that_is_built_of_both(rt: HostRuntime) -> Result<(), 
     for row in ROWS {
         let mut store = sets(alloc, row.first, row.second, 4096)?;
         let merged = merge(alloc, &mut store, "one", "other", "new");
-        assert!(rt; merged.is_ok(), "{merged:?}");
+        assert!(rt; merged.is_ok());
         let whole = make(alloc, &mut store, row.both, "whole", 4096);
-        assert_eq!(rt; merged, whole);
+        assert!(rt; merged == whole);
         assert!(rt; same_parts(&store));
-        let (out, status) = decoded(alloc, &mut store, "new");
-        assert_eq!(rt; status, Ok(()));
-        assert!(rt; out.bytes() == row.both);
+        assert!(rt; prints(alloc, &mut store, "new", row.both));
     }
     Ok(())
 }
@@ -153,26 +157,22 @@ fn sets_of_version_1_are_merged_with_the_cap_of_the_first(rt: HostRuntime) -> Re
     for (name, bytes) in NARROW {
         store.put_file(name, bytes)?;
     }
-    assert_eq!(rt;
-        merge(alloc, &mut store, "one", "other", "new"),
-        Ok(Summary {
-            documents: 4,
-            words: 6,
-            others: 5,
-            terms: 5,
-            occurrences: 12,
-            runs: 1,
-            peak: 144,
-            budget: 16_777_212,
-        })
-    );
-    let (out, status) = decoded(alloc, &mut store, "new");
-    assert!(rt; status == Ok(()) && out.bytes() == BOTH);
-    let budget = merge(alloc, &mut store, "other", "one", "new").map(|summary| summary.budget);
-    assert_eq!(rt; budget, Ok(4096));
+    let wanted = Summary {
+        documents: 4,
+        words: 6,
+        others: 5,
+        terms: 5,
+        occurrences: 12,
+        runs: 1,
+        peak: 144,
+        budget: 16_777_212,
+    };
+    assert!(rt; merge(alloc, &mut store, "one", "other", "new") == Ok(wanted));
+    assert!(rt; prints(alloc, &mut store, "new", BOTH));
+    let turned = merge(alloc, &mut store, "other", "one", "new");
+    assert!(rt; matches!(turned, Ok(summary) if summary.budget == 4096));
     assert!(rt; merge(alloc, &mut store, "one", "one", "new").is_ok());
-    let (out, status) = decoded(alloc, &mut store, "new");
-    assert!(rt; status == Ok(()) && out.bytes() == b"a a a a \x02a a a a ".as_slice());
+    assert!(rt; prints(alloc, &mut store, "new", b"a a a a \x02a a a a "));
     Ok(())
 }
 
@@ -186,12 +186,9 @@ fn three_sets_are_merged_in_either_order(rt: HostRuntime) -> Result<(), Fail> {
     assert!(rt; merge(alloc, &mut store, "other", "third", "back").is_ok());
     assert!(rt; merge(alloc, &mut store, "one", "back", "whole").is_ok());
     assert!(rt; same_parts(&store));
-    let (out, status) = decoded(alloc, &mut store, "new");
-    assert_eq!(rt; status, Ok(()));
-    assert!(rt;
-        out.bytes()
-            == b"the cat sat\n\x02the dog\n\x02Cat, cat & dog!\n\x02a a a a \x02dog\x02\x02cat".as_slice()
-    );
+    let wanted: &[u8] =
+        b"the cat sat\n\x02the dog\n\x02Cat, cat & dog!\n\x02a a a a \x02dog\x02\x02cat";
+    assert!(rt; prints(alloc, &mut store, "new", wanted));
     Ok(())
 }
 
@@ -206,14 +203,12 @@ fn what_can_not_be_merged_is_refused_before_a_file_is_written(rt: HostRuntime) -
         ("one", "none", "new", Fault::NotBuilt),
         ("none", "other", "new", Fault::NotBuilt),
     ] {
-        assert_eq!(rt; merge(alloc, &mut store, first, second, new), Err(fault));
+        let told = merge(alloc, &mut store, first, second, new);
+        assert!(rt; told == Err(fault), "{new}");
     }
     // The first head is damaged: that the second one is missing comes first.
     store.put_file("one.head", b"MGROW")?;
-    assert_eq!(rt;
-        merge(alloc, &mut store, "one", "none", "new"),
-        Err(Fault::NotBuilt)
-    );
+    assert!(rt; merge(alloc, &mut store, "one", "none", "new") == Err(Fault::NotBuilt));
     let bad = Bad {
         part: Part::Head,
         at: 0,
@@ -221,10 +216,7 @@ fn what_can_not_be_merged_is_refused_before_a_file_is_written(rt: HostRuntime) -
         high: 64,
         found: 5,
     };
-    assert_eq!(rt;
-        merge(alloc, &mut store, "one", "other", "new"),
-        Err(Fault::Damaged(bad))
-    );
+    assert!(rt; merge(alloc, &mut store, "one", "other", "new") == Err(Fault::Damaged(bad)));
     assert!(rt; store.file("new.head").is_none());
     Ok(())
 }
@@ -256,37 +248,40 @@ fn healed(alloc: Global, store: &MemStore) -> Result<MemStore, AllocError> {
     Ok(copy)
 }
 
+/// The calls of a merge of the two sets: the number of the first, and the one behind the last; none where it fails.
+fn calls_of_merge(alloc: Global) -> Result<(u64, u64), Fail> {
+    let mut whole = sets(alloc, EIGHT, LETTERS, 4096)?;
+    let begin = whole.calls();
+    let made = merge(alloc, &mut whole, "one", "other", "new").is_ok();
+    let end = if made { whole.calls() } else { begin };
+    Ok((begin, end))
+}
+
+/// Whether the set under `new` is that of both collections, or stands for none.
+fn is_both_or_none(alloc: Global, store: &mut MemStore) -> bool {
+    let (out, status) = decoded(alloc, store, "new");
+    match status {
+        Ok(()) => out.bytes() == BOTH,
+        Err(fault) => matches!(fault, Fault::NotBuilt | Fault::Damaged(_)),
+    }
+}
+
 #[test]
 fn a_call_that_fails_leaves_both_sets_and_no_half_of_the_new_one(
     rt: HostRuntime,
 ) -> Result<(), Fail> {
     let alloc = rt.alloc();
-    let mut whole = sets(alloc, EIGHT, LETTERS, 4096)?;
-    let begin = whole.calls();
-    assert!(rt; merge(alloc, &mut whole, "one", "other", "new").is_ok());
-    let end = whole.calls();
+    let (begin, end) = calls_of_merge(alloc)?;
     assert!(rt; end.saturating_sub(begin) > 40);
     for call in begin..end {
         let mut store = sets(alloc, EIGHT, LETTERS, 4096)?;
         store.fail_from(call);
-        assert_eq!(rt;
-            merge(alloc, &mut store, "one", "other", "new"),
-            Err(Fault::StoreFault),
-            "call {call}"
-        );
+        let told = merge(alloc, &mut store, "one", "other", "new");
+        assert!(rt; told == Err(Fault::StoreFault), "call {call}");
         let mut copy = healed(alloc, &store)?;
-        for (base, bytes) in [("one", EIGHT), ("other", LETTERS)] {
-            let (out, status) = decoded(alloc, &mut copy, base);
-            assert!(rt; status == Ok(()) && out.bytes() == bytes, "call {call}");
-        }
-        let (out, status) = decoded(alloc, &mut copy, "new");
-        assert!(rt;
-            match status {
-                Ok(()) => out.bytes() == BOTH,
-                Err(fault) => matches!(fault, Fault::NotBuilt | Fault::Damaged(_)),
-            },
-            "call {call}"
-        );
+        assert!(rt; prints(alloc, &mut copy, "one", EIGHT), "call {call}");
+        assert!(rt; prints(alloc, &mut copy, "other", LETTERS), "call {call}");
+        assert!(rt; is_both_or_none(alloc, &mut copy), "call {call}");
     }
     Ok(())
 }

@@ -1,3 +1,2 @@
 mod Fed
 mod Read
-mod Turned

@@ -14,8 +14,6 @@ mod bytes;
 mod pairs;
 mod reader;
 mod splitter;
-#[cfg(test)]
-mod tests;
 
 pub use bytes::{PIECE_BYTES, fold, is_term, is_word_byte, word_len};
 pub use mg_defs::Stream;

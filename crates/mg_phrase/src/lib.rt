@@ -11,8 +11,6 @@
 #![tactic(auto)]
 
 mod places;
-#[cfg(test)]
-mod tests;
 
 pub use mg_query::{QueryErr, Terms, parse_phrase};
 pub use places::phrase_places;

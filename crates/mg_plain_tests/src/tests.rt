@@ -103,7 +103,7 @@ fn lines_are_answered_in_both_languages(rt: HostRuntime) -> Result<(), Fail> {
         };
         let mut out = SureSink::new(rt.alloc());
         if row.2.len() <= 1024 {
-            assert_eq!(rt; plain.answer(rt.alloc(), row.2, &row.1, &mut out), Ok(()));
+            assert!(rt; plain.answer(rt.alloc(), row.2, &row.1, &mut out) == Ok(()));
         }
         assert!(rt; out.bytes() == row.3);
     }
@@ -153,17 +153,13 @@ fn a_refused_answer_has_its_cause(rt: HostRuntime) -> Result<(), Fail> {
         failing.fail_at(0, 3)?;
         let mut lacking = Lacking { lacks: 0 };
         if row.1.len() <= 1024 {
-            assert_eq!(rt;
-                plain.answer(rt.alloc(), row.1, &now, &mut failing),
-                Err(ShowErr::Write)
-            );
-            assert_eq!(rt;
-                plain.answer(rt.alloc(), row.1, &now, &mut lacking),
-                Err(ShowErr::Memory)
+            assert!(rt; plain.answer(rt.alloc(), row.1, &now, &mut failing) == Err(ShowErr::Write));
+            assert!(rt;
+                plain.answer(rt.alloc(), row.1, &now, &mut lacking) == Err(ShowErr::Memory)
             );
         }
         assert!(rt; failing.bytes() == row.2);
-        assert_eq!(rt; lacking.lacks, 1);
+        assert!(rt; lacking.lacks == 1);
     }
     Ok(())
 }
@@ -172,20 +168,14 @@ fn a_refused_answer_has_its_cause(rt: HostRuntime) -> Result<(), Fail> {
 fn a_refused_load_has_its_cause(rt: HostRuntime) -> Result<(), Fail> {
     let mut store = MemStore::new(rt.alloc());
     store.put_file("k", K)?;
-    assert_eq!(rt;
-        PlainText::load(rt.alloc(), &mut store, "n").err(),
-        Some(Fault::NoCollection)
-    );
+    assert!(rt; PlainText::load(rt.alloc(), &mut store, "n").err() == Some(Fault::NoCollection));
     // The store's second call asks for the size, and its fourth reads.
     for call in [1, 3] {
         store.fail_at(call, 0)?;
-        assert_eq!(rt;
-            PlainText::load(rt.alloc(), &mut store, "k").err(),
-            Some(Fault::StoreFault)
-        );
+        assert!(rt; PlainText::load(rt.alloc(), &mut store, "k").err() == Some(Fault::StoreFault));
     }
     assert!(rt; PlainText::load(rt.alloc(), &mut store, "k").is_ok());
-    assert_eq!(rt; store.reads_of(Part::Plain), 2);
+    assert!(rt; store.reads_of(Part::Plain) == 2);
     Ok(())
 }
 
@@ -232,24 +222,24 @@ fn a_collection_too_large_or_cut_short_is_refused(rt: HostRuntime) -> Result<(),
     let mut held = SureStore::new(rt.alloc());
     held.put_file("k", K)?;
     let mut store = Claims { size: 40, held };
-    assert_eq!(rt;
-        PlainText::load(rt.alloc(), &mut store, "k").err(),
-        Some(Fault::Changed {
-            what: What::Size,
-            first: 40,
-            second: 39,
-        })
+    assert!(rt;
+        PlainText::load(rt.alloc(), &mut store, "k").err()
+            == Some(Fault::Changed {
+                what: What::Size,
+                first: 40,
+                second: 39,
+            })
     );
     store.size = (1 << 28) + 1;
-    assert_eq!(rt;
-        PlainText::load(rt.alloc(), &mut store, "k").err(),
-        Some(Fault::TooLarge {
-            size: (1 << 28) + 1,
-            most: 1 << 28,
-        })
+    assert!(rt;
+        PlainText::load(rt.alloc(), &mut store, "k").err()
+            == Some(Fault::TooLarge {
+                size: (1 << 28) + 1,
+                most: 1 << 28,
+            })
     );
     let Claims { held, .. } = store;
-    assert_eq!(rt; held.reads_of(Part::Plain), 1);
+    assert!(rt; held.reads_of(Part::Plain) == 1);
     Ok(())
 }
 
@@ -263,30 +253,30 @@ fn sessions_are_printed_and_stop_for_their_cause(rt: HostRuntime) -> Result<(), 
     out.fail_at(2, 1)?;
 
     let mut input = MemSource::new(alloc, b"cat & !the\n.set mode count\ncat\n.quit\ndog\n", 7)?;
-    assert_eq!(rt; scan(alloc, &mut store, "k", &mut input, &mut out), Ok(()));
+    assert!(rt; scan(alloc, &mut store, "k", &mut input, &mut out) == Ok(()));
     assert!(rt; out.bytes() == b"3\n= 1\n= 2\n".as_slice());
-    assert_eq!(rt; store.reads_of(Part::Plain), 1);
+    assert!(rt; store.reads_of(Part::Plain) == 1);
 
     // The output fails after one byte, and keeps that.
     let mut input = MemSource::new(alloc, b"dog\n", 7)?;
     let stopped = scan(alloc, &mut store, "k", &mut input, &mut out);
-    assert_eq!(rt; stopped, Err(Fault::WriteFault));
+    assert!(rt; stopped == Err(Fault::WriteFault));
     assert!(rt; out.bytes() == b"3\n= 1\n= 2\n2".as_slice());
 
     let mut out = MemSink::new(alloc);
     let mut input = MemSource::new(alloc, b"cat\ncat\n", 4)?;
     input.fail_at(1)?;
     let stopped = scan(alloc, &mut store, "k", &mut input, &mut out);
-    assert_eq!(rt; stopped, Err(Fault::ReadFault));
+    assert!(rt; stopped == Err(Fault::ReadFault));
     assert!(rt; out.bytes() == b"1\n3\n= 2\n".as_slice());
 
     let mut out = MemSink::new(alloc);
     let mut input = MemSource::new(alloc, b"cat\n", 4)?;
     let stopped = scan(alloc, &mut store, "n", &mut input, &mut out);
-    assert_eq!(rt; stopped, Err(Fault::NoCollection));
+    assert!(rt; stopped == Err(Fault::NoCollection));
     // The store's ninth call reads the collection.
     let stopped = scan(alloc, &mut store, "k", &mut input, &mut out);
-    assert_eq!(rt; stopped, Err(Fault::StoreFault));
+    assert!(rt; stopped == Err(Fault::StoreFault));
     assert!(rt; out.bytes().is_empty());
     Ok(())
 }

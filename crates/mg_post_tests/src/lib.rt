@@ -7,4 +7,6 @@
 #[cfg(test)]
 mod beside_tests;
 #[cfg(test)]
+mod damage_tests;
+#[cfg(test)]
 mod tests;

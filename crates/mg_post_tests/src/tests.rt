@@ -4,7 +4,7 @@ ghost use Rattle.mg_defs.specs.declared.Posting.{Posting};
 ghost use Rattle.mg_post.specs.Writing.{Took};
 ghost use Rattle.mg_post.specs.Cursor.{CursorFits};
 
-use mg_dev::{MemStore, Part, PartErr, PutErr, Store, SureStore};
+use mg_dev::{Part, PartErr, PutErr, Store, SureStore};
 use mg_layout::TermInfo;
 use mg_post::{Cursor, ListWriter, Posting};
 use std::alloc::Global;
@@ -89,6 +89,23 @@ fn bytes_of(alloc: Global, numbers: &[u64]) -> Result<Vec<u8>, PutErr> {
     Ok(bytes)
 }
 
+// Whether Skip has these numbers of 8 bytes.
+fn skip_has(alloc: Global, store: &SureStore, numbers: &[u64]) -> Result<bool, PutErr> {
+    let bytes = bytes_of(alloc, numbers)?;
+    Ok(store.file("set.skip") == Some(bytes.as_slice()))
+}
+
+// The sizes that lists come to; None where they were not written.
+pub fn sizes_of<S: Store>(
+    alloc: Global,
+    store: &mut S,
+    all: u32,
+    lists: &[&[Posting]],
+) -> Result<Option<(u64, u64)>, PutErr> {
+    let mut infos = Vec::new(alloc);
+    put_lists(alloc, store, all, lists, &mut infos)
+}
+
 // So many bytes, of which some repeat, with one at the end.
 fn cycled(alloc: Global, cycle: &[u8], count: usize, last: u8) -> Result<Vec<u8>, PutErr>
     requires { 0 < length cycle.now }
@@ -137,7 +154,7 @@ pub fn one_list<S: Store>(
 }
 
 #[derive(Clone, Copy, Debug, PartialEq, Eq)]
-enum Step {
+pub enum Step {
     Next,
     To(u32),
 }
@@ -157,7 +174,7 @@ fn one_step<S: Store>(
 }
 
 // What a fresh cursor answers to steps.
-fn taken<S: Store>(
+pub fn taken<S: Store>(
     alloc: Global,
     store: &mut S,
     info: &TermInfo,
@@ -203,100 +220,132 @@ fn wanted(alloc: Global, list: &[Posting], steps: &[Step]) -> Result<Vec<Option<
     Ok(answers)
 }
 
+// Whether a fresh cursor gives these answers to steps.
+fn answers(
+    alloc: Global,
+    store: &mut SureStore,
+    info: &TermInfo,
+    all: u32,
+    steps: &[Step],
+    given: &[Option<Posting>],
+) -> Result<bool, PartErr> {
+    let found = taken(alloc, store, info, all, steps)?;
+    Ok(found.as_slice() == given)
+}
+
+fn posting(doc: u32, freq: u32) -> Posting {
+    Posting { doc, freq }
+}
+
+// Whether each list stands at the byte and at the skip entry of its own number.
+fn at_their_numbers(infos: &[TermInfo]) -> bool {
+    let mut number = 0u32;
+    for info in infos {
+        if info.post_at != u64::from(number) || info.skip_at != number {
+            return false;
+        }
+        number = number.saturating_add(1);
+    }
+    true
+}
+
 #[test]
 fn the_lists_of_small_collections_have_their_bytes(rt: HostRuntime) -> Result<(), Fail> {
     let alloc = rt.alloc();
-    let posting = |doc, freq| Posting { doc, freq };
     let mut store = SureStore::new(alloc);
-    let eight = [posting(1, 4)];
-    let info = one_list(alloc, &mut store, 1, &eight)?;
-    assert_eq!(rt; (info.docs, info.post_at, info.skip_at), (1, 0, 0));
-    assert_eq!(rt; store.file("set.post").unwrap_or(&[]), b"\x60".as_slice());
-    assert_eq!(rt;
-        store.file("set.skip").unwrap_or(&[]),
-        bytes_of(alloc, &[1, 0])?.as_slice()
-    );
+    let info = one_list(alloc, &mut store, 1, &[posting(1, 4)])?;
+    assert!(rt; info.docs == 1 && info.post_at == 0 && info.skip_at == 0);
+    assert!(rt; store.file("set.post") == Some(b"\x60".as_slice()));
+    assert!(rt; skip_has(alloc, &store, &[1, 0])?);
 
     let cat = [posting(1, 1), posting(3, 2)];
     let dog = [posting(2, 1), posting(3, 1)];
     let sat = [posting(1, 1)];
     let the = [posting(1, 1), posting(2, 1)];
     let lists = [cat.as_slice(), &dog, &sat, &the];
-    let mut infos = Vec::new(alloc);
-    assert_eq!(rt;
-        put_lists(alloc, &mut store, 3, &lists, &mut infos)?,
-        Some((4, 4))
-    );
-    assert_eq!(rt;
-        store.file("set.post").unwrap_or(&[]),
-        b"\x28\x80\x00\x00".as_slice()
-    );
-    assert_eq!(rt;
-        store.file("set.skip").unwrap_or(&[]),
-        bytes_of(alloc, &K_ENTRIES)?.as_slice()
-    );
-    let mut number = 0;
-    for info in &infos {
-        assert_eq!(rt; (info.post_at, info.skip_at), (u64::from(number), number));
-        number = number.saturating_add(1);
+    {
+        let mut infos = Vec::new(alloc);
+        let sizes = put_lists(alloc, &mut store, 3, &lists, &mut infos)?;
+        assert!(rt; sizes == Some((4, 4)));
+        assert!(rt; at_their_numbers(infos.as_slice()));
     }
+    assert!(rt; store.file("set.post") == Some(b"\x28\x80\x00\x00".as_slice()));
+    assert!(rt; skip_has(alloc, &store, &K_ENTRIES)?);
     Ok(())
+}
+
+// The documents up to 400 whose numbers three divides, each with its term one to five times.
+fn thirds(alloc: Global) -> Result<Vec<Posting>, PutErr> {
+    let mut list = Vec::new(alloc);
+    for doc in 1..401u32 {
+        if doc % 3 == 0 {
+            list.push(Posting {
+                doc,
+                freq: 1 + doc % 5,
+            })?;
+        }
+    }
+    Ok(list)
+}
+
+// The other documents up to 400, each with its term once.
+fn others(alloc: Global) -> Result<Vec<Posting>, PutErr> {
+    let mut list = Vec::new(alloc);
+    for doc in 1..401u32 {
+        if doc % 3 != 0 {
+            list.push(Posting { doc, freq: 1 })?;
+        }
+    }
+    Ok(list)
+}
+
+// Writes the lists of both; the sizes that they come to.
+fn put_both(alloc: Global, store: &mut SureStore) -> Result<Option<(u64, u64)>, PutErr> {
+    let third = thirds(alloc)?;
+    let other = others(alloc)?;
+    sizes_of(alloc, store, 400, &[third.as_slice(), other.as_slice()])
+}
+
+// Whether Post has the bytes of both.
+fn post_has_both(alloc: Global, store: &SureStore) -> Result<bool, PutErr> {
+    let mut post = cycled(alloc, b"\x98\x92\x66\x58", 106, 0x64)?;
+    let behind = cycled(alloc, b"\x08\x42\x10\x84\x21", 83, 0x80)?;
+    post.extend_from_slice(behind.as_slice())?;
+    Ok(store.file("set.post") == Some(post.as_slice()))
 }
 
 #[test]
 fn two_lists_among_four_hundred_documents_have_their_bytes(rt: HostRuntime) -> Result<(), Fail> {
     let alloc = rt.alloc();
-    let mut third = Vec::new(alloc);
-    let mut other = Vec::new(alloc);
-    for doc in 1..401u32 {
-        if doc % 3 == 0 {
-            third.push(Posting {
-                doc,
-                freq: 1 + doc % 5,
-            })?;
-        } else {
-            other.push(Posting { doc, freq: 1 })?;
-        }
-    }
-    let lists = [third.as_slice(), other.as_slice()];
-    let mut infos = Vec::new(alloc);
     let mut store = SureStore::new(alloc);
-    assert_eq!(rt;
-        put_lists(alloc, &mut store, 400, &lists, &mut infos)?,
-        Some((191, 8))
-    );
-    let mut post = cycled(alloc, b"\x98\x92\x66\x58", 106, 0x64)?;
-    let behind = cycled(alloc, b"\x08\x42\x10\x84\x21", 83, 0x80)?;
-    post.extend_from_slice(behind.as_slice())?;
-    assert_eq!(rt; store.file("set.post").unwrap_or(&[]), post.as_slice());
-    assert_eq!(rt;
-        store.file("set.skip").unwrap_or(&[]),
-        bytes_of(alloc, &Y_ENTRIES)?.as_slice()
-    );
+    let sizes = put_both(alloc, &mut store)?;
+    assert!(rt; sizes == Some((191, 8)));
+    assert!(rt; post_has_both(alloc, &store)?);
+    assert!(rt; skip_has(alloc, &store, &Y_ENTRIES)?);
     Ok(())
+}
+
+// Writes the list of all documents, each with its term once; where it stands.
+fn put_all(alloc: Global, store: &mut SureStore, all: u32) -> Result<TermInfo, PutErr> {
+    let mut list = Vec::new(alloc);
+    for doc in 1..=all {
+        list.push(Posting { doc, freq: 1 })?;
+    }
+    one_list(alloc, store, all, list.as_slice())
 }
 
 #[test]
 fn a_block_in_the_middle_costs_one_page_of_each_part(rt: HostRuntime) -> Result<(), Fail> {
     let alloc = rt.alloc();
     let mut store = SureStore::new(alloc);
-    let mut list = Vec::new(alloc);
-    for doc in 1..201u32 {
-        list.push(Posting { doc, freq: 1 })?;
-    }
-    let info = one_list(alloc, &mut store, 200, list.as_slice())?;
-    assert_eq!(rt; store.file("set.post").unwrap_or(&[]), [0u8; 50].as_slice());
-    assert_eq!(rt;
-        store.file("set.skip").unwrap_or(&[]),
-        bytes_of(alloc, &X_ENTRIES)?.as_slice()
-    );
-    let answers = taken(alloc, &mut store, &info, 200, &[Step::To(150)])?;
-    assert_eq!(rt;
-        answers.as_slice(),
-        [Some(Posting { doc: 150, freq: 1 })].as_slice()
-    );
-    assert_eq!(rt; store.reads_of(Part::Post), 1);
-    assert_eq!(rt; store.reads_of(Part::Skip), 1);
+    let info = put_all(alloc, &mut store, 200)?;
+    assert!(rt; store.file("set.post") == Some([0u8; 50].as_slice()));
+    assert!(rt; skip_has(alloc, &store, &X_ENTRIES)?);
+    let step = [Step::To(150)];
+    let given = [Some(posting(150, 1))];
+    assert!(rt; answers(alloc, &mut store, &info, 200, &step, &given)?);
+    assert!(rt; store.reads_of(Part::Post) == 1);
+    assert!(rt; store.reads_of(Part::Skip) == 1);
     Ok(())
 }
 
@@ -304,30 +353,19 @@ fn a_block_in_the_middle_costs_one_page_of_each_part(rt: HostRuntime) -> Result<
 fn a_long_list_is_skipped(rt: HostRuntime) -> Result<(), Fail> {
     let alloc = rt.alloc();
     let mut store = SureStore::new(alloc);
-    let mut list = Vec::new(alloc);
-    for doc in 1..200_001u32 {
-        list.push(Posting { doc, freq: 1 })?;
-    }
-    let info = one_list(alloc, &mut store, 200_000, list.as_slice())?;
-    assert_eq!(rt; store.file("set.post").unwrap_or(&[]).len(), 50_000);
-    let answers = taken(alloc, &mut store, &info, 200_000, &[Step::To(150_000)])?;
-    assert_eq!(rt;
-        answers.as_slice(),
-        [Some(Posting {
-            doc: 150_000,
-            freq: 1
-        })]
-        .as_slice()
-    );
-    assert_eq!(rt; store.reads_of(Part::Post), 1);
+    let info = put_all(alloc, &mut store, 200_000)?;
+    assert!(rt; store.file("set.post").unwrap_or(&[]).len() == 50_000);
+    let step = [Step::To(150_000)];
+    let given = [Some(posting(150_000, 1))];
+    assert!(rt; answers(alloc, &mut store, &info, 200_000, &step, &given)?);
+    assert!(rt; store.reads_of(Part::Post) == 1);
     // Entry 2,343 is the one; a page has 256.
-    assert_eq!(rt; store.reads_of(Part::Skip), 10);
+    assert!(rt; store.reads_of(Part::Skip) == 10);
 
     let past = [Step::To(200_001), Step::Next, Step::To(1), Step::Next];
-    let answers = taken(alloc, &mut store, &info, 200_000, &past)?;
-    assert_eq!(rt; answers.as_slice(), [None, None, None, None].as_slice());
-    assert_eq!(rt; store.reads_of(Part::Post), 1);
-    assert_eq!(rt; store.reads_of(Part::Skip), 23);
+    assert!(rt; answers(alloc, &mut store, &info, 200_000, &past, &[None; 4])?);
+    assert!(rt; store.reads_of(Part::Post) == 1);
+    assert!(rt; store.reads_of(Part::Skip) == 23);
     Ok(())
 }
 
@@ -386,108 +424,7 @@ fn lists_around_the_size_of_a_block_answer_as_plain_lists(rt: HostRuntime) -> Re
     let alloc = rt.alloc();
     let mut store = SureStore::new(alloc);
     for count in [1, 63, 64, 65, 128, 130] {
-        assert_eq!(rt; asked_all_ways(alloc, &mut store, count)?, 0);
-    }
-    Ok(())
-}
-
-// A store with the parts of a list of 130 postings, cut or changed.
-fn damaged(
-    alloc: Global,
-    post: &[u8],
-    skip: &[u8],
-    cut: usize,
-    flip: u8,
-    of_skip: bool,
-) -> Result<MemStore, PutErr> {
-    let mut post = post.to_vec(alloc)?;
-    let mut skip = skip.to_vec(alloc)?;
-    let bytes = if of_skip { &mut skip } else { &mut post };
-    if flip == 0 {
-        bytes.truncate(cut);
-    } else if cut < bytes.len() {
-        bytes[cut] ^= flip;
-    }
-    let mut store = MemStore::new(alloc);
-    store.put_file("set.post", post.as_slice())?;
-    store.put_file("set.skip", skip.as_slice())?;
-    Ok(store)
-}
-
-#[test]
-fn every_call_returns_on_damaged_and_cut_parts(rt: HostRuntime) -> Result<(), Fail> {
-    let alloc = rt.alloc();
-    let mut store = SureStore::new(alloc);
-    let list = spaced(alloc, 130, 3, 7)?;
-    let info = one_list(alloc, &mut store, 1000, list.as_slice())?;
-    let post = store.file("set.post").unwrap_or(&[]);
-    let skip = store.file("set.skip").unwrap_or(&[]);
-    let way = [
-        Step::Next,
-        Step::To(460),
-        Step::Next,
-        Step::To(910),
-        Step::Next,
-    ];
-    let mut bad = 0u32;
-    for of_skip in [false, true] {
-        let size = if of_skip { skip.len() } else { post.len() };
-        for cut in 0..size {
-            for flip in [0u8, 1, 128] {
-                let mut hurt = damaged(alloc, post, skip, cut, flip, of_skip)?;
-                match taken(alloc, &mut hurt, &info, 1000, &way) {
-                    Err(PartErr::Bad(_)) => {
-                        bad = bad.saturating_add(1);
-                    }
-                    Err(_) => assert!(rt; false, "no call failed"),
-                    Ok(_) => {}
-                }
-            }
-        }
-    }
-    assert!(rt; bad > 0);
-    let mut empty = MemStore::new(alloc);
-    match taken(alloc, &mut empty, &info, 1000, &[Step::Next]) {
-        Err(PartErr::Bad(found)) => assert_eq!(rt; found.part, Part::Skip),
-        _ => assert!(rt; false, "no entry stands there"),
-    }
-    Ok(())
-}
-
-#[test]
-fn a_failing_store_is_told_at_each_call(rt: HostRuntime) -> Result<(), Fail> {
-    let alloc = rt.alloc();
-    let mut sure = SureStore::new(alloc);
-    let list = spaced(alloc, 130, 3, 7)?;
-    let info = one_list(alloc, &mut sure, 1000, list.as_slice())?;
-    let post = sure.file("set.post").unwrap_or(&[]);
-    let skip = sure.file("set.skip").unwrap_or(&[]);
-    let way = [Step::Next, Step::To(460), Step::To(2000)];
-    for call in 0..4u64 {
-        let mut store = MemStore::new(alloc);
-        store.put_file("set.post", post)?;
-        store.put_file("set.skip", skip)?;
-        store.fail_at(call, 0)?;
-        let answer = taken(alloc, &mut store, &info, 1000, &way);
-        // A page of each part is read; nothing else is called.
-        if call < 2 {
-            assert_eq!(rt; answer.err(), Some(PartErr::Device));
-        } else {
-            assert_eq!(rt; answer?.len(), 3);
-        }
-    }
-    for call in 0..6u64 {
-        let mut store = MemStore::new(alloc);
-        store.fail_at(call, 1)?;
-        let mut infos = Vec::new(alloc);
-        let lists = [list.as_slice()];
-        let answer = put_lists(alloc, &mut store, 1000, &lists, &mut infos);
-        // Two resets, and an append of each part.
-        if call < 4 {
-            assert_eq!(rt; answer.err(), Some(PutErr::Failed));
-        } else {
-            assert_eq!(rt; answer?, Some((post.len() as u64, 3)));
-        }
+        assert!(rt; asked_all_ways(alloc, &mut store, count)? == 0);
     }
     Ok(())
 }

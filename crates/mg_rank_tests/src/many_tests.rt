@@ -84,12 +84,9 @@ fn sixty_four_terms_are_ranked(rt: HostRuntime) -> Result<(), Fail> {
     let alloc = rt.alloc();
     let mut store = MemStore::new(alloc);
     let put = put_parts(alloc, &mut store, &MANY_POST, &MANY_SKIP, &MANY_WEIGHTS);
-    assert_eq!(rt; put, Ok(()));
+    assert!(rt; put == Ok(()));
     let infos = infos_of(alloc, &MANY_TERMS)?;
-    if infos.len() > 64 {
-        return Ok(());
-    }
-    assert_eq!(rt; infos.len(), 64);
+    assert!(rt; infos.len() == 64);
     for (most, rows) in [
         (0, 0),
         (1, 1),
@@ -101,7 +98,7 @@ fn sixty_four_terms_are_ranked(rt: HostRuntime) -> Result<(), Fail> {
         (u32::MAX, 43),
     ] {
         let ranked = ranks(alloc, &mut store, &infos, 48, most, &MANY_ROWS[..rows], 43);
-        assert_eq!(rt; ranked, Ok(true));
+        assert!(rt; ranked == Ok(true));
     }
     Ok(())
 }

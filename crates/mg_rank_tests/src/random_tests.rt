@@ -5,7 +5,7 @@ ghost use Rattle.mg_post.specs.Writing.{Took};
 
 use crate::tests::{info, ranks};
 use mg_defs::Posting;
-use mg_dev::{MemStore, PutErr, Store};
+use mg_dev::{MemStore, PartErr, PutErr, Store};
 use mg_fixed::{doc_term_weight, isqrt, score, term_weight};
 use mg_layout::TermInfo;
 use mg_post::ListWriter;
@@ -201,6 +201,48 @@ fn all_rows(
     Ok(rows)
 }
 
+// Some of these terms, at most 64.
+fn drawn_terms(
+    alloc: Global,
+    seed: &mut u64,
+    told: &[(usize, TermInfo)],
+) -> Result<Vec<(usize, TermInfo)>, AllocError> {
+    let mut terms = Vec::new(alloc);
+    for term in told {
+        if draw(seed) % 3 == 0 && terms.len() < 64 {
+            terms.push(*term)?;
+        }
+    }
+    Ok(terms)
+}
+
+// What the lexicon tells of these terms.
+fn infos_of(alloc: Global, terms: &[(usize, TermInfo)]) -> Result<Vec<TermInfo>, AllocError> {
+    let mut infos = Vec::new(alloc);
+    for term in terms {
+        infos.push(term.1)?;
+    }
+    Ok(infos)
+}
+
+// Whether the query of these terms is answered by the first rows of all, at most so many.
+fn gives_first(
+    alloc: Global,
+    store: &mut MemStore,
+    counts: &Counts,
+    terms: &[(usize, TermInfo)],
+    most: u32,
+) -> Result<bool, PartErr> {
+    let infos = infos_of(alloc, terms)?;
+    let rows = all_rows(alloc, counts, terms)?;
+    let total = rows.len();
+    if infos.len() > 64 || total > 200 {
+        return Ok(false);
+    }
+    let first = &rows[..total.min(most as usize)];
+    ranks(alloc, store, &infos, ALL, most, first, total as u32)
+}
+
 // Whether a drawn query of some of these terms is answered.
 fn is_ranked(
     alloc: Global,
@@ -208,23 +250,10 @@ fn is_ranked(
     store: &mut MemStore,
     counts: &Counts,
     told: &[(usize, TermInfo)],
-) -> Result<bool, Fail> {
-    let mut terms = Vec::new(alloc);
-    let mut infos = Vec::new(alloc);
-    for term in told {
-        if draw(seed) % 3 == 0 && infos.len() < 64 {
-            terms.push(*term)?;
-            infos.push(term.1)?;
-        }
-    }
-    let rows = all_rows(alloc, counts, &terms)?;
-    let total = rows.len();
+) -> Result<bool, PartErr> {
+    let terms = drawn_terms(alloc, seed, told)?;
     let most = [1, 3, 10, 64, 200, 1000][(draw(seed) % 6) as usize];
-    let first = &rows[..total.min(most)];
-    if infos.len() > 64 || total > 200 {
-        return Ok(false);
-    }
-    Ok(ranks(alloc, store, &infos, ALL, most as u32, first, total as u32)?)
+    gives_first(alloc, store, counts, &terms, most)
 }
 
 #[test]
@@ -235,10 +264,11 @@ fn drawn_collections_are_ranked(rt: HostRuntime) -> Result<(), Fail> {
         let counts = drawn_counts(&mut seed);
         let mut store = MemStore::new(alloc);
         let mut told = Vec::new(alloc);
-        assert!(rt; put_lists(alloc, &mut store, &counts, &mut told)?);
-        put_weights(alloc, &mut store, &counts)?;
+        assert!(rt; put_lists(alloc, &mut store, &counts, &mut told) == Ok(true));
+        assert!(rt; put_weights(alloc, &mut store, &counts) == Ok(()));
         for _query in 0..20u32 {
-            assert!(rt; is_ranked(alloc, &mut seed, &mut store, &counts, &told)?);
+            let ranked = is_ranked(alloc, &mut seed, &mut store, &counts, &told);
+            assert!(rt; ranked == Ok(true));
         }
     }
     Ok(())

@@ -4,7 +4,7 @@ ghost use Rattle.std.specs.Prelude.{◌≤◌, length};
 use mg_dev::{MemStore, Part, PartErr, PutErr};
 use mg_layout::TermInfo;
 use mg_rank::{Ranked, Row, rank};
-use std::alloc::Global;
+use std::alloc::{AllocError, Global};
 use std::test::Fail;
 
 pub fn info(number: u32, docs: u32, post_at: u64, skip_at: u32) -> TermInfo {
@@ -51,6 +51,24 @@ const TREES_SKIP: [u64; 12] = [12, 0, 5, 0, 12, 0, 10, 0, 9, 0, 5, 0];
 
 const TREES_WEIGHTS: [u32; 12] = [362, 753, 256, 572, 874, 952, 980, 849, 256, 362, 661, 836];
 
+// Puts the numbers of Skip, of 8 bytes each.
+fn put_skip(alloc: Global, store: &mut MemStore, skip: &[u64]) -> Result<(), AllocError> {
+    let mut bytes = Vec::new(alloc);
+    for number in skip {
+        bytes.extend_from_slice(&number.to_be_bytes())?;
+    }
+    store.put_file("set.skip", &bytes)
+}
+
+// Puts the weights, of 4 bytes each.
+fn put_weights(alloc: Global, store: &mut MemStore, weights: &[u32]) -> Result<(), AllocError> {
+    let mut bytes = Vec::new(alloc);
+    for number in weights {
+        bytes.extend_from_slice(&number.to_be_bytes())?;
+    }
+    store.put_file("set.weights", &bytes)
+}
+
 pub fn put_parts(
     alloc: Global,
     store: &mut MemStore,
@@ -58,17 +76,9 @@ pub fn put_parts(
     skip: &[u64],
     weights: &[u32],
 ) -> Result<(), PutErr> {
-    let mut bytes = Vec::new(alloc);
-    for number in skip {
-        bytes.extend_from_slice(&number.to_be_bytes())?;
-    }
-    let mut fours = Vec::new(alloc);
-    for number in weights {
-        fours.extend_from_slice(&number.to_be_bytes())?;
-    }
     store.put_file("set.post", post)?;
-    store.put_file("set.skip", &bytes)?;
-    store.put_file("set.weights", &fours)?;
+    put_skip(alloc, store, skip)?;
+    put_weights(alloc, store, weights)?;
     Ok(())
 }
 
@@ -106,7 +116,7 @@ fn three_documents_are_ranked(rt: HostRuntime) -> Result<(), Fail> {
     let alloc = rt.alloc();
     let mut store = MemStore::new(alloc);
     let put = put_parts(alloc, &mut store, &THREE_POST, &THREE_SKIP, &THREE_WEIGHTS);
-    assert_eq!(rt; put, Ok(()));
+    assert!(rt; put == Ok(()));
     let one = ranks(
         alloc,
         &mut store,
@@ -116,7 +126,7 @@ fn three_documents_are_ranked(rt: HostRuntime) -> Result<(), Fail> {
         &[(3, 77451), (1, 50002)],
         2,
     );
-    assert_eq!(rt; one, Ok(true));
+    assert!(rt; one == Ok(true));
     let both = ranks(
         alloc,
         &mut store,
@@ -126,12 +136,11 @@ fn three_documents_are_ranked(rt: HostRuntime) -> Result<(), Fail> {
         &[(3, 116177), (2, 61191), (1, 50002)],
         3,
     );
-    assert_eq!(rt; both, Ok(true));
-    assert_eq!(rt;
-        ranks(alloc, &mut store, &[cat(), dog()], 3, 1, &[(3, 116177)], 3),
-        Ok(true)
-    );
-    assert_eq!(rt; ranks(alloc, &mut store, &[], 3, 3, &[], 0), Ok(true));
+    assert!(rt; both == Ok(true));
+    let first = ranks(alloc, &mut store, &[cat(), dog()], 3, 1, &[(3, 116177)], 3);
+    assert!(rt; first == Ok(true));
+    let none = ranks(alloc, &mut store, &[], 3, 3, &[], 0);
+    assert!(rt; none == Ok(true));
     Ok(())
 }
 
@@ -140,12 +149,10 @@ fn the_earlier_of_two_equal_documents_is_first(rt: HostRuntime) -> Result<(), Fa
     let alloc = rt.alloc();
     let mut store = MemStore::new(alloc);
     let put = put_parts(alloc, &mut store, &[0], &[2, 0], &[256, 256]);
-    assert_eq!(rt; put, Ok(()));
+    assert!(rt; put == Ok(()));
     let a = [info(0, 2, 0, 0)];
-    assert_eq!(rt;
-        ranks(alloc, &mut store, &a, 2, 1, &[(1, 65536)], 2),
-        Ok(true)
-    );
+    let first = ranks(alloc, &mut store, &a, 2, 1, &[(1, 65536)], 2);
+    assert!(rt; first == Ok(true));
     Ok(())
 }
 
@@ -154,7 +161,7 @@ fn twelve_documents_are_ranked(rt: HostRuntime) -> Result<(), Fail> {
     let alloc = rt.alloc();
     let mut store = MemStore::new(alloc);
     let put = put_parts(alloc, &mut store, &TREES_POST, &TREES_SKIP, &TREES_WEIGHTS);
-    assert_eq!(rt; put, Ok(()));
+    assert!(rt; put == Ok(()));
     let [ash, bx, elm, fir, oak, yew] = trees();
     let one = ranks(
         alloc,
@@ -165,7 +172,7 @@ fn twelve_documents_are_ranked(rt: HostRuntime) -> Result<(), Fail> {
         &[(9, 115456), (6, 111211), (1, 81648)],
         5,
     );
-    assert_eq!(rt; one, Ok(true));
+    assert!(rt; one == Ok(true));
     let two = ranks(
         alloc,
         &mut store,
@@ -175,19 +182,17 @@ fn twelve_documents_are_ranked(rt: HostRuntime) -> Result<(), Fail> {
         &[(1, 138132), (6, 132689), (9, 115456)],
         10,
     );
-    assert_eq!(rt; two, Ok(true));
-    assert_eq!(rt;
-        ranks(
-            alloc,
-            &mut store,
-            &[bx, yew],
-            12,
-            12,
-            &[(5, 178686), (4, 82263)],
-            2
-        ),
-        Ok(true)
+    assert!(rt; two == Ok(true));
+    let apart = ranks(
+        alloc,
+        &mut store,
+        &[bx, yew],
+        12,
+        12,
+        &[(5, 178686), (4, 82263)],
+        2,
     );
+    assert!(rt; apart == Ok(true));
     let all = [
         (5, 277815),
         (7, 182671),
@@ -211,8 +216,18 @@ fn twelve_documents_are_ranked(rt: HostRuntime) -> Result<(), Fail> {
         &all,
         12,
     );
-    assert_eq!(rt; six, Ok(true));
+    assert!(rt; six == Ok(true));
     Ok(())
+}
+
+// Why three documents are not ranked by this term, if they are not.
+fn refusal(alloc: Global, store: &mut MemStore, term: TermInfo) -> Option<PartErr> {
+    rank(alloc, store, "set", &[term], 3, 3).err()
+}
+
+// Whether the damage of this part is told, by this number.
+fn is_damage(told: Option<PartErr>, part: Part, found: u64) -> bool {
+    matches!(told, Some(PartErr::Bad(bad)) if bad.part == part && bad.found == found)
 }
 
 #[test]
@@ -226,26 +241,26 @@ fn damage_and_failing_calls_are_told(rt: HostRuntime) -> Result<(), Fail> {
         &THREE_SKIP,
         &THREE_WEIGHTS[..2],
     );
-    assert_eq!(rt; put, Ok(()));
-    let cut = rank(alloc, &mut store, "set", &[cat()], 3, 3);
-    let told =
-        matches!(&cut, Err(PartErr::Bad(bad)) if bad.part == Part::Weights && bad.found == 8);
-    assert!(rt; told, "weights that are cut");
+    assert!(rt; put == Ok(()));
+    let cut = refusal(alloc, &mut store, cat());
+    assert!(rt; is_damage(cut, Part::Weights, 8), "weights that are cut");
     let put = put_parts(alloc, &mut store, &THREE_POST, &THREE_SKIP, &THREE_WEIGHTS);
-    assert_eq!(rt; put, Ok(()));
-    let none = rank(alloc, &mut store, "set", &[info(0, 0, 0, 0)], 3, 3);
-    let told = matches!(&none, Err(PartErr::Bad(bad)) if bad.part == Part::Lex && bad.found == 0);
-    assert!(rt; told, "a term that no document has");
+    assert!(rt; put == Ok(()));
+    let none = refusal(alloc, &mut store, info(0, 0, 0, 0));
+    assert!(rt;
+        is_damage(none, Part::Lex, 0),
+        "a term that no document has"
+    );
     let begin = store.calls();
-    let whole = rank(alloc, &mut store, "set", &[cat()], 3, 3);
-    assert!(rt; whole.is_ok(), "no call fails");
+    let whole = refusal(alloc, &mut store, cat());
+    assert!(rt; whole.is_none(), "no call fails");
     let count = store.calls().saturating_sub(begin);
     for call in 0..count {
         let at = store.calls().saturating_add(call);
-        assert_eq!(rt; store.fail_at(at, 0), Ok(()));
-        let failed = rank(alloc, &mut store, "set", &[cat()], 3, 3);
-        assert!(rt; matches!(&failed, Err(PartErr::Device)), "a failing call");
-        assert_eq!(rt; store.calls(), at.saturating_add(1));
+        assert!(rt; store.fail_at(at, 0) == Ok(()));
+        let failed = refusal(alloc, &mut store, cat());
+        assert!(rt; failed == Some(PartErr::Device), "a failing call");
+        assert!(rt; store.calls() == at.saturating_add(1));
     }
     Ok(())
 }

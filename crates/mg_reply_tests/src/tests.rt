@@ -2,13 +2,14 @@
 ghost use Rattle.std.specs.Prelude.{◌≡◌, ℕ, List, ⊤};
 ghost use Rattle.mg_defs.specs.declared.session.Settings.{Settings};
 
-use mg_dev::{MemSink, MemSource, ShowErr, Sink, SureSink, SureSource};
+use mg_dev::{MemSink, MemSource, ShowErr, Sink, Source, SureSink, SureSource};
 use mg_query::QueryErr;
 use mg_reply::{
     Answerer, Command, Hearing, LineErr, LineEvent, LineReader, Mode, ServeErr, Settings,
     put_close, put_count, put_refusal, put_row, put_shown, put_too_long, put_wrong, read_command,
     serve_lines,
 };
+use std::alloc::{AllocError, Global};
 use std::test::Fail;
 
 /// Nothing that is read.
@@ -100,34 +101,51 @@ fn commands_are_read(rt: HostRuntime) -> Result<(), Fail> {
         (b".quit now", Command::Wrong),
     ];
     for row in &rows {
-        assert_eq!(rt; read_command(row.0, &now), row.1);
+        assert!(rt; read_command(row.0, &now) == row.1);
     }
     Ok(())
 }
 
-#[test]
-fn lines_are_cut_however_the_bytes_come(rt: HostRuntime) -> Result<(), Fail> {
-    let mut bytes = b"cat\r\n\ndog\r\r\n".to_vec(rt.alloc())?;
+/// Four lines and one of 1,025 bytes among them.
+fn long_and_short(alloc: Global) -> Result<Vec<u8>, AllocError> {
+    let mut bytes = b"cat\r\n\ndog\r\r\n".to_vec(alloc)?;
     let long = [b'x'; 1025];
     bytes.extend_from_slice(&long)?;
     bytes.extend_from_slice(b"\nlast")?;
+    Ok(bytes)
+}
+
+/// Whether this line comes next.
+fn is_line<I: Source>(reader: &mut LineReader, input: &mut I, line: &[u8]) -> bool {
+    reader.next(input) == Ok(LineEvent::Line) && reader.line() == line
+}
+
+/// Whether the five lines come in turn, the long one as too long, and then the end.
+fn are_lines<I: Source>(input: &mut I) -> bool {
+    let mut reader = LineReader::new();
+    is_line(&mut reader, input, b"cat")
+        && is_line(&mut reader, input, b"")
+        && is_line(&mut reader, input, b"dog\r")
+        && reader.next(input) == Ok(LineEvent::TooLong)
+        && is_line(&mut reader, input, b"last")
+        && reader.next(input) == Ok(LineEvent::End)
+}
+
+/// Whether a reader tells that its input failed.
+fn is_failure_told(alloc: Global) -> Result<bool, AllocError> {
+    let mut failing = MemSource::new(alloc, b"cat\n", 2)?;
+    failing.fail_at(1)?;
+    Ok(LineReader::new().next(&mut failing) == Err(LineErr::Read))
+}
+
+#[test]
+fn lines_are_cut_however_the_bytes_come(rt: HostRuntime) -> Result<(), Fail> {
+    let bytes = long_and_short(rt.alloc())?;
     for step in [1usize, 3, 4096] {
         let mut input = SureSource::new(rt.alloc(), &bytes, step)?;
-        let mut reader = LineReader::new();
-        assert_eq!(rt; reader.next(&mut input), Ok(LineEvent::Line));
-        assert!(rt; reader.line() == b"cat".as_slice());
-        assert_eq!(rt; reader.next(&mut input), Ok(LineEvent::Line));
-        assert!(rt; reader.line().is_empty());
-        assert_eq!(rt; reader.next(&mut input), Ok(LineEvent::Line));
-        assert!(rt; reader.line() == b"dog\r".as_slice());
-        assert_eq!(rt; reader.next(&mut input), Ok(LineEvent::TooLong));
-        assert_eq!(rt; reader.next(&mut input), Ok(LineEvent::Line));
-        assert!(rt; reader.line() == b"last".as_slice());
-        assert_eq!(rt; reader.next(&mut input), Ok(LineEvent::End));
+        assert!(rt; are_lines(&mut input), "{step}");
     }
-    let mut failing = MemSource::new(rt.alloc(), b"cat\n", 2)?;
-    failing.fail_at(1)?;
-    assert_eq!(rt; LineReader::new().next(&mut failing), Err(LineErr::Read));
+    assert!(rt; is_failure_told(rt.alloc())?);
     Ok(())
 }
 
@@ -159,69 +177,59 @@ fn texts_are_written_whole(rt: HostRuntime) -> Result<(), Fail> {
 
 const LINES: &[u8; 33] = b"a\r\n\n.x\nb\n.set mode count\n.quit\nc\n";
 
+/// How a session over these devices ends that repeats each query line.
+fn served<I: Source, O: Sink>(
+    hearing: Hearing,
+    input: &mut I,
+    out: &mut O,
+) -> Result<(), ServeErr> {
+    serve_lines(hearing, &mut Echo, &mut NoDev, input, out)
+}
+
+/// Whether a session over this input ends well and prints just this.
+fn prints(alloc: Global, hearing: Hearing, input: &mut SureSource, wanted: &[u8]) -> bool {
+    let mut out = SureSink::new(alloc);
+    served(hearing, input, &mut out) == Ok(()) && out.bytes() == wanted
+}
+
+/// What the session prints that ends at `.quit`.
+const PRINTED: &[u8] = b"a? bad command\nb";
+
 #[test]
 fn a_session_ends_at_quit(rt: HostRuntime) -> Result<(), Fail> {
     for step in [1usize, 5, 4096] {
         let mut input = SureSource::new(rt.alloc(), LINES, step)?;
-        let mut out = SureSink::new(rt.alloc());
-        assert_eq!(rt;
-            serve_lines(
-                Hearing::Commands,
-                &mut Echo,
-                &mut NoDev,
-                &mut input,
-                &mut out
-            ),
-            Ok(())
-        );
-        assert!(rt; out.bytes() == b"a? bad command\nb".as_slice());
+        assert!(rt; prints(rt.alloc(), Hearing::Commands, &mut input, PRINTED));
     }
     let mut input = SureSource::new(rt.alloc(), LINES, 5)?;
-    let mut out = SureSink::new(rt.alloc());
-    assert_eq!(rt;
-        serve_lines(
-            Hearing::Questions,
-            &mut Echo,
-            &mut NoDev,
-            &mut input,
-            &mut out
-        ),
-        Ok(())
-    );
-    assert!(rt; out.bytes() == b"a.xb.set mode count".as_slice());
+    let wanted = b"a.xb.set mode count";
+    assert!(rt; prints(rt.alloc(), Hearing::Questions, &mut input, wanted));
     Ok(())
+}
+
+/// Whether a session whose output fails at this call tells it, and printed a prefix.
+fn is_cut_by_output(alloc: Global, call: u64) -> Result<bool, AllocError> {
+    let mut out = MemSink::new(alloc);
+    out.fail_at(call, 1)?;
+    let mut input = SureSource::new(alloc, LINES, 4096)?;
+    let ended = served(Hearing::Commands, &mut input, &mut out);
+    Ok(ended == Err(ServeErr::Show(ShowErr::Write)) && PRINTED.starts_with(out.bytes()))
+}
+
+/// Whether a session whose input fails at this call tells it, and printed a prefix.
+fn is_cut_by_input(alloc: Global, call: u64) -> Result<bool, AllocError> {
+    let mut input = MemSource::new(alloc, LINES, 5)?;
+    input.fail_at(call)?;
+    let mut out = SureSink::new(alloc);
+    let ended = served(Hearing::Commands, &mut input, &mut out);
+    Ok(ended == Err(ServeErr::Read) && PRINTED.starts_with(out.bytes()))
 }
 
 #[test]
 fn a_failure_leaves_a_prefix(rt: HostRuntime) -> Result<(), Fail> {
-    let whole = b"a? bad command\nb";
     for call in 0..3u64 {
-        let mut input = SureSource::new(rt.alloc(), LINES, 4096)?;
-        let mut out = MemSink::new(rt.alloc());
-        out.fail_at(call, 1)?;
-        let ended = serve_lines(
-            Hearing::Commands,
-            &mut Echo,
-            &mut NoDev,
-            &mut input,
-            &mut out,
-        );
-        assert_eq!(rt; ended, Err(ServeErr::Show(ShowErr::Write)));
-        assert!(rt; whole.starts_with(out.bytes()));
-        let mut input = MemSource::new(rt.alloc(), LINES, 5)?;
-        input.fail_at(call)?;
-        let mut out = SureSink::new(rt.alloc());
-        assert_eq!(rt;
-            serve_lines(
-                Hearing::Commands,
-                &mut Echo,
-                &mut NoDev,
-                &mut input,
-                &mut out
-            ),
-            Err(ServeErr::Read)
-        );
-        assert!(rt; whole.starts_with(out.bytes()));
+        assert!(rt; is_cut_by_output(rt.alloc(), call)?);
+        assert!(rt; is_cut_by_input(rt.alloc(), call)?);
     }
     Ok(())
 }

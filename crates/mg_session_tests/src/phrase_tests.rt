@@ -1,40 +1,10 @@
 //! Sessions of phrases over sets that an independent reference made.
-use mg_dev::{Fault, MemSink, MemSource, MemStore, Part};
-use mg_session::serve_phrase;
+use crate::sessions::{
+    Kind, THREE, answers, is_damaged, is_not_built, served, session, stops_at, store_of,
+};
+use mg_dev::Part;
 use std::alloc::{AllocError, Global};
 use std::test::Fail;
-
-// The parts of "the cat sat", "the dog" and "Cat, cat & dog!", each document with its line's end.
-pub(crate) const THREE: [(&str, &[u8]); 10] = [
-    (
-        "set.head",
-        b"MGROWv2\n\0\0\0\x03\0\0\0\x05\0\0\0\x05\0\0\0\x04\0\x15UU\0\0\0\0\0\0\0\0\0\0\0'\0\0\0\0\0\0\0\x08\0\0\0\x01\0\0\0\0\0\0\0\0\0\0\0\x08\0\0\0\0\0\0\0\x04\0\0\0\0\0\0\0\x04",
-    ),
-    (
-        "set.words",
-        b"\x03Cat\x03\0\x03cat\x02\0\x03dog\x02\0\x03sat\x03\x03the\x02",
-    ),
-    (
-        "set.nonwords",
-        b"\x01\n\x02\0\x01 \x02\x01\x02& \x03\0\x02!\n\x03\x02, \x02",
-    ),
-    ("set.text", b"\xc71@\xbd \xc0\xd1\x10"),
-    (
-        "set.places",
-        b"\0\0\0\0\0\0\0\0\0\0\0\0\0\0\0\x03\0\0\0\0\0\0\0\x05\0\0\0\0\0\0\0\x08",
-    ),
-    (
-        "set.lex",
-        b"\x03cat\0\0\0\x02\0\0\0\0\0\0\0\0\0\0\0\0\0\x03dog\0\0\0\x02\0\0\0\0\0\0\0\x01\0\0\0\x01\0\x03sat\0\0\0\x01\0\0\0\0\0\0\0\x02\0\0\0\x02\0\x03the\0\0\0\x02\0\0\0\0\0\0\0\x03\0\0\0\x03",
-    ),
-    ("set.lexat", b"\0\0\0\0"),
-    ("set.post", b"(\x80\0\0"),
-    (
-        "set.skip",
-        b"\0\0\0\0\0\0\0\x03\0\0\0\0\0\0\0\0\0\0\0\0\0\0\0\x03\0\0\0\0\0\0\0\0\0\0\0\0\0\0\0\x01\0\0\0\0\0\0\0\0\0\0\0\0\0\0\0\x02\0\0\0\0\0\0\0\0",
-    ),
-    ("set.weights", b"\0\0\x01\xbb\0\0\x01j\0\0\x02<"),
-];
 
 // The parts of "a a a a ", which no byte closes.
 const ONE: [(&str, &[u8]); 10] = [
@@ -52,26 +22,6 @@ const ONE: [(&str, &[u8]); 10] = [
     ("set.skip", b"\0\0\0\0\0\0\0\x01\0\0\0\0\0\0\0\0"),
     ("set.weights", b"\0\0\x03\0"),
 ];
-
-pub(crate) fn store_of(alloc: Global, parts: &[(&str, &[u8])]) -> Result<MemStore, AllocError> {
-    let mut store = MemStore::new(alloc);
-    for (name, bytes) in parts {
-        store.put_file(name, bytes)?;
-    }
-    Ok(store)
-}
-
-/// What a session printed, and how it ended.
-fn session(
-    alloc: Global,
-    store: &mut MemStore,
-    given: &[u8],
-) -> Result<(MemSink, Result<(), Fault>), AllocError> {
-    let mut input = MemSource::new(alloc, given, 7)?;
-    let mut out = MemSink::new(alloc);
-    let status = serve_phrase(alloc, store, "set", &mut input, &mut out);
-    Ok((out, status))
-}
 
 #[test]
 fn phrases_are_answered_from_the_parts(rt: HostRuntime) -> Result<(), Fail> {
@@ -96,39 +46,45 @@ fn phrases_are_answered_from_the_parts(rt: HostRuntime) -> Result<(), Fail> {
         (&ONE, b"zebra\n, ,", b"= 0\n= 0\n"),
     ];
     for (parts, given, wanted) in rows {
-        let mut store = store_of(alloc, parts)?;
-        let (out, status) = session(alloc, &mut store, given)?;
-        assert_eq!(rt; status, Ok(()));
-        assert!(rt; out.bytes() == wanted);
+        assert!(rt; answers(alloc, Kind::Phrase, parts, given, wanted)?);
     }
     Ok(())
 }
 
-/// The letter so many times, with a blank after each.
-fn letters(alloc: Global, count: u8) -> Result<Vec<u8>, AllocError> {
-    let mut text = Vec::new(alloc);
+/// Puts the letter so many times, with a blank after each.
+fn put_letters(text: &mut Vec<u8>, count: u8) -> Result<(), AllocError> {
     for _letter in 0..count {
         text.extend_from_slice(b"a ")?;
     }
-    Ok(text)
+    Ok(())
+}
+
+/// Lines of 65 words, of a word of 256 bytes, of one word and of 64.
+fn long_lines(alloc: Global) -> Result<Vec<u8>, AllocError> {
+    let mut given = Vec::new(alloc);
+    put_letters(&mut given, 65)?;
+    given.push(b'\n')?;
+    let long = [b'x'; 256];
+    given.extend_from_slice(&long)?;
+    given.extend_from_slice(b"\na\n")?;
+    put_letters(&mut given, 64)?;
+    Ok(given)
 }
 
 #[test]
 fn long_phrases_are_refused(rt: HostRuntime) -> Result<(), Fail> {
     let alloc = rt.alloc();
-    let mut given = letters(alloc, 65)?;
-    given.push(b'\n')?;
-    let long = vec![in alloc; b'x'; 256]?;
-    given.extend_from_slice(long.as_slice())?;
-    given.extend_from_slice(b"\na\n")?;
-    let fitting = letters(alloc, 64)?;
-    given.extend_from_slice(fitting.as_slice())?;
-    let mut store = store_of(alloc, &ONE)?;
-    let (out, status) = session(alloc, &mut store, given.as_slice())?;
-    assert_eq!(rt; status, Ok(()));
+    let given = long_lines(alloc)?;
     let wanted: &[u8] = b"? too many words at 128\n? word too long at 0\n1 4\n= 1\n= 0\n";
-    assert!(rt; out.bytes() == wanted);
+    assert!(rt; answers(alloc, Kind::Phrase, &ONE, given.as_slice(), wanted)?);
     Ok(())
+}
+
+/// Whether a session over the three documents ends well and reads so many pages of the texts, and none of the weights.
+fn reads_pages(alloc: Global, given: &[u8], pages: u64) -> Result<bool, AllocError> {
+    let mut store = store_of(alloc, &THREE)?;
+    let (_, status) = session(alloc, Kind::Phrase, &mut store, given)?;
+    Ok(status.is_ok() && store.reads_of(Part::Text) == pages && store.reads_of(Part::Weights) == 0)
 }
 
 #[test]
@@ -140,11 +96,7 @@ fn only_documents_with_all_words_are_read(rt: HostRuntime) -> Result<(), Fail> {
         (b"dog cat\n", 1),
     ];
     for (given, pages) in rows {
-        let mut store = store_of(alloc, &THREE)?;
-        let (_, status) = session(alloc, &mut store, given)?;
-        assert_eq!(rt; status, Ok(()));
-        assert_eq!(rt; store.reads_of(Part::Text), pages);
-        assert_eq!(rt; store.reads_of(Part::Weights), 0);
+        assert!(rt; reads_pages(alloc, given, pages)?);
     }
     Ok(())
 }
@@ -153,28 +105,16 @@ fn only_documents_with_all_words_are_read(rt: HostRuntime) -> Result<(), Fail> {
 fn a_session_stops_for_its_cause(rt: HostRuntime) -> Result<(), Fail> {
     let alloc = rt.alloc();
     let given: &[u8] = b"zebra\nthe cat\n";
-    let mut store = MemStore::new(alloc);
-    let (out, status) = session(alloc, &mut store, given)?;
-    assert_eq!(rt; status, Err(Fault::NotBuilt));
-    assert!(rt; out.bytes().is_empty());
+    assert!(rt; is_not_built(alloc, Kind::Phrase, given)?);
 
     // Each call of the store fails in turn, and what was printed before stays.
-    let mut store = store_of(alloc, &THREE)?;
-    let (_, status) = session(alloc, &mut store, given)?;
-    assert_eq!(rt; status, Ok(()));
-    for call in 0..store.calls() {
-        let mut store = store_of(alloc, &THREE)?;
-        store.fail_at(call, 0)?;
-        let (_, status) = session(alloc, &mut store, given)?;
-        assert_eq!(rt; status, Err(Fault::StoreFault));
+    let calls = served(alloc, Kind::Phrase, given)?.calls();
+    for call in 0..calls {
+        assert!(rt; stops_at(alloc, Kind::Phrase, given, call, b"= 0\n1 1\n= 1\n")?);
     }
 
     // A text that ends within a document: the first line is answered.
-    let mut store = store_of(alloc, &THREE)?;
-    store.put_file("set.text", b"\xff\xff\xff\xff\xff\xff\xff\xff")?;
-    let (out, status) = session(alloc, &mut store, given)?;
-    let damaged = matches!(status, Err(Fault::Damaged(_)));
-    assert!(rt; damaged);
-    assert!(rt; out.bytes() == b"= 0\n".as_slice());
+    let ends: (&str, &[u8]) = ("set.text", b"\xff\xff\xff\xff\xff\xff\xff\xff");
+    assert!(rt; is_damaged(alloc, Kind::Phrase, ends, given, b"= 0\n")?);
     Ok(())
 }

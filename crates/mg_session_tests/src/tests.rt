@@ -1,104 +1,41 @@
 // What no clause says: that sessions over real parts succeed, and what failing devices leave.
+use crate::sessions::{
+    Kind, THREE, answers, is_damaged, is_not_built, prints, served, session, stops_at, store_of,
+};
 use mg_dev::{Fault, MemSink, MemSource, MemStore, Part};
 use mg_session::serve;
 use std::alloc::{AllocError, Global};
 use std::test::Fail;
 
-// The parts of "the cat sat", "the dog" and "Cat, cat & dog!", each document with its line's end.
-const PARTS: [(&str, &[u8]); 10] = [
-    (
-        "set.head",
-        b"MGROWv2\n\0\0\0\x03\0\0\0\x05\0\0\0\x05\0\0\0\x04\0\x15UU\0\0\0\0\0\0\0\0\0\0\0'\0\0\0\0\0\0\0\x08\0\0\0\x01\0\0\0\0\0\0\0\0\0\0\0\x08\0\0\0\0\0\0\0\x04\0\0\0\0\0\0\0\x04",
-    ),
-    (
-        "set.words",
-        b"\x03Cat\x03\0\x03cat\x02\0\x03dog\x02\0\x03sat\x03\x03the\x02",
-    ),
-    (
-        "set.nonwords",
-        b"\x01\n\x02\0\x01 \x02\x01\x02& \x03\0\x02!\n\x03\x02, \x02",
-    ),
-    ("set.text", b"\xc71@\xbd \xc0\xd1\x10"),
-    (
-        "set.places",
-        b"\0\0\0\0\0\0\0\0\0\0\0\0\0\0\0\x03\0\0\0\0\0\0\0\x05\0\0\0\0\0\0\0\x08",
-    ),
-    (
-        "set.lex",
-        b"\x03cat\0\0\0\x02\0\0\0\0\0\0\0\0\0\0\0\0\0\x03dog\0\0\0\x02\0\0\0\0\0\0\0\x01\0\0\0\x01\0\x03sat\0\0\0\x01\0\0\0\0\0\0\0\x02\0\0\0\x02\0\x03the\0\0\0\x02\0\0\0\0\0\0\0\x03\0\0\0\x03",
-    ),
-    ("set.lexat", b"\0\0\0\0"),
-    ("set.post", b"(\x80\0\0"),
-    (
-        "set.skip",
-        b"\0\0\0\0\0\0\0\x03\0\0\0\0\0\0\0\0\0\0\0\0\0\0\0\x03\0\0\0\0\0\0\0\0\0\0\0\0\0\0\0\x01\0\0\0\0\0\0\0\0\0\0\0\0\0\0\0\x02\0\0\0\0\0\0\0\0",
-    ),
-    ("set.weights", b"\0\0\x01\xbb\0\0\x01j\0\0\x02<"),
-];
-
-fn store_of(alloc: Global) -> Result<MemStore, AllocError> {
-    let mut store = MemStore::new(alloc);
-    for (name, bytes) in PARTS {
-        store.put_file(name, bytes)?;
-    }
-    Ok(store)
-}
-
-// What a session printed, and how it ended.
-fn session(
-    alloc: Global,
-    store: &mut MemStore,
-    given: &[u8],
-) -> Result<(MemSink, Result<(), Fault>), AllocError> {
-    let mut input = MemSource::new(alloc, given, 7)?;
-    let mut out = MemSink::new(alloc);
-    let status = serve(alloc, store, "set", &mut input, &mut out);
-    Ok((out, status))
-}
-
 #[test]
 fn a_session_is_answered_from_the_parts(rt: HostRuntime) -> Result<(), Fail> {
     let alloc = rt.alloc();
-    let mut store = store_of(alloc)?;
+    let mut store = store_of(alloc, &THREE)?;
     let given =
         b"cat & !the\n!x\n(\n.set query ranked\n.set maxdocs 1\nthe cat the zebra\n.set mode text\ndog\ndog\n.set query boolean\n.set maxdocs all\n.set mode count\n!cat\n.set maxdocs 0\n.quit\ncat\n";
     let wanted: &[u8] =
         b"3\n= 1\n1\n2\n3\n= 3\n? syntax at 1\n1 100005\n= 3\n-- 2 61191\nthe dog\n\x02\n= 2\n-- 2 61191\nthe dog\n\x02\n= 2\n= 1\n? bad command\n";
-    let (out, status) = session(alloc, &mut store, given)?;
-    assert_eq!(rt; status, Ok(()));
-    assert!(rt; out.bytes() == wanted);
+    assert!(rt; prints(alloc, Kind::Query, &mut store, given, wanted)?);
     // The page of the text is kept from one showing to the next.
-    assert_eq!(rt; store.reads_of(Part::Text), 1);
-    assert_eq!(rt; store.reads_of(Part::Head), 1);
-    assert_eq!(rt; store.reads_of(Part::Run), 0);
+    assert!(rt; store.reads_of(Part::Text) == 1);
+    assert!(rt; store.reads_of(Part::Head) == 1);
+    assert!(rt; store.reads_of(Part::Run) == 0);
     Ok(())
 }
 
 #[test]
 fn a_session_stops_for_its_cause(rt: HostRuntime) -> Result<(), Fail> {
     let alloc = rt.alloc();
-    let mut store = MemStore::new(alloc);
-    let (out, status) = session(alloc, &mut store, b"cat\n")?;
-    assert_eq!(rt; status, Err(Fault::NotBuilt));
-    assert!(rt; out.bytes().is_empty());
+    assert!(rt; is_not_built(alloc, Kind::Query, b"cat\n")?);
 
     // A list that names no document: the first line is answered, and nothing after the second.
-    let mut store = store_of(alloc)?;
-    store.put_file("set.post", b"(\x80\0")?;
-    let (out, status) = session(alloc, &mut store, b"zebra\nthe\ncat\n")?;
-    let damaged = matches!(status, Err(Fault::Damaged(_)));
-    assert!(rt; damaged);
-    assert!(rt; out.bytes() == b"= 0\n".as_slice());
+    let list: (&str, &[u8]) = ("set.post", b"(\x80\0");
+    assert!(rt; is_damaged(alloc, Kind::Query, list, b"zebra\nthe\ncat\n", b"= 0\n")?);
 
     // Each call of the store fails in turn.
-    let mut store = store_of(alloc)?;
-    let (_, status) = session(alloc, &mut store, b"zebra\n")?;
-    assert_eq!(rt; status, Ok(()));
-    for call in 0..store.calls() {
-        let mut store = store_of(alloc)?;
-        store.fail_at(call, 0)?;
-        let (_, status) = session(alloc, &mut store, b"zebra\n")?;
-        assert_eq!(rt; status, Err(Fault::StoreFault));
+    let calls = served(alloc, Kind::Query, b"zebra\n")?.calls();
+    for call in 0..calls {
+        assert!(rt; stops_at(alloc, Kind::Query, b"zebra\n", call, b"= 0\n")?);
     }
     Ok(())
 }
@@ -122,34 +59,47 @@ fn the_models_are_loaded_for_the_first_text_and_once(rt: HostRuntime) -> Result<
     ];
     let parts = [Part::Words, Part::Nonwords, Part::Text, Part::Places];
     for (given, reads) in rows {
-        let mut store = store_of(alloc)?;
-        let (_, status) = session(alloc, &mut store, given)?;
-        assert_eq!(rt; status, Ok(()));
+        let store = served(alloc, Kind::Query, given)?;
         for part in parts {
-            assert_eq!(rt; store.reads_of(part), reads, "{part:?}");
+            let name = part.name();
+            assert!(rt; store.reads_of(part) == reads, "{name}");
         }
     }
     Ok(())
 }
 
+/// A store with the three documents, a model of which is damaged.
+fn with_damaged_model(alloc: Global, name: &str) -> Result<MemStore, AllocError> {
+    let mut store = store_of(alloc, &THREE)?;
+    store.put_file(name, b"\x03Cat")?;
+    Ok(store)
+}
+
+/// Whether a session that comes to a text stops at the damage before it shows a byte of the text.
+fn stops_before_text(alloc: Global, store: &mut MemStore) -> Result<bool, AllocError> {
+    let whole: &[u8] = b"1\n3\n= 2\n-- 1\nthe cat sat\n\x02\n= 1\n";
+    let given = b"cat\n.set mode text\nsat\n";
+    let (out, status) = session(alloc, Kind::Query, store, given)?;
+    Ok(
+        matches!(status, Err(Fault::Damaged(_)))
+            && whole.starts_with(out.bytes())
+            && out.bytes().starts_with(b"1\n3\n= 2\n")
+            && !out.bytes().starts_with(b"1\n3\n= 2\n-- 1\nt"),
+    )
+}
+
 #[test]
 fn a_damaged_model_stops_a_session_at_its_first_text(rt: HostRuntime) -> Result<(), Fail> {
     let alloc = rt.alloc();
-    let whole: &[u8] = b"1\n3\n= 2\n-- 1\nthe cat sat\n\x02\n= 1\n";
     for name in ["set.words", "set.nonwords"] {
-        let mut store = store_of(alloc)?;
-        store.put_file(name, b"\x03Cat")?;
-        let (out, status) = session(alloc, &mut store, b"cat\n.set mode text\nsat\n")?;
-        let damaged = matches!(status, Err(Fault::Damaged(_)));
-        assert!(rt; damaged, "{name}");
-        assert!(rt; whole.starts_with(out.bytes()), "{name}");
-        assert!(rt; out.bytes().starts_with(b"1\n3\n= 2\n"), "{name}");
-        assert!(rt; !out.bytes().starts_with(b"1\n3\n= 2\n-- 1\nt"), "{name}");
-
+        let mut store = with_damaged_model(alloc, name)?;
+        assert!(rt; stops_before_text(alloc, &mut store)?, "{name}");
         // Where no text is shown, the model is not looked at.
-        let (out, status) = session(alloc, &mut store, b"cat\n")?;
-        assert_eq!(rt; status, Ok(()));
-        assert!(rt; out.bytes() == b"1\n3\n= 2\n".as_slice());
+        let wanted = b"1\n3\n= 2\n";
+        assert!(rt;
+            prints(alloc, Kind::Query, &mut store, b"cat\n", wanted)?,
+            "{name}"
+        );
     }
     Ok(())
 }
@@ -162,6 +112,15 @@ const OLDER: [(&str, &[u8]); 2] = [
     ),
     ("set.places", b"\0\0\0\0\0\0\0\x03\0\0\0\x05\0\0\0\x08"),
 ];
+
+/// Whether a session over the same collection in version 1 ends well and prints just this.
+fn answers_in_version_1(alloc: Global, given: &[u8], wanted: &[u8]) -> Result<bool, AllocError> {
+    let mut store = store_of(alloc, &THREE)?;
+    for (name, bytes) in OLDER {
+        store.put_file(name, bytes)?;
+    }
+    prints(alloc, Kind::Query, &mut store, given, wanted)
+}
 
 #[test]
 fn sessions_have_their_replies_in_both_versions(rt: HostRuntime) -> Result<(), Fail> {
@@ -197,16 +156,8 @@ fn sessions_have_their_replies_in_both_versions(rt: HostRuntime) -> Result<(), F
         ),
     ];
     for (given, wanted) in rows {
-        let mut store = store_of(alloc)?;
-        let (out, status) = session(alloc, &mut store, given)?;
-        assert_eq!(rt; status, Ok(()));
-        assert!(rt; out.bytes() == wanted);
-        for (name, bytes) in OLDER {
-            store.put_file(name, bytes)?;
-        }
-        let (out, status) = session(alloc, &mut store, given)?;
-        assert_eq!(rt; status, Ok(()));
-        assert!(rt; out.bytes() == wanted);
+        assert!(rt; answers(alloc, Kind::Query, &THREE, given, wanted)?);
+        assert!(rt; answers_in_version_1(alloc, given, wanted)?);
     }
     Ok(())
 }
@@ -269,13 +220,7 @@ fn small_sets_are_answered(rt: HostRuntime) -> Result<(), Fail> {
         ),
     ];
     for (parts, given, wanted) in rows {
-        let mut store = MemStore::new(alloc);
-        for (name, bytes) in parts {
-            store.put_file(name, bytes)?;
-        }
-        let (out, status) = session(alloc, &mut store, given)?;
-        assert_eq!(rt; status, Ok(()));
-        assert!(rt; out.bytes() == wanted);
+        assert!(rt; answers(alloc, Kind::Query, parts, given, wanted)?);
     }
     Ok(())
 }
@@ -287,52 +232,76 @@ const PRINTED: &[u8] =
     b"-- 1\nthe cat sat\n\x02\n-- 3\nCat, cat & dog!\n\x02\n= 2\n-- 3 116177\nCat, cat & dog!\n\x02\n-- 2 61191\nthe dog\n\x02\n-- 1 50002\nthe cat sat\n\x02\n= 3\n1 100005\n3 77451\n= 3\n";
 
 /// Which device fails.
-#[derive(Clone, Copy, Debug, PartialEq, Eq)]
+#[derive(Clone, Copy)]
 enum Failing {
     Store,
     Input,
     Output,
 }
 
-/// What the session printed and how it ended, where one call of a device fails; of what a put is given one byte is kept.
+/// The store of the session; where it fails, then at this call.
+fn store_that_fails(alloc: Global, failing: Failing, call: u64) -> Result<MemStore, AllocError> {
+    let mut store = store_of(alloc, &THREE)?;
+    if matches!(failing, Failing::Store) {
+        store.fail_at(call, 0)?;
+    }
+    Ok(store)
+}
+
+/// The input of the session; where it fails, then at this call.
+fn input_that_fails(alloc: Global, failing: Failing, call: u64) -> Result<MemSource, AllocError> {
+    let mut input = MemSource::new(alloc, GIVEN, 7)?;
+    if matches!(failing, Failing::Input) {
+        input.fail_at(call)?;
+    }
+    Ok(input)
+}
+
+/// The output of the session; where it fails, then at this call, of which one byte is kept.
+fn output_that_fails(alloc: Global, failing: Failing, call: u64) -> Result<MemSink, AllocError> {
+    let mut out = MemSink::new(alloc);
+    if matches!(failing, Failing::Output) {
+        out.fail_at(call, 1)?;
+    }
+    Ok(out)
+}
+
+/// How the session ended, where one call of a device fails, and whether it printed a prefix, and the whole.
 fn failed(
     alloc: Global,
     failing: Failing,
     call: u64,
-) -> Result<(MemSink, Result<(), Fault>), AllocError> {
-    let mut store = store_of(alloc)?;
-    let mut input = MemSource::new(alloc, GIVEN, 7)?;
-    let mut out = MemSink::new(alloc);
-    match failing {
-        Failing::Store => store.fail_at(call, 0)?,
-        Failing::Input => input.fail_at(call)?,
-        Failing::Output => out.fail_at(call, 1)?,
-    }
+) -> Result<(Result<(), Fault>, bool, bool), AllocError> {
+    let mut store = store_that_fails(alloc, failing, call)?;
+    let mut input = input_that_fails(alloc, failing, call)?;
+    let mut out = output_that_fails(alloc, failing, call)?;
     let status = serve(alloc, &mut store, "set", &mut input, &mut out);
-    Ok((out, status))
+    let is_prefix = PRINTED.starts_with(out.bytes());
+    let is_whole = out.bytes() == PRINTED;
+    Ok((status, is_prefix, is_whole))
 }
 
 #[test]
 fn a_failing_call_is_told_and_leaves_a_prefix(rt: HostRuntime) -> Result<(), Fail> {
     let alloc = rt.alloc();
-    for (failing, fault, least) in [
-        (Failing::Store, Fault::StoreFault, 12),
-        (Failing::Input, Fault::ReadFault, 13),
-        (Failing::Output, Fault::WriteFault, 10),
+    for (device, failing, fault, least) in [
+        ("store", Failing::Store, Fault::StoreFault, 12),
+        ("input", Failing::Input, Fault::ReadFault, 13),
+        ("output", Failing::Output, Fault::WriteFault, 10),
     ] {
         // One call after the other, until the session has no call of this number.
         let mut calls = 0u64;
         for call in 0..1000u64 {
-            let (out, status) = failed(alloc, failing, call)?;
-            assert!(rt; PRINTED.starts_with(out.bytes()), "{failing:?} {call}");
+            let (status, is_prefix, is_whole) = failed(alloc, failing, call)?;
+            assert!(rt; is_prefix, "{device} {call}");
             if status.is_ok() {
-                assert!(rt; out.bytes() == PRINTED);
+                assert!(rt; is_whole, "{device} {call}");
                 break;
             }
-            assert_eq!(rt; status, Err(fault), "{failing:?} {call}");
+            assert!(rt; status == Err(fault), "{device} {call}");
             calls = call.saturating_add(1);
         }
-        assert!(rt; calls >= least && calls < 1000, "{failing:?}: {calls}");
+        assert!(rt; calls >= least && calls < 1000, "{device}: {calls}");
     }
     Ok(())
 }

@@ -77,10 +77,14 @@ fn head_of(set: &Set<'_>, documents: u32, text_bytes: usize) -> Head
 
 fn store_of(alloc: Global, set: &Set<'_>) -> Result<MemStore, AllocError> {
     let mut store = MemStore::new(alloc);
-    store.put_file("set.words", set.models.0)?;
-    store.put_file("set.nonwords", set.models.1)?;
-    store.put_file("set.text", set.text)?;
-    store.put_file("set.places", set.places)?;
+    for (name, bytes) in [
+        ("set.words", set.models.0),
+        ("set.nonwords", set.models.1),
+        ("set.text", set.text),
+        ("set.places", set.places),
+    ] {
+        store.put_file(name, bytes)?;
+    }
     Ok(store)
 }
 
@@ -104,38 +108,34 @@ fn show<S: Store, O: Sink>(
     Ok(())
 }
 
-// What is shown of a set.
-fn shown(
+// Whether just these bytes are shown of a set.
+fn shows(
     alloc: Global,
     set: &Set<'_>,
     documents: u32,
     numbers: &[u32],
-) -> Result<MemSink, ShowErr> {
+    wanted: &[u8],
+) -> Result<bool, ShowErr> {
     let mut store = store_of(alloc, set)?;
     let mut out = MemSink::new(alloc);
     let head = head_of(set, documents, set.text.len());
-    show(alloc, &mut store, &head, numbers, &mut out)?;
-    Ok(out)
+    match show(alloc, &mut store, &head, numbers, &mut out) {
+        Ok(()) => Ok(out.bytes() == wanted),
+        Err(refusal) => Err(refusal),
+    }
 }
 
 #[test]
 fn documents_are_shown_in_any_order(rt: HostRuntime) -> Result<(), Fail> {
     let alloc = rt.alloc();
     let mut set = EIGHT;
-    assert_eq!(rt;
-        shown(alloc, &set, 1, &[1])?.bytes(),
-        b"a a a a ".as_slice()
-    );
+    assert!(rt; shows(alloc, &set, 1, &[1], b"a a a a ")?);
     set.version = 2;
     set.places = EIGHT_WIDE;
-    assert_eq!(rt;
-        shown(alloc, &set, 1, &[1])?.bytes(),
-        b"a a a a ".as_slice()
-    );
-    let out = shown(alloc, &K, 3, &[3, 1, 2, 2, 1])?;
+    assert!(rt; shows(alloc, &set, 1, &[1], b"a a a a ")?);
     let wanted: &[u8] = b"Cat, cat & dog!\nthe cat sat\nthe dog\nthe dog\nthe cat sat\n";
-    assert_eq!(rt; out.bytes(), wanted);
-    assert_eq!(rt; shown(alloc, &EMPTY, 2, &[1, 2])?.bytes(), b"".as_slice());
+    assert!(rt; shows(alloc, &K, 3, &[3, 1, 2, 2, 1], wanted)?);
+    assert!(rt; shows(alloc, &EMPTY, 2, &[1, 2], b"")?);
     Ok(())
 }
 
@@ -159,15 +159,22 @@ fn gather<S: Store, O: Sink>(
     Ok(())
 }
 
-#[test]
-fn gathered_documents_go_in_one_put(rt: HostRuntime) -> Result<(), Fail> {
-    let alloc = rt.alloc();
-    let mut store = store_of(alloc, &K)?;
+// Whether the three documents are gathered into just these bytes, by one put.
+fn gathers(alloc: Global, wanted: &[u8]) -> Result<bool, ShowErr> {
     let mut out = MemSink::new(alloc);
     out.fail_at(1, 0)?;
-    gather(alloc, &mut store, &head_of(&K, 3, K.text.len()), &mut out)?;
+    let mut store = store_of(alloc, &K)?;
+    let head = head_of(&K, 3, K.text.len());
+    match gather(alloc, &mut store, &head, &mut out) {
+        Ok(()) => Ok(out.bytes() == wanted),
+        Err(refusal) => Err(refusal),
+    }
+}
+
+#[test]
+fn gathered_documents_go_in_one_put(rt: HostRuntime) -> Result<(), Fail> {
     let wanted: &[u8] = b"the cat sat\n|the dog\n|Cat, cat & dog!\n|";
-    assert_eq!(rt; out.bytes(), wanted);
+    assert!(rt; gathers(rt.alloc(), wanted)?);
     Ok(())
 }
 
@@ -177,76 +184,110 @@ fn a_reader_hands_out_its_model(rt: HostRuntime) -> Result<(), Fail> {
     let mut store = store_of(alloc, &K)?;
     let head = head_of(&K, 3, K.text.len());
     let reader = TextReader::load(alloc, &mut store, "set", &head)?;
-    assert_eq!(rt; reader.model().symbol(Stream::Words, b"dog"), Some(2));
+    assert!(rt; reader.model().symbol(Stream::Words, b"dog") == Some(2));
     Ok(())
+}
+
+// The eight bytes with no word, a text that is too short and no place.
+const SHORT: Set<'static> = Set {
+    version: 1,
+    counts: (1, 1),
+    models: (b"", b"\x01 \x01"),
+    text: b"\xc8",
+    places: b"",
+};
+
+// What is told of such parts as the set of the eight bytes, whose text has two bytes: part, place, range, number. None
+// where bytes are shown.
+fn damage(alloc: Global, set: &Set<'_>) -> Result<Option<(Part, u64, u64, u64, u64)>, AllocError> {
+    let mut store = store_of(alloc, set)?;
+    let mut out = MemSink::new(alloc);
+    let head = head_of(&EIGHT, 1, 2);
+    let status = show(alloc, &mut store, &head, &[1], &mut out);
+    Ok(match status {
+        Err(ShowErr::Part(PartErr::Bad(bad))) if out.bytes().is_empty() => {
+            Some((bad.part, bad.at, bad.low, bad.high, bad.found))
+        }
+        _ => None,
+    })
 }
 
 #[test]
 fn sizes_are_compared_before_all_else(rt: HostRuntime) -> Result<(), Fail> {
     let alloc = rt.alloc();
-    let mut store = store_of(alloc, &EIGHT)?;
-    let mut out = MemSink::new(alloc);
-    store.put_file("set.text", b"\xc8")?;
-    store.put_file("set.places", b"")?;
-    store.put_file("set.words", b"")?;
-    let head = head_of(&EIGHT, 1, 2);
-    for (part, low, found) in [(Part::Text, 2, 1), (Part::Places, 8, 0)] {
-        match show(alloc, &mut store, &head, &[1], &mut out) {
-            Err(ShowErr::Part(PartErr::Bad(bad))) => assert_eq!(rt;
-                (bad.part, bad.at, bad.low, bad.high, bad.found),
-                (part, 0, low, low, found)
-            ),
-            other => assert!(rt; false, "another size: {other:?}"),
-        }
-        store.put_file("set.text", b"\xc8\0")?;
-    }
-    assert_eq!(rt; out.bytes(), b"".as_slice());
+    let mut set = SHORT;
+    assert!(rt; damage(alloc, &set)? == Some((Part::Text, 0, 2, 2, 1)));
+    set.text = EIGHT.text;
+    assert!(rt; damage(alloc, &set)? == Some((Part::Places, 0, 8, 8, 0)));
     Ok(())
 }
 
-// Bytes, and behind them zero bytes.
-fn filled(alloc: Global, first: &[u8], count: usize) -> Result<Vec<u8>, AllocError> {
-    let mut bytes = first.to_vec(alloc)?;
-    for _ in 0..count {
-        bytes.push(0)?;
+// Appends a text of 8,191 pairs: a code of 27 bits, and 16,382 zero-bits.
+fn add_text(text: &mut Vec<u8>) -> Result<(), AllocError> {
+    text.extend_from_slice(b"\xff\xf8")?;
+    for _ in 0..2050 {
+        text.push(0)?;
     }
-    Ok(bytes)
+    Ok(())
 }
 
-// A store with three documents of 8,191 pairs each: a code of 27 bits, and 16,382 zero-bits.
-fn three(alloc: Global) -> Result<MemStore, AllocError> {
-    let one = filled(alloc, b"\xff\xf8", 2050)?;
+// Three such texts.
+fn three_texts(alloc: Global) -> Result<Vec<u8>, AllocError> {
     let mut text = Vec::new(alloc);
+    for _ in 0..3 {
+        add_text(&mut text)?;
+    }
+    Ok(text)
+}
+
+// The places of the three texts, and of their end.
+fn three_places(alloc: Global) -> Result<Vec<u8>, AllocError> {
     let mut places = Vec::new(alloc);
     for number in 0..4u64 {
         places.extend_from_slice(&(2052 * number).to_be_bytes())?;
-        if number < 3 {
-            text.extend_from_slice(&one)?;
-        }
     }
+    Ok(places)
+}
+
+// A store with three documents of such a text each.
+fn three(alloc: Global) -> Result<MemStore, AllocError> {
     let mut store = store_of(alloc, &EIGHT)?;
+    let text = three_texts(alloc)?;
     store.put_file("set.text", &text)?;
+    let places = three_places(alloc)?;
     store.put_file("set.places", &places)?;
     Ok(store)
+}
+
+// What showing these of the three documents takes: the bytes that are shown, the reads of Text and those of Places.
+fn taken(alloc: Global, numbers: &[u32]) -> Result<(usize, u64, u64), ShowErr> {
+    let mut store = three(alloc)?;
+    let mut out = MemSink::new(alloc);
+    let mut head = head_of(&EIGHT, 3, 6156);
+    head.version = 2;
+    match show(alloc, &mut store, &head, numbers, &mut out) {
+        Ok(()) => Ok((
+            out.bytes().len(),
+            store.reads_of(Part::Text),
+            store.reads_of(Part::Places),
+        )),
+        Err(refusal) => Err(refusal),
+    }
 }
 
 #[test]
 fn pages_are_read_once(rt: HostRuntime) -> Result<(), Fail> {
     let alloc = rt.alloc();
-    let mut head = head_of(&EIGHT, 3, 6156);
-    head.version = 2;
     for (numbers, reads) in [
         ([1u32, 1, 1], 1u64),
         ([2, 2, 2], 6),
         ([3, 3, 3], 1),
         ([1, 2, 3], 2),
     ] {
-        let mut store = three(alloc)?;
-        let mut out = MemSink::new(alloc);
-        show(alloc, &mut store, &head, &numbers, &mut out)?;
-        assert_eq!(rt; out.bytes().len(), 3 * 16382);
-        assert_eq!(rt; store.reads_of(Part::Text), reads, "{numbers:?}");
-        assert_eq!(rt; store.reads_of(Part::Places), 1);
+        let (bytes, of_text, of_places) = taken(alloc, &numbers)?;
+        assert!(rt; bytes == 3 * 16382);
+        assert!(rt; of_text == reads, "{of_text} in place of {reads}");
+        assert!(rt; of_places == 1);
     }
     Ok(())
 }

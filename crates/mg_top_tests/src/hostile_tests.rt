@@ -1,15 +1,18 @@
-// Parts that hold other bytes than they should, and builds whose store fails: whatever stands there, the status is true.
+// Parts that hold other bytes than they should: whatever stands there, the status is true.
 // Expected lines are worked by hand from the form of the parts.
 ghost use Rattle.std.specs.Prelude.{◌≤◌, ◌<◌};
 
-use crate::tests::ran_over;
+use crate::tests::{LETTERS, ended, ran_over, store_of, tells};
 use mg_dev::{Fault, MemSink, MemStore, Status};
 use mg_gen::make_collection;
 use std::alloc::{AllocError, Global};
 use std::test::Fail;
 
+/// The words of a build in the smallest pool.
+pub(crate) const BUILD: [&str; 5] = ["build", "text", "set", "--budget", "4096"];
+
 /// The names of the parts that a build makes.
-const PARTS: [&str; 11] = [
+pub(crate) const PARTS: [&str; 11] = [
     "set.head",
     "set.words",
     "set.nonwords",
@@ -60,10 +63,7 @@ fn store_with(
     damaged: &str,
     content: &[u8],
 ) -> Result<MemStore, AllocError> {
-    let mut store = MemStore::new(alloc);
-    for (name, bytes) in SAME {
-        store.put_file(name, bytes)?;
-    }
+    let mut store = store_of(alloc, &SAME)?;
     for (name, bytes) in parts {
         store.put_file(name, bytes)?;
     }
@@ -71,10 +71,26 @@ fn store_with(
     Ok(store)
 }
 
-/// The error output of `decode`, and whether nothing was printed.
-fn told(alloc: Global, store: &mut MemStore) -> Result<(MemSink, bool), AllocError> {
-    let left = ran_over(alloc, &["decode", "set"], store, b"")?;
-    Ok((left.err, left.out.bytes().is_empty()))
+/// Whether `decode` prints nothing and tells just this line over a set one part of which has other bytes.
+fn is_told(
+    alloc: Global,
+    parts: &[(&str, &[u8])],
+    damaged: &str,
+    content: &[u8],
+    line: &[u8],
+) -> Result<bool, AllocError> {
+    let mut store = store_with(alloc, parts, damaged, content)?;
+    tells(alloc, &["decode", "set"], &mut store, b"", line)
+}
+
+/// Whether the same is told in version 2 where the head has other bytes from a place on.
+fn is_head_told(alloc: Global, at: usize, digits: &[u8], line: &[u8]) -> Result<bool, AllocError> {
+    let [(_, head), _] = EIGHT_WIDE;
+    let mut other = head.to_vec(alloc)?;
+    for (place, digit) in other.iter_mut().skip(at).zip(digits) {
+        *place = *digit;
+    }
+    is_told(alloc, &EIGHT_WIDE, "set.head", &other, line)
 }
 
 #[test]
@@ -163,16 +179,8 @@ fn damages_of_a_head_of_version_2_are_told(rt: HostRuntime) -> Result<(), Fail> 
             b"mg: damaged: part words at 0: found 3, wanted 8388608 to 18446744073709551615\n",
         ),
     ];
-    let [(_, head), _] = EIGHT_WIDE;
     for (at, digits, line) in rows {
-        let mut other = head.to_vec(alloc)?;
-        for (place, digit) in other.iter_mut().skip(at).zip(digits) {
-            *place = *digit;
-        }
-        let mut store = store_with(alloc, &EIGHT_WIDE, "set.head", &other)?;
-        let (err, silent) = told(alloc, &mut store)?;
-        assert_eq!(rt; err.bytes(), line);
-        assert!(rt; silent);
+        assert!(rt; is_head_told(alloc, at, digits, line)?, "{at}");
     }
     Ok(())
 }
@@ -209,74 +217,100 @@ fn damages_of_parts_are_told_in_both_versions(rt: HostRuntime) -> Result<(), Fai
     ];
     for parts in [EIGHT, EIGHT_WIDE] {
         for (name, content, line) in rows {
-            let mut store = store_with(alloc, &parts, name, content)?;
-            let (err, silent) = told(alloc, &mut store)?;
-            assert_eq!(rt; err.bytes(), line);
-            assert!(rt; silent);
+            assert!(rt; is_told(alloc, &parts, name, content, line)?, "{name}");
         }
     }
-    let mut store = store_with(alloc, &EIGHT_WIDE, "set.places", b"\0\0\0\0\0\0\0")?;
-    let (err, silent) = told(alloc, &mut store)?;
-    assert_eq!(rt;
-        err.bytes(),
-        b"mg: damaged: part places at 0: found 7, wanted 16 to 16\n".as_slice()
-    );
-    assert!(rt; silent);
+    let line = b"mg: damaged: part places at 0: found 7, wanted 16 to 16\n";
+    assert!(rt; is_told(alloc, &EIGHT_WIDE, "set.places", b"\0\0\0\0\0\0\0", line)?);
     Ok(())
 }
 
-/// Whether `decode` and a session over the set end with status 0 or 6, or with 5 where the head has no byte, and with
-/// the line of that status.
+/// Whether a tool over the set ends with status 0 or 6, or with 5 where the head has no byte, and with the line of that
+/// status.
+fn ends_truly(
+    alloc: Global,
+    tool: &str,
+    store: &mut MemStore,
+    is_headless: bool,
+    lines: &[u8],
+) -> Result<bool, AllocError> {
+    let left = ran_over(alloc, &[tool, "set"], store, lines)?;
+    let line = left.err.bytes();
+    Ok(match left.status {
+        Status::Done => !is_headless && line.is_empty(),
+        Status::Stopped(Fault::NotBuilt) => {
+            is_headless && line == b"mg: nothing is built under this name\n".as_slice()
+        }
+        Status::Stopped(Fault::Damaged(_)) => {
+            !is_headless && line.starts_with(b"mg: damaged: part ")
+        }
+        Status::Stopped(_) => false,
+    })
+}
+
+/// Whether `decode` and a session over the set both end so.
 fn end_truly(
     alloc: Global,
     store: &mut MemStore,
     is_headless: bool,
     lines: &[u8],
 ) -> Result<bool, AllocError> {
-    for tool in ["decode", "query"] {
-        let left = ran_over(alloc, &[tool, "set"], store, lines)?;
-        let line = left.err.bytes();
-        let is_true = match left.status {
-            Status::Done => !is_headless && line.is_empty(),
-            Status::Stopped(Fault::NotBuilt) => {
-                is_headless && line == b"mg: nothing is built under this name\n".as_slice()
-            }
-            Status::Stopped(Fault::Damaged(_)) => {
-                !is_headless && line.starts_with(b"mg: damaged: part ")
-            }
-            Status::Stopped(_) => false,
-        };
-        if !is_true {
-            return Ok(false);
-        }
+    Ok(
+        ends_truly(alloc, "decode", store, is_headless, lines)?
+            && ends_truly(alloc, "query", store, is_headless, lines)?,
+    )
+}
+
+/// Whether both end so over a set of the eight bytes, one part of which has other bytes.
+fn end_truly_with(
+    alloc: Global,
+    parts: &[(&str, &[u8])],
+    name: &str,
+    content: &[u8],
+) -> Result<bool, AllocError> {
+    let mut store = store_with(alloc, parts, name, content)?;
+    let is_headless = name == "set.head" && content.is_empty();
+    let lines = b"a\n!a\n.set query ranked\na\n";
+    end_truly(alloc, &mut store, is_headless, lines)
+}
+
+/// The bytes of a part, one of which is its complement.
+fn with_complement(alloc: Global, sound: &[u8], at: usize) -> Result<Vec<u8>, AllocError> {
+    let mut other = sound.to_vec(alloc)?;
+    if let Some(byte) = other.get_mut(at) {
+        *byte = !*byte;
     }
-    Ok(true)
+    Ok(other)
+}
+
+/// Whether both end so where a byte of a part is its complement.
+fn end_truly_with_complement(
+    alloc: Global,
+    parts: &[(&str, &[u8])],
+    name: &str,
+    sound: &[u8],
+    at: usize,
+) -> Result<bool, AllocError> {
+    let other = with_complement(alloc, sound, at)?;
+    end_truly_with(alloc, parts, name, &other)
 }
 
 /// The first byte of a part over which a tool does not end truly, where the byte is its complement or where the part
-/// ends before it.
+/// ends before it; the part's size where there is none.
 fn first_untrue(
     alloc: Global,
     parts: &[(&str, &[u8])],
     name: &str,
     sound: &[u8],
-) -> Result<Option<usize>, AllocError> {
-    let lines = b"a\n!a\n.set query ranked\na\n";
+) -> Result<usize, AllocError> {
     for at in 0..sound.len() {
-        let mut other = sound.to_vec(alloc)?;
-        if let Some(byte) = other.get_mut(at) {
-            *byte = !*byte;
-        }
-        let mut changed = store_with(alloc, parts, name, &other)?;
-        let mut cut = store_with(alloc, parts, name, &sound[..at])?;
-        let is_headless = at == 0 && name == "set.head";
-        if !end_truly(alloc, &mut changed, false, lines)?
-            || !end_truly(alloc, &mut cut, is_headless, lines)?
+        if !end_truly_with_complement(alloc, parts, name, sound, at)?
+            || !end_truly_with(alloc, parts, name, &sound[..at])?
         {
-            return Ok(Some(at));
+            return Ok(at);
         }
     }
-    Ok(None)
+    Ok(sound.len())
 }
 
 #[test]
@@ -284,10 +318,12 @@ fn each_changed_or_cut_byte_ends_truly(rt: HostRuntime) -> Result<(), Fail> {
     let alloc = rt.alloc();
     for parts in [EIGHT, EIGHT_WIDE] {
         for (name, sound) in parts {
-            assert_eq!(rt; first_untrue(alloc, &parts, name, sound)?, None, "{name}");
+            let untrue = first_untrue(alloc, &parts, name, sound)?;
+            assert!(rt; untrue == sound.len(), "{name} {untrue}");
         }
         for (name, sound) in SAME {
-            assert_eq!(rt; first_untrue(alloc, &parts, name, sound)?, None, "{name}");
+            let untrue = first_untrue(alloc, &parts, name, sound)?;
+            assert!(rt; untrue == sound.len(), "{name} {untrue}");
         }
     }
     Ok(())
@@ -342,115 +378,89 @@ fn damaged(alloc: Global, draws: &mut Draws, sound: &[u8]) -> Result<Vec<u8>, Al
     Ok(other)
 }
 
-/// A store with a set of 60 made documents and 210 short ones: some lists have several blocks, some parts several pages.
-fn mixed_set(alloc: Global) -> Result<MemStore, Fail> {
+/// A collection of 60 made documents.
+fn made_text(alloc: Global) -> Result<Vec<u8>, Fail> {
     let mut text = MemSink::new(alloc);
     if make_collection(7, 60, &mut text).is_err() {
         return Err(Fail::from("no collection was made"));
     }
-    let mut collection = text.bytes().to_vec(alloc)?;
+    Ok(text.bytes().to_vec(alloc)?)
+}
+
+/// A collection of 60 made documents and 210 short ones.
+fn mixed_text(alloc: Global) -> Result<Vec<u8>, Fail> {
+    let mut collection = made_text(alloc)?;
     for _ in 0..70 {
-        collection.extend_from_slice(b"the cat sat\n\x02the dog\n\x02Cat, cat & dog!\n\x02")?;
+        collection.extend_from_slice(LETTERS)?;
     }
-    let mut store = MemStore::new(alloc);
-    store.put_file("text", &collection)?;
-    let words = ["build", "text", "set", "--budget", "4096"];
-    let left = ran_over(alloc, &words, &mut store, b"")?;
-    if left.status != Status::Done {
+    Ok(collection)
+}
+
+/// A store with the set of a collection.
+pub(crate) fn built(alloc: Global, text: &[u8]) -> Result<MemStore, Fail> {
+    let mut store = store_of(alloc, &[("text", text)])?;
+    let (status, _) = ended(alloc, &BUILD, &mut store, b"")?;
+    if status != Status::Done {
         return Err(Fail::from("no set was built"));
     }
     Ok(store)
 }
 
+/// A store with a set of 60 made documents and 210 short ones: some lists have several blocks, some parts several pages.
+fn mixed_set(alloc: Global) -> Result<MemStore, Fail> {
+    let collection = mixed_text(alloc)?;
+    built(alloc, &collection)
+}
+
+/// The bytes of a part.
+fn bytes_of(alloc: Global, store: &MemStore, name: &str) -> Result<Vec<u8>, Fail> {
+    match store.file(name) {
+        Some(bytes) => Ok(bytes.to_vec(alloc)?),
+        None => Err(Fail::from("a part is missing")),
+    }
+}
+
+/// What the damaged sets are asked.
+const QUESTIONS: &[u8] =
+    b"cat & !dog\n!the\n.set mode text\n.set maxdocs 2\ndog\n.set query ranked\ncat dog\n";
+
+/// Whether `decode` and a session over the set end truly where a part that has these bytes is damaged.
+fn end_truly_damaged(
+    alloc: Global,
+    store: &mut MemStore,
+    draws: &mut Draws,
+    name: &str,
+    sound: &[u8],
+) -> Result<bool, AllocError> {
+    let other = damaged(alloc, draws, sound)?;
+    store.put_file(name, &other)?;
+    let is_headless = name == "set.head" && other.is_empty();
+    end_truly(alloc, store, is_headless, QUESTIONS)
+}
+
+/// The same where a part is damaged, which is sound again afterwards.
+fn end_truly_meanwhile(
+    alloc: Global,
+    store: &mut MemStore,
+    draws: &mut Draws,
+    name: &str,
+) -> Result<bool, Fail> {
+    let sound = bytes_of(alloc, store, name)?;
+    let are_true = end_truly_damaged(alloc, store, draws, name, &sound)?;
+    store.put_file(name, &sound)?;
+    Ok(are_true)
+}
+
 #[test]
 fn two_thousand_damages_end_truly(rt: HostRuntime) -> Result<(), Fail> {
     let alloc = rt.alloc();
-    let lines =
-        b"cat & !dog\n!the\n.set mode text\n.set maxdocs 2\ndog\n.set query ranked\ncat dog\n";
     let mut store = mixed_set(alloc)?;
-    assert!(rt; end_truly(alloc, &mut store, false, lines)?);
+    assert!(rt; end_truly(alloc, &mut store, false, QUESTIONS)?);
     let mut draws = Draws { state: 1994 };
     for number in 0..2000u32 {
         let name = PARTS[draws.below(PARTS.len())];
-        let sound = match store.file(name) {
-            Some(bytes) => bytes.to_vec(alloc)?,
-            None => return Err(Fail::from("a part is missing")),
-        };
-        let other = damaged(alloc, &mut draws, &sound)?;
-        store.put_file(name, &other)?;
-        let is_headless = name == "set.head" && other.is_empty();
-        let ends = end_truly(alloc, &mut store, is_headless, lines)?;
-        assert!(rt; ends, "damage {number}, of {name}");
-        store.put_file(name, &sound)?;
-    }
-    Ok(())
-}
-
-/// A store with the parts of another under the same names, of which no call is to fail, and a collection `text`.
-fn with_parts_of(alloc: Global, other: &MemStore, text: &[u8]) -> Result<MemStore, AllocError> {
-    let mut store = MemStore::new(alloc);
-    for name in PARTS {
-        if let Some(bytes) = other.file(name) {
-            store.put_file(name, bytes)?;
-        }
-    }
-    store.put_file("text", text)?;
-    Ok(store)
-}
-
-/// Whether a session over what a failed build left answers as the old set, with all its files, as none, or as the new.
-fn answers_truly(alloc: Global, left: &MemStore, old: &MemStore) -> Result<bool, AllocError> {
-    let mut healed = with_parts_of(alloc, left, b"")?;
-    let asked = ran_over(alloc, &["query", "set"], &mut healed, b"cat\n")?;
-    let printed = asked.out.bytes();
-    Ok(match asked.status {
-        Status::Stopped(Fault::NotBuilt | Fault::Damaged(_)) => printed.is_empty(),
-        Status::Stopped(_) => false,
-        Status::Done if printed == b"= 0\n".as_slice() => true,
-        Status::Done => {
-            let mut is_old = printed == b"1\n3\n= 2\n".as_slice();
-            for name in PARTS {
-                is_old = is_old && left.file(name) == old.file(name);
-            }
-            is_old
-        }
-    })
-}
-
-#[test]
-fn a_build_that_fails_leaves_a_set_that_answers_truly(rt: HostRuntime) -> Result<(), Fail> {
-    let alloc = rt.alloc();
-    let words = ["build", "text", "set", "--budget", "4096"];
-    let mut old = MemStore::new(alloc);
-    old.put_file(
-        "text",
-        b"the cat sat\n\x02the dog\n\x02Cat, cat & dog!\n\x02",
-    )?;
-    let built = ran_over(alloc, &words, &mut old, b"")?;
-    assert!(rt; built.status == Status::Done);
-    for keeps_one in [false, true] {
-        // One call after the other, until the build has no call of this number.
-        let mut calls = 0u64;
-        for call in 0..1000u64 {
-            let mut store = with_parts_of(alloc, &old, b"a a a a ")?;
-            if keeps_one {
-                store.fail_at(call, 1)?;
-            } else {
-                store.fail_from(call);
-            }
-            let left = ran_over(alloc, &words, &mut store, b"")?;
-            if left.status == Status::Done {
-                break;
-            }
-            assert!(rt;
-                left.status == Status::Stopped(Fault::StoreFault),
-                "call {call}"
-            );
-            assert!(rt; left.out.bytes().is_empty());
-            assert!(rt; answers_truly(alloc, &store, &old)?, "call {call}");
-            calls = call.saturating_add(1);
-        }
-        assert!(rt; calls > 20 && calls < 1000, "{calls}");
+        let are_true = end_truly_meanwhile(alloc, &mut store, &mut draws, name)?;
+        assert!(rt; are_true, "damage {number}, of {name}");
     }
     Ok(())
 }

@@ -5,7 +5,7 @@ use std::alloc::{AllocError, Global};
 use std::test::Fail;
 
 /// Three documents.
-const LETTERS: &[u8] = b"the cat sat\n\x02the dog\n\x02Cat, cat & dog!\n\x02";
+pub(crate) const LETTERS: &[u8] = b"the cat sat\n\x02the dog\n\x02Cat, cat & dog!\n\x02";
 
 fn words(alloc: Global, given: &[&str]) -> Result<Vec<String>, AllocError> {
     let mut words = Vec::new(alloc);
@@ -23,6 +23,20 @@ pub(crate) struct Left {
     pub(crate) err: MemSink,
 }
 
+/// Whether a run left just this.
+fn is_left(left: &Left, status: Status, out: &[u8], err: &[u8]) -> bool {
+    left.status == status && left.out.bytes() == out && left.err.bytes() == err
+}
+
+/// A store with these files.
+pub(crate) fn store_of(alloc: Global, files: &[(&str, &[u8])]) -> Result<MemStore, AllocError> {
+    let mut store = MemStore::new(alloc);
+    for (name, bytes) in files {
+        store.put_file(name, bytes)?;
+    }
+    Ok(store)
+}
+
 /// Runs words over a store; the input comes a few bytes at a time.
 pub(crate) fn ran_over(
     alloc: Global,
@@ -30,19 +44,66 @@ pub(crate) fn ran_over(
     store: &mut MemStore,
     lines: &[u8],
 ) -> Result<Left, AllocError> {
+    let words = words(alloc, given)?;
     let mut input = MemSource::new(alloc, lines, 5)?;
     let mut out = MemSink::new(alloc);
     let mut err = MemSink::new(alloc);
-    let words = words(alloc, given)?;
     let status = run(alloc, &words, store, &mut input, &mut out, &mut err);
     Ok(Left { status, out, err })
 }
 
-/// Runs words over a store with a collection `text`.
-fn ran(alloc: Global, given: &[&str], text: &[u8], lines: &[u8]) -> Result<Left, AllocError> {
-    let mut store = MemStore::new(alloc);
-    store.put_file("text", text)?;
-    ran_over(alloc, given, &mut store, lines)
+/// Whether words over a store end with status 0, print just this and tell no fault.
+pub(crate) fn prints(
+    alloc: Global,
+    given: &[&str],
+    store: &mut MemStore,
+    lines: &[u8],
+    wanted: &[u8],
+) -> Result<bool, AllocError> {
+    let left = ran_over(alloc, given, store, lines)?;
+    Ok(is_left(&left, Status::Done, wanted, b""))
+}
+
+/// Whether words over a store stop for this fault, print nothing and tell just this line.
+pub(crate) fn stops(
+    alloc: Global,
+    given: &[&str],
+    store: &mut MemStore,
+    lines: &[u8],
+    fault: Fault,
+    line: &[u8],
+) -> Result<bool, AllocError> {
+    let left = ran_over(alloc, given, store, lines)?;
+    Ok(is_left(&left, Status::Stopped(fault), b"", line))
+}
+
+/// Whether words over a store print nothing and tell just this line, whatever their status is.
+pub(crate) fn tells(
+    alloc: Global,
+    given: &[&str],
+    store: &mut MemStore,
+    lines: &[u8],
+    line: &[u8],
+) -> Result<bool, AllocError> {
+    let left = ran_over(alloc, given, store, lines)?;
+    Ok(left.out.bytes().is_empty() && left.err.bytes() == line)
+}
+
+/// How words over a store end, and whether they print nothing.
+pub(crate) fn ended(
+    alloc: Global,
+    given: &[&str],
+    store: &mut MemStore,
+    lines: &[u8],
+) -> Result<(Status, bool), AllocError> {
+    let left = ran_over(alloc, given, store, lines)?;
+    Ok((left.status, left.out.bytes().is_empty()))
+}
+
+/// Whether a scan of this text ends with status 0, prints just this and tells no fault.
+fn scans(alloc: Global, text: &[u8], lines: &[u8], wanted: &[u8]) -> Result<bool, AllocError> {
+    let mut store = store_of(alloc, &[("text", text)])?;
+    prints(alloc, &["scan", "text"], &mut store, lines, wanted)
 }
 
 #[test]
@@ -92,10 +153,7 @@ fn scans_answer(rt: HostRuntime) -> Result<(), Fail> {
         (b"cat \x02 dog", b"dog", b"2\n= 1\n"),
     ];
     for (text, lines, wanted) in rows {
-        let left = ran(rt.alloc(), &["scan", "text"], text, lines)?;
-        assert!(rt; left.status == Status::Done);
-        assert_eq!(rt; left.out.bytes(), wanted);
-        assert!(rt; left.err.bytes().is_empty());
+        assert!(rt; scans(rt.alloc(), text, lines, wanted)?);
     }
     Ok(())
 }
@@ -105,50 +163,59 @@ fn two_letters(number: u8) -> [u8; 2] {
     [b'a' + number / 26, b'a' + number % 26]
 }
 
-/// A line of so many words of two letters each, and what comes behind them.
-fn line_of_words(alloc: Global, count: u8, behind: &[u8]) -> Result<Vec<u8>, AllocError> {
-    let mut line = Vec::new(alloc);
+/// Puts so many words of two letters each, and what comes behind them.
+fn put_words(line: &mut Vec<u8>, count: u8, behind: &[u8]) -> Result<(), AllocError> {
     for number in 0..count {
         line.extend_from_slice(&two_letters(number))?;
         line.push(b' ')?;
     }
     line.extend_from_slice(behind)?;
-    Ok(line)
+    Ok(())
 }
 
-#[test]
-fn lines_at_their_limits_are_answered(rt: HostRuntime) -> Result<(), Fail> {
-    let alloc = rt.alloc();
+/// Whether lines of 1, 255, 256 and 1025 letters are answered over a document of 256 letters, which has a term of 255
+/// and one of 1.
+fn letters_are_answered(alloc: Global) -> Result<bool, AllocError> {
     let letters = [b'a'; 1026];
     let mut words = Vec::new(alloc);
     for count in [1usize, 255, 256, 1025] {
         words.extend_from_slice(&letters[..count])?;
         words.push(b'\n')?;
     }
+    scans(
+        alloc,
+        &letters[..256],
+        words.as_slice(),
+        b"1\n= 1\n1\n= 1\n? word too long at 0\n? line too long\n",
+    )
+}
+
+/// Whether a ranked session of a line of 64 words and one of 65 is answered.
+fn ranks_are_answered(alloc: Global) -> Result<bool, AllocError> {
     let mut ranked = Vec::new(alloc);
     ranked.extend_from_slice(b".set  query   ranked\n")?;
-    ranked.extend_from_slice(line_of_words(alloc, 63, b"cat\n")?.as_slice())?;
-    ranked.extend_from_slice(line_of_words(alloc, 65, b"\n")?.as_slice())?;
+    put_words(&mut ranked, 63, b"cat\n")?;
+    put_words(&mut ranked, 65, b"\n")?;
+    scans(
+        alloc,
+        LETTERS,
+        ranked.as_slice(),
+        b"3 77451\n1 50002\n= 2\n? too many words at 192\n",
+    )
+}
+
+#[test]
+fn lines_at_their_limits_are_answered(rt: HostRuntime) -> Result<(), Fail> {
+    let alloc = rt.alloc();
+    assert!(rt; letters_are_answered(alloc)?);
+    assert!(rt; ranks_are_answered(alloc)?);
     let open = [b'('; 33];
-    let rows: [(&[u8], &[u8], &[u8]); 4] = [
-        // A document of 256 letters has a term of 255 and one of 1.
-        (
-            &letters[..256],
-            words.as_slice(),
-            b"1\n= 1\n1\n= 1\n? word too long at 0\n? line too long\n",
-        ),
-        (
-            LETTERS,
-            ranked.as_slice(),
-            b"3 77451\n1 50002\n= 2\n? too many words at 192\n",
-        ),
-        (LETTERS, b"cat & | dog\n", b"? syntax at 6\n"),
-        (LETTERS, &open, b"? too deep at 32\n"),
+    let rows: [(&[u8], &[u8]); 2] = [
+        (b"cat & | dog\n", b"? syntax at 6\n"),
+        (&open, b"? too deep at 32\n"),
     ];
-    for (text, lines, wanted) in rows {
-        let left = ran(alloc, &["scan", "text"], text, lines)?;
-        assert!(rt; left.status == Status::Done);
-        assert_eq!(rt; left.out.bytes(), wanted);
+    for (lines, wanted) in rows {
+        assert!(rt; scans(alloc, LETTERS, lines, wanted)?);
     }
     Ok(())
 }
@@ -166,14 +233,11 @@ fn other_words_are_not_understood(rt: HostRuntime) -> Result<(), Fail> {
         &["Scan", "text"],
         &["check", "text", "more"],
     ];
+    let alloc = rt.alloc();
     for given in rows {
-        let left = ran(rt.alloc(), given, LETTERS, b"cat\n")?;
-        assert!(rt; left.status == Status::Stopped(Fault::Usage));
-        assert!(rt; left.out.bytes().is_empty());
-        assert_eq!(rt;
-            left.err.bytes(),
-            b"mg: the words are not understood\n".as_slice()
-        );
+        let mut store = store_of(alloc, &[("text", LETTERS)])?;
+        let line = b"mg: the words are not understood\n";
+        assert!(rt; stops(alloc, given, &mut store, b"cat\n", Fault::Usage, line)?);
     }
     Ok(())
 }
@@ -190,53 +254,68 @@ fn builds_answer(rt: HostRuntime) -> Result<(), Fail> {
             b"documents 3\nwords 5\nothers 5\nterms 4\noccurrences 8\nruns 1\npool 96 of 4096\n",
         ),
     ];
+    // What is run over each set, one after the other.
+    let later: [(&[&str], &[u8], &[u8]); 4] = [
+        (&["decode", "set"], b"", LETTERS),
+        (&["query", "set"], b"cat\n!the\n", b"1\n3\n= 2\n3\n= 1\n"),
+        (&["migrate", "set", "new"], b"", b"documents 3\n"),
+        (&["decode", "new"], b"", LETTERS),
+    ];
+    let alloc = rt.alloc();
     for (given, wanted) in rows {
-        let mut store = MemStore::new(rt.alloc());
-        store.put_file("text", LETTERS)?;
-        let built = ran_over(rt.alloc(), given, &mut store, b"")?;
-        assert!(rt; built.status == Status::Done);
-        assert_eq!(rt; built.out.bytes(), wanted);
-        assert!(rt; built.err.bytes().is_empty());
-        let decoded = ran_over(rt.alloc(), &["decode", "set"], &mut store, b"")?;
-        assert!(rt; decoded.status == Status::Done);
-        assert_eq!(rt; decoded.out.bytes(), LETTERS);
-        let queried = ran_over(rt.alloc(), &["query", "set"], &mut store, b"cat\n!the\n")?;
-        assert!(rt; queried.status == Status::Done);
-        assert_eq!(rt; queried.out.bytes(), b"1\n3\n= 2\n3\n= 1\n".as_slice());
-        let made = ran_over(rt.alloc(), &["migrate", "set", "new"], &mut store, b"")?;
-        assert!(rt; made.status == Status::Done);
-        assert_eq!(rt; made.out.bytes(), b"documents 3\n".as_slice());
-        let decoded = ran_over(rt.alloc(), &["decode", "new"], &mut store, b"")?;
-        assert!(rt; decoded.status == Status::Done);
-        assert_eq!(rt; decoded.out.bytes(), LETTERS);
+        let mut store = store_of(alloc, &[("text", LETTERS)])?;
+        assert!(rt; prints(alloc, given, &mut store, b"", wanted)?);
+        for (asked, lines, printed) in later {
+            assert!(rt; prints(alloc, asked, &mut store, lines, printed)?);
+        }
     }
     Ok(())
 }
 
 #[test]
-fn builds_are_refused(rt: HostRuntime) -> Result<(), Fail> {
-    let rows: [(&[&str], Fault, &[u8]); 3] = [
+fn refused_builds_and_missing_files_are_told(rt: HostRuntime) -> Result<(), Fail> {
+    let rows: [(&[&str], &[u8], Fault, &[u8]); 6] = [
         (
             &["build", "none", "set"],
+            b"",
             Fault::NoCollection,
             b"mg: there is no such collection\n",
         ),
         (
             &["build", "set.lexat", "set"],
+            b"",
             Fault::NameClash { part: Part::LexAt },
             b"mg: the collection has the name of part lexat\n",
         ),
         (
             &["build", "text", "set", "--budget", "4095"],
+            b"",
             Fault::Usage,
             b"mg: the words are not understood\n",
         ),
+        (
+            &["query", "set"],
+            b"cat\n",
+            Fault::NotBuilt,
+            b"mg: nothing is built under this name\n",
+        ),
+        (
+            &["decode", "set"],
+            b"cat\n",
+            Fault::NotBuilt,
+            b"mg: nothing is built under this name\n",
+        ),
+        (
+            &["scan", "none"],
+            b"cat\n",
+            Fault::NoCollection,
+            b"mg: there is no such collection\n",
+        ),
     ];
-    for (given, fault, line) in rows {
-        let left = ran(rt.alloc(), given, LETTERS, b"")?;
-        assert!(rt; left.status == Status::Stopped(fault));
-        assert!(rt; left.out.bytes().is_empty());
-        assert_eq!(rt; left.err.bytes(), line);
+    let alloc = rt.alloc();
+    for (given, lines, fault, line) in rows {
+        let mut store = store_of(alloc, &[("text", LETTERS)])?;
+        assert!(rt; stops(alloc, given, &mut store, lines, fault, line)?);
     }
     Ok(())
 }
@@ -257,108 +336,85 @@ const SET: [(&str, &[u8]); 5] = [
     ("set.places", b"\x00\x00\x00\x00\x00\x00\x00\x02"),
 ];
 
-fn decoded(alloc: Global, parts: &[(&str, &[u8])]) -> Result<Left, AllocError> {
-    let mut store = MemStore::new(alloc);
-    for (name, bytes) in parts {
-        store.put_file(name, bytes)?;
-    }
-    ran_over(alloc, &["decode", "set"], &mut store, b"a\n")
-}
-
 #[test]
 fn sets_are_decoded(rt: HostRuntime) -> Result<(), Fail> {
-    let left = decoded(rt.alloc(), &SET)?;
-    assert!(rt; left.status == Status::Done);
-    assert_eq!(rt; left.out.bytes(), b"a a a a ".as_slice());
-    assert!(rt; left.err.bytes().is_empty());
-
-    let left = decoded(rt.alloc(), &[("set.head", b"MGROWv1\n\x00\x00")])?;
-    assert!(rt; left.out.bytes().is_empty());
-    assert_eq!(rt;
-        left.err.bytes(),
-        b"mg: damaged: part head at 0: found 10, wanted 64 to 64\n".as_slice()
-    );
+    let alloc = rt.alloc();
+    {
+        let mut store = store_of(alloc, &SET)?;
+        assert!(rt; prints(alloc, &["decode", "set"], &mut store, b"a\n", b"a a a a ")?);
+    }
+    let mut store = store_of(alloc, &[("set.head", b"MGROWv1\n\x00\x00")])?;
+    let line = b"mg: damaged: part head at 0: found 10, wanted 64 to 64\n";
+    assert!(rt; tells(alloc, &["decode", "set"], &mut store, b"a\n", line)?);
     Ok(())
 }
 
 #[test]
 fn sets_are_checked(rt: HostRuntime) -> Result<(), Fail> {
     let alloc = rt.alloc();
-    let mut store = MemStore::new(alloc);
-    store.put_file("text", LETTERS)?;
-    let made = ran_over(alloc, &["build", "text", "set"], &mut store, b"")?;
-    assert_eq!(rt; made.status, Status::Done);
-    let left = ran_over(alloc, &["check", "set"], &mut store, b"")?;
-    assert_eq!(rt;
-        (left.status, left.out.bytes()),
-        (Status::Done, b"stands 3 documents 39 bytes\n".as_slice())
-    );
+    let mut store = store_of(alloc, &[("text", LETTERS)])?;
+    let (status, _) = ended(alloc, &["build", "text", "set"], &mut store, b"")?;
+    assert!(rt; status == Status::Done);
+    let wanted = b"stands 3 documents 39 bytes\n";
+    assert!(rt; prints(alloc, &["check", "set"], &mut store, b"", wanted)?);
     store.put_file("set.run", b"")?;
-    let left = ran_over(alloc, &["check", "set"], &mut store, b"")?;
-    assert!(rt; matches!(left.status, Status::Stopped(Fault::Damaged(_))));
-    assert!(rt; left.out.bytes().is_empty());
+    let (status, is_silent) = ended(alloc, &["check", "set"], &mut store, b"")?;
+    assert!(rt; matches!(status, Status::Stopped(Fault::Damaged(_))));
+    assert!(rt; is_silent);
     Ok(())
 }
 
-#[test]
-fn a_missing_set_is_not_built(rt: HostRuntime) -> Result<(), Fail> {
-    for tool in ["query", "decode"] {
-        let left = ran(rt.alloc(), &[tool, "set"], LETTERS, b"cat\n")?;
-        assert!(rt; left.status == Status::Stopped(Fault::NotBuilt));
-        assert!(rt; left.out.bytes().is_empty());
-        assert_eq!(rt;
-            left.err.bytes(),
-            b"mg: nothing is built under this name\n".as_slice()
-        );
-    }
-    Ok(())
+/// The status of a scan of the three documents over these devices.
+fn scanned(
+    alloc: Global,
+    input: &mut MemSource,
+    out: &mut MemSink,
+    err: &mut MemSink,
+) -> Result<Status, AllocError> {
+    let words = words(alloc, &["scan", "text"])?;
+    let mut store = store_of(alloc, &[("text", LETTERS)])?;
+    Ok(run(alloc, &words, &mut store, input, out, err))
 }
 
-#[test]
-fn a_missing_collection_is_told(rt: HostRuntime) -> Result<(), Fail> {
-    let left = ran(rt.alloc(), &["scan", "none"], LETTERS, b"cat\n")?;
-    assert!(rt; left.status == Status::Stopped(Fault::NoCollection));
-    assert!(rt; left.out.bytes().is_empty());
-    assert_eq!(rt;
-        left.err.bytes(),
-        b"mg: there is no such collection\n".as_slice()
-    );
-    Ok(())
+/// What a scan leaves whose input fails at once, and whose error output is cut after three bytes.
+fn left_without_input(alloc: Global) -> Result<Left, AllocError> {
+    let mut input = MemSource::new(alloc, b"sat\n", 4)?;
+    input.fail_at(0)?;
+    let mut err = MemSink::new(alloc);
+    err.fail_at(0, 3)?;
+    let mut out = MemSink::new(alloc);
+    let status = scanned(alloc, &mut input, &mut out, &mut err)?;
+    Ok(Left { status, out, err })
+}
+
+/// What a scan leaves whose output is cut after one byte.
+fn left_without_output(alloc: Global) -> Result<Left, AllocError> {
+    let mut input = MemSource::new(alloc, b"sat\n", 4)?;
+    let mut out = MemSink::new(alloc);
+    out.fail_at(0, 1)?;
+    let mut err = MemSink::new(alloc);
+    let status = scanned(alloc, &mut input, &mut out, &mut err)?;
+    Ok(Left { status, out, err })
 }
 
 #[test]
 fn each_device_may_fail(rt: HostRuntime) -> Result<(), Fail> {
     let alloc = rt.alloc();
-    let words = words(alloc, &["scan", "text"])?;
-    // The store's second call reads the collection, the input's first the line; the first put of
-    // the output is cut after one byte, and the error output fails too: the status stays.
-    let mut store = MemStore::new(alloc);
-    store.put_file("text", LETTERS)?;
-    store.fail_at(1, 0)?;
-    let mut input = MemSource::new(alloc, b"sat\n", 4)?;
-    let mut out = MemSink::new(alloc);
-    let mut err = MemSink::new(alloc);
-    let status = run(alloc, &words, &mut store, &mut input, &mut out, &mut err);
-    assert!(rt; status == Status::Stopped(Fault::StoreFault));
-
-    let mut input = MemSource::new(alloc, b"sat\n", 4)?;
-    input.fail_at(0)?;
-    let mut err = MemSink::new(alloc);
-    err.fail_at(0, 3)?;
-    let status = run(alloc, &words, &mut store, &mut input, &mut out, &mut err);
-    assert!(rt; status == Status::Stopped(Fault::ReadFault));
-    assert!(rt; out.bytes().is_empty());
-    assert_eq!(rt; err.bytes(), b"mg:".as_slice());
-
-    let mut input = MemSource::new(alloc, b"sat\n", 4)?;
-    out.fail_at(0, 1)?;
-    let mut err = MemSink::new(alloc);
-    let status = run(alloc, &words, &mut store, &mut input, &mut out, &mut err);
-    assert!(rt; status == Status::Stopped(Fault::WriteFault));
-    assert_eq!(rt; out.bytes(), b"1".as_slice());
-    assert_eq!(rt;
-        err.bytes(),
-        b"mg: the output could not be written\n".as_slice()
-    );
+    {
+        // The store's second call reads the collection.
+        let mut store = store_of(alloc, &[("text", LETTERS)])?;
+        store.fail_at(1, 0)?;
+        let (status, is_silent) = ended(alloc, &["scan", "text"], &mut store, b"sat\n")?;
+        assert!(rt; status == Status::Stopped(Fault::StoreFault));
+        assert!(rt; is_silent);
+    }
+    {
+        // The error output fails too: the status stays.
+        let left = left_without_input(alloc)?;
+        assert!(rt; is_left(&left, Status::Stopped(Fault::ReadFault), b"", b"mg:"));
+    }
+    let left = left_without_output(alloc)?;
+    let line = b"mg: the output could not be written\n";
+    assert!(rt; is_left(&left, Status::Stopped(Fault::WriteFault), b"1", line));
     Ok(())
 }

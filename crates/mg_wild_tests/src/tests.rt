@@ -89,7 +89,7 @@ fn lines_are_read(rt: HostRuntime) -> Result<(), Fail> {
         (b"**", 1),
         (b"a b*", 1),
     ] {
-        assert_eq!(rt; refused_at(alloc, line), Some(at));
+        assert!(rt; refused_at(alloc, line) == Some(at));
     }
     Ok(())
 }
@@ -134,6 +134,6 @@ fn entries_of_another_number_of_terms_are_damage(rt: HostRuntime) -> Result<(), 
         Err(RotErr::Part(PartErr::Bad(bad))) => Some(bad.part),
         _ => None,
     };
-    assert_eq!(rt; damaged, Some(Part::Lex));
+    assert!(rt; damaged == Some(Part::Lex));
     Ok(())
 }

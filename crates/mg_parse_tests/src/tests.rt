@@ -4,7 +4,7 @@ ghost use Rattle.mg_defs.specs.Pieces.{pieces, left_at_end, other_kind};
 ghost use Rattle.mg_defs.specs.Split.{closed_count, has_open_end};
 ghost use Rattle.mg_parse.specs.Told.{lists};
 
-use super::*;
+use mg_parse::{Offer, Pairs, PieceReader, Splitter, fold, is_word_byte};
 use std::alloc::{AllocError, Global};
 use std::process::Abort;
 use std::test::Fail;
@@ -96,9 +96,9 @@ fn expect_lengths(
 ) -> Result<(), Fail> {
     let doc = run_before(alloc, byte, count, end)?;
     let read = lengths_by_reader(alloc, doc.as_slice())?;
-    assert_eq!(rt; read.as_slice(), want, "by bytes: {count} of {byte}");
+    assert!(rt; read.as_slice() == want, "by bytes: {count} of {byte}");
     let paired = lengths_by_pairs(alloc, doc.as_slice())?;
-    assert_eq!(rt; paired.as_slice(), want, "by pairs: {count} of {byte}");
+    assert!(rt; paired.as_slice() == want, "by pairs: {count} of {byte}");
     Ok(())
 }
 
@@ -166,21 +166,21 @@ fn split_counts(bytes: &[u8]) -> (u64, bool)
 
 #[test]
 fn documents_end_at_control_b(rt: HostRuntime) {
-    assert_eq!(rt; split_counts(b""), (0, false));
-    assert_eq!(rt; split_counts(b"\x02"), (1, false));
-    assert_eq!(rt; split_counts(b"\x02\x02"), (2, false));
-    assert_eq!(rt; split_counts(COLLECTION), (3, false));
-    assert_eq!(rt; split_counts(&COLLECTION[..38]), (2, true));
-    assert_eq!(rt; split_counts(b"a\x02b"), (1, true));
-    assert_eq!(rt; split_counts(b"\x02a"), (1, true));
+    assert!(rt; split_counts(b"") == (0, false));
+    assert!(rt; split_counts(b"\x02") == (1, false));
+    assert!(rt; split_counts(b"\x02\x02") == (2, false));
+    assert!(rt; split_counts(COLLECTION) == (3, false));
+    assert!(rt; split_counts(&COLLECTION[..38]) == (2, true));
+    assert!(rt; split_counts(b"a\x02b") == (1, true));
+    assert!(rt; split_counts(b"\x02a") == (1, true));
 }
 
 #[test]
 fn folding_keeps_all_but_capitals(rt: HostRuntime) {
     let mut out = *b"________________";
     let length = fold(b"@AZ[`az{\x80\xc1\xdf09", &mut out);
-    assert_eq!(rt; length, 13);
-    assert_eq!(rt; &out, b"@az[`az{\x80\xc1\xdf09___");
+    assert!(rt; length == 13);
+    assert!(rt; &out == b"@az[`az{\x80\xc1\xdf09___");
 }
 
 #[test]
@@ -191,5 +191,5 @@ fn word_bytes_are_letters_digits_and_high_bytes(rt: HostRuntime) {
             count = count.wrapping_add(1);
         }
     }
-    assert_eq!(rt; count, 26 + 26 + 10 + 128);
+    assert!(rt; count == 26 + 26 + 10 + 128);
 }

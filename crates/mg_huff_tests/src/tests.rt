@@ -1,7 +1,7 @@
 ghost use Rattle.std.specs.Prelude.{◌*◌, ◌^◌, ◌<◌, ◌≤◌, IfOk, sum};
 ghost use Rattle.std.specs.List.{All};
 
-use super::*;
+use mg_huff::lengths;
 use std::alloc::{AllocError, Global};
 use std::test::Fail;
 
@@ -9,13 +9,13 @@ use std::test::Fail;
 fn worked_counts_have_their_lengths(rt: HostRuntime) -> Result<(), Fail> {
     let mut out = Vec::new(rt.alloc());
     lengths(rt.alloc(), &[1, 2, 2, 1, 2], &mut out)?;
-    assert_eq!(rt; out.as_slice(), [3, 2, 2, 3, 2].as_slice());
+    assert!(rt; out.as_slice() == [3, 2, 2, 3, 2].as_slice());
     lengths(rt.alloc(), &[7], &mut out)?;
-    assert_eq!(rt; out.as_slice(), [1].as_slice());
+    assert!(rt; out.as_slice() == [1].as_slice());
     lengths(rt.alloc(), &[9, 9, 9, 9], &mut out)?;
-    assert_eq!(rt; out.as_slice(), [2, 2, 2, 2].as_slice());
+    assert!(rt; out.as_slice() == [2, 2, 2, 2].as_slice());
     lengths(rt.alloc(), &[1, 4_294_967_294], &mut out)?;
-    assert_eq!(rt; out.as_slice(), [1, 1].as_slice());
+    assert!(rt; out.as_slice() == [1, 1].as_slice());
     lengths(rt.alloc(), &[], &mut out)?;
     assert!(rt; out.is_empty());
     Ok(())
@@ -33,8 +33,8 @@ const FIBONACCI: [u64; 45] = [
 fn the_deepest_tree_has_44_levels(rt: HostRuntime) -> Result<(), Fail> {
     let mut out = Vec::new(rt.alloc());
     lengths(rt.alloc(), &FIBONACCI, &mut out)?;
-    assert_eq!(rt; out.iter().copied().max(), Some(44));
-    assert_eq!(rt; out.last().copied(), Some(1));
+    assert!(rt; out.iter().copied().max() == Some(44));
+    assert!(rt; out.last().copied() == Some(1));
     Ok(())
 }
 
@@ -52,7 +52,7 @@ fn four_million_equal_counts_have_22_bits_each(rt: HostRuntime) -> Result<(), Fa
     let counts = ones(rt.alloc(), 4_194_304)?;
     let mut out = Vec::new(rt.alloc());
     lengths(rt.alloc(), &counts, &mut out)?;
-    assert_eq!(rt; out.len(), 4_194_304);
+    assert!(rt; out.len() == 4_194_304);
     assert!(rt; out.iter().all(|l| *l == 22));
     Ok(())
 }

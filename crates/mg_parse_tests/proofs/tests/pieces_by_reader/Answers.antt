@@ -1,6 +1,6 @@
 use Rattle.std.proofs.Common.{refl, sym, ◌∙◌, take_all}
-use Rattle.mg_parse.proofs.tests.pieces_by_reader.Goals as goal
-use Rattle.mg_parse.proofs.Turned.{ended, one_more}
+use Rattle.mg_parse_tests.proofs.tests.pieces_by_reader.Goals as goal
+use Rattle.mg_parse_tests.proofs.Turned.{ended, one_more}
 use Rattle.mg_defs.proofs.PieceLaws.{reads_end}
 
 pub turns-preserved : goal.turns-preserved

@@ -1,4 +1,4 @@
-use crate::{doc_term_weight, isqrt, lg, score, term_weight};
+use mg_fixed::{doc_term_weight, isqrt, lg, score, term_weight};
 use std::test::Fail;
 
 /// A number, its logarithm and its root, as an independent reference gives them.
@@ -157,10 +157,10 @@ const LOGARITHMS_AND_ROOTS: [(u64, u32, u32); 148] = [
 fn logarithms_and_roots_are_those_of_the_reference(rt: HostRuntime) {
     for (x, logarithm, root) in LOGARITHMS_AND_ROOTS {
         assert!(rt; x >= 1);
-        assert_eq!(rt; lg(x), logarithm, "logarithm of {x}");
-        assert_eq!(rt; isqrt(x), root, "root of {x}");
+        assert!(rt; lg(x) == logarithm, "logarithm of {x}");
+        assert!(rt; isqrt(x) == root, "root of {x}");
     }
-    assert_eq!(rt; isqrt(0), 0);
+    assert!(rt; isqrt(0) == 0);
 }
 
 /// The documents that have a term, all documents, and the term's weight.
@@ -201,22 +201,26 @@ const WEIGHTS_IN_DOCUMENT: [(u32, u32); 11] = [
 fn weights_are_those_of_the_reference(rt: HostRuntime) {
     for (docs, all, weight) in TERM_WEIGHTS {
         assert!(rt; 1 <= docs && docs <= all);
-        assert_eq!(rt; term_weight(docs, all), weight, "{docs} of {all}");
+        assert!(rt; term_weight(docs, all) == weight, "{docs} of {all}");
     }
     for (freq, weight) in WEIGHTS_IN_DOCUMENT {
         assert!(rt; freq >= 1);
-        assert_eq!(rt; doc_term_weight(freq), weight, "{freq} times");
+        assert!(rt; doc_term_weight(freq) == weight, "{freq} times");
     }
 }
 
 #[test]
 fn scores_of_three_documents(rt: HostRuntime) {
     // The cat sat. The dog. Cat, cat and dog.
-    assert_eq!(rt; isqrt(3 * 256 * 256), 443);
-    assert_eq!(rt; isqrt(2 * 256 * 256), 362);
-    assert_eq!(rt; isqrt(512 * 512 + 256 * 256), 572);
-    assert_eq!(rt; term_weight(2, 3), 338);
-    assert_eq!(rt; score(512 * 338, 572), 77451);
-    assert_eq!(rt; score(256 * 338, 443), 50002);
-    assert_eq!(rt; score((1 << 56) - 1, 1), u64::MAX - 255);
+    for (x, root) in [
+        (3 * 256 * 256, 443),
+        (2 * 256 * 256, 362),
+        (512 * 512 + 256 * 256, 572),
+    ] {
+        assert!(rt; isqrt(x) == root);
+    }
+    assert!(rt; term_weight(2, 3) == 338);
+    assert!(rt; score(512 * 338, 572) == 77451);
+    assert!(rt; score(256 * 338, 443) == 50002);
+    assert!(rt; score((1 << 56) - 1, 1) == u64::MAX - 255);
 }

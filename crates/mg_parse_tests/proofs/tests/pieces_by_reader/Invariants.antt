@@ -2,7 +2,7 @@ use Rattle.std.proofs.Common.{◌∷◌, [], take, length, cond, nat_lt}
 use Rattle.mg_defs.specs.Parse.{is_of_kind}
 use Rattle.mg_defs.specs.Pieces.{Reads}
 use Rattle.mg_parse.specs.Told.{lists}
-use Rattle.mg_parse.proofs.tests.pieces_by_reader.Given as goal
+use Rattle.mg_parse_tests.proofs.tests.pieces_by_reader.Given as goal
 
 abbrev pub invariant-bytes : goal.invariant-bytes
 invariant-bytes l = Reads l.reader (lists l.told.items) (take l.byte-index l.doc) []

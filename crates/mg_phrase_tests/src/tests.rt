@@ -1,5 +1,5 @@
 //! Worked places, and the edges of 64 words and of 255 bytes.
-use crate::{QueryErr, parse_phrase, phrase_places};
+use mg_phrase::{QueryErr, parse_phrase, phrase_places};
 use std::alloc::{AllocError, Global};
 use std::test::Fail;
 
@@ -45,33 +45,48 @@ fn places_overlap_and_words_are_folded(rt: HostRuntime) -> Result<(), Fail> {
         ("a", "", 0),
     ];
     for (line, doc, want) in rows {
-        assert_eq!(rt;
-            places(rt.alloc(), line.as_bytes(), doc.as_bytes())?,
-            Some(want),
+        assert!(rt;
+            places(rt.alloc(), line.as_bytes(), doc.as_bytes())? == Some(want),
             "{line} in {doc}"
         );
     }
     Ok(())
 }
 
+/// At how many places a phrase of so many equal words stands in a document of so many.
+fn places_of_letters(alloc: Global, words: u8, all: u8) -> Result<Option<u64>, AllocError> {
+    let phrase = letters(alloc, words)?;
+    let doc = letters(alloc, all)?;
+    places(alloc, &phrase, &doc)
+}
+
+/// A byte so many times, between two strings.
+fn run_between(
+    alloc: Global,
+    before: &[u8],
+    byte: u8,
+    count: usize,
+    behind: &[u8],
+) -> Result<Vec<u8>, AllocError> {
+    let mut doc = before.to_vec(alloc)?;
+    for _ in 0..count {
+        doc.push(byte)?;
+    }
+    doc.extend_from_slice(behind)?;
+    Ok(doc)
+}
+
 #[test]
 fn a_phrase_of_64_words_and_words_of_255_bytes(rt: HostRuntime) -> Result<(), Fail> {
     let alloc = rt.alloc();
-    let phrase = letters(alloc, 64)?;
-    let doc = letters(alloc, 66)?;
-    assert_eq!(rt; places(alloc, &phrase, &doc)?, Some(3));
-    let short = letters(alloc, 63)?;
-    assert_eq!(rt; places(alloc, &phrase, &short)?, Some(0));
-    let long = letters(alloc, 65)?;
-    assert_eq!(rt; places(alloc, &long, &doc)?, None);
+    assert!(rt; places_of_letters(alloc, 64, 66)? == Some(3));
+    assert!(rt; places_of_letters(alloc, 64, 63)? == Some(0));
+    assert!(rt; places_of_letters(alloc, 65, 66)?.is_none());
     // A word of 256 bytes is one of 255 and one of a byte.
-    let doc = vec![in alloc; b'a'; 256]?;
-    assert_eq!(rt; places(alloc, b"a", &doc)?, Some(1));
+    let doc = run_between(alloc, b"", b'a', 256, b"")?;
+    assert!(rt; places(alloc, b"a", &doc)? == Some(1));
     // 300 blanks are an other of 255 and one of 45, with an empty word between: it is no term.
-    let mut doc = vec![in alloc; b' '; 300]?;
-    doc.extend_from_slice(b"cat")?;
-    let mut apart = Vec::from_slice(alloc, b"the")?;
-    apart.extend_from_slice(doc.as_slice())?;
-    assert_eq!(rt; places(alloc, b"the cat", &apart)?, Some(1));
+    let apart = run_between(alloc, b"the", b' ', 300, b"cat")?;
+    assert!(rt; places(alloc, b"the cat", &apart)? == Some(1));
     Ok(())
 }

@@ -1,0 +1,158 @@
+// What cursors and writers tell of damaged and cut parts, and of calls that fail.
+use crate::tests::{Step, one_list, sizes_of, spaced, taken};
+use mg_dev::{MemStore, Part, PartErr, PutErr, SureStore};
+use mg_layout::TermInfo;
+use std::alloc::{AllocError, Global};
+use std::test::Fail;
+
+// Writes the list of 130 postings, each seven documents after the one before; where it stands.
+fn put_spaced(alloc: Global, store: &mut SureStore) -> Result<TermInfo, PutErr> {
+    let list = spaced(alloc, 130, 3, 7)?;
+    one_list(alloc, store, 1000, list.as_slice())
+}
+
+// A store with these bytes of both parts.
+fn store_of(alloc: Global, post: &[u8], skip: &[u8]) -> Result<MemStore, AllocError> {
+    let mut store = MemStore::new(alloc);
+    store.put_file("set.post", post)?;
+    store.put_file("set.skip", skip)?;
+    Ok(store)
+}
+
+// These bytes, cut or changed.
+fn changed(alloc: Global, bytes: &[u8], cut: usize, flip: u8) -> Result<Vec<u8>, AllocError> {
+    let mut bytes = bytes.to_vec(alloc)?;
+    if flip == 0 {
+        bytes.truncate(cut);
+    } else if cut < bytes.len() {
+        bytes[cut] ^= flip;
+    }
+    Ok(bytes)
+}
+
+// A store with the parts of a list of 130 postings, cut or changed.
+fn damaged(
+    alloc: Global,
+    post: &[u8],
+    skip: &[u8],
+    cut: usize,
+    flip: u8,
+    of_skip: bool,
+) -> Result<MemStore, AllocError> {
+    let bytes = changed(alloc, if of_skip { skip } else { post }, cut, flip)?;
+    if of_skip {
+        store_of(alloc, post, bytes.as_slice())
+    } else {
+        store_of(alloc, bytes.as_slice(), skip)
+    }
+}
+
+// The part of which a fresh cursor tells a damage, where it goes this way; None where it tells none.
+fn told(
+    alloc: Global,
+    store: &mut MemStore,
+    info: &TermInfo,
+    way: &[Step],
+) -> Result<Option<Part>, PartErr> {
+    match taken(alloc, store, info, 1000, way) {
+        Err(PartErr::Bad(found)) => Ok(Some(found.part)),
+        Err(refusal) => Err(refusal),
+        Ok(_) => Ok(None),
+    }
+}
+
+// How many damages of one part are told; no call fails.
+fn told_of(
+    alloc: Global,
+    post: &[u8],
+    skip: &[u8],
+    of_skip: bool,
+    info: &TermInfo,
+) -> Result<u32, PartErr> {
+    let way = [
+        Step::Next,
+        Step::To(460),
+        Step::Next,
+        Step::To(910),
+        Step::Next,
+    ];
+    let size = if of_skip { skip.len() } else { post.len() };
+    let mut bad = 0u32;
+    for cut in 0..size {
+        for flip in [0u8, 1, 128] {
+            let mut hurt = damaged(alloc, post, skip, cut, flip, of_skip)?;
+            if told(alloc, &mut hurt, info, &way)?.is_some() {
+                bad = bad.saturating_add(1);
+            }
+        }
+    }
+    Ok(bad)
+}
+
+#[test]
+fn every_call_returns_on_damaged_and_cut_parts(rt: HostRuntime) -> Result<(), Fail> {
+    let alloc = rt.alloc();
+    let mut store = SureStore::new(alloc);
+    let info = put_spaced(alloc, &mut store)?;
+    let post = store.file("set.post").unwrap_or(&[]);
+    let skip = store.file("set.skip").unwrap_or(&[]);
+    let mut bad = 0u32;
+    for of_skip in [false, true] {
+        bad = bad.saturating_add(told_of(alloc, post, skip, of_skip, &info)?);
+    }
+    assert!(rt; bad > 0);
+    let mut empty = MemStore::new(alloc);
+    assert!(rt; told(alloc, &mut empty, &info, &[Step::Next]) == Ok(Some(Part::Skip)));
+    Ok(())
+}
+
+// How many steps a fresh cursor answers where one call fails.
+fn answered(
+    alloc: Global,
+    post: &[u8],
+    skip: &[u8],
+    info: &TermInfo,
+    call: u64,
+) -> Result<usize, PartErr> {
+    let mut store = store_of(alloc, post, skip)?;
+    store.fail_at(call, 0)?;
+    let way = [Step::Next, Step::To(460), Step::To(2000)];
+    let answers = taken(alloc, &mut store, info, 1000, &way)?;
+    Ok(answers.len())
+}
+
+// The sizes that the list of 130 postings comes to where one call fails.
+fn sizes_told(alloc: Global, call: u64) -> Result<Option<(u64, u64)>, PutErr> {
+    let list = spaced(alloc, 130, 3, 7)?;
+    let mut store = MemStore::new(alloc);
+    store.fail_at(call, 1)?;
+    sizes_of(alloc, &mut store, 1000, &[list.as_slice()])
+}
+
+#[test]
+fn a_failing_store_is_told_at_each_call(rt: HostRuntime) -> Result<(), Fail> {
+    let alloc = rt.alloc();
+    let mut sure = SureStore::new(alloc);
+    let info = put_spaced(alloc, &mut sure)?;
+    let post = sure.file("set.post").unwrap_or(&[]);
+    let skip = sure.file("set.skip").unwrap_or(&[]);
+    for call in 0..4u64 {
+        // A page of each part is read; nothing else is called.
+        let expected = if call < 2 {
+            Err(PartErr::Device)
+        } else {
+            Ok(3)
+        };
+        assert!(rt; answered(alloc, post, skip, &info, call) == expected);
+    }
+    for call in 0..6u64 {
+        // Two resets, and an append of each part.
+        let expected = if call < 4 {
+            Err(PutErr::Failed)
+        } else {
+            Ok(Some((post.len() as u64, 3)))
+        };
+        assert!(rt; sizes_told(alloc, call) == expected);
+    }
+    Ok(())
+}
