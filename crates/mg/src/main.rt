@@ -1,7 +1,7 @@
 //! The program: it makes the devices of the system, and ends with the status of the run.
 #![tactic(auto)]
 
-use mg_dev::{HostSink, HostSource, HostStore};
+use mg_host::{HostSink, HostSource, HostStore};
 use std::process::ExitCode;
 use std::{env, io};
 

@@ -5,7 +5,8 @@ use crate::random::Random;
 use crate::table::{or_refusal, print_head, print_times};
 use anyhow::Result;
 use mg_bits::{BitErr, BitReader, BitWriter, Feed, NoDev, PageFeed, SliceFeed};
-use mg_dev::{FileRef, Part, PutErr, Store, SureStore};
+use mg_dev::{FileRef, Part, PutErr, Store};
+use mg_mem::SureStore;
 use std::alloc::{AllocError, Global};
 use std::rt::Clock;
 

@@ -5,7 +5,8 @@ ghost use Rattle.mg_bits.specs.BitWriting.{Holds};
 use mg_bits::{
     BitErr, BitReader, BitWriter, Feed, NoDev, PageFeed, PageWriter, SliceFeed, SmallFeed,
 };
-use mg_dev::{FileRef, MemStore, Part, PutErr, Store, SureStore};
+use mg_dev::{FileRef, Part, PutErr, Store};
+use mg_mem::{MemStore, SureStore};
 use std::alloc::{AllocError, Global};
 use std::test::Fail;
 

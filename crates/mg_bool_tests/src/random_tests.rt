@@ -4,7 +4,8 @@ ghost use Rattle.mg_defs.specs.declared.Posting.{Posting};
 ghost use Rattle.mg_post.specs.Writing.{Took};
 
 use crate::tests::answers;
-use mg_dev::{MemStore, PartErr, PutErr, Store};
+use mg_dev::{PartErr, PutErr, Store};
+use mg_mem::MemStore;
 use mg_post::ListWriter;
 use std::alloc::{AllocError, Global};
 use std::test::Fail;

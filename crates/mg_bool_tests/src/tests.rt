@@ -2,8 +2,9 @@
 ghost use Rattle.std.specs.Prelude.{◌≡◌, IfOk, IfSome, length};
 
 use mg_bool::Matches;
-use mg_dev::{MemStore, Part, PartErr, Store};
+use mg_dev::{Part, PartErr, Store};
 use mg_layout::TermInfo;
+use mg_mem::MemStore;
 use mg_query::{Terms, parse_boolean};
 use std::alloc::{AllocError, Global};
 use std::test::Fail;

@@ -3,8 +3,9 @@
 use crate::building_rows::{Pieces, ROWS};
 use crate::other_store::OtherStore;
 use mg_build::{build, decode};
-use mg_dev::{Fault, MemSink, MemStore, Part, Store, SureStore, What};
+use mg_dev::{Fault, Part, Store, What};
 use mg_make::Summary;
+use mg_mem::{MemSink, MemStore, SureStore};
 use std::alloc::{AllocError, Global};
 use std::test::Fail;
 

@@ -1,7 +1,8 @@
 // What no clause says: that the sets of real collections are printed, in few puts, and that their damages are told
 // by their numbers.
 use mg_build::decode;
-use mg_dev::{Fault, MemSink, MemStore, Part};
+use mg_dev::{Fault, Part};
+use mg_mem::{MemSink, MemStore};
 use std::alloc::{AllocError, Global};
 use std::test::Fail;
 

@@ -1,7 +1,8 @@
 // What no clause says: that sets are made anew where memory is there, the parts of one, and what a failing store leaves.
 use crate::other_store::OtherStore;
 use mg_build::{decode, migrate};
-use mg_dev::{Bad, Fault, MemSink, MemStore, Part, SureStore};
+use mg_dev::{Bad, Fault, Part};
+use mg_mem::{MemSink, MemStore, SureStore};
 use std::alloc::{AllocError, Global};
 use std::test::Fail;
 

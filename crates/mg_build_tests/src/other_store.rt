@@ -2,7 +2,8 @@
 ghost use Rattle.std.specs.Prelude.{None};
 ghost use Rattle.mg_dev.specs.Files.{Files};
 
-use mg_dev::{Failed, FileRef, Part, PutErr, Store, SureStore};
+use mg_dev::{Failed, FileRef, Part, PutErr, Store};
+use mg_mem::SureStore;
 
 /// A store that claims a size of collections, if it is told one, and that gives other bytes of one part: from the read of a
 /// number on, counted from 0, those of the file of that part under `other`.

@@ -227,16 +227,17 @@ module _ (lengths : List ℕ) (good : AreGood lengths) (some : 0 < length length
         })
 
 -- the way begins behind no bits, or behind ten below all codewords of ten bits
-pub walk_from : (lengths : List ℕ) (read value : ℕ) → AreGood lengths → (read ≡ 0) ⊎ (read ≡ 10) → (read ≡ 0 → value ≡ 0) → (read ≡ 10 → value < first_codeword 10 lengths) → Walk lengths read value
-walk_from lengths read value good from none below = ⊎_elim
+pub walk_from : (lengths : List ℕ) (read value : ℕ) → AreGood lengths → read ≤ 48 → (read ≡ 0) ⊎ (1 ≤ read) → (read ≡ 0 → value ≡ 0) → (1 ≤ read → value < first_codeword read lengths) → (1 ≤ read → 0 < first_codeword 10 lengths) → Walk lengths read value
+walk_from lengths read value good short from none below ten = ⊎_elim
     (λ e. subst (λ r. Walk lengths r value) (sym e) (subst (λ v. Walk lengths 0 v) (sym (none e)) (walk_start lengths good)))
-    (λ e.
-    let lt = below e in
+    (λ some.
+    let lt = below some in
+    let above = ten some in
     record {
-      short = omega (arith, e);
+      short = short;
       start = λ z. none z;
-      many = λ h. subst (λ r. value < first_codeword r lengths + count_of r lengths) (sym e) (omega (arith, lt));
-      one = λ h. absurd (omega (arith, lt, first_ten lengths good h));
+      many = λ h. omega (arith, lt);
+      one = λ h. absurd (omega (arith, above, first_ten lengths good h));
     })
     from
 

@@ -170,7 +170,7 @@ impl Canon {
         ensures small { IfSome result (λ found. found.size ≤ 48) }
     {
         let firsts = &self.firsts;
-        let from = start_of(firsts, next);
+        let from = start_of(firsts, next, self.hint(next));
         let mut value = from.value;
         let mut read = from.read;
         while needs_bit(firsts, read, value) {
@@ -188,6 +188,35 @@ impl Canon {
         })
     }
 
+    /// Behind how many bits the way by lengths may begin, as the table of first ten bits tells. Nothing is
+    /// promised of it: the way begins there only where all codewords that these bits begin are longer.
+    #[inline]
+    fn hint(&self, next: u64) -> usize
+        ensures { result ≤ 32 }
+    {
+        let first_ten = (next >> 47) as usize;
+        if first_ten < self.beginnings.len() {
+            let found = self.beginnings[first_ten];
+            if found.size == 0 && found.symbol <= 32 {
+                return found.symbol as usize;
+            }
+        }
+        10
+    }
+
+    /// The most bits, up to 32, than which all codewords that ten bits begin are longer, and at least ten.
+    fn passed(&self, first_ten: u64) -> u32
+        requires { first_ten < 2 ^ 10 }
+    {
+        for read in 11..33 {
+            let last = ((first_ten + 1) << (read - 10)) - 1;
+            if last >= u64::from(self.firsts[read]) {
+                return read as u32 - 1;
+            }
+        }
+        32
+    }
+
     /// What ten bits begin with.
     fn beginning(&self, first_ten: u64) -> Found
         requires bits { first_ten < 2 ^ 10 }
@@ -196,7 +225,10 @@ impl Canon {
     {
         match self.first_by_lengths(first_ten << 47) {
             Some(found) if found.size <= 10 => found,
-            _ => Found { symbol: 0, size: 0 },
+            _ => Found {
+                symbol: self.passed(first_ten),
+                size: 0,
+            },
         }
     }
 
@@ -285,18 +317,21 @@ struct Walked {
     value: u32,
 }
 
-/// Where the way by lengths begins: behind ten bits if all codewords that these begin are longer.
-fn start_of(firsts: &ByLength, next: u64) -> Walked
+/// Where the way by lengths begins: behind so many bits if all codewords that these begin are longer.
+fn start_of(firsts: &ByLength, next: u64, at: usize) -> Walked
     requires next { next < 2 ^ 57 }
-    ensures read { (result.read ≡ 0) ⊎ (result.read ≡ 10) }
+    requires at { at ≤ 32 }
+    ensures short { result.read ≤ 48 }
+    ensures read { (result.read ≡ 0) ⊎ (1 ≤ result.read) }
     ensures value { result.value ≡ next / 2 ^ (57 - result.read) }
-    ensures longer { result.read ≡ 10 → result.value < slice_index firsts.now 10 }
+    ensures longer { 1 ≤ result.read → result.value < slice_index firsts.now result.read }
+    ensures ten { 1 ≤ result.read → 0 < slice_index firsts.now 10 }
 {
-    let first_ten = (next >> 47) as u32;
-    if first_ten < firsts[10] {
+    let value = next >> (57 - at);
+    if at > 0 && firsts[10] > 0 && value < u64::from(firsts[at]) {
         return Walked {
-            read: 10,
-            value: first_ten,
+            read: at,
+            value: value as u32,
         };
     }
     Walked { read: 0, value: 0 }

@@ -3,7 +3,8 @@ ghost use Rattle.mg_bits.specs.BitWriting.{Holds};
 
 use mg_bits::{BitReader, BitWriter, CodeErr, Feed, NoDev, PageFeed, SliceFeed};
 use mg_canon::*;
-use mg_dev::{FileRef, Part, PutErr, Store, SureStore};
+use mg_dev::{FileRef, Part, PutErr, Store};
+use mg_mem::SureStore;
 use std::alloc::{AllocError, Global};
 use std::test::Fail;
 

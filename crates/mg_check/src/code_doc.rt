@@ -14,7 +14,8 @@ ghost use Rattle.mg_check.specs.Decoding.{HasRoom, IsCodedAs, PutPairs, WhereCod
 
 use crate::recent::Recent;
 use crate::uses::{Uses, count_use};
-use mg_dev::{PutErr, Store, SureStore};
+use mg_dev::{PutErr, Store};
+use mg_mem::SureStore;
 use mg_model::{Stream, TextModel, symbol_and_piece};
 use mg_parse::{Pair, Pairs};
 use mg_text::TextWriter;

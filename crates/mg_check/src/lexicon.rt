@@ -9,9 +9,10 @@ ghost use Rattle.mg_check.specs.Listing.{CanPush, TakesTerm, FindsLexicon, Refus
 ghost use Rattle.mg_check.specs.Reads.{reads_outside};
 
 use crate::wanted::{expect_whole, wanted};
-use mg_dev::{FileRef, Part, PartErr, Store, SureStore};
+use mg_dev::{FileRef, Part, PartErr, Store};
 use mg_layout::TermInfo;
 use mg_lex::{LexWriter, lexicon_has_its_terms};
+use mg_mem::SureStore;
 use mg_model::TermTable;
 use std::alloc::{AllocError, Global};
 

@@ -6,8 +6,9 @@ ghost use Rattle.mg_layout.specs.Contents.{StandAt};
 ghost use Rattle.mg_check.specs.Listing.{Refutes};
 ghost use Rattle.mg_check.specs.Reads.{is_of_set, reads_outside};
 
-use mg_dev::{FileRef, PartErr, Store, SureStore};
+use mg_dev::{FileRef, PartErr, Store};
 use mg_layout::{expect_bytes, expect_size};
+use mg_mem::SureStore;
 
 /// No byte of a part has a place behind this one.
 const LAST_PLACE: u64 = 1 << 63;

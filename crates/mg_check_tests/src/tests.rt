@@ -1,6 +1,7 @@
 // Sets that stand, and sets that were changed. Which changes leave a set that stands was counted by a reference.
 use mg_check::{Found, check};
-use mg_dev::{Fault, MemStore};
+use mg_dev::Fault;
+use mg_mem::MemStore;
 use std::alloc::{AllocError, Global};
 use std::test::Fail;
 

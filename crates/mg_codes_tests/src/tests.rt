@@ -5,7 +5,8 @@ use mg_bits::{BitReader, BitWriter, CodeErr, Feed, NoDev, PageFeed, SliceFeed, S
 use mg_codes::{
     get_gamma, get_golomb, get_short, get_unary, put_gamma, put_golomb, put_short, put_unary,
 };
-use mg_dev::{FileRef, Part, PutErr, Store, SureStore};
+use mg_dev::{FileRef, Part, PutErr, Store};
+use mg_mem::SureStore;
 use std::alloc::{AllocError, Global};
 use std::test::Fail;
 

@@ -12,6 +12,7 @@ mod front;
 mod heads;
 mod huffman;
 mod lexicon;
+mod limits;
 mod lines;
 mod lists;
 mod postings;
@@ -29,6 +30,11 @@ pub use front::{
 pub use heads::{damage_decides, one_head};
 pub use huffman::{cost_in_any_order, first_is_exact, no_codeword_is_a_front};
 pub use lexicon::terms_are_entries;
+pub use limits::{
+    COLLECTION_BYTES, DOCUMENTS, GREATEST_BUDGET, HELD_BYTES, INPUT_BYTES, LEAST_BUDGET,
+    LINE_BYTES, OCCURRENCE_BYTES, OPEN_PARENTHESES, PHRASE_WORDS, PIECE_BYTES, PIECES,
+    RANKED_TERMS, limits_are_defined,
+};
 pub use lines::{lines_of, quit_always};
 pub use lists::{block_stands, list_rises, one_range};
 pub use postings::{merged_runs, one_list_of_postings, postings_of_joined};

@@ -4,10 +4,6 @@ pub mod Files
 pub mod Laws
 pub mod Streams
 pub mod StreamLaws
-pub mod Shelf
-pub mod ShelfLaws
-pub mod Plans
-pub mod Mem
 pub mod Faults
 pub mod FaultLines
 pub mod PartCauses

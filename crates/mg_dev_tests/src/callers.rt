@@ -7,7 +7,8 @@ ghost use Rattle.mg_dev.specs.Causes.{HasCause, HasPutCause, HasLack};
 ghost use Rattle.mg_dev.specs.declared.part.Part.{Part};
 ghost use Rattle.mg_dev.specs.declared.part.Part.TheVariants.{Head, Words, Text, Plain};
 
-use mg_dev::{Failed, FileRef, Part, PutErr, Sink, Store, SureStore};
+use mg_dev::{Failed, FileRef, Part, PutErr, Sink, Store};
+use mg_mem::SureStore;
 
 // Words and Head hold these bytes, and every other file is as before.
 #[tactic(auto, using(mg_dev::specs::Laws::file_laws))]

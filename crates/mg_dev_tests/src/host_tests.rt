@@ -1,5 +1,6 @@
 // What the real devices do, on files and streams of the system.
 use mg_dev::*;
+use mg_host::*;
 use std::fs::{File, OpenOptions};
 use std::test::Fail;
 use std::{fs, io};

@@ -2,6 +2,7 @@
 use super::callers::{peek_two, put_both, write_two, write_two_surely};
 use mg_defs::Stream;
 use mg_dev::*;
+use mg_mem::*;
 use std::alloc::{AllocError, Global};
 use std::test::Fail;
 

@@ -1,7 +1,8 @@
 // What walks and look-ups tell of damage, beside a plain decoder, and of calls that fail.
 use crate::tests::{Damage, PLACES, STRINGS, WHOLE_AT, WORDS, store_of, tells, walked, written};
-use mg_dev::{MemStore, PartErr};
+use mg_dev::PartErr;
 use mg_front::{FrontEntry, FrontReader};
+use mg_mem::MemStore;
 use std::alloc::{AllocError, Global};
 use std::test::Fail;
 

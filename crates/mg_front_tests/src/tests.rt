@@ -4,8 +4,9 @@ ghost use Rattle.std.specs.Bool.{OnTrue};
 ghost use Rattle.mg_defs.specs.Front.{IsEntry, is_below};
 ghost use Rattle.mg_front.specs.Reading.{FrontFits};
 
-use mg_dev::{FileRef, MemStore, Part, PartErr, PutErr, Store};
+use mg_dev::{FileRef, Part, PartErr, PutErr, Store};
 use mg_front::{FrontEntry, FrontReader, FrontWalk, FrontWriter};
+use mg_mem::MemStore;
 use std::alloc::{AllocError, Global};
 use std::test::Fail;
 

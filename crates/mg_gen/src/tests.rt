@@ -1,7 +1,8 @@
 use crate::generator::Generator;
 use crate::syllable::word;
 use crate::{make_collection, make_session};
-use mg_dev::{MemSink, PutErr, SureSink};
+use mg_dev::PutErr;
+use mg_mem::{MemSink, SureSink};
 use sha2::{Digest, Sha256};
 use std::test::Fail;
 

@@ -3,9 +3,10 @@ ghost use Rattle.std.specs.Prelude.{◌≡◌, ◌==◌, ◌||◌};
 ghost use Rattle.mg_defs.specs.Front.{is_below};
 ghost use Rattle.mg_front.specs.Reading.{FrontFits};
 
-use mg_dev::{Bad, MemStore, Part, PartErr, PutErr, Store};
+use mg_dev::{Bad, Part, PartErr, PutErr, Store};
 use mg_layout::{Head, TermInfo};
 use mg_lex::{Lex, LexWriter};
+use mg_mem::MemStore;
 use std::alloc::{AllocError, Global};
 use std::test::Fail;
 

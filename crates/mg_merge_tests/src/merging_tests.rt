@@ -1,7 +1,8 @@
 // What no clause says: that merges succeed, that a merged set is the one that a build makes, and what a store that fails leaves.
 use mg_build::{build, decode};
-use mg_dev::{Bad, Fault, MemSink, MemStore, Part};
+use mg_dev::{Bad, Fault, Part};
 use mg_make::Summary;
+use mg_mem::{MemSink, MemStore};
 use mg_merge::merge;
 use std::alloc::{AllocError, Global};
 use std::test::Fail;

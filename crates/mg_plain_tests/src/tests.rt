@@ -2,10 +2,8 @@
 ghost use Rattle.std.specs.Prelude.{None};
 
 use mg_defs::{Mode, Settings};
-use mg_dev::{
-    Failed, Fault, FileRef, MemSink, MemSource, MemStore, Part, PutErr, ShowErr, Sink, Store,
-    SureSink, SureStore, What,
-};
+use mg_dev::{Failed, Fault, FileRef, Part, PutErr, ShowErr, Sink, Store, What};
+use mg_mem::{MemSink, MemSource, MemStore, SureSink, SureStore};
 use mg_plain::{PlainText, scan};
 use std::test::Fail;
 

@@ -6,7 +6,8 @@ ghost use Rattle.mg_defs.specs.declared.Posting.{Posting};
 ghost use Rattle.mg_post.specs.Cursor.{AnswersRest, CursorFits, CursorStands, ForList, SameList, after};
 
 use crate::tests::{one_list, spaced};
-use mg_dev::{FileRef, Part, PartErr, Store, SureStore};
+use mg_dev::{FileRef, Part, PartErr, Store};
+use mg_mem::SureStore;
 use mg_post::{Cursor, Posting, cursor_still_fits, list_still_stands};
 use std::test::Fail;
 

@@ -1,7 +1,8 @@
 // What cursors and writers tell of damaged and cut parts, and of calls that fail.
 use crate::tests::{Step, one_list, sizes_of, spaced, taken};
-use mg_dev::{MemStore, Part, PartErr, PutErr, SureStore};
+use mg_dev::{Part, PartErr, PutErr};
 use mg_layout::TermInfo;
+use mg_mem::{MemStore, SureStore};
 use std::alloc::{AllocError, Global};
 use std::test::Fail;
 

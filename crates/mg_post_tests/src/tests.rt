@@ -4,8 +4,9 @@ ghost use Rattle.mg_defs.specs.declared.Posting.{Posting};
 ghost use Rattle.mg_post.specs.Writing.{Took};
 ghost use Rattle.mg_post.specs.Cursor.{CursorFits};
 
-use mg_dev::{Part, PartErr, PutErr, Store, SureStore};
+use mg_dev::{Part, PartErr, PutErr, Store};
 use mg_layout::TermInfo;
+use mg_mem::SureStore;
 use mg_post::{Cursor, ListWriter, Posting};
 use std::alloc::Global;
 use std::test::Fail;

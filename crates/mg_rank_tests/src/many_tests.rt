@@ -1,8 +1,8 @@
 // A query of 64 terms over parts that another implementation made.
 
 use crate::tests::{info, put_parts, ranks};
-use mg_dev::MemStore;
 use mg_layout::TermInfo;
+use mg_mem::MemStore;
 use std::alloc::{AllocError, Global};
 use std::test::Fail;
 

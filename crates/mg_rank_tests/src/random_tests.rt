@@ -5,9 +5,10 @@ ghost use Rattle.mg_post.specs.Writing.{Took};
 
 use crate::tests::{info, ranks};
 use mg_defs::Posting;
-use mg_dev::{MemStore, PartErr, PutErr, Store};
+use mg_dev::{PartErr, PutErr, Store};
 use mg_fixed::{doc_term_weight, isqrt, score, term_weight};
 use mg_layout::TermInfo;
+use mg_mem::MemStore;
 use mg_post::ListWriter;
 use std::alloc::{AllocError, Global};
 use std::test::Fail;

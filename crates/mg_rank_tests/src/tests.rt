@@ -1,8 +1,9 @@
 // What no clause says: that calls succeed, and rows over parts that another implementation made.
 ghost use Rattle.std.specs.Prelude.{◌≤◌, length};
 
-use mg_dev::{MemStore, Part, PartErr, PutErr};
+use mg_dev::{Part, PartErr, PutErr};
 use mg_layout::TermInfo;
+use mg_mem::MemStore;
 use mg_rank::{Ranked, Row, rank};
 use std::alloc::{AllocError, Global};
 use std::test::Fail;

@@ -2,7 +2,8 @@
 ghost use Rattle.std.specs.Prelude.{◌≡◌, ℕ, List, ⊤};
 ghost use Rattle.mg_defs.specs.declared.session.Settings.{Settings};
 
-use mg_dev::{MemSink, MemSource, ShowErr, Sink, Source, SureSink, SureSource};
+use mg_dev::{ShowErr, Sink, Source};
+use mg_mem::{MemSink, MemSource, SureSink, SureSource};
 use mg_query::QueryErr;
 use mg_reply::{
     Answerer, Command, Hearing, LineErr, LineEvent, LineReader, Mode, ServeErr, Settings,

@@ -6,7 +6,8 @@ ghost use Rattle.mg_runs.specs.Left.{IsMerging};
 ghost use Rattle.mg_defs.specs.declared.TermPosting.{TermPosting};
 
 use mg_defs::TermPosting;
-use mg_dev::{Bad, Failed, FileRef, MemStore, Part, PartErr, PutErr, Store, SureStore};
+use mg_dev::{Bad, Failed, FileRef, Part, PartErr, PutErr, Store};
+use mg_mem::{MemStore, SureStore};
 use mg_runs::{Merge, Pool, Runs, runs_stay};
 use std::alloc::{AllocError, Global};
 use std::test::Fail;

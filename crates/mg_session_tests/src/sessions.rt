@@ -1,5 +1,6 @@
 // What sessions over a store print and how they end, and the set of three documents.
-use mg_dev::{Fault, MemSink, MemSource, MemStore};
+use mg_dev::Fault;
+use mg_mem::{MemSink, MemSource, MemStore};
 use mg_session::{serve, serve_phrase, serve_wild};
 use std::alloc::{AllocError, Global};
 use std::test::Fail;

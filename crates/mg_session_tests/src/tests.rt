@@ -2,7 +2,8 @@
 use crate::sessions::{
     Kind, THREE, answers, is_damaged, is_not_built, prints, served, session, stops_at, store_of,
 };
-use mg_dev::{Fault, MemSink, MemSource, MemStore, Part};
+use mg_dev::{Fault, Part};
+use mg_mem::{MemSink, MemSource, MemStore};
 use mg_session::serve;
 use std::alloc::{AllocError, Global};
 use std::test::Fail;

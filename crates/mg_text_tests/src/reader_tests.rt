@@ -2,8 +2,9 @@
 // damages and failing devices stand with the builds and the decoding.
 ghost use Rattle.std.specs.Prelude.{◌≡◌};
 
-use mg_dev::{MemSink, MemStore, Part, PartErr, ShowErr, Sink, Store};
+use mg_dev::{Part, PartErr, ShowErr, Sink, Store};
 use mg_layout::Head;
+use mg_mem::{MemSink, MemStore};
 use mg_model::Stream;
 use mg_text::{ShowBuffer, TextReader};
 use std::alloc::{AllocError, Global};

@@ -9,8 +9,9 @@ ghost use Rattle.mg_top.specs.Trials.{HoldsText, IsBuilt, Lacks, replies_of, set
 
 use crate::trials::{SET, TEXT};
 use mg_build::decode;
-use mg_dev::{Fault, Sink, Store, SureSink, SureSource};
+use mg_dev::{Fault, Sink, Store};
 use mg_gen::make_session;
+use mg_mem::{SureSink, SureSource};
 use mg_plain::scan;
 use mg_session::serve;
 use std::alloc::{AllocError, Global};

@@ -16,8 +16,9 @@ use crate::comparing::{ask_both, is_decoded};
 use crate::lines::put_trial_summary;
 use crate::trial_summary::TrialSummary;
 use mg_build::build;
-use mg_dev::{Fault, FileRef, Part, Sink, Store, SureSink};
+use mg_dev::{Fault, FileRef, Part, Sink, Store};
 use mg_gen::make_collection;
+use mg_mem::SureSink;
 use std::alloc::Global;
 
 /// The file of the collection.

@@ -6,7 +6,8 @@ ghost use Rattle.mg_top.specs.Ends.{ToldWhy};
 
 use crate::stopping::stopped;
 use crate::trials::trial;
-use mg_dev::{Sink, Status, SureStore};
+use mg_dev::{Sink, Status};
+use mg_mem::SureStore;
 use std::alloc::Global;
 
 /// `trial SEED DOCS`: tries the whole work in a store of its own, and prints what it found.

@@ -1,7 +1,8 @@
 // Builds whose store fails: whatever they leave, the status is true, and a session over it answers truly.
 use crate::hostile_tests::{BUILD, PARTS, built};
 use crate::tests::{LETTERS, ended, ran_over};
-use mg_dev::{Fault, MemStore, Status};
+use mg_dev::{Fault, Status};
+use mg_mem::MemStore;
 use std::alloc::{AllocError, Global};
 use std::test::Fail;
 

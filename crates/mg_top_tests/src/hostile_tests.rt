@@ -3,8 +3,9 @@
 ghost use Rattle.std.specs.Prelude.{◌≤◌, ◌<◌};
 
 use crate::tests::{LETTERS, ended, ran_over, store_of, tells};
-use mg_dev::{Fault, MemSink, MemStore, Status};
+use mg_dev::{Fault, Status};
 use mg_gen::make_collection;
+use mg_mem::{MemSink, MemStore};
 use std::alloc::{AllocError, Global};
 use std::test::Fail;
 

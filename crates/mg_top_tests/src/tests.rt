@@ -1,5 +1,6 @@
 // Runs over devices in memory. Expected answers are rows worked by hand.
-use mg_dev::{Fault, MemSink, MemSource, MemStore, Part, Status};
+use mg_dev::{Fault, Part, Status};
+use mg_mem::{MemSink, MemSource, MemStore};
 use mg_top::run;
 use std::alloc::{AllocError, Global};
 use std::test::Fail;

@@ -1,7 +1,8 @@
 // Trials over devices in memory. The numbers are those of another implementation.
 use crate::tests::{prints, stops, store_of};
 use mg_build::{build, decode};
-use mg_dev::{Fault, MemSink, MemStore, Part};
+use mg_dev::{Fault, Part};
+use mg_mem::{MemSink, MemStore};
 use mg_top::trial;
 use std::alloc::{AllocError, Global};
 use std::test::Fail;

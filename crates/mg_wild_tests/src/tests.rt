@@ -1,7 +1,8 @@
 // What no clause says: that calls succeed, on the documents "the cat sat", "the dog" and
 // "Cat, cat & dog!".
-use mg_dev::{FileRef, MemStore, Part, PartErr, Store};
+use mg_dev::{FileRef, Part, PartErr, Store};
 use mg_layout::Head;
+use mg_mem::MemStore;
 use mg_query::LINE_LIMIT;
 use mg_wild::{Pattern, PatternErr, RotErr, Rotated, read_pattern};
 use std::alloc::Global;

@@ -2,7 +2,8 @@
 ghost use Rattle.std.specs.Prelude.{◌≤◌, ◌^◌};
 
 use crate::tests::fixtures::numbers_part;
-use mg_dev::{Bad, MemStore, Part, PartErr};
+use mg_dev::{Bad, Part, PartErr};
+use mg_mem::MemStore;
 use mg_model::TextModel;
 use std::alloc::{AllocError, Global};
 use std::test::Fail;

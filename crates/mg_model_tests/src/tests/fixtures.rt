@@ -2,7 +2,7 @@
 ghost use Rattle.std.specs.Prelude.{◌≡◌, ◌+◌, ◌-◌, ◌<◌, ◌≤◌, ◌^◌, OnOk};
 ghost use Rattle.mg_defs.specs.Vocabulary.{total};
 
-use mg_dev::MemStore;
+use mg_mem::MemStore;
 use mg_model::{TextModel, Vocab, VocabErr};
 use mg_parse::Pairs;
 use std::alloc::{AllocError, Global};

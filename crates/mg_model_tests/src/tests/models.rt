@@ -4,7 +4,8 @@ ghost use Rattle.std.specs.Prelude.{◌≤◌, ◌^◌};
 use crate::tests::fixtures::{
     COLLECTION, count_numbers, digits_of, holds, longest, many, model_of, numbers_part, parts_of,
 };
-use mg_dev::{MemStore, Part, PartErr};
+use mg_dev::{Part, PartErr};
+use mg_mem::MemStore;
 use mg_model::{Stream, TextModel, Vocab, VocabErr};
 use std::alloc::{AllocError, Global};
 use std::test::Fail;

@@ -1,6 +1,7 @@
 //! The parts that are written, byte for byte, and read back.
 use crate::tests::fixtures::{COLLECTION, WORDS_PART, both_hold, holds, parts_of};
-use mg_dev::{MemStore, Part};
+use mg_dev::Part;
+use mg_mem::MemStore;
 use mg_model::{TermTable, TextModel};
 use std::alloc::Global;
 use std::test::Fail;

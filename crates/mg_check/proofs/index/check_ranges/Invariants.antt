@@ -1,5 +1,5 @@
 use Rattle.std.proofs.Common.{◌≡◌, ◌≤◌, ◌-◌, ℕ, List, Some}
-use Rattle.mg_dev.specs.Shelf.{files_of}
+use Rattle.mg_mem.specs.Shelf.{files_of}
 use Rattle.mg_text.specs.Reading.{SameText, TextFits}
 use Rattle.mg_check.specs.Listing.{CanCompare, HasCompared, IsIndexOf}
 use Rattle.mg_check.specs.Reads.{reads_outside}

@@ -16,9 +16,11 @@ loop-bit-init c =
     let value : ℕ = c.start_of-from.result.value in
     let first_at = t.first_numbers.at 10 (omega arith) in
     let none : read ≡ 0 → value ≡ 0 = λ e. from.value ∙ ap (λ r. c.args.next / 2 ^ (57 - r)) e ∙ sym (start_value c.args.next c.requires.next) in
-    let below : read ≡ 10 → value < first_codeword 10 items = λ e. omega (arith, first_at, from.longer e) in
+    let read_at = t.first_numbers.at read from.short in
+    let below : 1 ≤ read → value < first_codeword read items = λ e. omega (arith, read_at, from.longer e) in
+    let ten : 1 ≤ read → 0 < first_codeword 10 items = λ e. omega (arith, first_at, from.ten e) in
     record {
-      walk = walk_from items read value good from.read none below;
+      walk = walk_from items read value good from.short from.read none below ten;
       value = from.value;
     }
 

@@ -1,7 +1,7 @@
 use Rattle.std.proofs.Common.{arith, Some, take, sym, subst}
 use Rattle.std.proofs.lemmas.List.{drop_more, take_more}
 use Rattle.mg_defs.specs.Lists.{Rises}
-use Rattle.mg_dev.specs.Shelf.{files_of}
+use Rattle.mg_mem.specs.Shelf.{files_of}
 use Rattle.mg_post.specs.Writing.{Took}
 use Rattle.mg_check.proofs.WrittenLaws.{names_more, pushed_more, rest_rises}
 use Rattle.mg_check.proofs.lists.NewLists.push_all.Goals as goal

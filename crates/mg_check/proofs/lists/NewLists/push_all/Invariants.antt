@@ -1,7 +1,7 @@
 use Rattle.std.proofs.Common.{◌≡◌, ◌≤◌, ◌^◌, List, [], take, drop, Some}
 use Rattle.mg_defs.specs.declared.Posting.{Posting}
 use Rattle.mg_defs.specs.Lists.{Rises}
-use Rattle.mg_dev.specs.Shelf.{files_of}
+use Rattle.mg_mem.specs.Shelf.{files_of}
 use Rattle.mg_post.specs.Writing.{PushedMore, SameFiles, Took}
 use Rattle.mg_check.proofs.lists.NewLists.push_all.Given as goal
 

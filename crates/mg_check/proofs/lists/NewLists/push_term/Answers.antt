@@ -1,7 +1,7 @@
 use Rattle.std.proofs.Common.{rules, arith, ◌<◌, ◌+◌, ◌++◌, ◌∷◌, ◌/◌, ◌^◌, ◌∙◌, List, [], Some, length, take, drop, get_or, sym, ap, subst}
 use Rattle.std.specs.Prelude.{slice_get}
 use Rattle.std.proofs.lemmas.Option.{slice_get-get_or}
-use Rattle.mg_dev.specs.Shelf.{files_of}
+use Rattle.mg_mem.specs.Shelf.{files_of}
 use Rattle.mg_defs.specs.declared.Posting.{Posting}
 use Rattle.mg_defs.specs.Lists.{Rises, inverted, lists_bits, lists_entries}
 use Rattle.mg_post.specs.Writing.{Took}

@@ -1,5 +1,5 @@
 use Rattle.std.proofs.Common.{arith, ◌≡◌, ◌∙◌, Some, length, subst}
-use Rattle.mg_dev.specs.Shelf.{files_of}
+use Rattle.mg_mem.specs.Shelf.{files_of}
 use Rattle.mg_check.specs.Listing.{HasListed}
 use Rattle.mg_check.proofs.WrittenLaws.{names_more}
 use Rattle.mg_check.proofs.lists.NewLists.push_terms.Goals as goal

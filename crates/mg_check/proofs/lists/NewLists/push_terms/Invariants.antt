@@ -1,5 +1,5 @@
 use Rattle.std.proofs.Common.{◌≡◌, ◌+◌, ℕ, List, Some}
-use Rattle.mg_dev.specs.Shelf.{files_of}
+use Rattle.mg_mem.specs.Shelf.{files_of}
 use Rattle.mg_post.specs.Writing.{SameFiles}
 use Rattle.mg_check.specs.Listing.{CanList, CanPush, HasListed}
 use Rattle.mg_check.proofs.lists.NewLists.push_terms.Given as goal

@@ -1,0 +1,4 @@
+pub mod Shelf
+pub mod ShelfLaws
+pub mod Plans
+pub mod Mem
