@@ -5,3 +5,4 @@ mod FirstLaws
 mod NextLaws
 mod WordLaws
 mod StayLaws
+mod WalkLaws

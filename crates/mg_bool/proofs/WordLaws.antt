@@ -1,7 +1,7 @@
 -- The next document of a query of one word.
 use Rattle.std.proofs.Common.{arith, ◌≡◌, ◌+◌, ◌-◌, ◌≤◌, ◌<◌, ℕ, zero, suc, true, List, [], ◌∷◌, drop, get_or, refl, sym, ap, subst, ◌∙◌, Option, Some, None, inl, inr, length}
 use Rattle.std.proofs.lemmas.Bool.{cases_Bool}
-use Rattle.std.specs.Prelude.{slice_set, unwrap_or}
+use Rattle.std.specs.Prelude.{IfSome, slice_set, unwrap_or}
 use Rattle.std.proofs.lemmas.List.{get_or-drop}
 use Rattle.mg_dev.specs.Files.{Files, Reads}
 use Rattle.mg_defs.specs.Split.{documents}
@@ -13,7 +13,7 @@ use Rattle.mg_defs.specs.PageBounds.{asked_of, boolean_bound}
 use Rattle.mg_defs.specs.Weights.{has_term}
 use Rattle.mg_post.specs.TermLists.{PagesWithin}
 use Rattle.mg_laws.proofs.LedLists.{first_after, first_of, list_from, list_hit, list_miss}
-use Rattle.mg_bool.specs.Places.{AnswersPlace, Place}
+use Rattle.mg_bool.specs.Places.{AnswersPlace, IsInRange, Place}
 use Rattle.mg_bool.specs.Matches.{GoesOn, GoesOver, PlacesOver, left_in}
 use Rattle.mg_bool.proofs.AskLaws.{first_number, places_later}
 use Rattle.mg_bool.proofs.NextLaws.{LeadAsked, all_over, decided_hit, decided_over, lead_answer, lead_from, none_goes}
@@ -90,3 +90,8 @@ word_found base collection t q places lead place all decided n m found is led sa
     subst (λ (k : ℕ). GoesOn (left_in collection q decided) (left_in collection q k) found × PlacesOver base collection q places lead all k) (sym same)
     (subst (λ (l : Option ℕ). GoesOn (left_in collection q decided) (left_in collection q m) found × PlacesOver base collection q places l all m) (sym led)
     (subst (λ (r : Query). GoesOn (left_in collection r decided) (left_in collection r m) found × PlacesOver base collection r places (Some place) all m) (sym is) said))
+
+-- how many are decided with its answer
+pub word_range : (found : Option ℕ) (d all n : ℕ) → d < all → IfSome found (IsInRange (d + 1) all) → n ≡ unwrap_or found all → (n ≤ all) × (d ≤ n) × IfSome found (λ doc. (d < doc) × (doc ≤ all) × (n ≡ doc)) × (found ≡ None → n ≡ all)
+word_range None d all n more range is = (omega (arith, is), omega (arith, is, more), tt, λ _. is)
+word_range (Some doc) d all n more range is = (omega (arith, is, range.1), omega (arith, is, range.0), (omega (arith, range.0), range.1, is), λ no. absurd cc)

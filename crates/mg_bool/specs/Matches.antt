@@ -119,8 +119,12 @@ abbrev pub FindsNext : Query → Option Files → Option ℕ → ℕ → List Pl
 FindsNext q files lead all old now decided decided_now result = (base collection : List ℕ) → GoesOver base collection q files old lead all decided → AnswersList result (λ found. GoesOn (left_in collection q decided) (left_in collection q (decided_now found)) found × PlacesOver base collection q now lead all (decided_now found))
 
 -- where they do, no more pages of Post are read than the query may read of the collection
+abbrev pub ReadsBetween : Query → Option Files → Reads → Reads → Option ℕ → ℕ → List Place → List Place → ℕ → Type 0
+ReadsBetween q files before after lead all old now decided = (base collection : List ℕ) → GoesOver base collection q files old lead all decided → PagesWithin (boolean_bound collection q) (pages_read old) (pages_read now) before after
+
+-- the same of a store, by what tells its files and its reads
 abbrev pub ReadsNext : {X : Type 0} → Query → (X → Option Files) → (X → Reads) → X → X → Option ℕ → ℕ → List Place → List Place → ℕ → Type 0
-ReadsNext q files reads before after lead all old now decided = (base collection : List ℕ) → GoesOver base collection q (files before) old lead all decided → PagesWithin (boolean_bound collection q) (pages_read old) (pages_read now) (reads before) (reads after)
+ReadsNext q files reads before after lead all old now decided = ReadsBetween q (files before) (reads before) (reads after) lead all old now decided
 
 -- a claim for which the two parts of a base have to stay as they are
 abbrev pub WhereListsStay : List ℕ → Option Files → Option Files → Type 0 → Type 0

@@ -1,62 +1,42 @@
 // The next document of a query that needs one of its terms, where no list leads.
-ghost use Rattle.std.specs.Prelude.{◌≡◌, ◌≢◌, ℕ, ◌≤◌, ◌<◌, false, List, [], None, Ok, Err, IfErr, IfOk, IfSome, OnOk, length};
-ghost use Rattle.mg_dev.specs.PartCauses.{HasPartCause};
+ghost use Rattle.std.specs.Prelude.{◌≡◌, false, [], None};
+ghost use Rattle.mg_dev.specs.Moments.{Between};
 ghost use Rattle.mg_query.specs.QueryOf.{query_of};
 ghost use Rattle.mg_query.specs.Holds.{holds as holds_spec};
-ghost use Rattle.mg_post.specs.Cursor.{NamesItsPart};
-ghost use Rattle.mg_post.specs.TermLists.{ReadsLists};
-ghost use Rattle.mg_bool.specs.Places.{PlacesFit, PlacesOn, SamePlaces};
-ghost use Rattle.mg_bool.specs.Matches.{FindsNext, ReadsNext};
+ghost use Rattle.mg_bool.specs.Walked.{IsReady, Walked, spot};
 
-use crate::place::Place;
 use crate::places::ask_first;
+use crate::walk::{Asks, Walk};
 use mg_dev::{PartErr, Store};
 use mg_post::cursor_pages_are_within;
-use mg_query::Query;
 
 /// The next document that satisfies a query which holds in no document without any of its terms:
 /// only the documents that some list has are asked, each the first of all lists behind the last.
 #[inline(never)]
 pub(crate) fn next_of_any<S: Store>(
-    query: &Query,
-    places: &mut Vec<Place<'_, S>>,
-    there: &mut Vec<bool>,
+    asks: &Asks<'_>,
+    walk: &mut Walk<'_, S>,
     store: &mut S,
-    all: u32,
-    decided: &mut u32,
 ) -> Result<Option<u32>, PartErr>
-    requires fits { PlacesFit (S.files store.old) places.old.items }
-    requires on { (base : List ℕ) × PlacesOn base all places.old.items }
-    requires there { length there.old.items ≡ length places.old.items }
-    requires most { decided.old ≤ all }
-    requires some { holds_spec (query_of query.now) [] ≡ false }
-    ensures fits { OnOk result (PlacesFit (S.files store.new) places.new.items) }
-    ensures same { SamePlaces places.old.items places.new.items }
-    ensures there { length there.new.items ≡ length there.old.items }
-    ensures most { decided.new ≤ all }
-    ensures later { decided.old ≤ decided.new }
-    ensures range { IfOk result (λ found. IfSome found (λ doc. (decided.old < doc) × (doc ≤ all) × (decided.new ≡ doc))) }
-    ensures last { result ≡ Ok None → decided.new ≡ all }
-    ensures answer { FindsNext (query_of query.now) (S.files store.old) None all places.old.items places.new.items decided.old (λ _. decided.new) result }
-    ensures pages { ReadsNext (query_of query.now) S.files S.reads store.old store.new None all places.old.items places.new.items decided.old }
-    ensures part { IfErr result NamesItsPart }
-    ensures reads { ReadsLists (S.reads store.old) (S.reads store.new) }
-    ensures files { S.files store.new ≡ S.files store.old }
-    ensures memory { result ≢ Err PartErr.Memory }
-    ensures cause { HasPartCause (S.faults store.old) (S.faults store.new) result }
+    requires ready { IsReady (S.files store.old) asks.now.lead asks.now.all (spot walk.old) }
+    requires none { asks.now.lead ≡ None }
+    requires some { holds_spec (query_of asks.now.query.now) [] ≡ false }
+    ensures { Between S.files S.reads S.faults store.old store.new
+        (Walked (query_of asks.now.query.now) asks.now.lead asks.now.all (spot walk.old) (spot walk.new) result) }
 {
     cursor_pages_are_within();
-    while *decided < all {
-        let doc = match ask_first(places, store, *decided + 1, there) {
+    let all = asks.all;
+    while walk.decided < all {
+        let doc = match ask_first(&mut walk.places, store, walk.decided + 1, &mut walk.there) {
             Ok(Some(doc)) => doc,
             Ok(None) => {
-                *decided = all;
+                walk.decided = all;
                 return Ok(None);
             }
             Err(refusal) => return Err(refusal),
         };
-        *decided = doc;
-        if query.holds(there) {
+        walk.decided = doc;
+        if asks.query.holds(&walk.there) {
             return Ok(Some(doc));
         }
     }

@@ -16,6 +16,7 @@ mod matches;
 mod next;
 mod place;
 mod places;
+mod walk;
 mod word;
 
 pub use laws::{all_are_to_come, matches_still_fit};

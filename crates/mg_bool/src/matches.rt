@@ -12,8 +12,8 @@ ghost use Rattle.mg_bool.specs.Matches.{MatchesFit, SameMatches, StartsMatches, 
 
 use crate::lead::lead_place;
 use crate::next::next_match;
-use crate::place::Place;
 use crate::places::start_all;
+use crate::walk::{Asks, Walk};
 use mg_dev::{PartErr, Store};
 use mg_layout::TermInfo;
 use mg_post::cursor_pages_are_within;
@@ -31,12 +31,8 @@ use std::marker::Model;
 /// first.
 #[derive(Drop)]
 pub struct Matches<'a, S: Store> {
-    query: &'a Query,
-    places: Vec<Place<'a, S>>,
-    there: Vec<bool>,
-    lead: Option<usize>,
-    all: u32,
-    decided: u32,
+    asks: Asks<'a>,
+    walk: Walk<'a, S>,
 }
 
 impl<'a, S: Store> Model for Matches<'a, S> {
@@ -49,9 +45,9 @@ impl<'a, S: Store> Model for Matches<'a, S> {
 
     ghost coded = { Prim.hlevel (codes, the_row.coded) };
 
-    ghost view = { λ m. record { asks = m.query.now; places = m.places.items; lead = m.lead; all = m.all; decided = m.decided } };
+    ghost view = { λ m. record { asks = m.asks.query.now; places = m.walk.places.items; lead = m.asks.lead; all = m.asks.all; decided = m.walk.decided } };
 
-    ghost invariant = { λ m. (length m.there.items ≡ length m.places.items) × (m.decided ≤ m.all) × IsWithin m.lead (length m.places.items) };
+    ghost invariant = { λ m. (length m.walk.there.items ≡ length m.walk.places.items) × (m.walk.decided ≤ m.asks.all) × IsWithin m.asks.lead (length m.walk.places.items) };
 }
 
 /// Which of so many terms a document has: none yet.
@@ -84,12 +80,12 @@ impl<'a, S: Store> Matches<'a, S> {
         let there = none_there(alloc, infos.len())?;
         let lead = lead_place(query, infos);
         Ok(Matches {
-            query,
-            places,
-            there,
-            lead,
-            all,
-            decided: 0,
+            asks: Asks { query, lead, all },
+            walk: Walk {
+                places,
+                there,
+                decided: 0,
+            },
         })
     }
 
@@ -114,17 +110,9 @@ impl<'a, S: Store> Matches<'a, S> {
         ensures cause { HasPartCause (S.faults store.old) (S.faults store.new) result }
     {
         cursor_pages_are_within();
-        if self.decided == self.all {
+        if self.walk.decided == self.asks.all {
             return Ok(None);
         }
-        next_match(
-            self.query,
-            &mut self.places,
-            &mut self.there,
-            store,
-            self.lead,
-            self.all,
-            &mut self.decided,
-        )
+        next_match(&self.asks, &mut self.walk, store)
     }
 }

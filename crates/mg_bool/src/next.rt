@@ -1,16 +1,19 @@
 // The next document that satisfies a query.
-ghost use Rattle.std.specs.Prelude.{◌≡◌, ◌≢◌, ℕ, ◌+◌, ◌≤◌, ◌<◌, List, None, Ok, Err, IfErr, IfOk, IfSome, OnOk, length};
+ghost use Rattle.std.specs.Prelude.{◌≡◌, ◌≢◌, ℕ, ◌+◌, ◌<◌, List, Err, IfErr, IfOk, IfSome, OnOk, length};
+ghost use Rattle.mg_dev.specs.Moments.{Between};
 ghost use Rattle.mg_dev.specs.PartCauses.{HasPartCause};
 ghost use Rattle.mg_defs.specs.Sat.{Query as Meant};
 ghost use Rattle.mg_query.specs.QueryOf.{query_of};
 ghost use Rattle.mg_post.specs.Cursor.{NamesItsPart};
 ghost use Rattle.mg_post.specs.TermLists.{ReadsLists};
 ghost use Rattle.mg_bool.specs.Places.{IsInRange, PlacesFit, PlacesOn, SamePlaces};
-ghost use Rattle.mg_bool.specs.Matches.{IsWithin, FindsCandidate, FindsNext, ReadsNext};
+ghost use Rattle.mg_bool.specs.Matches.{IsWithin, FindsCandidate, ReadsNext};
+ghost use Rattle.mg_bool.specs.Walked.{IsReady, Walked, spot};
 
 use crate::any::next_of_any;
 use crate::place::Place;
 use crate::places::{ask_all, ask_at};
+use crate::walk::{Asks, Walk};
 use crate::word::next_of_word;
 use mg_dev::{PartErr, Store};
 use mg_post::cursor_pages_are_within;
@@ -49,50 +52,30 @@ fn candidate<S: Store>(
 /// The next document that satisfies a query, each candidate asked of every place.
 #[inline(never)]
 fn next_asked<S: Store>(
-    query: &Query,
-    places: &mut Vec<Place<'_, S>>,
-    there: &mut Vec<bool>,
+    asks: &Asks<'_>,
+    walk: &mut Walk<'_, S>,
     store: &mut S,
-    lead: Option<usize>,
-    all: u32,
-    decided: &mut u32,
 ) -> Result<Option<u32>, PartErr>
-    requires fits { PlacesFit (S.files store.old) places.old.items }
-    requires on { (base : List ℕ) × PlacesOn base all places.old.items }
-    requires lead { IsWithin lead (length places.old.items) }
-    requires there { length there.old.items ≡ length places.old.items }
-    requires most { decided.old ≤ all }
-    ensures fits { OnOk result (PlacesFit (S.files store.new) places.new.items) }
-    ensures same { SamePlaces places.old.items places.new.items }
-    ensures there { length there.new.items ≡ length there.old.items }
-    ensures most { decided.new ≤ all }
-    ensures later { decided.old ≤ decided.new }
-    ensures range { IfOk result (λ found. IfSome found (λ doc. (decided.old < doc) × (doc ≤ all) × (decided.new ≡ doc))) }
-    ensures last { result ≡ Ok None → decided.new ≡ all }
-    ensures answer { FindsNext (query_of query.now) (S.files store.old) lead all places.old.items places.new.items decided.old (λ _. decided.new) result }
-    ensures pages { ReadsNext (query_of query.now) S.files S.reads store.old store.new lead all places.old.items places.new.items decided.old }
-    ensures part { IfErr result NamesItsPart }
-    ensures reads { ReadsLists (S.reads store.old) (S.reads store.new) }
-    ensures files { S.files store.new ≡ S.files store.old }
-    ensures memory { result ≢ Err PartErr.Memory }
-    ensures cause { HasPartCause (S.faults store.old) (S.faults store.new) result }
+    requires { IsReady (S.files store.old) asks.now.lead asks.now.all (spot walk.old) }
+    ensures { Between S.files S.reads S.faults store.old store.new
+        (Walked (query_of asks.now.query.now) asks.now.lead asks.now.all (spot walk.old) (spot walk.new) result) }
 {
     cursor_pages_are_within();
-    while *decided < all {
-        let doc = match candidate(places, store, lead, *decided, all) {
+    while walk.decided < asks.all {
+        let doc = match candidate(&mut walk.places, store, asks.lead, walk.decided, asks.all) {
             Ok(Some(doc)) => doc,
             Ok(None) => {
-                *decided = all;
+                walk.decided = asks.all;
                 return Ok(None);
             }
             Err(refusal) => return Err(refusal),
         };
-        match ask_all(places, store, doc, there) {
+        match ask_all(&mut walk.places, store, doc, &mut walk.there) {
             Ok(()) => {}
             Err(refusal) => return Err(refusal),
         }
-        *decided = doc;
-        if query.holds(there) {
+        walk.decided = doc;
+        if asks.query.holds(&walk.there) {
             return Ok(Some(doc));
         }
     }
@@ -102,46 +85,26 @@ fn next_asked<S: Store>(
 /// The next document from 1 to all that satisfies the query.
 #[inline]
 pub(crate) fn next_match<S: Store>(
-    query: &Query,
-    places: &mut Vec<Place<'_, S>>,
-    there: &mut Vec<bool>,
+    asks: &Asks<'_>,
+    walk: &mut Walk<'_, S>,
     store: &mut S,
-    lead: Option<usize>,
-    all: u32,
-    decided: &mut u32,
 ) -> Result<Option<u32>, PartErr>
-    requires fits { PlacesFit (S.files store.old) places.old.items }
-    requires on { (base : List ℕ) × PlacesOn base all places.old.items }
-    requires lead { IsWithin lead (length places.old.items) }
-    requires there { length there.old.items ≡ length places.old.items }
-    requires most { decided.old ≤ all }
-    ensures fits { OnOk result (PlacesFit (S.files store.new) places.new.items) }
-    ensures same { SamePlaces places.old.items places.new.items }
-    ensures there { length there.new.items ≡ length there.old.items }
-    ensures most { decided.new ≤ all }
-    ensures later { decided.old ≤ decided.new }
-    ensures range { IfOk result (λ found. IfSome found (λ doc. (decided.old < doc) × (doc ≤ all) × (decided.new ≡ doc))) }
-    ensures last { result ≡ Ok None → decided.new ≡ all }
-    ensures answer { FindsNext (query_of query.now) (S.files store.old) lead all places.old.items places.new.items decided.old (λ _. decided.new) result }
-    ensures pages { ReadsNext (query_of query.now) S.files S.reads store.old store.new lead all places.old.items places.new.items decided.old }
-    ensures part { IfErr result NamesItsPart }
-    ensures reads { ReadsLists (S.reads store.old) (S.reads store.new) }
-    ensures files { S.files store.new ≡ S.files store.old }
-    ensures memory { result ≢ Err PartErr.Memory }
-    ensures cause { HasPartCause (S.faults store.old) (S.faults store.new) result }
+    requires { IsReady (S.files store.old) asks.now.lead asks.now.all (spot walk.old) }
+    ensures { Between S.files S.reads S.faults store.old store.new
+        (Walked (query_of asks.now.query.now) asks.now.lead asks.now.all (spot walk.old) (spot walk.new) result) }
 {
-    if let (Query::Term(_), Some(place)) = (query, lead) {
-        if *decided < all {
-            let found = match next_of_word(places, store, place, all, *decided) {
+    if let (Query::Term(_), Some(place)) = (asks.query, asks.lead) {
+        if walk.decided < asks.all {
+            let found = match next_of_word(&mut walk.places, store, place, asks.all, walk.decided) {
                 Ok(found) => found,
                 Err(refusal) => return Err(refusal),
             };
-            *decided = found.unwrap_or(all);
+            walk.decided = found.unwrap_or(asks.all);
             return Ok(found);
         }
     }
-    if lead.is_none() && !query.holds(&[]) {
-        return next_of_any(query, places, there, store, all, decided);
+    if asks.lead.is_none() && !asks.query.holds(&[]) {
+        return next_of_any(asks, walk, store);
     }
-    next_asked(query, places, there, store, lead, all, decided)
+    next_asked(asks, walk, store)
 }
