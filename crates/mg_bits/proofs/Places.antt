@@ -7,6 +7,7 @@ use Rattle.std.proofs.Math.Nat.{div-div-eq-div-mul, mul-div_cancel_left, div-add
 use Rattle.mg_dev.specs.declared.part.Part.{Part}
 use Rattle.mg_dev.specs.declared.part.Part.TheVariants.{Head, Words, Nonwords, Text, Places, Lex, LexAt, Post, Skip, Weights, Run, MergeA, MergeB, Plain}
 use Rattle.mg_dev.specs.Files.{Files, Reads, OneRead, bytes_at}
+use Rattle.mg_dev.specs.Causes.{Rose}
 use Rattle.mg_dev.specs.Names.{same_part, number}
 use Rattle.mg_dev.specs.Laws.{with_read-here, with_read-later, with_read-other}
 use Rattle.mg_bits.specs.Feed.{page_of, lacks, ReadsOwn, Calm, ReadsWithin, Feeding, Device, to_read, raised, over_file, of_store, told_at}
@@ -104,6 +105,9 @@ calm_still name part page h0 h1 count files faults reads = record {
 -- the count of the part after one read
 pub one_read : (part : Part) (most : ℕ) (before now : Reads) → most ≡ 1 → OneRead before now part → now part ≤ before part + most
 one_read part most before now one read = omega (arith, read part, with_read-here before part)
+
+pub rose_once : (part : Part) (before now : Reads) → OneRead before now part → Rose (before part) (now part)
+rose_once part before now read = omega (arith, read part, with_read-here before part)
 
 -- a page that is not the one held has to be read
 pub lacks_other : (held : Option ℕ) (number : ℕ) → (held ≡ Some number → ⊥) → lacks held number ≡ 1

@@ -1,9 +1,9 @@
 // A feed over a file, through one page of 4,096 bytes.
-ghost use Rattle.std.specs.Prelude.{◌≡◌, ◌≤◌, ◌<◌, ◌+◌, ◌*◌, ◌^◌, Option, Some, None, IfOk, IfSome, OnSome, slice_get, take, drop, length, IsSome, true};
+ghost use Rattle.std.specs.Prelude.{◌≡◌, ◌≢◌, ◌≤◌, ◌<◌, ◌+◌, ◌*◌, ◌^◌, Option, Some, None, IfOk, IfSome, OnSome, slice_get, take, drop, length, IsSome, true};
 ghost use Rattle.std.proofs.Common.{rules};
 ghost use Rattle.mg_dev.specs.Files.{Files, SameReads, bytes_at};
 ghost use Rattle.mg_dev.specs.Names.{full_name};
-ghost use Rattle.mg_dev.specs.Causes.{HasCause};
+ghost use Rattle.mg_dev.specs.Causes.{HasCause, Rose};
 ghost use Rattle.mg_defs.specs.Bits.{Begins, digits};
 ghost use Rattle.mg_bits.specs.Feed.{Calm, HasBits, HoldsBits, ReadPart, ReadsWithin, of_store, held_after, page_of, ToldBytes, OnRange, ToldBits};
 ghost use Rattle.mg_bits.specs.FeedLaws.{same_page};
@@ -31,7 +31,7 @@ pub struct PageFeed<'a, S> {
 }
 
 impl<'a, S> Model for PageFeed<'a, S> {
-    ghost use Rattle.std.specs.Prelude.{◌≡◌, ◌≤◌, take, length};
+    ghost use Rattle.std.specs.Prelude.{◌≡◌, ◌≢◌, ◌≤◌, take, length};
     ghost use Rattle.mg_dev.specs.Names.{full_name};
     ghost use Rattle.mg_bits.specs.Pages.{IsFirst, Paging};
 
@@ -71,6 +71,8 @@ impl<'a, S: Store> PageFeed<'a, S> {
         ensures pages { AsFeed S.files S.reads S.faults self.old self.new store.old store.new (OnRange (8 * at) (8 * at + 1) ReadsWithin) }
         ensures held { IfOk result (λ byte. OnSome byte (self.new.held ≡ Some (page_of 4096 (8 * at)))) }
         ensures keeps { self.old.held ≡ Some (page_of 4096 (8 * at)) → self.new.held ≡ self.old.held }
+        ensures turned { self.new.held ≢ self.old.held →
+            Rose (S.reads store.old self.old.part) (S.reads store.new self.old.part) }
         ensures cause { HasCause (S.faults store.old) (S.faults store.new) result }
     {
         if self.window.has(at) {
@@ -94,6 +96,8 @@ impl<'a, S: Store> PageFeed<'a, S> {
         ensures pages { AsFeed S.files S.reads S.faults self.old self.new store.old store.new (OnRange (8 * at) (8 * at + 1) ReadsWithin) }
         ensures held { IfOk result (λ byte. OnSome byte (self.new.held ≡ Some (page_of 4096 (8 * at)))) }
         ensures keeps { self.old.held ≡ Some (page_of 4096 (8 * at)) → self.new.held ≡ self.old.held }
+        ensures turned { self.new.held ≢ self.old.held →
+            Rose (S.reads store.old self.old.part) (S.reads store.new self.old.part) }
         ensures cause { HasCause (S.faults store.old) (S.faults store.new) result }
     {
         let file = self.file;

@@ -1,8 +1,8 @@
 // One page of a file, kept in a buffer.
-ghost use Rattle.std.specs.Prelude.{◌≡◌, ◌+◌, ◌-◌, ◌*◌, ◌/◌, ◌%◌, ◌≤◌, ◌<◌, ◌^◌, Option, Some, None, IfOk, IfSome, OnOk, OnSome, slice_get, length, IsSome};
+ghost use Rattle.std.specs.Prelude.{◌≡◌, ◌≢◌, ◌+◌, ◌-◌, ◌*◌, ◌/◌, ◌%◌, ◌≤◌, ◌<◌, ◌^◌, Option, Some, None, IfOk, IfSome, OnOk, OnSome, slice_get, length, IsSome};
 ghost use Rattle.std.specs.Bool.{OnTrue, OnFalse};
 ghost use Rattle.mg_dev.specs.Files.{bytes_at};
-ghost use Rattle.mg_dev.specs.Causes.{HasCause};
+ghost use Rattle.mg_dev.specs.Causes.{HasCause, Rose};
 ghost use Rattle.mg_bits.specs.Feed.{Calm, ReadsWithin, lacks, page_of, OnRange};
 ghost use Rattle.mg_defs.specs.Bits.{bits_of, digits};
 ghost use Rattle.mg_bits.specs.Pages.{IsFirst, IsWordIn};
@@ -84,6 +84,8 @@ fn load<S: Store>(
     ensures feed { window.new.reads ≤ window.old.reads + lacks window.old.held number }
     ensures held { OnOk result (window.new.held ≡ Some number) }
     ensures keeps { window.old.held ≡ Some number → window.new.held ≡ window.old.held }
+    ensures turned { window.new.held ≢ window.old.held →
+        Rose (S.reads store.old file.now.part) (S.reads store.new file.now.part) }
     ensures cause { HasCause (S.faults store.old) (S.faults store.new) result }
 {
     if is_held(window.held, number) {
@@ -163,6 +165,8 @@ pub fn window_byte<S: Store>(
     ensures pages { AsWindow S.files S.reads S.faults file.now page.old window.old window.new store.old store.new (OnRange (8 * at) (8 * at + 1) ReadsWithin) }
     ensures held { IfOk result (λ byte. OnSome byte (window.new.held ≡ Some (page_of (length page.old) (8 * at)))) }
     ensures keeps { window.old.held ≡ Some (page_of (length page.old) (8 * at)) → window.new.held ≡ window.old.held }
+    ensures turned { window.new.held ≢ window.old.held →
+        Rose (S.reads store.old file.now.part) (S.reads store.new file.now.part) }
     ensures cause { HasCause (S.faults store.old) (S.faults store.new) result }
 {
     load(store, file, page, window, number)?;
