@@ -8,23 +8,23 @@
 //! whole table: [`usage_asks_nothing`] and [`lacking_runs_do_all`].
 #![tactic(auto)]
 
-mod building;
-mod checking;
 mod comparing;
-mod decoding;
 mod laws;
 mod lines;
-mod matching;
-mod merging;
-mod migrating;
-mod phrasing;
-mod querying;
-mod scanning;
 mod stopping;
+mod tool_build;
+mod tool_check;
+mod tool_decode;
+mod tool_merge;
+mod tool_migrate;
+mod tool_phrase;
+mod tool_query;
+mod tool_scan;
+mod tool_trial;
+mod tool_wild;
 mod top;
 mod trial_summary;
 mod trials;
-mod trying;
 
 pub use laws::{lacking_runs_do_all, usage_asks_nothing};
 pub use top::run;
