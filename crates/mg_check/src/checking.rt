@@ -14,6 +14,7 @@ ghost use Rattle.mg_check.specs.Rest.{HaveSizes, RefutesRest, RestStands};
 
 use crate::counting::check_terms;
 use crate::index::check_index;
+use crate::lists::SKIP_ENTRY_BYTES;
 use crate::load::load_text;
 use crate::read_text::read_text;
 use mg_dev::{Bad, FileRef, Part, PartErr, Store};
@@ -28,9 +29,6 @@ const TERMS_AT: u64 = 20;
 const NARROW_OCCURRENCES_AT: u64 = 36;
 
 const WIDE_OCCURRENCES_AT: u64 = 40;
-
-// How many bytes a skip entry has.
-const ENTRY_BYTES: u64 = 16;
 
 // Where the number of occurrences stands in a head of a version.
 fn occurrences_at(version: u8) -> u64 {
@@ -80,7 +78,7 @@ fn expect_sizes<S: Store>(store: &mut S, base: &str, head: &Head) -> Result<(), 
         Ok(()) => {}
         Err(refusal) => return Err(refusal),
     }
-    match expect_size(store, skip, ENTRY_BYTES * head.skip_count) {
+    match expect_size(store, skip, SKIP_ENTRY_BYTES * head.skip_count) {
         Ok(()) => Ok(()),
         Err(refusal) => Err(refusal),
     }

@@ -16,18 +16,13 @@ use crate::lexicon::Lexicon;
 use crate::lists::{Compared, Places, check_lists};
 use crate::postings::{RangeLists, read_postings};
 use crate::ranges::{are_sizes, range_end};
+use mg_defs::{COLLECTION_BYTES, DOCUMENTS};
 use mg_dev::{Bad, FileRef, Part, PartErr, Store};
 use mg_layout::expect_size;
 use mg_mem::SureStore;
 use mg_model::TermTable;
 use mg_text::TextReader;
 use std::alloc::{AllocError, Global};
-
-/// A collection, and so a document, has no more bytes.
-const MOST_BYTES: u64 = (1 << 32) - 1;
-
-/// A collection has no more documents.
-const MOST_DOCUMENTS: u32 = 1 << 24;
 
 // The numbers of documents are not those of a collection, which has some for each term.
 fn other_sizes(documents: u32) -> Bad {
@@ -75,7 +70,7 @@ fn read_range<S: Store>(
         Ok(lists) => lists,
         Err(AllocError) => return Err(PartErr::Memory),
     };
-    let mut held = Held::new(alloc, MOST_BYTES);
+    let mut held = Held::new(alloc, COLLECTION_BYTES);
     let mut terms = match DocTerms::new(alloc) {
         Ok(terms) => terms,
         Err(AllocError) => return Err(PartErr::Memory),
@@ -180,7 +175,7 @@ pub(crate) fn check_index<S: Store>(
     ensures unread { reads_outside (S.reads store.new) ≡ reads_outside (S.reads store.old) }
     ensures cause { HasPartCause (S.faults store.old) (S.faults store.new) result }
 {
-    if documents > MOST_DOCUMENTS || !are_sizes(docs, table.count(), documents) {
+    if documents > DOCUMENTS || !are_sizes(docs, table.count(), documents) {
         return Err(PartErr::Bad(other_sizes(documents)));
     }
     let lexicon = match Lexicon::start(alloc) {

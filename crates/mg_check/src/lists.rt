@@ -43,7 +43,7 @@ struct NewLists<'a> {
 }
 
 /// The bytes of a skip entry.
-const ENTRY_BYTES: u64 = 16;
+pub(crate) const SKIP_ENTRY_BYTES: u64 = 16;
 
 // A list is not the one that was counted: so much was found where low to high was to be.
 fn other_list(found: u64, low: u64, high: u64) -> Bad
@@ -66,7 +66,7 @@ fn info_behind(number: u32, docs: u32, before: Places, at: (u64, u32)) -> Option
     ensures info { IfSome result (λ info. info_of info ≡ record { docs = docs; post_at = before.post + at.0; skip_at = before.skip / 16 + at.1 }) }
     ensures some { before.skip / 16 + at.1 < 2 ^ 32 → IsSome result }
 {
-    match u32::try_from(before.skip / ENTRY_BYTES + u64::from(at.1)) {
+    match u32::try_from(before.skip / SKIP_ENTRY_BYTES + u64::from(at.1)) {
         Ok(skip_at) => Some(TermInfo {
             number,
             docs,

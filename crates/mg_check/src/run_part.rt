@@ -15,7 +15,7 @@ ghost use Rattle.mg_check.specs.Reads.{reads_outside};
 use crate::comparison::Comparison;
 use crate::wanted::wanted;
 use mg_bits::BitWriter;
-use mg_defs::ranges_join;
+use mg_defs::{LEAST_BUDGET, OCCURRENCE_BYTES, ranges_join};
 use mg_dev::{FileRef, Part, PartErr, PutErr, Store};
 use mg_mem::SureStore;
 use mg_runs::{Pool, spill};
@@ -26,11 +26,6 @@ use std::marker::Model;
 const BASE: &str = "";
 
 const RUN: &str = ".run";
-
-/// How many bytes a pool takes for each entry, and how many it has at least.
-const ENTRY_BYTES: u64 = 12;
-
-const LEAST_POOL: u64 = 4096;
 
 /// The comparison of the part of the runs, and the pool of the occurrences behind those that were compared.
 #[derive(Drop)]
@@ -113,7 +108,7 @@ impl<'a> RunPart<'a> {
         ensures name { IfOk result (λ runs. runs.part.name ≡ full_name base.entry.now part.Run) }
         ensures cap { IfOk result (λ runs. cap_of runs.pool ≡ cap) }
     {
-        let budget = (ENTRY_BYTES * u64::from(cap)).max(LEAST_POOL);
+        let budget = (OCCURRENCE_BYTES * u64::from(cap)).max(LEAST_BUDGET);
         let pool = Pool::new(alloc, budget)?;
         Ok(RunPart {
             alloc,

@@ -9,14 +9,9 @@ ghost use Rattle.mg_dev.specs.Runs.{RefusedFor};
 ghost use Rattle.mg_merge.specs.Merging.{budget_of, joined_size};
 ghost use Rattle.mg_merge.specs.Stops.{AreHeads, HeadStops, IsOneMissing, IsRefusedFirst, IsToldFirst};
 
+use mg_defs::{LEAST_BUDGET, OCCURRENCE_BYTES};
 use mg_dev::{Fault, PartErr, Store};
 use mg_layout::Head;
-
-/// The least bytes of a pool.
-const LEAST: u64 = 4096;
-
-/// The bytes that one occurrence takes of a pool.
-const OCCURRENCE: u64 = 12;
 
 /// Loads the heads of two bases. Where one is missing, that is told, whatever the other holds.
 pub(crate) fn load_heads<S: Store>(
@@ -86,5 +81,5 @@ pub(crate) fn joined_size(first: &Head, second: &Head) -> u64
 pub(crate) fn budget_of(cap: u32) -> u64
     ensures { result ≡ budget_of cap }
 {
-    LEAST.max(OCCURRENCE * u64::from(cap))
+    LEAST_BUDGET.max(OCCURRENCE_BYTES * u64::from(cap))
 }

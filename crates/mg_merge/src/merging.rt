@@ -20,12 +20,10 @@ use crate::counting::count_all;
 use crate::heads::{budget_of, joined_size, load_heads};
 use crate::texts::Texts;
 use crate::writing::write_set;
+use mg_defs::COLLECTION_BYTES;
 use mg_dev::{Fault, Store, names_apart};
 use mg_make::Summary;
 use std::alloc::Global;
-
-/// The most bytes of a collection.
-const MOST: u64 = 0xffff_ffff;
 
 /// Makes the set of the documents of two sets under a third base, in version 2 and with the first one's cap. The two may be
 /// one, and of either version.
@@ -100,8 +98,11 @@ fn merge_files<S: Store>(
         Err(refusal) => return Err(refusal),
     };
     let size = joined_size(&heads.0, &heads.1);
-    if size > MOST {
-        return Err(Fault::TooLarge { size, most: MOST });
+    if size > COLLECTION_BYTES {
+        return Err(Fault::TooLarge {
+            size,
+            most: COLLECTION_BYTES,
+        });
     }
     // By this law no part of the new set is one that is read.
     names_apart();

@@ -11,13 +11,10 @@ ghost use Rattle.mg_plain.specs.Stops.{AnswerStops, LoadStops};
 
 use crate::boolean::answer_boolean;
 use crate::ranked::answer_ranked;
-use mg_defs::Settings;
+use mg_defs::{HELD_BYTES, Settings};
 use mg_dev::{Fault, FileRef, Part, PartErr, ShowErr, Sink, Store, What};
 use std::alloc::{AllocError, Global};
 use std::marker::Model;
-
-/// The most bytes of a collection.
-const MOST: u64 = 1 << 28;
 
 /// A collection, all its bytes in memory.
 ///
@@ -106,8 +103,11 @@ impl PlainText {
             Ok(None) => return Err(Fault::NoCollection),
             Err(_) => return Err(Fault::StoreFault),
         };
-        if size > MOST {
-            return Err(Fault::TooLarge { size, most: MOST });
+        if size > HELD_BYTES {
+            return Err(Fault::TooLarge {
+                size,
+                most: HELD_BYTES,
+            });
         }
         read_whole(alloc, store, name, size)
     }

@@ -16,6 +16,7 @@ use crate::comparing::{ask_both, is_decoded};
 use crate::lines::put_trial_summary;
 use crate::trial_summary::TrialSummary;
 use mg_build::build;
+use mg_defs::HELD_BYTES;
 use mg_dev::{Fault, FileRef, Part, Sink, Store};
 use mg_gen::make_collection;
 use mg_mem::SureSink;
@@ -29,9 +30,6 @@ pub(crate) const SET: &str = "set";
 
 /// The bytes of the pool that the set is built in.
 const BUDGET: u64 = 16_777_216;
-
-/// The most bytes of a collection: its text is held in memory.
-const MOST_BYTES: u64 = 268_435_456;
 
 /// The collection of a trial.
 fn made_text(alloc: Global, seed: u64, docs: u32) -> Result<SureSink, Fault>
@@ -79,10 +77,10 @@ fn try_all<S: Store>(
     };
     let text = made.bytes();
     let bytes = text.len() as u64;
-    if bytes > MOST_BYTES {
+    if bytes > HELD_BYTES {
         return Err(Fault::TooLarge {
             size: bytes,
-            most: MOST_BYTES,
+            most: HELD_BYTES,
         });
     }
     match put_text(store, text) {

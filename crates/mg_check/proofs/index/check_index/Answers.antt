@@ -6,13 +6,13 @@ use Rattle.mg_check.proofs.Comparing.{on_ok}
 use Rattle.mg_check.proofs.IndexLaws.{compared_none, compared_on, few_documents, if_err, lexicon_on, lists_stand_on, sizes_of, took_all}
 use Rattle.mg_check.proofs.LexiconLaws.{refutes_wider}
 use Rattle.mg_check.proofs.index.check_index.Goals as goal
-use Rattle.mg_check.proofs.index.check_index.Goals.{then-documents-gt-MOST_DOCUMENTS-via-then-documents-gt-MOST_DOCUMENTS, then-documents-gt-MOST_DOCUMENTS-via-else-documents-gt-MOST_DOCUMENTS+then-not-are_sizes}
+use Rattle.mg_check.proofs.index.check_index.Goals.{then-documents-gt-DOCUMENTS-via-then-documents-gt-DOCUMENTS, then-documents-gt-DOCUMENTS-via-else-documents-gt-DOCUMENTS+then-not-are_sizes}
 
-pub returns-then-documents-gt-MOST_DOCUMENTS-clause-other : goal.returns-then-documents-gt-MOST_DOCUMENTS-clause-other
-returns-then-documents-gt-MOST_DOCUMENTS-clause-other g c = λ collection is stand.
-    elim c.then-documents-gt-MOST_DOCUMENTS.branch [
-      | then-documents-gt-MOST_DOCUMENTS-via-then-documents-gt-MOST_DOCUMENTS w ↦ omega (arith, few_documents _ _ _ _ collection c.args.documents is c.requires.all, w.if-documents-gt-MOST_DOCUMENTS.true)
-      | then-documents-gt-MOST_DOCUMENTS-via-else-documents-gt-MOST_DOCUMENTS+then-not-are_sizes w ↦
+pub returns-then-documents-gt-DOCUMENTS-clause-other : goal.returns-then-documents-gt-DOCUMENTS-clause-other
+returns-then-documents-gt-DOCUMENTS-clause-other g c = λ collection is stand.
+    elim c.then-documents-gt-DOCUMENTS.branch [
+      | then-documents-gt-DOCUMENTS-via-then-documents-gt-DOCUMENTS w ↦ omega (arith, few_documents _ _ _ _ collection c.args.documents is c.requires.all, w.if-documents-gt-DOCUMENTS.true)
+      | then-documents-gt-DOCUMENTS-via-else-documents-gt-DOCUMENTS+then-not-are_sizes w ↦
           (let sizes = subst (λ n. AreSizes c.args.docs.now n c.args.documents) (sym w.count.ensures.count) (sizes_of _ _ _ _ collection c.args.documents is c.requires.all) in
           let ok = w.are_sizes.ensures.1 sizes in
           search rules)

@@ -48,39 +48,39 @@ returns-in-Err-clause-complete g c = λ a b both one two limits never.
 
 -- ---- both are too large by their heads
 
-pub returns-then-size-gt-MOST-clause-missing : goal.returns-then-size-gt-MOST-clause-missing
-returns-then-size-gt-MOST-clause-missing g c = λ told one two missing. absurd (none_missing (g.S.Store.files c.args.store.now) c.args.first.now c.args.second.now _ _ (c.in-Ok.ensures.heads told) missing)
+pub returns-then-size-gt-COLLECTION_BYTES-clause-missing : goal.returns-then-size-gt-COLLECTION_BYTES-clause-missing
+returns-then-size-gt-COLLECTION_BYTES-clause-missing g c = λ told one two missing. absurd (none_missing (g.S.Store.files c.args.store.now) c.args.first.now c.args.second.now _ _ (c.in-Ok.ensures.heads told) missing)
 
-pub returns-then-size-gt-MOST-clause-large : goal.returns-then-size-gt-MOST-clause-large
-returns-then-size-gt-MOST-clause-large g c = λ size told one two is big. inl (ap (λ n. Err (fault.TooLarge n most_bytes)) (c.joined_size-size.ensures
+pub returns-then-size-gt-COLLECTION_BYTES-clause-large : goal.returns-then-size-gt-COLLECTION_BYTES-clause-large
+returns-then-size-gt-COLLECTION_BYTES-clause-large g c = λ size told one two is big. inl (ap (λ n. Err (fault.TooLarge n most_bytes)) (c.joined_size-size.ensures
     ∙ one_size (g.S.Store.files c.args.store.now) c.args.first.now c.args.second.now (fields_of c.in-Ok.heads.0) (fields_of c.in-Ok.heads.1) size (c.in-Ok.ensures.heads told) is))
 
-pub returns-then-size-gt-MOST-clause-documents : goal.returns-then-size-gt-MOST-clause-documents
-returns-then-size-gt-MOST-clause-documents g c = λ a b both one two few first.
+pub returns-then-size-gt-COLLECTION_BYTES-clause-documents : goal.returns-then-size-gt-COLLECTION_BYTES-clause-documents
+returns-then-size-gt-COLLECTION_BYTES-clause-documents g c = λ a b both one two few first.
     let files = g.S.Store.files c.args.store.now in
     let sets = sets_by files files c.args.first.now c.args.second.now a b c.in-Ok.heads.0 c.in-Ok.heads.1 refl (c.in-Ok.ensures.heads both.first_stands.told) both in
     let size : joined_size (fields_of c.in-Ok.heads.0) (fields_of c.in-Ok.heads.1) ≡ length (join a b) = size_of_sets files c.args.first.now c.args.second.now a b c.in-Ok.heads.0 c.in-Ok.heads.1 sets in
-    absurd (omega (arith, few, size, c.joined_size-size.ensures, c.if-size-gt-MOST.true))
+    absurd (omega (arith, few, size, c.joined_size-size.ensures, c.if-size-gt-COLLECTION_BYTES.true))
 
-pub returns-then-size-gt-MOST-clause-pieces : goal.returns-then-size-gt-MOST-clause-pieces
-returns-then-size-gt-MOST-clause-pieces g c = λ a b stream x both one two few first.
+pub returns-then-size-gt-COLLECTION_BYTES-clause-pieces : goal.returns-then-size-gt-COLLECTION_BYTES-clause-pieces
+returns-then-size-gt-COLLECTION_BYTES-clause-pieces g c = λ a b stream x both one two few first.
     let files = g.S.Store.files c.args.store.now in
     let sets = sets_by files files c.args.first.now c.args.second.now a b c.in-Ok.heads.0 c.in-Ok.heads.1 refl (c.in-Ok.ensures.heads both.first_stands.told) both in
     let size : joined_size (fields_of c.in-Ok.heads.0) (fields_of c.in-Ok.heads.1) ≡ length (join a b) = size_of_sets files c.args.first.now c.args.second.now a b c.in-Ok.heads.0 c.in-Ok.heads.1 sets in
-    absurd (omega (arith, few, size, c.joined_size-size.ensures, c.if-size-gt-MOST.true))
+    absurd (omega (arith, few, size, c.joined_size-size.ensures, c.if-size-gt-COLLECTION_BYTES.true))
 
-pub returns-then-size-gt-MOST-clause-complete : goal.returns-then-size-gt-MOST-clause-complete
-returns-then-size-gt-MOST-clause-complete g c = λ a b both one two limits never.
+pub returns-then-size-gt-COLLECTION_BYTES-clause-complete : goal.returns-then-size-gt-COLLECTION_BYTES-clause-complete
+returns-then-size-gt-COLLECTION_BYTES-clause-complete g c = λ a b both one two limits never.
     let files = g.S.Store.files c.args.store.now in
     let few : length (join a b) ≤ most_bytes = limits.bytes in
     let sets = sets_by files files c.args.first.now c.args.second.now a b c.in-Ok.heads.0 c.in-Ok.heads.1 refl (c.in-Ok.ensures.heads both.first_stands.told) both in
     let size : joined_size (fields_of c.in-Ok.heads.0) (fields_of c.in-Ok.heads.1) ≡ length (join a b) = size_of_sets files c.args.first.now c.args.second.now a b c.in-Ok.heads.0 c.in-Ok.heads.1 sets in
-    absurd (omega (arith, few, size, c.joined_size-size.ensures, c.if-size-gt-MOST.true))
+    absurd (omega (arith, few, size, c.joined_size-size.ensures, c.if-size-gt-COLLECTION_BYTES.true))
 
-pub returns-then-size-gt-MOST-clause-cause : goal.returns-then-size-gt-MOST-clause-cause
-returns-then-size-gt-MOST-clause-cause g c = (
+pub returns-then-size-gt-COLLECTION_BYTES-clause-cause : goal.returns-then-size-gt-COLLECTION_BYTES-clause-cause
+returns-then-size-gt-COLLECTION_BYTES-clause-cause g c = (
   refl,
-  omega (arith, c.if-size-gt-MOST.true),
+  omega (arith, c.if-size-gt-COLLECTION_BYTES.true),
   λ told. record { a = fields_of c.in-Ok.heads.0; b = fields_of c.in-Ok.heads.1; are = c.in-Ok.ensures.heads told; size_is = c.joined_size-size.ensures },
 )
 
@@ -103,7 +103,7 @@ pub returns-in-Err-load-clause-large : goal.returns-in-Err-load-clause-large
 returns-in-Err-load-clause-large g c = λ size told one two is big.
     let same : joined_size (fields_of c.in-Ok.heads.0) (fields_of c.in-Ok.heads.1) ≡ size
     = one_size (g.S.Store.files c.args.store.now) c.args.first.now c.args.second.now (fields_of c.in-Ok.heads.0) (fields_of c.in-Ok.heads.1) size (c.in-Ok.ensures.heads told) is in
-    absurd (omega (arith, big, same, c.joined_size-size.ensures, c.if-size-gt-MOST.false))
+    absurd (omega (arith, big, same, c.joined_size-size.ensures, c.if-size-gt-COLLECTION_BYTES.false))
 
 pub returns-in-Err-load-clause-documents : goal.returns-in-Err-load-clause-documents
 returns-in-Err-load-clause-documents g c = λ a b both one two few first.
@@ -181,7 +181,7 @@ pub returns-clause-large : goal.returns-clause-large
 returns-clause-large g c = λ size told one two is big.
     let same : joined_size (fields_of c.in-Ok.heads.0) (fields_of c.in-Ok.heads.1) ≡ size
     = one_size (g.S.Store.files c.args.store.now) c.args.first.now c.args.second.now (fields_of c.in-Ok.heads.0) (fields_of c.in-Ok.heads.1) size (c.in-Ok.ensures.heads told) is in
-    absurd (omega (arith, big, same, c.joined_size-size.ensures, c.if-size-gt-MOST.false))
+    absurd (omega (arith, big, same, c.joined_size-size.ensures, c.if-size-gt-COLLECTION_BYTES.false))
 
 pub returns-clause-documents : goal.returns-clause-documents
 returns-clause-documents g c = λ a b both one two few first.
