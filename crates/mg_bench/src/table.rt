@@ -7,23 +7,7 @@ use std::rt::Clock;
 use std::time::Instant;
 
 /// How many turns of each work are timed.
-pub const TURNS: usize = 7;
-
-/// A turn of a work: how long it took, and a sum over what its calls answered.
-#[derive(Clone, Copy)]
-pub struct Turn {
-    nanoseconds: u64,
-    sum: u64,
-}
-
-impl Turn {
-    /// The turn that began then and ends now.
-    pub fn since(rt: &impl Clock, begun: Instant, sum: u64) -> Result<Turn> {
-        let time = begun.elapsed(rt)?;
-        let nanoseconds = time.as_nanos().min(u128::from(u64::MAX)) as u64;
-        Ok(Turn { nanoseconds, sum })
-    }
-}
+const TURNS: usize = 7;
 
 /// The turns of a work.
 #[derive(Clone, Copy)]
@@ -41,12 +25,11 @@ impl Turns {
         }
     }
 
-    /// Puts a turn in its place. Its sum has to be that of the others: so each turn is seen to have
-    /// done the work, and no compiler leaves one out.
-    fn put(&mut self, place: usize, turn: Turn) -> Result<()>
+    /// Puts the nanoseconds of a turn in its place. Its sum has to be that of the others: so each turn
+    /// is seen to have done the work, and no compiler leaves one out.
+    fn put(&mut self, place: usize, nanoseconds: u64, sum: u64) -> Result<()>
         requires { place < 7 }
     {
-        let Turn { nanoseconds, sum } = turn;
         let first = self.sum.unwrap_or(sum);
         ensure!(sum == first, "a turn gave {sum}, and the first one {first}");
         self.sum = Some(first);
@@ -90,22 +73,6 @@ pub fn print_head(rt: &impl Print) -> Result<()> {
     Ok(())
 }
 
-/// Prints the row of a work on so many things, each of whose turns is timed by a call.
-pub fn print_turns<W: FnMut() -> Result<Turn>>(
-    rt: &impl Print,
-    work: &str,
-    count: u64,
-    mut turn: W,
-) -> Result<()>
-    requires { W.IsAlwaysCallable turn }
-{
-    let mut turns = Turns::new();
-    for place in 0..TURNS {
-        turns.put(place, turn()?)?;
-    }
-    turns.print(rt, work, count)
-}
-
 /// Times the turns of a work on so many things, a call each, which answers a sum that is the same in
 /// each turn, and prints its row.
 pub fn print_times<W: FnMut() -> Result<u64>>(
@@ -120,7 +87,9 @@ pub fn print_times<W: FnMut() -> Result<u64>>(
     for place in 0..TURNS {
         let begun = Instant::now(rt)?;
         let sum = call()?;
-        turns.put(place, Turn::since(rt, begun, sum)?)?;
+        let time = begun.elapsed(rt)?;
+        let nanoseconds = time.as_nanos().min(u128::from(u64::MAX)) as u64;
+        turns.put(place, nanoseconds, sum)?;
     }
     turns.print(rt, work, count)
 }

@@ -1,6 +1,0 @@
-use Rattle.std.proofs.Common.{◌≤◌, ◌+◌, ◌^◌}
-use Rattle.mg_defs.specs.Vocabulary.{total}
-use Rattle.mg_bench.proofs.models.count_words.Given as goal
-
-abbrev pub invariant-loop-i : goal.invariant-loop-i
-invariant-loop-i l = total l.vocab ≤ 2 ^ 24 + l.i
