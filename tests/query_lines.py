@@ -1,6 +1,6 @@
 """Random query lines, and how each is read.
 
-Writes `crates/query_lines/stdin`, a line each, and `crates/query_lines/stdout`, the line read
+Writes `crates/mg_query_lines_tests/stdin`, a line each, and `crates/mg_query_lines_tests/stdout`, the line read
 as a Boolean query, a tab, and the line read as a ranked one. A query is shown with its signs
 before what they join, as in `(| (& cat dog) sat)`.
 
@@ -114,9 +114,9 @@ def main() -> None:
         line = a_line(draw)
         if len(line) <= LINE_LIMIT:
             lines.append(line)
-    with open("crates/query_lines/stdin", "wb") as out:
+    with open("crates/mg_query_lines_tests/stdin", "wb") as out:
         out.writelines(line + b"\n" for line in lines)
-    with open("crates/query_lines/stdout", "wb") as out:
+    with open("crates/mg_query_lines_tests/stdout", "wb") as out:
         out.writelines(answer(lambda line: shown(boolean(line)), line) + b"\t" + answer(lambda line: b" ".join(ranked(line)), line) + b"\n" for line in lines)
 
 

@@ -9,6 +9,8 @@ mod building_rows;
 #[cfg(test)]
 mod building_tests;
 #[cfg(test)]
+mod counting;
+#[cfg(test)]
 mod decoding_tests;
 #[cfg(test)]
 mod migrating_tests;

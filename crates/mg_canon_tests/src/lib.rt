@@ -5,4 +5,6 @@
 #![tactic(auto)]
 
 #[cfg(test)]
+mod lengths;
+#[cfg(test)]
 mod tests;

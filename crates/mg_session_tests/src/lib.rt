@@ -7,6 +7,8 @@
 #[cfg(test)]
 mod phrase_tests;
 #[cfg(test)]
+mod places;
+#[cfg(test)]
 mod sessions;
 #[cfg(test)]
 mod tests;

@@ -1,3 +1,4 @@
+//! The lengths of codewords for worked counts, and the deepest tree.
 ghost use Rattle.std.specs.Prelude.{◌*◌, ◌^◌, ◌<◌, ◌≤◌, IfOk, sum};
 ghost use Rattle.std.specs.List.{All};
 

@@ -1,4 +1,4 @@
-// The bytes of numbers, from outside, and that what was written is read.
+//! The bytes of numbers, from outside, and that what was written is read.
 use mg_fields::{eight_at, eight_bytes, four_at, four_bytes};
 use std::test::Fail;
 

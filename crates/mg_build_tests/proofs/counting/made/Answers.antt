@@ -1,7 +1,7 @@
 use Rattle.std.proofs.Common.{subst, sym, take, arith}
 use Rattle.std.proofs.lemmas.List.{take_more}
 use Rattle.mg_make.specs.Counting.{HasCounted}
-use Rattle.mg_make_tests.proofs.tests.made.Goals as goal
+use Rattle.mg_build_tests.proofs.counting.made.Goals as goal
 
 pub loop-byte-preserved : goal.loop-byte-preserved
 loop-byte-preserved c =
