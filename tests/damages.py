@@ -1,6 +1,6 @@
-"""Random damages of sets on the disk: whatever bytes stand in a part, each tool ends soon, with a true status.
+"""Damages of sets on the disk: whatever bytes stand in a part, each tool ends soon, with a true status.
 
-Each damage is made to one part of a sound set; then `decode`, `query`, `phrase`, `wild`, `check`, `migrate` and
+Each random damage is made to one part of a sound set; then `decode`, `query`, `phrase`, `wild`, `check`, `migrate` and
 `merge` are run over it. None may end by a signal, take longer than 20 seconds, or end with another status than
 0, 5 or 6 and the line of that status (a merge also with 8, by what a damaged head tells); none may take
 32 megabytes more than over the sound set, and a merge and a check the pool that the damaged head tells beside it.
@@ -151,4 +151,26 @@ def random_damages(suite):
             (suite.folder / f"{name}.{ending}").unlink(missing_ok=True)
 
 
-PARTS = [random_damages]
+def fair_end(suite, words):
+    """Whether a tool ends with status 0, 5 or 6 and the line of that status."""
+    status, _, line = suite.run(words, ASKED)
+    return status in LINES and re.fullmatch(LINES[status], line) is not None
+
+
+def each_byte(suite):
+    """Each byte of a small set of either version, changed or the end of its part: `decode` and `query` end truly."""
+    for version in (1, 2):
+        parts = build(Collection(b"a a a a "), BUDGET, version)
+        for ending in ENDINGS[:11]:
+            sound = parts[ending]
+            unfair = []
+            for at in range(len(sound)):
+                for other in (sound[:at], sound[:at] + bytes([255 - sound[at]]) + sound[at + 1 :]):
+                    write_parts(suite.folder / "set", parts | {ending: other})
+                    unfair += [(at, words[0]) for words in TOOLS[:2] if not fair_end(suite, words)]
+            suite.check(f"each byte of {ending} of version {version}", unfair, [])
+    for ending in ENDINGS:
+        (suite.folder / f"set.{ending}").unlink(missing_ok=True)
+
+
+PARTS = [random_damages, each_byte]

@@ -1,5 +1,5 @@
 // Files read and written, over a slice, a page and a slot.
-ghost use Rattle.std.specs.Prelude.{◌≡◌, ◌<◌};
+ghost use Rattle.std.specs.Prelude.{◌≡◌};
 ghost use Rattle.mg_bits.specs.BitWriting.{Holds};
 
 use mg_bits::{
@@ -60,67 +60,6 @@ fn reads_as<F: Feed>(r: &mut BitReader<F>, dev: &mut F::Dev, wanted: &[u8]) -> b
     }
     let end = r.place();
     end <= 1 << 40 && r.bit(dev) == Err(BitErr::End { at: end }) && r.place() == end
-}
-
-/// Whether these bytes stand from the reader's place on, read bit by bit. Behind every third bit the
-/// bits of the next byte are looked at, and the reader goes back.
-fn reads_bit_by_bit<F: Feed>(r: &mut BitReader<F>, dev: &mut F::Dev, wanted: &[u8]) -> bool
-    requires fits { F.fits r.old.feed (F.device dev.old).files }
-{
-    for byte in wanted {
-        for down in 0..8u32 {
-            let place = r.place();
-            if place > 1 << 40 {
-                return false;
-            }
-            if place % 3 == 0 {
-                let _ = r.bits(dev, 16);
-                r.seek(place);
-            }
-            if r.bit(dev) != Ok(byte >> (7 - down) & 1 == 1) {
-                return false;
-            }
-        }
-    }
-    true
-}
-
-/// Whether the bits of the bytes are read from a slice.
-fn slice_reads_bit_by_bit(bytes: &[u8]) -> bool {
-    let mut slice = BitReader::new(SliceFeed::new(bytes), 0);
-    reads_bit_by_bit(&mut slice, &mut NoDev, bytes)
-}
-
-/// Whether the bits of the bytes are read from the pages of the text.
-fn pages_read_bit_by_bit(
-    alloc: Global,
-    store: &mut SureStore,
-    bytes: &[u8],
-) -> Result<bool, AllocError> {
-    let mut paged = BitReader::new(PageFeed::new(alloc, TEXT)?, 0);
-    Ok(reads_bit_by_bit(&mut paged, store, bytes))
-}
-
-/// Whether the bits of the bytes are read from slots of the text.
-fn slots_read_bit_by_bit(store: &mut SureStore, bytes: &[u8]) -> bool {
-    let mut slot = [0; 64];
-    let mut small = BitReader::new(SmallFeed::new(TEXT, &mut slot), 0);
-    reads_bit_by_bit(&mut small, store, bytes)
-}
-
-#[test]
-fn whole_files_are_read_bit_by_bit(rt: HostRuntime) -> Result<(), Fail> {
-    let alloc = rt.alloc();
-    for size in [1, 7, 8, 63, 65, 4097] {
-        let bytes = sample(alloc, size)?;
-        assert!(rt; slice_reads_bit_by_bit(&bytes), "a slice of {size}");
-        let mut store = store_of(alloc, &bytes)?;
-        let paged = pages_read_bit_by_bit(alloc, &mut store, &bytes)?;
-        assert!(rt; paged, "pages of {size}");
-        let small = slots_read_bit_by_bit(&mut store, &bytes);
-        assert!(rt; small, "slots of {size}");
-    }
-    Ok(())
 }
 
 #[test]

@@ -5,6 +5,4 @@
 #![tactic(auto)]
 
 #[cfg(test)]
-mod random_tests;
-#[cfg(test)]
 mod tests;

@@ -5,6 +5,6 @@
 #![tactic(auto)]
 
 #[cfg(test)]
-mod damage_tests;
+mod failing_tests;
 #[cfg(test)]
 mod tests;

@@ -2,7 +2,6 @@
 ghost use Rattle.std.specs.Prelude.{◌≡◌, ◌≤◌, ◌==◌, ◌||◌};
 ghost use Rattle.std.specs.Bool.{OnTrue};
 ghost use Rattle.mg_defs.specs.Front.{IsEntry, is_below};
-ghost use Rattle.mg_front.specs.Reading.{FrontFits};
 
 use mg_dev::{FileRef, Part, PartErr, PutErr, Store};
 use mg_front::{FrontEntry, FrontReader, FrontWalk, FrontWriter};
@@ -263,80 +262,6 @@ fn a_walk_tells_entries_and_damage(rt: HostRuntime) -> Result<(), Fail> {
         let mut store = store_of(alloc, bytes, &[])?;
         assert!(rt; tells(alloc, &mut store, count, strings, damage)?);
     }
-    Ok(())
-}
-
-// Strings that rise, each in nine bytes of which the last is 0: four that rise, and four of chance.
-fn random_bytes(alloc: Global, count: u32) -> Result<Vec<u8>, AllocError> {
-    let mut bytes = Vec::new(alloc);
-    let mut seed = 1u32;
-    let mut high = 0u32;
-    for _ in 0..count {
-        seed = seed.wrapping_mul(1_664_525).wrapping_add(1_013_904_223);
-        high = high.wrapping_add(seed / 131_072 + 1);
-        bytes.extend_from_slice(&high.to_be_bytes())?;
-        bytes.extend_from_slice(&seed.to_be_bytes())?;
-        bytes.push(0)?;
-    }
-    Ok(bytes)
-}
-
-// Four to eight of the nine bytes, as many as the last of chance says, or more or fewer by one.
-fn string_of(nine: &[u8], more: usize) -> &[u8] {
-    let chance = nine.get(7).map_or(0, |byte| usize::from(*byte % 5));
-    nine.get(..chance + 3 + more.min(2)).unwrap_or(nine)
-}
-
-// Whether each string is found at its number, and a string shorter or longer by a byte is not.
-fn tells_each<S: Store>(
-    reader: &mut FrontReader<'_, S>,
-    store: &mut S,
-    nines: &[&[u8]],
-) -> Result<bool, PartErr>
-    requires { FrontFits reader.old (S.files store.old) }
-{
-    let mut entry = FrontEntry::new();
-    let mut number = 0u32;
-    for nine in nines {
-        let found = reader.find(store, string_of(nine, 1), &mut entry)?;
-        let shorter = reader.find(store, string_of(nine, 0), &mut entry)?;
-        let longer = reader.find(store, string_of(nine, 2), &mut entry)?;
-        if found != Some(number) || shorter.is_some() || longer.is_some() {
-            return Ok(false);
-        }
-        number = number.wrapping_add(1);
-    }
-    Ok(true)
-}
-
-// Writes the strings that stand in nine bytes each.
-fn put_strings(alloc: Global, store: &mut MemStore, bytes: &[u8]) -> Result<(), PutErr> {
-    let mut items: Vec<(&[u8], &[u8])> = Vec::new(alloc);
-    for nine in bytes.chunks_exact(9) {
-        items.push((string_of(nine, 1), b""))?;
-    }
-    written(alloc, store, 0, &items)
-}
-
-// Whether each of 100,000 strings is found at its number, and none of its neighbours is.
-fn tells_strings(alloc: Global, store: &mut MemStore, bytes: &[u8]) -> Result<bool, PartErr> {
-    let mut nines: Vec<&[u8]> = Vec::new(alloc);
-    for nine in bytes.chunks_exact(9) {
-        nines.push(nine)?;
-    }
-    let mut reader = FrontReader::load(alloc, store, STRINGS, PLACES, 0, 100_000)?;
-    tells_each(&mut reader, store, &nines)
-}
-
-#[test]
-fn many_strings_are_found_and_their_neighbours_are_not(rt: HostRuntime) -> Result<(), Fail> {
-    let alloc = rt.alloc();
-    let bytes = random_bytes(alloc, 100_000)?;
-    let mut store = MemStore::new(alloc);
-    put_strings(alloc, &mut store, &bytes)?;
-    assert!(rt; tells_strings(alloc, &mut store, &bytes)?);
-    assert!(rt; store.reads_of(Part::Lex) <= 300_000 * 32);
-    assert!(rt; store.reads_of(Part::LexAt) <= 300_000 * 16);
     Ok(())
 }
 

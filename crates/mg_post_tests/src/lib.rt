@@ -5,8 +5,6 @@
 #![tactic(auto)]
 
 #[cfg(test)]
-mod beside_tests;
-#[cfg(test)]
-mod damage_tests;
+mod failing_tests;
 #[cfg(test)]
 mod tests;

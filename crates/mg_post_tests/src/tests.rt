@@ -1,5 +1,5 @@
 // What no clause says: the bytes of real parts, that calls succeed, and how much is read.
-ghost use Rattle.std.specs.Prelude.{◌≡◌, ◌+◌, ◌*◌, ◌<◌, ◌≤◌, ◌^◌, List, [], length, IfOk, IfSome, OnOk};
+ghost use Rattle.std.specs.Prelude.{◌≡◌, ◌+◌, ◌<◌, ◌^◌, List, [], length, IfOk, IfSome, OnOk};
 ghost use Rattle.mg_defs.specs.declared.Posting.{Posting};
 ghost use Rattle.mg_post.specs.Writing.{Took};
 ghost use Rattle.mg_post.specs.Cursor.{CursorFits};
@@ -194,33 +194,6 @@ pub fn taken<S: Store>(
     Ok(answers)
 }
 
-// What a plain list answers to them.
-fn wanted(alloc: Global, list: &[Posting], steps: &[Step]) -> Result<Vec<Option<Posting>>, PutErr> {
-    let mut answers = Vec::new(alloc);
-    let mut from = 0usize;
-    let mut started = false;
-    for step in steps {
-        match *step {
-            Step::Next => {
-                if started && from < list.len() {
-                    from += 1;
-                }
-            }
-            Step::To(doc) => {
-                let rest = list.get(from..).unwrap_or(&[]);
-                let passed = rest
-                    .iter()
-                    .position(|posting| posting.doc >= doc)
-                    .unwrap_or(rest.len());
-                from = from.saturating_add(passed);
-            }
-        }
-        started = true;
-        answers.push(list.get(from).copied())?;
-    }
-    Ok(answers)
-}
-
 // Whether a fresh cursor gives these answers to steps.
 fn answers(
     alloc: Global,
@@ -367,65 +340,5 @@ fn a_long_list_is_skipped(rt: HostRuntime) -> Result<(), Fail> {
     assert!(rt; answers(alloc, &mut store, &info, 200_000, &past, &[None; 4])?);
     assert!(rt; store.reads_of(Part::Post) == 1);
     assert!(rt; store.reads_of(Part::Skip) == 23);
-    Ok(())
-}
-
-// Asks for documents in all ways that are told apart, and compares with the plain list.
-fn asked_all_ways(alloc: Global, store: &mut SureStore, count: u32) -> Result<u32, PartErr>
-    requires { count < 2 ^ 10 }
-{
-    let mut different = 0u32;
-    let Ok(list) = spaced(alloc, count, 3, 2) else {
-        return Err(PartErr::Memory);
-    };
-    let Ok(info) = one_list(alloc, store, 3000, list.as_slice()) else {
-        return Err(PartErr::Memory);
-    };
-    let mut rising = Vec::new(alloc);
-    let mut walk = Vec::new(alloc);
-    let mut mixed = Vec::new(alloc);
-    for doc in 1..2 * count + 8 {
-        rising.push(Step::To(doc))?;
-        walk.push(Step::Next)?;
-        mixed.push(if doc % 3 == 1 {
-            Step::Next
-        } else {
-            Step::To(doc * (1 + doc % 2))
-        })?;
-        let alone = [Step::To(doc), Step::Next, Step::To(doc + 9)];
-        let apart = told_apart(alloc, store, &info, list.as_slice(), &alone)?;
-        different = different.saturating_add(apart);
-    }
-    for steps in [rising, walk, mixed] {
-        let apart = told_apart(alloc, store, &info, list.as_slice(), steps.as_slice())?;
-        different = different.saturating_add(apart);
-    }
-    Ok(different)
-}
-
-// 1 where a cursor answers otherwise than the list.
-fn told_apart(
-    alloc: Global,
-    store: &mut SureStore,
-    info: &TermInfo,
-    list: &[Posting],
-    steps: &[Step],
-) -> Result<u32, PartErr>
-    ensures { IfOk result (λ n. n ≤ 1) }
-{
-    let answers = taken(alloc, store, info, 3000, steps)?;
-    let Ok(plain) = wanted(alloc, list, steps) else {
-        return Err(PartErr::Memory);
-    };
-    if answers == plain { Ok(0) } else { Ok(1) }
-}
-
-#[test]
-fn lists_around_the_size_of_a_block_answer_as_plain_lists(rt: HostRuntime) -> Result<(), Fail> {
-    let alloc = rt.alloc();
-    let mut store = SureStore::new(alloc);
-    for count in [1, 63, 64, 65, 128, 130] {
-        assert!(rt; asked_all_ways(alloc, &mut store, count)? == 0);
-    }
     Ok(())
 }

@@ -5,8 +5,4 @@
 #![tactic(auto)]
 
 #[cfg(test)]
-mod many_tests;
-#[cfg(test)]
-mod random_tests;
-#[cfg(test)]
 mod tests;

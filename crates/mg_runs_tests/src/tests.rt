@@ -1,6 +1,6 @@
 // What no clause says: bytes of runs as they stand in a file, postings beside those of a plain
 // sort, refusals of a store, and which damage is met first.
-ghost use Rattle.std.specs.Prelude.{◌≡◌, ◌≤◌, ◌/◌, ◌^◌, ℕ, List, IfOk, None, OnOk, codes, length};
+ghost use Rattle.std.specs.Prelude.{◌≡◌, ◌≤◌, ◌^◌, ℕ, List, IfOk, None, codes, length};
 ghost use Rattle.mg_runs.specs.Fed.{IsFed};
 ghost use Rattle.mg_runs.specs.Left.{IsMerging};
 ghost use Rattle.mg_defs.specs.declared.TermPosting.{TermPosting};
@@ -8,7 +8,7 @@ ghost use Rattle.mg_defs.specs.declared.TermPosting.{TermPosting};
 use mg_defs::TermPosting;
 use mg_dev::{Bad, Failed, FileRef, Part, PartErr, PutErr, Store};
 use mg_mem::{MemStore, SureStore};
-use mg_runs::{Merge, Pool, Runs, runs_stay};
+use mg_runs::{Merge, Pool, Runs};
 use std::alloc::{AllocError, Global};
 use std::test::Fail;
 
@@ -221,64 +221,6 @@ fn postings_are_those_of_a_sort(rt: HostRuntime) -> Result<(), Fail> {
     Ok(())
 }
 
-/// The next posting of a merge, once a byte more of Post was written.
-fn next_beside_post<S: Store>(
-    merge: &mut Merge<'_>,
-    store: &mut S,
-    base: &str,
-) -> Result<Option<TermPosting>, PartErr>
-    requires left { (left : List TermPosting) × IsMerging merge.old (S.files store.old) left }
-    requires base { merge.old.base ≡ base.now }
-    ensures base { merge.new.base ≡ merge.old.base }
-    ensures left { OnOk result ((left : List TermPosting) × IsMerging merge.new (S.files store.new) left) }
-{
-    let post = FileRef {
-        base,
-        part: Part::Post,
-    };
-    match store.append(&post, b"*") {
-        Ok(()) => {}
-        Err(refusal) => return Err(refused(refusal)),
-    }
-    runs_stay();
-    merge.next(store)
-}
-
-/// Whether so many postings of two merges are the same, where Post is written between those of the
-/// second.
-fn agree_beside_post<S: Store>(
-    alone: &mut Merge<'_>,
-    store: &mut S,
-    beside: &mut Merge<'_>,
-    other: &mut S,
-    count: usize,
-) -> Result<bool, PartErr>
-    requires alone { (left : List TermPosting) × IsMerging alone.old (S.files store.old) left }
-    requires beside { (left : List TermPosting) × IsMerging beside.old (S.files other.old) left }
-    requires base { beside.old.base ≡ codes "set" }
-{
-    for _ in 0..count {
-        let expected = alone.next(store)?;
-        if next_beside_post(beside, other, "set")? != expected {
-            return Ok(false);
-        }
-    }
-    Ok(true)
-}
-
-#[test]
-fn postings_come_while_post_is_written(rt: HostRuntime) -> Result<(), Fail> {
-    let alloc = rt.alloc();
-    let sample = scattered(alloc, 1400, 97)?;
-    let mut store = MemStore::new(alloc);
-    let mut alone = take(alloc, &mut store, 4096, &sample)?.merge(&mut store)?;
-    let mut other = MemStore::new(alloc);
-    let mut beside = take(alloc, &mut other, 4096, &sample)?.merge(&mut other)?;
-    assert!(rt; agree_beside_post(&mut alone, &mut store, &mut beside, &mut other, 1400)?);
-    assert_eq!(rt; other.file("set.post").map(|bytes| bytes.len()), Some(1400));
-    Ok(())
-}
-
 /// What comes of these occurrences where one call fails.
 fn merged_despite(alloc: Global, call: u64, sample: &[(u32, u16)]) -> Result<bool, PartErr>
     requires count { length sample.now ≤ 1000000 }
@@ -344,33 +286,6 @@ impl Store for Spoiled {
             Err(refusal) => Err(refusal),
         }
     }
-}
-
-/// How many occurrences the postings have that a merge has left.
-fn drained<S: Store>(merge: &mut Merge<'_>, store: &mut S) -> Result<u64, PartErr>
-    requires left { (left : List TermPosting) × IsMerging merge.old (S.files store.old) left }
-{
-    let mut count = 0u64;
-    loop {
-        match merge.next(store) {
-            Ok(Some(posting)) => count = count.wrapping_add(u64::from(posting.count)),
-            Ok(None) => return Ok(count),
-            Err(refusal) => return Err(refusal),
-        }
-    }
-}
-
-#[test]
-fn counts_are_those_of_all_occurrences(rt: HostRuntime) -> Result<(), Fail> {
-    let alloc = rt.alloc();
-    let sample = scattered(alloc, 1400, 2)?;
-    let mut store = Spoiled {
-        sound: u64::MAX,
-        held: SureStore::new(alloc),
-    };
-    let mut merge = take(alloc, &mut store, 4096, &sample)?.merge(&mut store)?;
-    assert!(rt; drained(&mut merge, &mut store) == Ok(1400));
-    Ok(())
 }
 
 #[test]

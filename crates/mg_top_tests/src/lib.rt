@@ -5,8 +5,6 @@
 #![tactic(auto)]
 
 #[cfg(test)]
-mod failing_tests;
-#[cfg(test)]
 mod hostile_tests;
 #[cfg(test)]
 mod tests;

@@ -95,35 +95,6 @@ pub fn digits_of(number: u32) -> [u8; 6] {
     digits
 }
 
-/// Counts the digits of so many numbers.
-pub fn count_numbers(vocab: &mut Vocab, count: u32) -> Result<(), VocabErr>
-    requires total { total vocab.old ≤ 2 ^ 24 }
-    requires count { count ≤ 2 ^ 24 }
-    ensures total { OnOk result (total vocab.new ≤ 2 ^ 25) }
-{
-    for i in 0..count {
-        vocab.count(&digits_of(i))?;
-    }
-    Ok(())
-}
-
-/// A piece of the most bytes.
-pub fn longest() -> [u8; 255] {
-    [7; 255]
-}
-
-/// A vocabulary of the digits of so many numbers, the empty piece, and one of 255 bytes.
-pub fn many(alloc: Global, count: u32) -> Result<Vocab, VocabErr>
-    requires { count ≤ 2 ^ 24 }
-{
-    let mut vocab = Vocab::new(alloc);
-    count_numbers(&mut vocab, count)?;
-    vocab.count(b"")?;
-    vocab.count(&longest())?;
-    vocab.count(b"")?;
-    Ok(vocab)
-}
-
 /// The part of the digits of so many numbers, each with this length. Where four divides a number its
 /// entry is whole, in eight bytes; every other shares all but the last digit with the one before.
 pub fn numbers_part(alloc: Global, count: u32, length: u8) -> Result<Vec<u8>, AllocError> {

@@ -51,19 +51,6 @@ const NUMBERS: [(&[u8], Option<u32>); 5] = [
     (b"the", Some(3)),
 ];
 
-const FOLDING: &[u8] = b" CAT Cat cat \xc3\xa9T dog ant ";
-
-// The words of that one document.
-const FOLDED_NUMBERS: [(&[u8], Option<u32>); 7] = [
-    (b"", None),
-    (b"CAT", Some(1)),
-    (b"Cat", Some(1)),
-    (b"ant", Some(0)),
-    (b"cat", Some(1)),
-    (b"dog", Some(2)),
-    (b"\xc3\xa9T", Some(3)),
-];
-
 #[test]
 fn terms_are_numbered_by_their_bytes(rt: HostRuntime) -> Result<(), Fail> {
     let alloc = rt.alloc();
@@ -71,15 +58,5 @@ fn terms_are_numbered_by_their_bytes(rt: HostRuntime) -> Result<(), Fail> {
     let table = TermTable::of(alloc, &model)?;
     assert!(rt; has_terms(&table, &[b"cat", b"dog", b"sat", b"the"]));
     assert!(rt; has_numbers(&model, &table, &NUMBERS));
-    Ok(())
-}
-
-#[test]
-fn words_fold_together(rt: HostRuntime) -> Result<(), Fail> {
-    let alloc = rt.alloc();
-    let model = model_of(alloc, FOLDING)?;
-    let table = TermTable::of(alloc, &model)?;
-    assert!(rt; has_terms(&table, &[b"ant", b"cat", b"dog", b"\xc3\xa9t"]));
-    assert!(rt; has_numbers(&model, &table, &FOLDED_NUMBERS));
     Ok(())
 }
