@@ -1,13 +1,14 @@
 # make            proves and builds the program, and leaves it as bin/mg
 # make try        builds the sample collection, decodes it, and asks it a few questions
 # make check      the gate: every proof, edit, test and program, then the black-box suite
+# make wrong-bodies  tries the edits that the gate leaves out; CRATES="mg_post mg_bool" those of two crates
 # make install    copies the program, mg-collect, the manual and the completion below PREFIX
 # make uninstall  takes them away
 # make bench      measures it beside SQLite's FTS5, Xapian and grep, on the kernel's documentation
 
 PREFIX ?= /usr/local
 PROGRAM ?= bin/mg
-SOURCES := crates.txt $(shell find crates -path '*/out' -prune -o -path '*/must-fail' -prune -o -path '*_tests' -prune -o -path '*/mg_bench' -prune -o -type f -print)
+SOURCES := crates.txt $(shell find crates -path '*/out' -prune -o -path '*/must-fail' -prune -o -path '*/wrong-bodies' -prune -o -path '*_tests' -prune -o -path '*/mg_bench' -prune -o -type f -print)
 
 BIN := $(DESTDIR)$(PREFIX)/bin
 MAN1 := $(DESTDIR)$(PREFIX)/share/man/man1
@@ -15,16 +16,16 @@ MAN5 := $(DESTDIR)$(PREFIX)/share/man/man5
 COMPLETIONS := $(DESTDIR)$(PREFIX)/share/bash-completion/completions
 
 # The gate proves crates side by side, and keeps what it proved for the next run of make and for make check. Here it gets
-# a copy of the crates that the program is made of, without the tests, the edits that must fail and mg_bench.
+# a copy of the crates that the program is made of, without the tests, the wrong bodies and mg_bench.
 bin/mg: $(SOURCES)
 	mkdir -p bin
 	set -e; work=$$(mktemp -d); trap 'rm -rf "$$work"' EXIT; \
-	tar -cf - --exclude='*_tests' --exclude=mg_bench --exclude=must-fail --exclude=out HANDLES crates | tar -xf - -C "$$work"; \
+	tar -cf - --exclude='*_tests' --exclude=mg_bench --exclude=must-fail --exclude=wrong-bodies --exclude=out HANDLES crates | tar -xf - -C "$$work"; \
 	grep -v -e '^[a-z_]*_tests:' -e '^mg_bench:' crates.txt > "$$work/crates.txt"; \
 	(cd "$$work" && rt ci); \
 	cp "$$work/crates/mg/out/mg" bin/mg
 
-.PHONY: try check install uninstall bench
+.PHONY: try check wrong-bodies install uninstall bench
 
 try: bin/mg
 	bin/mg build examples/letters.mail bin/letters
@@ -37,6 +38,10 @@ check:
 	mkdir -p bin
 	cp crates/mg/out/mg bin/mg
 	python3 tests/run.py bin/mg
+
+# What rt keeps of the crates in crates/*/out is used, and not changed. TABLE=FILE writes the table.
+wrong-bodies:
+	python3 tools/wrong_bodies.py $(if $(JOBS),--jobs $(JOBS)) $(if $(TABLE),--table $(TABLE)) $(CRATES)
 
 install: $(PROGRAM)
 	install -d "$(BIN)" "$(MAN1)" "$(MAN5)" "$(COMPLETIONS)"
