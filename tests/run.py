@@ -29,6 +29,7 @@ import pages
 import patterns
 import phrases
 import shards
+import wrong_bodies
 from kinds import Draws, cases
 
 EXPECTED = pathlib.Path(__file__).parent / "expected"
@@ -219,7 +220,7 @@ def long_input(suite):
 
 PARTS = [rows, stored, words, devices, large_collection]
 SLOW = [long_input]
-for module in (files, builds, checks, merges, shards, phrases, patterns, damages, manual, collect, installed, pages):
+for module in (files, builds, checks, merges, shards, phrases, patterns, damages, manual, collect, installed, pages, wrong_bodies):
     PARTS += module.PARTS
     SLOW += getattr(module, "SLOW", [])
 

@@ -1,0 +1,117 @@
+"""Wrong bodies: each can be applied, each is named by docs/WRONG-BODIES.md, and what that page names exists."""
+
+import pathlib
+import re
+import subprocess
+import sys
+
+ROOT = pathlib.Path(__file__).resolve().parent.parent
+sys.path.append(str(ROOT / "tools"))
+
+from wrong_bodies_page import GATE, LEFT_OUT, crates_of, edits_of, faults, named_edits
+
+# The crates that are dearest to prove, of which the gate tries no edit.
+DEAREST = ("mg_session", "mg_check", "mg_make", "mg_merge", "mg_runs", "mg_post")
+
+
+def not_applied(edit):
+    """Why an edit cannot be applied, None where it can: each old text stands once in its file, after the pairs before it."""
+    crate, texts, path, pairs = edit.parent.parent, {}, None, 0
+    lines = edit.read_text().splitlines()
+    for line, behind in zip(lines, [*lines[1:], ""]):
+        kind, _, text = line.partition(": ")
+        if kind == "file":
+            path = crate / text
+            if not path.is_file():
+                return f"there is no file {text}"
+            texts.setdefault(path, path.read_text())
+        elif kind == "old":
+            if texts[path].count(text) != 1:
+                return f"an old text stands {texts[path].count(text)} times in {path.name}"
+            if not behind.startswith("new:"):
+                return "an old text has no new one"
+            new = behind.removeprefix("new:").removeprefix(" ")
+            if new == text:
+                return "a new text is the old one"
+            texts[path], pairs = texts[path].replace(text, new), pairs + 1
+    return None if pairs else "it has no pair of texts"
+
+
+def all_edits():
+    """Every edit of the repository."""
+    return [path for crate in crates_of(ROOT) for path in edits_of(ROOT, crate)]
+
+
+def edits_apply(suite):
+    """Every edit can be applied, and the names of a crate's edits differ."""
+    edits = all_edits()
+    suite.check("there are wrong bodies", len(edits) > 200, True)
+    whys = {str(edit.relative_to(ROOT)): not_applied(edit) for edit in edits}
+    suite.check("edits that cannot be applied", {name: why for name, why in whys.items() if why}, {})
+    names = [(edit.parent.parent, edit.name) for edit in edits]
+    suite.check("no crate has two edits of a name", len(set(names)), len(names))
+    others = [path for path in (ROOT / "crates").glob(f"*/{LEFT_OUT}/*") if path.suffix != ".edit"]
+    suite.check("wrong bodies are edits", others, [])
+    dear = [path.name for crate in DEAREST for path in edits_of(ROOT, crate, (GATE,))]
+    suite.check("the gate tries no edit of the dearest crates", dear, [])
+
+
+def edits_are_named(suite):
+    """The page's list of edits is that of the folders."""
+    there = {(edit.parent.parent.name, edit.parent.name, edit.stem) for edit in all_edits()}
+    suite.check("edits that the page lacks (tools/wrong_bodies.py --page)", sorted(there - named_edits()), [])
+    suite.check("edits that the page alone has (tools/wrong_bodies.py --page)", sorted(named_edits() - there), [])
+
+
+def contract_of(crate, function):
+    """The clauses of the functions of this name: their names, and an empty one for a clause that has none."""
+    found = []
+    for path in (ROOT / "crates" / crate / "src").rglob("*.rt"):
+        for head in re.findall(rf"\bfn {function}\b(?:<.*?>)?\(.*?\n *\{{\n", path.read_text(), re.S):
+            found.append(re.findall(r"^\s*(?:ensures|requires) ?(\w*) ?\{", head, re.M))
+    return found
+
+
+def is_test(crate, name):
+    """Whether the crate has a test of this name."""
+    texts = [path.read_text() for path in (ROOT / "crates" / crate / "src").rglob("*.rt")]
+    return any(re.search(rf"#\[test\]\nfn {name}\(", text) for text in texts)
+
+
+def is_promised(crate, refused_by):
+    """Whether a function of the crate has the clause that is told to refuse a fault."""
+    function, _, clause = refused_by.replace("`", "").partition(": ")
+    return any(clause in clauses for clauses in contract_of(crate, function))
+
+
+def faults_are_refused(suite):
+    """Each fault has its edits or its tests, and the clause that is told stands in the function's contract."""
+    there = {(edit.parent.parent.name, edit.stem) for edit in all_edits()}
+    for it in faults(ROOT):
+        suite.check(f"{it.fault}: has an edit or a test", bool(it.edits) != bool(it.tests), True)
+        lost = [name for name in it.edits if (it.crate, name) not in there]
+        lost += [name for name in it.tests if not is_test(it.crate, name)]
+        suite.check(f"{it.fault}: what the page names and is not there", lost, [])
+        if it.edits:
+            suite.check(f"{it.fault}: refused by {it.refused_by}", is_promised(it.crate, it.refused_by), True)
+
+
+def statuses_have_faults(suite):
+    """Each status of the manual but success, want of memory and words that are no UTF-8 has its fault."""
+    page = (ROOT / "man" / "mg.1").read_text().partition(".Sh EXIT STATUS")[2].partition("\n.Sh ")[0]
+    numbers = {int(number) for number in re.findall(r"^\.It ([0-9]+)", page, re.M)} - {0, 12, 18}
+    told = {int(number) for it in faults(ROOT) for number in re.findall(r" status ([0-9]+)", it.fault)}
+    suite.check("the statuses that have faults", sorted(told), sorted(numbers))
+
+
+def tool_lists(suite):
+    """The tool prints the faults, and refuses a crate that has no wrong bodies."""
+    tool = [sys.executable, str(ROOT / "tools" / "wrong_bodies.py")]
+    run = subprocess.run([*tool, "--list"], capture_output=True, text=True)
+    suite.check("--list: a line for each fault", (run.returncode, len(run.stdout.splitlines())), (0, 1 + len(faults(ROOT))))
+    run = subprocess.run([*tool, "mg_none"], capture_output=True, text=True)
+    told = "wrong_bodies: mg_none has no edit in crates/mg_none/wrong-bodies\n"
+    suite.check("a crate without wrong bodies", (run.returncode, run.stderr), (2, told))
+
+
+PARTS = [edits_apply, edits_are_named, faults_are_refused, statuses_have_faults, tool_lists]
