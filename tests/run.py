@@ -21,6 +21,7 @@ import builds
 import checks
 import collect
 import damages
+import dialogs
 import files
 import installed
 import manual
@@ -220,7 +221,7 @@ def long_input(suite):
 
 PARTS = [rows, stored, words, devices, large_collection]
 SLOW = [long_input]
-for module in (files, builds, checks, merges, shards, phrases, patterns, damages, manual, collect, installed, pages, wrong_bodies):
+for module in (files, builds, checks, merges, shards, phrases, patterns, dialogs, damages, manual, collect, installed, pages, wrong_bodies):
     PARTS += module.PARTS
     SLOW += getattr(module, "SLOW", [])
 
