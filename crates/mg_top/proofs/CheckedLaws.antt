@@ -21,9 +21,9 @@ use Rattle.mg_dev.proofs.CallerLemmas.{put_grew}
 use Rattle.mg_check.specs.Found as found
 use Rattle.mg_check.specs.Found.{StandsWith}
 use Rattle.mg_check.specs.Reads.{ReadsSet}
-use Rattle.mg_top.specs.Checked.{Checked, CheckStops, TellsDamage, standing_line}
+use Rattle.mg_top.specs.Checked.{Checked, TellsDamage, standing_line}
 use Rattle.mg_top.specs.Lines.{stands_line}
-use Rattle.mg_top.proofs.BuiltLaws.{not_done, put_done_or, put_when_done, status_of_put}
+use Rattle.mg_top.proofs.EndLaws.{not_done, put_cause, put_done_or, put_when_done, refused_cause, status_of_put}
 
 -- ---- what the call answered
 
@@ -57,25 +57,6 @@ pub one_set : (files : Option Files) (name : List ℕ) → ((parts : Parts) (c d
 one_set files name one c d s t = one (parts_at files name) c d s.stand t.stand
 
 -- ---- the check refused
-
--- the cause of its refusal is one of the run's
-stops_too : (store_rose output_rose : Type 0) (files : Option Files) (name : List ℕ) (fault : Fault) → found.CheckStops store_rose files name fault → CheckStops store_rose output_rose files name fault
-stops_too s o files name Usage cause = cause
-stops_too s o files name StoreFault cause = cause
-stops_too s o files name ReadFault cause = cause
-stops_too s o files name WriteFault cause = absurd cause
-stops_too s o files name NotBuilt cause = cause
-stops_too s o files name (Damaged bad) cause = cause
-stops_too s o files name NoCollection cause = cause
-stops_too s o files name (TooLarge size most) cause = cause
-stops_too s o files name TooManyDocuments cause = cause
-stops_too s o files name (TooManyPieces stream) cause = cause
-stops_too s o files name (Changed what first second) cause = cause
-stops_too s o files name Memory cause = cause
-stops_too s o files name (NameClash p) cause = cause
-stops_too s o files name InputTooLong cause = cause
-stops_too s o files name SameName cause = cause
-stops_too s o files name (TooManyRotations count) cause = cause
 
 -- a refusal where there is a head is for damage, for the store, or for want of memory
 tells_damage : (run : Run) (name : List ℕ) (f : Fault) → run.status ≡ Stopped f → IsSome run.store.files → bytes_at run.store.files (full_name name part.Head) ≢ []
@@ -118,7 +99,7 @@ module _ (name : List ℕ) (run : Run) (f : Fault) (is : run.status ≡ Stopped 
     done = λ told end. absurd (not_done run.status f is end);
     prefix = λ c stands. subst (λ (w : Option (List ℕ)). GrewByPrefix run.out.written w (standing_line c)) (sym silent) (grew_nothing run.out.written (standing_line c));
     silent = λ told none. silent;
-    cause = subst (λ (s : Status). IfStopped s (CheckStops (StoreFailed run) (OutputFailed run) run.store.files name)) (sym is) (stops_too (StoreFailed run) (OutputFailed run) run.store.files name f cause);
+    cause = refused_cause run f (found.CheckStops (StoreFailed run) run.store.files name) is (λ never. never) cause;
     damaged = λ told it. tells_damage run name f is told it.head cause;
     not_built = λ told none. unless (not_built told none);
     complete = λ c stands no_store no_output. inr (stops Memory (complete c stands no_store));
@@ -128,12 +109,6 @@ module _ (name : List ℕ) (run : Run) (f : Fault) (is : run.status ≡ Stopped 
   }
 
 -- ---- the files stand
-
-put_stops : (w : Result (Unit {0}) PutErr) (store_rose : Type 0) (files : Option Files) (name : List ℕ) (before now : ℕ) → HasPutCause before now w
-    → IfStopped (status_of_put w) (CheckStops store_rose (Rose before now) files name)
-put_stops (Ok u) s files name before now has = tt
-put_stops (Err put.Failed) s files name before now has = has.failed refl
-put_stops (Err put.Memory) s files name before now has = tt
 
 module _ (name : List ℕ) (run : Run) (n m : ℕ) (w : Result (Unit {0}) PutErr) (is : run.status ≡ status_of_put w) (input : run.input_now ≡ run.input) (files : KeepsFiles run)
     (unread : ReadsSet run.store.reads run.store_now.reads)
@@ -155,7 +130,7 @@ module _ (name : List ℕ) (run : Run) (n m : ℕ) (w : Result (Unit {0}) PutErr
     done = λ told end. record { collection = (stands told).collection; stands = (stands told).stands; printed = put_when_done w run.status _ _ _ is end (line_of (stands told)) };
     prefix = λ c it. put_grew w _ _ _ (line c it);
     silent = λ told none. absurd (none (stands told).collection (stands told).stands);
-    cause = subst (λ (s : Status). IfStopped s (CheckStops (StoreFailed run) (OutputFailed run) run.store.files name)) (sym is) (put_stops w (StoreFailed run) run.store.files name _ _ put);
+    cause = put_cause run w (found.CheckStops (StoreFailed run) run.store.files name) is tt put;
     damaged = λ told it. absurd (it.none (stands told).collection (stands told).stands);
     not_built = λ told none. absurd (not_built told none);
     complete = λ c it no_store no_output. put_done_or w run is put no_output;

@@ -1,4 +1,5 @@
 mod LineLaws
+mod EndLaws
 mod BuiltLaws
 mod TrialSteps
 mod TrialLaws

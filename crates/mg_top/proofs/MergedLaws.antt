@@ -1,7 +1,7 @@
 -- What a merge answered, and the put of its summary, is what the run did.
 use Rattle.std.proofs.Common.{◌≡◌, ◌∙◌, ℕ, List, Ok, Err, Option, refl, sym, ap, subst, inl}
 use Rattle.std.specs.Prelude.{Result}
-use Rattle.mg_dev.specs.Causes.{HasPutCause, Rose}
+use Rattle.mg_dev.specs.Causes.{HasLack, HasPutCause}
 use Rattle.mg_dev.specs.Files.{Files}
 use Rattle.mg_dev.specs.StreamLaws.{grew_nothing}
 use Rattle.mg_dev.specs.Streams.{AfterPut, GrewByPrefix}
@@ -21,36 +21,17 @@ use Rattle.mg_merge.specs.Joined.{Joined}
 use Rattle.mg_merge.specs.Merging.{budget_of}
 use Rattle.mg_dev.proofs.CallerLemmas.{put_grew}
 use Rattle.mg_top.specs.Lines.{summary_lines}
-use Rattle.mg_top.specs.Merged.{MergeStops, Merged}
+use Rattle.mg_top.specs.Merged.{Merged}
 use Rattle.mg_dev.specs.Runs.{IfStopped, Run, OutputFailed, SaysNothing, StoreFailed}
-use Rattle.mg_top.proofs.BuiltLaws.{never_early, never_stopped, never_refused, not_done, put_done_or, put_when_done, same_fault, status_of_put, text_of_summary}
+use Rattle.mg_top.proofs.BuiltLaws.{never_early, text_of_summary}
+use Rattle.mg_top.proofs.EndLaws.{never_refused, never_stopped, not_done, put_cause, put_done_or, put_silent, put_when_done, refused_cause, refused_silent, same_fault, status_of_put}
 
 -- ---- the merge was refused
 
--- the cause of its refusal is one of the run's
-stops_too : (store_rose output_rose : Type 0) (files : Option Files) (a b new : List ℕ) (fault : Fault)
-    → merging.MergeStops store_rose files a b new fault → MergeStops store_rose output_rose files a b new fault
-stops_too s o files a b new Usage cause = cause
-stops_too s o files a b new StoreFault cause = cause
-stops_too s o files a b new ReadFault cause = cause
-stops_too s o files a b new WriteFault cause = absurd cause
-stops_too s o files a b new NotBuilt cause = cause
-stops_too s o files a b new (Damaged bad) cause = cause
-stops_too s o files a b new NoCollection cause = cause
-stops_too s o files a b new (TooLarge size most) cause = cause
-stops_too s o files a b new TooManyDocuments cause = cause
-stops_too s o files a b new (TooManyPieces stream) cause = cause
-stops_too s o files a b new (Changed what one two) cause = cause
-stops_too s o files a b new Memory cause = cause
-stops_too s o files a b new (NameClash p) cause = cause
-stops_too s o files a b new InputTooLong cause = cause
-stops_too s o files a b new SameName cause = cause
-stops_too s o files a b new (TooManyRotations count) cause = cause
-
 module _ (first second new : List ℕ) (run : Run) (f : Fault) (is : run.status ≡ Stopped f)
     (out : run.out_now ≡ run.out) (input : run.input_now ≡ run.input) (joined : Joined first second new run.store run.store_now run.status) where
-  silent : SaysNothing run
-  silent = ap (λ s. s.written) out
+  unwritten : SaysNothing run
+  unwritten = ap (λ s. s.written) out
 
   cause_is : merging.MergeStops (StoreFailed run) run.store.files first second new f
   cause_is = subst (λ (s : Status). IfStopped s (merging.MergeStops (StoreFailed run) run.store.files first second new)) is joined.cause
@@ -59,13 +40,13 @@ module _ (first second new : List ℕ) (run : Run) (f : Fault) (is : run.status 
   refused_by = record {
     done = joined.done;
     printed = λ version cap a b one two end. absurd (not_done run.status f is end);
-    prefix = λ version cap a b one two. subst (λ (w : Option (List ℕ)). GrewByPrefix run.out.written w (summary_text (join a b) (budget_of cap))) (sym silent) (grew_nothing run.out.written (summary_text (join a b) (budget_of cap)));
-    silent = λ g soon end. silent;
+    prefix = λ version cap a b one two. subst (λ (w : Option (List ℕ)). GrewByPrefix run.out.written w (summary_text (join a b) (budget_of cap))) (sym unwritten) (grew_nothing run.out.written (summary_text (join a b) (budget_of cap)));
+    silent = refused_silent run f is out;
     unchanged = joined.unchanged;
     kept = λ version cap a b one two end. absurd (subst (λ (g : Fault). merging.MergeStops (StoreFailed run) run.store.files first second new g) (same_fault run.status f WriteFault is end) cause_is);
     left = joined.left;
     others = joined.others;
-    cause = subst (λ (s : Status). IfStopped s (MergeStops (StoreFailed run) (OutputFailed run) run.store.files first second new)) (sym is) (stops_too (StoreFailed run) (OutputFailed run) run.store.files first second new f cause_is);
+    cause = refused_cause run f (merging.MergeStops (StoreFailed run) run.store.files first second new) is (λ never. never) cause_is;
     same = λ e. inl (joined.same e);
     missing = joined.missing;
     large = joined.large;
@@ -77,17 +58,12 @@ module _ (first second new : List ℕ) (run : Run) (f : Fault) (is : run.status 
 
 -- ---- the set was made
 
-put_stops : (w : Result (Unit {0}) PutErr) (store_rose : Type 0) (files : Option Files) (first second new : List ℕ) (before now : ℕ) → HasPutCause before now w
-    → IfStopped (status_of_put w) (MergeStops store_rose (Rose before now) files first second new)
-put_stops (Ok u) s files first second new before now has = tt
-put_stops (Err put.Failed) s files first second new before now has = has.failed refl
-put_stops (Err put.Memory) s files first second new before now has = tt
-
 module _ (first second new : List ℕ) (run : Run) (s : Summary) (w : Result (Unit {0}) PutErr) (is : run.status ≡ status_of_put w) (input : run.input_now ≡ run.input)
     (joined : Joined first second new run.store run.store_now Done)
     (summary : (version cap : ℕ) (a b : List ℕ) → StandsIn version cap run.store.files first a → Stands run.store.files second b → s ≡ summary_of (budget_of cap) (join a b))
     (content : AfterPut run.out.written run.out_now.written (summary_lines s) w)
-    (put : HasPutCause run.out.faults run.out_now.faults w) where
+    (put : HasPutCause run.out.faults run.out_now.faults w)
+    (lack : HasLack run.out.lacks run.out_now.lacks w) where
   lines : (version cap : ℕ) (a b : List ℕ) → StandsIn version cap run.store.files first a → Stands run.store.files second b → AfterPut run.out.written run.out_now.written (summary_text (join a b) (budget_of cap)) w
   lines version cap a b one two = subst (λ (bytes : List ℕ). AfterPut run.out.written run.out_now.written bytes w) (ap summary_lines (summary version cap a b one two) ∙ text_of_summary (budget_of cap) (join a b)) content
 
@@ -96,12 +72,12 @@ module _ (first second new : List ℕ) (run : Run) (s : Summary) (w : Result (Un
     done = λ version cap a b one two end. joined.done version cap a b one two refl;
     printed = λ version cap a b one two end. put_when_done w run.status _ _ _ is end (lines version cap a b one two);
     prefix = λ version cap a b one two. put_grew w _ _ _ (lines version cap a b one two);
-    silent = λ g soon end. absurd (never_early w run.status g is soon end);
+    silent = put_silent run w is lack;
     unchanged = λ g soon end. absurd (never_early w run.status g is soon end);
     kept = λ version cap a b one two end. joined.done version cap a b one two refl;
     left = joined.left;
     others = joined.others;
-    cause = subst (λ (s : Status). IfStopped s (MergeStops (StoreFailed run) (OutputFailed run) run.store.files first second new)) (sym is) (put_stops w (StoreFailed run) run.store.files first second new _ _ put);
+    cause = put_cause run w (merging.MergeStops (StoreFailed run) run.store.files first second new) is tt put;
     same = λ e. absurd (never_stopped _ (joined.same e));
     missing = λ told one two none. absurd (never_refused _ (joined.missing told one two none));
     large = λ size told one two by more. absurd (never_refused _ (joined.large size told one two by more));

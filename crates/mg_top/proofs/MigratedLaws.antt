@@ -1,7 +1,7 @@
 -- What a migration answered, and the put of its line, is what the run did.
 use Rattle.std.proofs.Common.{◌≡◌, ℕ, List, length, Ok, Err, Option, refl, sym, ap, subst, inl}
 use Rattle.std.specs.Prelude.{Result, codes}
-use Rattle.mg_dev.specs.Causes.{HasPutCause, Rose}
+use Rattle.mg_dev.specs.Causes.{HasLack, HasPutCause}
 use Rattle.mg_dev.specs.Files.{Files}
 use Rattle.mg_dev.specs.StreamLaws.{grew_nothing}
 use Rattle.mg_dev.specs.Streams.{AfterPut, GrewByPrefix}
@@ -18,35 +18,16 @@ use Rattle.mg_build.specs.MadeAnew.{MadeAnew}
 use Rattle.mg_build.specs.Migrating as migrating
 use Rattle.mg_build.specs.Migrating.{ComesFirst}
 use Rattle.mg_dev.proofs.CallerLemmas.{put_grew}
-use Rattle.mg_top.specs.Migrated.{MigrateStops, Migrated, documents_line}
+use Rattle.mg_top.specs.Migrated.{Migrated, documents_line}
 use Rattle.mg_dev.specs.Runs.{IfStopped, Run, OutputFailed, SaysNothing, StoreFailed}
-use Rattle.mg_top.proofs.BuiltLaws.{never_stopped, never_refused, not_done, put_done_or, put_when_done, same_fault, status_of_put}
+use Rattle.mg_top.proofs.EndLaws.{never_refused, never_stopped, not_done, put_cause, put_done_or, put_silent, put_when_done, refused_cause, refused_silent, same_fault, status_of_put}
 
 -- ---- the migration was refused
 
--- the cause of its refusal is one of the run's
-stops_too : (store_rose output_rose : Type 0) (files : Option Files) (name new : List ℕ) (fault : Fault) → migrating.MigrateStops store_rose files name new fault → MigrateStops store_rose output_rose files name new fault
-stops_too s o files name new Usage cause = cause
-stops_too s o files name new StoreFault cause = cause
-stops_too s o files name new ReadFault cause = cause
-stops_too s o files name new WriteFault cause = absurd cause
-stops_too s o files name new NotBuilt cause = cause
-stops_too s o files name new (Damaged bad) cause = cause
-stops_too s o files name new NoCollection cause = cause
-stops_too s o files name new (TooLarge size most) cause = cause
-stops_too s o files name new TooManyDocuments cause = cause
-stops_too s o files name new (TooManyPieces stream) cause = cause
-stops_too s o files name new (Changed what first second) cause = cause
-stops_too s o files name new Memory cause = cause
-stops_too s o files name new (NameClash p) cause = cause
-stops_too s o files name new InputTooLong cause = cause
-stops_too s o files name new SameName cause = cause
-stops_too s o files name new (TooManyRotations count) cause = cause
-
 module _ (name new : List ℕ) (run : Run) (f : Fault) (is : run.status ≡ Stopped f)
     (out : run.out_now ≡ run.out) (input : run.input_now ≡ run.input) (made : MadeAnew name new run.store run.store_now run.status) where
-  silent : SaysNothing run
-  silent = ap (λ s. s.written) out
+  unwritten : SaysNothing run
+  unwritten = ap (λ s. s.written) out
 
   cause_is : migrating.MigrateStops (StoreFailed run) run.store.files name new f
   cause_is = subst (λ (s : Status). IfStopped s (migrating.MigrateStops (StoreFailed run) run.store.files name new)) is made.cause
@@ -55,13 +36,13 @@ module _ (name new : List ℕ) (run : Run) (f : Fault) (is : run.status ≡ Stop
   refused_by = record {
     done = made.done;
     printed = λ c stands end. absurd (not_done run.status f is end);
-    prefix = λ c stands. subst (λ (w : Option (List ℕ)). GrewByPrefix run.out.written w (documents_line c)) (sym silent) (grew_nothing run.out.written (documents_line c));
-    silent = λ g first end. silent;
+    prefix = λ c stands. subst (λ (w : Option (List ℕ)). GrewByPrefix run.out.written w (documents_line c)) (sym unwritten) (grew_nothing run.out.written (documents_line c));
+    silent = refused_silent run f is out;
     unchanged = made.unchanged;
     kept = λ version cap c stands end. absurd (subst (λ (g : Fault). migrating.MigrateStops (StoreFailed run) run.store.files name new g) (same_fault run.status f WriteFault is end) cause_is);
     left = made.left;
     others = made.others;
-    cause = subst (λ (s : Status). IfStopped s (MigrateStops (StoreFailed run) (OutputFailed run) run.store.files name new)) (sym is) (stops_too (StoreFailed run) (OutputFailed run) run.store.files name new f cause_is);
+    cause = refused_cause run f (migrating.MigrateStops (StoreFailed run) run.store.files name new) is (λ never. never) cause_is;
     same = λ e. inl (made.same e);
     not_built = made.not_built;
     complete = λ c stands apart no_store no_output. made.complete c stands apart no_store;
@@ -75,17 +56,12 @@ never_first (Ok u) status g is first end = absurd (not_done status g end is)
 never_first (Err put.Failed) status g is first end = subst (λ (g : Fault). ComesFirst g) (same_fault status g WriteFault end is) first
 never_first (Err put.Memory) status g is first end = subst (λ (g : Fault). ComesFirst g) (same_fault status g Memory end is) first
 
-put_stops : (w : Result (Unit {0}) PutErr) (store_rose : Type 0) (files : Option Files) (name new : List ℕ) (before now : ℕ) → HasPutCause before now w
-    → IfStopped (status_of_put w) (MigrateStops store_rose (Rose before now) files name new)
-put_stops (Ok u) s files name new before now has = tt
-put_stops (Err put.Failed) s files name new before now has = has.failed refl
-put_stops (Err put.Memory) s files name new before now has = tt
-
 module _ (name new : List ℕ) (run : Run) (n : ℕ) (w : Result (Unit {0}) PutErr) (is : run.status ≡ status_of_put w) (input : run.input_now ≡ run.input)
     (made : MadeAnew name new run.store run.store_now Done)
     (count : (collection : List ℕ) → Stands run.store.files name collection → n ≡ length (documents collection))
     (content : AfterPut run.out.written run.out_now.written (number_line (codes "documents") n) w)
-    (put : HasPutCause run.out.faults run.out_now.faults w) where
+    (put : HasPutCause run.out.faults run.out_now.faults w)
+    (lack : HasLack run.out.lacks run.out_now.lacks w) where
   line : (collection : List ℕ) → Stands run.store.files name collection → AfterPut run.out.written run.out_now.written (documents_line collection) w
   line c it = subst (λ (k : ℕ). AfterPut run.out.written run.out_now.written (number_line (codes "documents") k) w) (count c it) content
 
@@ -94,12 +70,12 @@ module _ (name new : List ℕ) (run : Run) (n : ℕ) (w : Result (Unit {0}) PutE
     done = λ version cap c is_in end. made.done version cap c is_in refl;
     printed = λ c it end. put_when_done w run.status _ _ _ is end (line c it);
     prefix = λ c it. put_grew w _ _ _ (line c it);
-    silent = λ g first end. absurd (never_first w run.status g is first end);
+    silent = put_silent run w is lack;
     unchanged = λ g first end. absurd (never_first w run.status g is first end);
     kept = λ version cap c is_in end. made.done version cap c is_in refl;
     left = made.left;
     others = made.others;
-    cause = subst (λ (s : Status). IfStopped s (MigrateStops (StoreFailed run) (OutputFailed run) run.store.files name new)) (sym is) (put_stops w (StoreFailed run) run.store.files name new _ _ put);
+    cause = put_cause run w (migrating.MigrateStops (StoreFailed run) run.store.files name new) is tt put;
     same = λ e. absurd (never_stopped _ (made.same e));
     not_built = λ told apart none. absurd (never_refused _ (made.not_built told apart none));
     complete = λ c it apart no_store no_output. put_done_or w run is put no_output;

@@ -23,7 +23,7 @@ use Rattle.mg_session.specs.WildServes.{WildStops}
 use Rattle.mg_plain.specs.Stops.{ScanStops}
 use Rattle.mg_build.specs.Outcomes.{DecodeStops}
 use Rattle.mg_words.specs.Tasks.{Task, build, query, decode, scan, trial, migrate, check, wild, phrase, merge}
-use Rattle.mg_top.specs.Ends.{ToldWhy}
+use Rattle.mg_top.specs.Ends.{SilentOnOutput, ToldWhy}
 use Rattle.mg_dev.specs.Runs.{IfStopped, Run, SaysNothing, KeepsFiles, Stops, StoreFailed, InputFailed, OutputFailed}
 use Rattle.mg_top.specs.Checked.{Checked, CheckStops, standing_line}
 use Rattle.mg_top.specs.Built.{Built, BuildStops, collection_of}
@@ -34,7 +34,7 @@ use Rattle.mg_top.specs.Migrated.{Migrated, MigrateStops, documents_line}
 use Rattle.mg_session.specs.Phrased.{Phrased}
 use Rattle.mg_session.specs.Queried.{Queried}
 use Rattle.mg_plain.specs.Scanned.{Scanned}
-use Rattle.mg_top.specs.Trials.{SilentAfter, TrialStops}
+use Rattle.mg_top.specs.Trials.{TrialStops}
 use Rattle.mg_top.specs.Tried.{Tried}
 use Rattle.mg_top.specs.Does.{Does, NotUnderstood, Ran}
 
@@ -90,7 +90,7 @@ module _ (run : Run) (stops : Stops run Memory) (store : run.store_now ≡ run.s
     done = λ told is. absurd (not_done is);
     printed = λ told is. absurd (not_done is);
     prefix = λ told. prefix (summary_text (collection_of n run) budget);
-    silent = λ fault early is. silent;
+    silent = caused (SilentOnOutput run) (inl silent);
     unchanged = λ fault early is. files;
     kept = λ told is. absurd (not_write is);
     left = λ told. inl files;
@@ -184,7 +184,7 @@ module _ (run : Run) (stops : Stops run Memory) (store : run.store_now ≡ run.s
     done = λ version cap c stands is. absurd (not_done is);
     printed = λ c stands is. absurd (not_done is);
     prefix = λ c stands. prefix (documents_line c);
-    silent = λ fault early is. silent;
+    silent = caused (SilentOnOutput run) (inl silent);
     unchanged = λ fault early is. files;
     kept = λ version cap c stands is. absurd (not_write is);
     left = λ c stands. inl files;
@@ -201,7 +201,7 @@ module _ (run : Run) (stops : Stops run Memory) (store : run.store_now ≡ run.s
     done = λ version cap c d one two is. absurd (not_done is);
     printed = λ version cap c d one two is. absurd (not_done is);
     prefix = λ version cap c d one two. prefix (summary_text (join c d) (budget_of cap));
-    silent = λ fault early is. silent;
+    silent = caused (SilentOnOutput run) (inl silent);
     unchanged = λ fault early is. files;
     kept = λ version cap c d one two is. absurd (not_write is);
     left = λ c d stand. inl files;
@@ -220,7 +220,7 @@ module _ (run : Run) (stops : Stops run Memory) (store : run.store_now ≡ run.s
   tried seed docs = record {
     done = λ is. absurd (not_done is);
     prefix = prefix (trial_text seed docs);
-    silent = caused (SilentAfter run.out.written run.out_now.written run.out.lacks run.out_now.lacks) (inl silent);
+    silent = caused (SilentOnOutput run) (inl silent);
     cause = caused (TrialStops ⊥ (OutputFailed run) (made_collection seed docs)) tt;
     large = λ more. inr stops;
     documents = λ few passes. inr stops;

@@ -25,7 +25,7 @@ use Rattle.mg_dev.specs.Runs.{IsDone, RefusedFor, StoppedFor}
 use Rattle.mg_make.specs.Outcomes.{most_bytes}
 use Rattle.mg_top.specs.Trials.{IsBuilt, Lacks, TrialStops, WorkEnds, replies_of, set_name, text_name, trial_summary}
 use Rattle.mg_top.specs.declared.comparing.Replies.{Replies}
-use Rattle.mg_top.proofs.BuiltLaws.{never_refused, never_stopped}
+use Rattle.mg_top.proofs.EndLaws.{never_refused, never_stopped}
 use Rattle.mg_top.proofs.TrialSteps.{bytes_there}
 use Rattle.mg_top.specs.declared.trial_summary.TrialSummary.{TrialSummary}
 

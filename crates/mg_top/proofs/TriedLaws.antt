@@ -18,7 +18,9 @@ use Rattle.mg_defs.specs.Marks.{PassesFirst, start, piece}
 use Rattle.mg_defs.specs.Summaries.{trial_lines, trial_text}
 use Rattle.mg_top.specs.Lines.{bytes_line, compared_line, trial_summary_lines}
 use Rattle.mg_dev.specs.Runs.{IfStopped, IsDone, OutputFailed, RefusedFor, Run, Stops, status_of}
-use Rattle.mg_top.specs.Trials.{SilentAfter, TrialStops, trial_summary}
+use Rattle.mg_top.specs.Ends.{SilentAfter, SilentOnOutput}
+use Rattle.mg_top.specs.Trials.{TrialStops, trial_summary}
+use Rattle.mg_top.proofs.EndLaws.{kept_silent}
 use Rattle.mg_top.specs.Tried.{Tried}
 use Rattle.mg_top.specs.declared.trial_summary.TrialSummary.{TrialSummary}
 use Rattle.mg_dev.proofs.CallerLemmas.{only_lacks, put_grew, stopped_by}
@@ -55,22 +57,7 @@ never_refused s g holds = absurd (no_refusal s g holds)
 -- ---- the work was refused
 
 pub work_silent : (f : Fault) (s : Type 0) (collection : List ℕ) (told : Option (List ℕ)) (l m : ℕ) → TrialStops s ⊥ collection f → SilentAfter told told l m f
-work_silent WriteFault s collection told l m cause = tt
-work_silent Memory s collection told l m cause = inl refl
-work_silent StoreFault s collection told l m cause = refl
-work_silent Usage s collection told l m cause = refl
-work_silent ReadFault s collection told l m cause = refl
-work_silent NotBuilt s collection told l m cause = refl
-work_silent (Damaged bad) s collection told l m cause = refl
-work_silent NoCollection s collection told l m cause = refl
-work_silent (TooLarge size most) s collection told l m cause = refl
-work_silent TooManyDocuments s collection told l m cause = refl
-work_silent (TooManyPieces stream) s collection told l m cause = refl
-work_silent (Changed what first second) s collection told l m cause = refl
-work_silent (NameClash p) s collection told l m cause = refl
-work_silent InputTooLong s collection told l m cause = refl
-work_silent SameName s collection told l m cause = refl
-work_silent (TooManyRotations count) s collection told l m cause = refl
+work_silent f s collection told l m cause = kept_silent f told told l m refl
 
 pub refused_too : (f g : Fault) → RefusedFor {T = TrialSummary} (Err f) g → RefusedFor {T = Unit {0}} (Err f) g
 refused_too f g (inl e) = inl cc
@@ -112,7 +99,7 @@ module _ (seed docs : ℕ) (run : Run) (r : Result (Unit {0}) Fault) (is : run.s
   tried_by = record {
     done = λ end. put_when_done r (sym is ∙ end) text;
     prefix = put_grew r _ _ _ text;
-    silent = subst (λ (s : Status). IfStopped s (SilentAfter run.out.written run.out_now.written run.out.lacks run.out_now.lacks)) (sym is) (stopped_by _ r silent);
+    silent = subst (λ (s : Status). IfStopped s (SilentOnOutput run)) (sym is) (stopped_by _ r silent);
     cause = subst (λ (s : Status). IfStopped s (TrialStops ⊥ (OutputFailed run) (made_collection seed docs))) (sym is) (stopped_by _ r cause);
     large = λ more. stops_or _ (large more);
     documents = λ few passes. stops_or _ (documents few passes);

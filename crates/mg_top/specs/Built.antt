@@ -18,7 +18,8 @@ use Rattle.mg_make.specs.Putting.{IsApart, OthersSame}
 use Rattle.mg_build.specs.Building as building
 use Rattle.mg_build.specs.Made.{AreMade}
 use Rattle.mg_make.specs.Outcomes.{IsEarly, Left, most_bytes}
-use Rattle.mg_dev.specs.Runs.{IfStopped, Run, StoreFailed, OutputFailed, SaysNothing, KeepsFiles, Stops, StopsUnless}
+use Rattle.mg_top.specs.Ends.{OrOutput, SilentOnOutput}
+use Rattle.mg_dev.specs.Runs.{IfStopped, Run, StoreFailed, OutputFailed, KeepsFiles, Stops, StopsUnless}
 
 -- the bytes of the collection of this name, as the run begins
 abbrev pub collection_of : List ℕ → Run → List ℕ
@@ -26,17 +27,17 @@ collection_of name run = bytes_at run.store.files name
 
 -- the cause of each refusal: that of the build, or the output failed
 abbrev pub BuildStops : Type 0 → Type 0 → Option Files → List ℕ → List ℕ → Fault → Type 0
-BuildStops store_rose output_rose files name base WriteFault = output_rose
-BuildStops store_rose output_rose files name base fault = building.BuildStops store_rose files name base fault
+BuildStops store_rose output_rose files name base = OrOutput output_rose (building.BuildStops store_rose files name base)
 
 -- of the collection of this name and the set of this base
 pub record Built (name base : List ℕ) (budget : ℕ) (run : Run) : Type 0 where
   -- status 0: the files are made, and the summary is printed
   pub done : IsSome run.store.files → run.status ≡ Done → AreMade run.store_now.files base (collection_of name run) budget
   pub printed : IsSome run.store.files → run.status ≡ Done → run.out_now.written ≡ appended run.out.written (summary_text (collection_of name run) budget)
-  -- every status: a prefix of the summary is printed; after the statuses 7, 8, 9, 10 and 13 nothing, and no file changes
+  -- every status: a prefix of the summary is printed; after another status than 0, 4 and 12 nothing,
+  -- nor after 12 unless it was the output that lacked memory; after the statuses 7, 8, 9, 10 and 13 no file changes
   pub prefix : IsSome run.store.files → GrewByPrefix run.out.written run.out_now.written (summary_text (collection_of name run) budget)
-  pub silent : (fault : Fault) → IsEarly fault → Stops run fault → SaysNothing run
+  pub silent : IfStopped run.status (SilentOnOutput run)
   pub unchanged : (fault : Fault) → IsEarly fault → Stops run fault → KeepsFiles run
   -- where the summary could not be written the files are made
   pub kept : IsSome run.store.files → Stops run WriteFault → AreMade run.store_now.files base (collection_of name run) budget

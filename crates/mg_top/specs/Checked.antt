@@ -12,6 +12,7 @@ use Rattle.mg_layout.specs.Stands.{HasNoHead, Stands, StandsForNone}
 use Rattle.mg_check.specs.Found as found
 use Rattle.mg_check.specs.Found.{IsDamagedSet}
 use Rattle.mg_check.specs.Reads.{ReadsSet}
+use Rattle.mg_top.specs.Ends.{OrOutput}
 use Rattle.mg_dev.specs.Runs.{IfStopped, Run, StoreFailed, OutputFailed, SaysNothing, KeepsFiles, Stops, StopsUnless}
 use Rattle.mg_top.specs.Lines.{stands_line}
 
@@ -27,8 +28,7 @@ pub record IsTold (name : List ℕ) (run : Run) : Type 0 where
 
 -- the cause of each refusal: that of the call, or the output failed
 abbrev pub CheckStops : Type 0 → Type 0 → Option Files → List ℕ → Fault → Type 0
-CheckStops store_rose output_rose files name WriteFault = output_rose
-CheckStops store_rose output_rose files name fault = found.CheckStops store_rose files name fault
+CheckStops store_rose output_rose files name = OrOutput output_rose (found.CheckStops store_rose files name)
 
 -- the run stopped for damage
 abbrev pub TellsDamage : Run → Type 0

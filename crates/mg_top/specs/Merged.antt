@@ -17,12 +17,12 @@ use Rattle.mg_make.specs.Putting.{OthersSame}
 use Rattle.mg_merge.specs.Merging as merging
 use Rattle.mg_make.specs.Outcomes.{AreMadeAnew, IsEarly, Left, most_bytes}
 use Rattle.mg_merge.specs.Merging.{BothStand, IsSizeByHeads, budget_of}
-use Rattle.mg_dev.specs.Runs.{IfStopped, Run, StoreFailed, OutputFailed, SaysNothing, KeepsFiles, Stops, StopsUnless}
+use Rattle.mg_top.specs.Ends.{OrOutput, SilentOnOutput}
+use Rattle.mg_dev.specs.Runs.{IfStopped, Run, StoreFailed, OutputFailed, KeepsFiles, Stops, StopsUnless}
 
 -- the cause of each refusal: that of the call, or the output failed
 abbrev pub MergeStops : Type 0 → Type 0 → Option Files → List ℕ → List ℕ → List ℕ → Fault → Type 0
-MergeStops store_rose output_rose files first second new WriteFault = output_rose
-MergeStops store_rose output_rose files first second new fault = merging.MergeStops store_rose files first second new fault
+MergeStops store_rose output_rose files first second new = OrOutput output_rose (merging.MergeStops store_rose files first second new)
 
 -- of each two collections that the sets of these names stand for, in either version
 pub record Merged (first second new : List ℕ) (run : Run) : Type 0 where
@@ -31,10 +31,11 @@ pub record Merged (first second new : List ℕ) (run : Run) : Type 0 where
       → AreMadeAnew run.store_now.files new (join a b) cap
   pub printed : (version cap : ℕ) (a b : List ℕ) → StandsIn version cap run.store.files first a → Stands run.store.files second b → run.status ≡ Done
       → run.out_now.written ≡ appended run.out.written (summary_text (join a b) (budget_of cap))
-  -- every status: a prefix of the summary is printed; after the statuses 16, 5 and 8 to 10 nothing, and no file changes
+  -- every status: a prefix of the summary is printed; after another status than 0, 4 and 12 nothing,
+  -- nor after 12 unless it was the output that lacked memory; after the statuses 16, 5 and 8 to 10 no file changes
   pub prefix : (version cap : ℕ) (a b : List ℕ) → StandsIn version cap run.store.files first a → Stands run.store.files second b
       → GrewByPrefix run.out.written run.out_now.written (summary_text (join a b) (budget_of cap))
-  pub silent : (fault : Fault) → IsEarly fault → Stops run fault → SaysNothing run
+  pub silent : IfStopped run.status (SilentOnOutput run)
   pub unchanged : (fault : Fault) → IsEarly fault → Stops run fault → KeepsFiles run
   -- where the summary could not be written the new set is made
   pub kept : (version cap : ℕ) (a b : List ℕ) → StandsIn version cap run.store.files first a → Stands run.store.files second b → Stops run WriteFault

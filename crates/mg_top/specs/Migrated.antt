@@ -13,7 +13,8 @@ use Rattle.mg_make.specs.Putting.{OthersSame}
 use Rattle.mg_make.specs.Outcomes.{AreMadeAnew, Left}
 use Rattle.mg_build.specs.Migrating as migrating
 use Rattle.mg_build.specs.Migrating.{ComesFirst}
-use Rattle.mg_dev.specs.Runs.{IfStopped, Run, StoreFailed, OutputFailed, SaysNothing, KeepsFiles, Stops, StopsUnless}
+use Rattle.mg_top.specs.Ends.{OrOutput, SilentOnOutput}
+use Rattle.mg_dev.specs.Runs.{IfStopped, Run, StoreFailed, OutputFailed, KeepsFiles, Stops, StopsUnless}
 
 -- the line that is printed: how many documents the collection has
 abbrev pub documents_line : List ℕ → List ℕ
@@ -21,8 +22,7 @@ documents_line collection = number_line (codes "documents") (length (documents c
 
 -- the cause of each refusal: that of the call, or the output failed
 abbrev pub MigrateStops : Type 0 → Type 0 → Option Files → List ℕ → List ℕ → Fault → Type 0
-MigrateStops store_rose output_rose files name new WriteFault = output_rose
-MigrateStops store_rose output_rose files name new fault = migrating.MigrateStops store_rose files name new fault
+MigrateStops store_rose output_rose files name new = OrOutput output_rose (migrating.MigrateStops store_rose files name new)
 
 -- of each collection that the set of this name stands for, in either version
 pub record Migrated (name new : List ℕ) (run : Run) : Type 0 where
@@ -31,9 +31,10 @@ pub record Migrated (name new : List ℕ) (run : Run) : Type 0 where
       → AreMadeAnew run.store_now.files new collection cap
   pub printed : (collection : List ℕ) → Stands run.store.files name collection → run.status ≡ Done
       → run.out_now.written ≡ appended run.out.written (documents_line collection)
-  -- every status: a prefix of the line is printed; after the statuses 16 and 5 nothing, and no file changes
+  -- every status: a prefix of the line is printed; after another status than 0, 4 and 12 nothing,
+  -- nor after 12 unless it was the output that lacked memory; after the statuses 16 and 5 no file changes
   pub prefix : (collection : List ℕ) → Stands run.store.files name collection → GrewByPrefix run.out.written run.out_now.written (documents_line collection)
-  pub silent : (fault : Fault) → ComesFirst fault → Stops run fault → SaysNothing run
+  pub silent : IfStopped run.status (SilentOnOutput run)
   pub unchanged : (fault : Fault) → ComesFirst fault → Stops run fault → KeepsFiles run
   -- where the line could not be written the new set is made
   pub kept : (version cap : ℕ) (collection : List ℕ) → StandsIn version cap run.store.files name collection → Stops run WriteFault

@@ -64,12 +64,6 @@ TrialStops store_rose output_rose collection (TooManyPieces stream) = (bytes : L
 TrialStops store_rose output_rose collection Memory = Unit {0}
 TrialStops store_rose output_rose collection _ = ⊥
 
--- after a refusal nothing was written, unless a write was refused
-abbrev pub SilentAfter : Option (List ℕ) → Option (List ℕ) → ℕ → ℕ → Fault → Type 0
-SilentAfter before now lacks lacks_now WriteFault = Unit {0}
-SilentAfter before now lacks lacks_now Memory = (now ≡ before) ⊎ Rose lacks lacks_now
-SilentAfter before now lacks lacks_now _ = now ≡ before
-
 -- why a trial stops, by how often the store and the output failed before it and after it
 abbrev pub TrialStopsBy : {X Z T : Type 0} → (X → ℕ) → (Z → ℕ) → X → X → Z → Z → Result T Fault → List ℕ → Type 0
 TrialStopsBy store_faults output_faults store store_now out out_now result collection =

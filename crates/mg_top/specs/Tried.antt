@@ -10,7 +10,8 @@ use Rattle.mg_defs.specs.WithinLimits.{IsWithinLimits}
 use Rattle.mg_defs.specs.Marks.{PassesFirst, start, piece}
 use Rattle.mg_defs.specs.Summaries.{trial_text}
 use Rattle.mg_dev.specs.Runs.{IfStopped, Run, OutputFailed, Stops}
-use Rattle.mg_top.specs.Trials.{SilentAfter, TrialStops}
+use Rattle.mg_top.specs.Ends.{SilentOnOutput}
+use Rattle.mg_top.specs.Trials.{TrialStops}
 
 -- of the collection that is made from the seed
 pub record Tried (seed docs : ℕ) (run : Run) : Type 0 where
@@ -18,7 +19,7 @@ pub record Tried (seed docs : ℕ) (run : Run) : Type 0 where
   pub done : run.status ≡ Done → run.out_now.written ≡ appended run.out.written (trial_text seed docs)
   -- every status: a prefix of them is printed; after another status than 0, 4 and 12 nothing, nor after 12 unless it was the output that lacked memory
   pub prefix : GrewByPrefix run.out.written run.out_now.written (trial_text seed docs)
-  pub silent : IfStopped run.status (SilentAfter run.out.written run.out_now.written run.out.lacks run.out_now.lacks)
+  pub silent : IfStopped run.status (SilentOnOutput run)
   -- the cause of every other status, which is 4, 8, 9, 10 or 12
   pub cause : IfStopped run.status (TrialStops ⊥ (OutputFailed run) (made_collection seed docs))
   -- 8, 9 and 10 come exactly where they have it, in this order, unless memory is wanting

@@ -101,6 +101,7 @@ pub(crate) fn ask_both<S: Store>(alloc: Global, store: &mut S, seed: u64) -> Res
     ensures replies { ForEach (IsBuilt (S.files store.old))
         (λ collection. IfOk result (λ replies. replies ≡ replies_of collection (made_session seed))) }
     ensures cause { ForEach (IsBuilt (S.files store.old)) (λ collection. IfErr result (Lacks (Rose (S.faults store.old) (S.faults store.new)))) }
+    ensures files { S.files store.new ≡ S.files store.old }
     ensures later { S.faults store.old ≤ S.faults store.new }
 {
     let questions = match made_questions(alloc, seed) {

@@ -10,7 +10,8 @@ ghost use Rattle.mg_defs.specs.Limits.{held_bytes};
 ghost use Rattle.mg_defs.specs.Marks.{start as start_mark, piece as piece_mark};
 ghost use Rattle.mg_defs.specs.Summaries.{trial_text};
 ghost use Rattle.mg_dev.specs.Runs.{IsDone, RefusedFor};
-ghost use Rattle.mg_top.specs.Trials.{HoldsText, Lacks, SilentAfter, TrialStopsBy, WhereAllowed, WhereBeyond, WorkEnds, text_name};
+ghost use Rattle.mg_top.specs.Ends.{SilentAfter};
+ghost use Rattle.mg_top.specs.Trials.{HoldsText, IsBuilt, Lacks, TrialStopsBy, WhereAllowed, WhereBeyond, WorkEnds, text_name};
 
 use crate::comparing::{ask_both, is_decoded};
 use crate::lines::put_trial_summary;
@@ -69,6 +70,7 @@ fn try_all<S: Store>(
 ) -> Result<TrialSummary, Fault>
     requires none { S.files store.old ≡ Some no_files }
     ensures ends { WorkEnds (Rose (S.faults store.old) (S.faults store.new)) docs (made_collection seed docs) (made_session seed) result }
+    ensures built { OnOk result (IsBuilt (S.files store.new) (made_collection seed docs)) }
     ensures later { S.faults store.old ≤ S.faults store.new }
 {
     let made = match made_text(alloc, seed, docs) {
@@ -129,6 +131,8 @@ pub fn trial<S: Store, O: Sink>(
     requires none { S.files store.old ≡ Some no_files }
     // The seven lines are printed, or after a refusal a prefix; after most refusals nothing.
     ensures text { AfterPut (O.written out.old) (O.written out.new) (trial_text seed docs) result }
+    // Then the store has the collection in its file, and the set.
+    ensures built { OnOk result (IsBuilt (S.files store.new) (made_collection seed docs)) }
     ensures silent { IfErr result (SilentAfter (O.written out.old) (O.written out.new) (O.lacks out.old) (O.lacks out.new)) }
     // The cause of each refusal.
     ensures cause { TrialStopsBy S.faults O.faults store.old store.new out.old out.new result (made_collection seed docs) }

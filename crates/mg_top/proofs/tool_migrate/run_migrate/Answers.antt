@@ -5,11 +5,11 @@ use Rattle.mg_top.proofs.tool_migrate.run_migrate.Goals as goal
 
 pub returns-in-Ok-put_documents-clause-does : goal.returns-in-Ok-put_documents-clause-does
 returns-in-Ok-put_documents-clause-does g c = λ input. made_by _ _ _ c.in-Ok.documents (Ok c.in-Ok-put_documents.field-0) refl refl
-    c.in-Ok.ensures.made_anew c.in-Ok.ensures.documents c.in-Ok-put_documents.ensures.content c.in-Ok-put_documents.ensures.cause
+    c.in-Ok.ensures.made_anew c.in-Ok.ensures.documents c.in-Ok-put_documents.ensures.content c.in-Ok-put_documents.ensures.cause c.in-Ok-put_documents.ensures.lack
 
 pub returns-in-Err-put_documents-clause-does : goal.returns-in-Err-put_documents-clause-does
 returns-in-Err-put_documents-clause-does g c = λ input. made_by _ _ _ c.in-Ok.documents (Err c.in-Err-put_documents.refusal) (c.stopped.ensures.status ∙ ap Stopped c.of_output.ensures) refl
-    c.in-Ok.ensures.made_anew c.in-Ok.ensures.documents c.in-Err-put_documents.ensures.content c.in-Err-put_documents.ensures.cause
+    c.in-Ok.ensures.made_anew c.in-Ok.ensures.documents c.in-Err-put_documents.ensures.content c.in-Err-put_documents.ensures.cause c.in-Err-put_documents.ensures.lack
 
 pub returns-in-Err-clause-does : goal.returns-in-Err-clause-does
 returns-in-Err-clause-does g c = λ input. refused_by _ _ _ c.in-Err.fault c.stopped-in-Err.ensures.status refl refl

@@ -1,4 +1,4 @@
-use Rattle.std.proofs.Common.{arith, ◌≡◌, ◌≤◌, ℕ, List, length, Ok, Err, subst, refl, inr}
+use Rattle.std.proofs.Common.{arith, ◌≡◌, ◌≤◌, ℕ, List, length, Ok, Err, subst, sym, refl, inr}
 use Rattle.std.specs.Prelude.{Result}
 use Rattle.mg_dev.specs.Causes.{Rose}
 use Rattle.mg_dev.specs.declared.fault.Fault.{Fault}
@@ -46,3 +46,13 @@ returns-clause-ends g c =
     let result : Result TrialSummary Fault = Ok (found c.args.docs (length c.bytes-text.result.now) c.in-Ok-build.summary c.in-Ok-is_decoded.same c.in-Ok-ask_both.replies) in
     subst (λ (b : List ℕ). WorkEnds (Rose (g.S.Store.faults c.args.store.now) (g.S.Store.faults c.ask_both.new.store)) c.args.docs b (made_session c.args.seed) result) same
     (done_ends _ _ _ c.bytes-text.result.now there are_told few _ c.args.docs (made_session c.args.seed) _ c.in-Ok-build.ensures.made is)
+
+pub returns-clause-built : goal.returns-clause-built
+returns-clause-built g c =
+    let same : c.bytes-text.result.now ≡ made_collection c.args.seed c.args.docs = told_same _ _ _ c.bytes-text.ensures c.in-Ok.ensures.text in
+    let few : length c.bytes-text.result.now ≤ held_bytes = omega arith in
+    let there = c.in-Ok-put_text.ensures.there in
+    let built : IsBuilt (g.S.Store.files c.is_decoded.new.store) c.bytes-text.result.now =
+    built_by _ _ _ _ _ there (c.in-Ok-build.ensures.made.done (told _ _ _ there) refl).stands c.in-Ok-build.ensures.made.others c.in-Ok-is_decoded.ensures.files few in
+    subst (λ (b : List ℕ). IsBuilt (g.S.Store.files c.ask_both.new.store) b) same
+    (subst (λ f. IsBuilt f c.bytes-text.result.now) (sym c.in-Ok-ask_both.ensures.files) built)
