@@ -5,6 +5,7 @@ use Rattle.std.specs.declared.option.Option.{Option}
 use Rattle.std.specs.declared.result.Result.{Result}
 use Rattle.mg_dev.specs.Files.{Files, Reads, bytes_at}
 use Rattle.mg_dev.specs.Names.{full_name}
+use Rattle.mg_dev.specs.declared.part.Part.{Part}
 use Rattle.mg_dev.specs.declared.part.Part.TheVariants as part
 use Rattle.mg_dev.specs.declared.part_err.PartErr.{PartErr}
 use Rattle.mg_dev.specs.declared.part_err.PartErr.TheVariants.{Device, Memory, Bad}
@@ -39,6 +40,12 @@ pub record TextReading : Type 0 where
   pub version : ℕ
   pub documents : ℕ
   pub size : ℕ
+
+-- a reader of the pages of this part of a base, which keeps none that a file could contradict
+pub record IsFeedOf (feed : Paging) (base : List ℕ) (p : Part) : Type 0 where
+  pub name : feed.name ≡ full_name base p
+  pub part : feed.part ≡ p
+  pub fits : (files : Option Files) → Fits feed files
 
 -- what it keeps of Text and Places agrees with them, where the files are told
 pub record TextFits (r : TextReading) (files : Option Files) : Type 0 where

@@ -10,6 +10,7 @@
 
 mod closing;
 mod decoder;
+mod feeds;
 mod laws;
 mod places;
 mod reader_laws;

@@ -11,6 +11,7 @@ ghost use Rattle.mg_text.specs.Reading.{AnswersReader, AnswersTextSizes, IsTextR
 ghost use Rattle.mg_dev.specs.Moments.{Between};
 
 use crate::decoder::{gather_doc, show_doc};
+use crate::feeds::Feeds;
 use crate::places::{first_byte, width_of};
 use crate::show_buffer::ShowBuffer;
 use mg_bits::{BitReader, PageFeed};
@@ -120,18 +121,29 @@ impl<'a, S: Store> TextReader<'a, S> {
         ensures reader { IfOk result (λ r. IsTextReader r base.entry.now head.now) }
         ensures model { IfOk result (λ r. r.code ≡ model) }
     {
-        let text_file = FileRef {
-            base,
-            part: Part::Text,
-        };
-        let places_file = FileRef {
-            base,
-            part: Part::Places,
-        };
-        let text = PageFeed::new(alloc, text_file)?;
-        let places = PageFeed::new(alloc, places_file)?;
-        let buffer = ShowBuffer::new(alloc)?;
-        Ok(TextReader {
+        match Feeds::new(alloc, base) {
+            Ok(feeds) => Ok(Self::of(feeds, head, model)),
+            Err(refusal) => Err(refusal),
+        }
+    }
+
+    // A reader by these feeds and this model.
+    fn of(feeds: Feeds<'a, S>, head: &Head, model: TextModel) -> Self
+        requires text { feeds.text.part ≡ part.Text }
+        requires places { feeds.places.part ≡ part.Places }
+        ensures text { result.text ≡ feeds.entry.text }
+        ensures places { result.places ≡ feeds.entry.places }
+        ensures code { result.code ≡ model }
+        ensures version { result.version ≡ head.now.version }
+        ensures documents { result.documents ≡ head.now.documents }
+        ensures size { result.size ≡ head.now.text_bytes }
+    {
+        let Feeds {
+            text,
+            places,
+            buffer,
+        } = feeds;
+        TextReader {
             text: BitReader::new(text, 0),
             places,
             model,
@@ -139,7 +151,7 @@ impl<'a, S: Store> TextReader<'a, S> {
             version: head.version,
             documents: head.documents,
             size: head.text_bytes,
-        })
+        }
     }
 
     /// Writes the bytes of a document, from 1 to the number of documents, to a sink, and no byte
