@@ -248,7 +248,9 @@ impl Canon {
         Ok(code)
     }
 
-    /// Reads a symbol bit by bit.
+    /// Reads a symbol bit by bit. It stands apart so that `get` is short where the table tells the
+    /// codeword.
+    #[inline(never)]
     fn get_by_bits<F: Feed>(
         &self,
         reader: &mut BitReader<F>,

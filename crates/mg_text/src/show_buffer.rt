@@ -63,7 +63,7 @@ impl ShowBuffer {
     /// # Errors
     ///
     /// The sink's: `Failed` where it failed, `Memory` where it lacked memory.
-    #[inline]
+    #[inline(never)]
     pub fn put<O: Sink>(&mut self, out: &mut O, piece: &[u8]) -> Result<(), PutErr>
         requires short { length piece.now ≤ 255 }
         ensures shown { ForShown (O.written out.old) self.old (λ before bytes. Gathers result before (O.written out.new) self.new (bytes ++ piece.now)) }
