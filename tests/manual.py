@@ -20,7 +20,7 @@ from transcripts import ROOT, fresh_folder, manual_blocks, run_block, tools
 MAN = ROOT / "man"
 PAGES = ["mg.1", "mg-collect.1", "mg-files.5"]
 # How many commands the examples of each page have: one that is not found is not run.
-COMMANDS = {"mg.1": 15, "mg-collect.1": 9, "mg-files.5": 8}
+COMMANDS = {"mg.1": 15, "mg-collect.1": 9, "mg-files.5": 22}
 
 
 def lint(suite):
