@@ -43,15 +43,25 @@ def questions(suite):
         suite.check("questions", asked, 10)
 
 
-def readme(suite):
-    """The commands of the README, from the folder of the repository."""
+def shown(suite, page, wanted):
+    """The commands of a page, in a folder that has the repository's own folders beside the program."""
     with fresh_folder(suite) as folder:
         (suite.folder / folder / "bin").mkdir()
         (suite.folder / folder / "bin" / "mg").symlink_to(suite.program)
         for name in ["contrib", "docs", "examples", "Makefile"]:
             (suite.folder / folder / name).symlink_to(ROOT / name)
-        count = sum(run_block(suite, "README.md", block, folder) for block in markdown_blocks(ROOT / "README.md"))
-        suite.check("commands of README.md", count, 11)
+        count = sum(run_block(suite, page, block, folder) for block in markdown_blocks(ROOT / page))
+        suite.check(f"commands of {page}", count, wanted)
 
 
-PARTS = [questions, readme]
+def readme(suite):
+    """The commands of the README."""
+    shown(suite, "README.md", 8)
+
+
+def formats(suite):
+    """The commands of the page on files and texts."""
+    shown(suite, "docs/FORMAT.md", 12)
+
+
+PARTS = [questions, readme, formats]

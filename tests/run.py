@@ -22,6 +22,7 @@ import checks
 import collect
 import damages
 import dialogs
+import docs
 import files
 import installed
 import manual
@@ -221,7 +222,24 @@ def long_input(suite):
 
 PARTS = [rows, stored, words, devices, large_collection]
 SLOW = [long_input]
-for module in (files, builds, checks, merges, shards, phrases, patterns, dialogs, damages, manual, collect, installed, pages, wrong_bodies):
+MODULES = (
+    files,
+    builds,
+    checks,
+    merges,
+    shards,
+    phrases,
+    patterns,
+    dialogs,
+    damages,
+    manual,
+    collect,
+    installed,
+    pages,
+    docs,
+    wrong_bodies,
+)
+for module in MODULES:
     PARTS += module.PARTS
     SLOW += getattr(module, "SLOW", [])
 
