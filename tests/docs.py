@@ -11,8 +11,8 @@ from transcripts import ROOT, commands_of, markdown_blocks, shell
 CRATES = ROOT / "crates"
 # Pages in which no sentence is longer than 25 words; the lab book of speeds is none of them.
 SHORT = [
-    "README.md", "CHANGELOG.md", "tests/README.md", "docs/ARCHITECTURE.md", "docs/BUILDING.md", "docs/CONTRIBUTING.md", "docs/DEFINITIONS.md",
-    "docs/FORMAT.md", "docs/GLOSSARY.md", "docs/OPEN.md", "docs/PROOFS.md", "docs/SPEEDS.md",
+    "README.md", "CHANGELOG.md", "tests/README.md", "docs/ARCHITECTURE.md", "docs/BUILDING.md", "docs/CONTRIBUTING.md",
+    "docs/DECISIONS.md", "docs/DEFINITIONS.md", "docs/FORMAT.md", "docs/GLOSSARY.md", "docs/MEMORY.md", "docs/OPEN.md", "docs/PROOFS.md", "docs/SPEEDS.md",
 ]
 MOST_WORDS = 25
 MOST_LINES = 130
