@@ -172,7 +172,7 @@ def promises(suite):
     suite.check("tools", len(tools), 10)
     clauses = set(re.findall(r"^\s*ensures (\w+)", (CRATES / "mg_check" / "src" / "found.rt").read_text(), re.M))
     for tool, record in tools.items():
-        section = page.split(f"\n## {tool}\n")[1].split("\n#")[0]
+        section = page.partition(f"\n## {tool}\n")[2].split("\n#")[0]
         suite.check(f"the record of {tool} in PROOFS", section.strip().startswith(f"`{record}`"), True)
         promised = [row for row in readme if f"`{tool}`" in row[0] and f"`{record}`" in row[-1]]
         suite.check(f"{tool} and {record} in README", len(promised), 1)
@@ -180,6 +180,17 @@ def promises(suite):
         cited = {span for row in rows_of(section) for span in spans(row[1]) if re.fullmatch(r"[a-z_]+", span)}
         cited -= {"one_collection", "session_bound", "session_text_bound"}
         suite.check(f"fields of {record} in PROOFS", sorted(cited - known), [])
+
+
+def limits(suite):
+    """The numbers of README's limits are numbers of the manual's."""
+    manual = (ROOT / "man" / "mg.1").read_text().split("\n.Sh LIMITS\n")[1].split("\n.Sh ")[0]
+    known = {int(number) for number in re.findall(r"\b\d+\b", manual)}
+    section = (ROOT / "README.md").read_text().split("\n## Limits\n")[1].split("\n## ")[0]
+    told = re.findall(r"(\d+)\^(\d+)( - 1)?|(?<![\d,])(\d[\d,]*)", " ".join(row[1] for row in rows_of(section)))
+    numbers = [int(base) ** int(power) - bool(less) if base else int(plain.replace(",", "")) for base, power, less, plain in told]
+    suite.check("limits of README", len(numbers) > 8 or numbers, True)
+    suite.check("limits of README that the manual has not", [number for number in numbers if number not in known], [])
 
 
 def links(suite):
@@ -221,4 +232,4 @@ def commands(suite):
             suite.check(f"{page}: {command}", is_there(suite, command), True)
 
 
-PARTS = [lengths, crates, imports, names, laws, promises, links, commands]
+PARTS = [lengths, crates, imports, names, laws, promises, limits, links, commands]
