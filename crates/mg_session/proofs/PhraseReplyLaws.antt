@@ -107,6 +107,27 @@ nothing_replied code collection line w r0 r1 error sound post text = record {
 pub none_answered : (code : TextCode) (collection : List ℕ) (phrase : List (List ℕ)) (w : Option (List ℕ)) (r : Reads) → PhraseAnswered code collection phrase w w r r (Err (show.Part Memory))
 none_answered code collection phrase w r = record { put = grew_nothing w (found_text (with_places phrase 1 (documents collection))); sound = tt; post = omega arith; text = omega arith }
 
+-- the same of its words
+pub nothing_answered : (code : TextCode) (collection : List ℕ) (phrase : List (List ℕ)) (w : Option (List ℕ)) (r0 r1 : Reads) (error : ShowErr)
+    → ShowIsNotBad (Err error) → r1 part.Post ≡ r0 part.Post → r1 part.Text ≡ r0 part.Text → PhraseAnswered code collection phrase w w r0 r1 (Err error)
+nothing_answered code collection phrase w r0 r1 error sound post text = record {
+  put = grew_nothing w (found_text (with_places phrase 1 (documents collection)));
+  sound = sound;
+  post = omega (arith, post);
+  text = omega (arith, text);
+}
+
+-- what was answered behind a look at other parts
+pub answered_behind : (code : TextCode) (collection : List ℕ) (phrase : List (List ℕ)) (w0 w1 : Option (List ℕ)) (r0 r1 r2 : Reads) (result : Result (Unit {0}) ShowErr)
+    → PhraseAnswered code collection phrase w0 w1 r1 r2 result → r1 part.Post ≡ r0 part.Post → r1 part.Text ≡ r0 part.Text
+    → PhraseAnswered code collection phrase w0 w1 r0 r2 result
+answered_behind code collection phrase w0 w1 r0 r1 r2 result a post text = record {
+  put = a.put;
+  sound = a.sound;
+  post = omega (arith, a.post, post);
+  text = omega (arith, a.text, text);
+}
+
 -- no document has a phrase without words
 no_places : (n : ℕ) (ds : List (List ℕ)) → with_places [] n ds ≡ []
 unfolding with_places phrase_places

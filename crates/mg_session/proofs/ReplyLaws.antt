@@ -68,6 +68,27 @@ top_sound (Bad bad) error collection ts most is or = absurd or
 pub none_answered : (code : TextCode) (collection : List ℕ) (now : Settings) (answer : List Shown) (bound : ℕ) (w : Option (List ℕ)) (r : Reads) → Answered code collection now answer bound w w r r (Err (show.Part Memory))
 none_answered code collection now answer bound w r = record { put = grew_nothing w (answer_text collection now answer); sound = tt; post = omega arith; text = omega arith }
 
+-- it stopped before anything was printed, and neither lists nor text were read
+pub nothing_answered : (code : TextCode) (collection : List ℕ) (now : Settings) (answer : List Shown) (bound : ℕ) (w : Option (List ℕ)) (r0 r1 : Reads) (error : ShowErr)
+    → ShowIsNotBad (Err error) → r1 part.Post ≡ r0 part.Post → r1 part.Text ≡ r0 part.Text → Answered code collection now answer bound w w r0 r1 (Err error)
+nothing_answered code collection now answer bound w r0 r1 error sound post text = record {
+  put = grew_nothing w (answer_text collection now answer);
+  sound = sound;
+  post = omega (arith, post);
+  text = omega (arith, text);
+}
+
+-- what was answered behind a look at other parts
+pub answered_behind : (code : TextCode) (collection : List ℕ) (now : Settings) (answer : List Shown) (bound : ℕ) (w0 w1 : Option (List ℕ)) (r0 r1 r2 : Reads) (result : Result (Unit {0}) ShowErr)
+    → Answered code collection now answer bound w0 w1 r1 r2 result → r1 part.Post ≡ r0 part.Post → r1 part.Text ≡ r0 part.Text
+    → Answered code collection now answer bound w0 w1 r0 r2 result
+answered_behind code collection now answer bound w0 w1 r0 r1 r2 result a post text = record {
+  put = a.put;
+  sound = a.sound;
+  post = omega (arith, a.post, post);
+  text = omega (arith, a.text, text);
+}
+
 -- ---- a line that is no query
 
 -- what was answered says of no part that it is bad

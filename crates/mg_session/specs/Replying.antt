@@ -12,7 +12,7 @@ use Rattle.mg_defs.specs.CodedText.{TextCode}
 use Rattle.mg_defs.specs.PageBounds.{boolean_bound, ranked_bound}
 use Rattle.mg_defs.specs.Patterns.{Pattern}
 use Rattle.mg_defs.specs.QueryTerms.{query_terms}
-use Rattle.mg_defs.specs.ShownAnswers.{ranking, satisfying}
+use Rattle.mg_defs.specs.ShownAnswers.{Shown, ranking, satisfying}
 use Rattle.mg_defs.specs.Sat.{Query}
 use Rattle.mg_defs.specs.declared.session.Settings.{Settings}
 use Rattle.mg_bool.specs.Places.{AreInfos}
@@ -45,6 +45,11 @@ AnswersTerms of_store of_out store store_now out out_now result base texts all i
     (terms : List (List ℕ)) → AreInfos collection terms infos → IsDistinct bytes_eq terms →
     Answered code collection now (ranking collection terms) (ranked_bound collection terms) (of_out.written out) (of_out.written out_now) (of_store.reads store) (of_store.reads store_now) result)
 
+-- over the open parts: an answer is shown, and of Post no more pages are read than its bound
+abbrev pub AnswersOpened : {X Y : Type 0} → stores.Ghosts X → sinks.Ghosts Y → X → X → Y → Y → Result (Unit {0}) ShowErr → Opened → Settings → (List ℕ → List Shown) → (List ℕ → ℕ) → Type 0
+AnswersOpened of_store of_out store store_now out out_now result opened now answer bound = ForOpened (of_store.files store) opened (λ code collection.
+    Answered code collection now (answer collection) (bound collection) (of_out.written out) (of_out.written out_now) (of_store.reads store) (of_store.reads store_now) result)
+
 -- over the open parts: a line is replied to, ranked or Boolean
 abbrev pub RepliesTo : {X Y : Type 0} → stores.Ghosts X → sinks.Ghosts Y → X → X → Y → Y → Result (Unit {0}) ShowErr → Opened → Bool → Settings → List ℕ → Type 0
 RepliesTo of_store of_out store store_now out out_now result opened ranked now line = ForOpened (of_store.files store) opened (λ code collection.
@@ -57,6 +62,11 @@ abbrev pub AnswersPhrase : {X Y : Type 0} → stores.Ghosts X → sinks.Ghosts Y
 AnswersPhrase of_store of_out store store_now out out_now result base text all q infos phrase = ForEach (PhraseSources base (of_store.files store) text all) (λ collection.
     AreInfos collection (query_terms q) infos →
     PhraseAnswered text.code collection phrase (of_out.written out) (of_out.written out_now) (of_store.reads store) (of_store.reads store_now) result)
+
+-- over the parts that phrases are sought in: a phrase of these words is answered
+abbrev pub AnswersWords : {X Y : Type 0} → stores.Ghosts X → sinks.Ghosts Y → X → X → Y → Y → Result (Unit {0}) ShowErr → PhraseParts → List (List ℕ) → Type 0
+AnswersWords of_store of_out store store_now out out_now result parts phrase = ForEach (PartsOver (of_store.files store) parts) (λ collection.
+    PhraseAnswered parts.text.code collection phrase (of_out.written out) (of_out.written out_now) (of_store.reads store) (of_store.reads store_now) result)
 
 -- over the parts that phrases are sought in: a line is replied to as a phrase
 abbrev pub RepliesToPhrase : {X Y : Type 0} → stores.Ghosts X → sinks.Ghosts Y → X → X → Y → Y → Result (Unit {0}) ShowErr → PhraseParts → List ℕ → Type 0

@@ -11,12 +11,14 @@
 #![tactic(auto)]
 
 mod boolean;
+mod boolean_line;
 mod candidates;
 mod document_set;
 mod find;
 mod held;
 mod hit;
 mod phrase;
+mod phrase_line;
 mod phrase_searcher;
 mod ranked;
 mod searcher;

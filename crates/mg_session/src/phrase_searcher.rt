@@ -1,8 +1,12 @@
 //! An answerer of phrases over the open parts of a set.
-ghost use Rattle.std.specs.Prelude.{◌≡◌, ◌≤◌, length};
+ghost use Rattle.std.specs.Prelude.{◌≡◌, ◌≤◌, ℕ, Some, length};
+ghost use Rattle.mg_defs.specs.Texts.{count as count_text};
 ghost use Rattle.mg_dev.specs.Moments.{Between};
+ghost use Rattle.mg_dev.specs.Streams.{AfterPut};
+ghost use Rattle.mg_query.specs.AllOf.{IsAllOf};
+ghost use Rattle.mg_text.specs.Reading.{ShowIsNotBad};
 ghost use Rattle.mg_session.specs.Answering.{HasShowCause, HasShowLack};
-ghost use Rattle.mg_session.specs.Replying.{RepliesToPhrase};
+ghost use Rattle.mg_session.specs.Replying.{AnswersWords, RepliesToPhrase};
 ghost use Rattle.mg_session.specs.PhraseSearching.{OnlyReads, PartsFit, PhraseState, SamePhraseParts, phrase_state};
 ghost use Rattle.mg_session.specs.PhraseSearching.{PhraseMayStop, PhrasesAsked, PhrasesBy, PhrasesFit};
 ghost use Rattle.mg_session.specs.PhraseSearchLaws.{phrases_later, phrases_more, phrases_none, phrases_stop};
@@ -10,11 +14,11 @@ ghost use Rattle.mg_session.specs.PhraseSearchLaws.{phrases_later, phrases_more,
 use crate::candidates::answer_phrase;
 use crate::find::find_terms;
 use crate::held::HeldDocument;
+use crate::phrase_line::read_phrase;
 use mg_defs::Settings;
-use mg_dev::{PartErr, ShowErr, Sink, Store};
+use mg_dev::{ShowErr, Sink, Store};
 use mg_lex::Lex;
-use mg_phrase::parse_phrase;
-use mg_query::Query;
+use mg_query::{Query, Terms};
 use mg_reply::{Answerer, answer_refused, put_count};
 use mg_text::TextReader;
 use std::alloc::Global;
@@ -62,7 +66,7 @@ impl<'a, S: Store> PhraseSearcher<'a, S> {
         }
     }
 
-    /// Writes the reply to a phrase.
+    /// Writes the reply to a line.
     fn answer_question<O: Sink>(
         &mut self,
         store: &mut S,
@@ -78,22 +82,35 @@ impl<'a, S: Store> PhraseSearcher<'a, S> {
         ensures cause { HasShowCause result (S.faults store.old) (S.faults store.new) (O.faults out.old) (O.faults out.new) }
         ensures lack { HasShowLack (O.lacks out.old) (O.lacks out.new) result }
     {
-        let phrase = match parse_phrase(self.alloc, line) {
-            Ok(phrase) => phrase,
+        let read = match read_phrase(self.alloc, line) {
+            Ok(read) => read,
             Err(why) => return answer_refused(out, why),
         };
-        let joined = match Query::all_of(self.alloc, &phrase) {
-            Ok(joined) => joined,
-            Err(_) => return Err(ShowErr::Part(PartErr::Memory)),
-        };
-        let query = match joined {
-            Some(query) => query,
+        match &read.query {
+            Some(query) => self.answer_words(store, &read.phrase, query, out),
             // No document has a phrase without words.
-            None => match put_count(out, 0) {
-                Ok(()) => return Ok(()),
-                Err(refusal) => return Err(ShowErr::from(refusal)),
-            },
-        };
+            None => answer_none(out),
+        }
+    }
+
+    /// Writes the reply to a phrase of these words, which the query joins.
+    fn answer_words<O: Sink>(
+        &mut self,
+        store: &mut S,
+        phrase: &Terms,
+        query: &Query,
+        out: &mut O,
+    ) -> Result<(), ShowErr>
+        requires few { length phrase.now ≤ 64 }
+        requires joined { IsAllOf phrase.now (Some query.now) }
+        requires fits { PartsFit (S.files store.old) self.old }
+        ensures fits { PartsFit (S.files store.new) self.new }
+        ensures same { SamePhraseParts self.old self.new }
+        ensures answer { AnswersWords S.Store O.Sink store.old store.new out.old out.new result self.old phrase.now }
+        ensures step { Between S.files S.reads S.faults store.old store.new OnlyReads }
+        ensures cause { HasShowCause result (S.faults store.old) (S.faults store.new) (O.faults out.old) (O.faults out.new) }
+        ensures lack { HasShowLack (O.lacks out.old) (O.lacks out.new) result }
+    {
         let infos = match find_terms(self.alloc, store, &mut self.lex, phrase.as_slice()) {
             Ok(infos) => infos,
             Err(refusal) => return Err(ShowErr::from(refusal)),
@@ -104,12 +121,25 @@ impl<'a, S: Store> PhraseSearcher<'a, S> {
             self.base,
             &mut self.text,
             &mut self.held,
-            &phrase,
-            &query,
+            phrase,
+            query,
             &infos,
             self.all,
             out,
         )
+    }
+}
+
+/// Writes that no document was found.
+fn answer_none<O: Sink>(out: &mut O) -> Result<(), ShowErr>
+    ensures content { AfterPut (O.written out.old) (O.written out.new) (count_text 0) result }
+    ensures sound { ShowIsNotBad result }
+    ensures cause { (s : ℕ) → HasShowCause result s s (O.faults out.old) (O.faults out.new) }
+    ensures lack { HasShowLack (O.lacks out.old) (O.lacks out.new) result }
+{
+    match put_count(out, 0) {
+        Ok(()) => Ok(()),
+        Err(refusal) => Err(ShowErr::from(refusal)),
     }
 }
 

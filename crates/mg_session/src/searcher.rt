@@ -1,21 +1,28 @@
 //! An answerer over the open parts of a set.
 ghost use Rattle.std.specs.Prelude.{◌≡◌, ◌≤◌, false, true, length};
+ghost use Rattle.std.specs.List.{IsDistinct};
+ghost use Rattle.std.specs.Str.{bytes_eq};
+ghost use Rattle.mg_defs.specs.PageBounds.{boolean_bound, ranked_bound};
+ghost use Rattle.mg_defs.specs.QueryTerms.{query_terms};
+ghost use Rattle.mg_defs.specs.ShownAnswers.{ranking, satisfying};
 ghost use Rattle.mg_dev.specs.Moments.{Between};
+ghost use Rattle.mg_query.specs.QueryOf.{query_of};
 ghost use Rattle.mg_session.specs.Answering.{HasShowCause, HasShowLack};
 ghost use Rattle.mg_session.specs.Parts.{Stepped};
-ghost use Rattle.mg_session.specs.Replying.{RepliesTo};
+ghost use Rattle.mg_session.specs.Replying.{AnswersOpened, RepliesTo};
 ghost use Rattle.mg_session.specs.Searching.{AnswersBy, Asked, Fits, MayStop, SameOpened, SearchFits, Searching, opened_at, state_of};
 ghost use Rattle.mg_session.specs.SearchLaws.{answers_later, asked_more, asked_none, stops_later};
 
 use crate::boolean::answer_query;
+use crate::boolean_line::read_boolean;
 use crate::find::find_terms;
 use crate::ranked::answer_terms;
 use crate::texts::Texts;
 use mg_defs::Settings;
-use mg_dev::{PartErr, ShowErr, Sink, Store};
+use mg_dev::{ShowErr, Sink, Store};
 use mg_layout::Head;
 use mg_lex::Lex;
-use mg_query::{parse_boolean, parse_ranked};
+use mg_query::{Query, Terms, parse_ranked};
 use mg_reply::{Answerer, answer_refused};
 use std::alloc::Global;
 use std::marker::Model;
@@ -69,14 +76,32 @@ impl<'a, S: Store> Searcher<'a, S> {
         ensures cause { HasShowCause result (S.faults store.old) (S.faults store.new) (O.faults out.old) (O.faults out.new) }
         ensures lack { HasShowLack (O.lacks out.old) (O.lacks out.new) result }
     {
-        let query = match parse_boolean(self.alloc, line) {
-            Ok(query) => query,
-            Err(why) => return answer_refused(out, why),
-        };
-        let terms = match query.terms(self.alloc) {
-            Ok(terms) => terms,
-            Err(_) => return Err(ShowErr::Part(PartErr::Memory)),
-        };
+        match read_boolean(self.alloc, line) {
+            Ok(read) => self.answer_known(store, &read.query, &read.terms, now, out),
+            Err(why) => answer_refused(out, why),
+        }
+    }
+
+    /// Writes the reply to a query with these terms.
+    fn answer_known<O: Sink>(
+        &mut self,
+        store: &mut S,
+        query: &Query,
+        terms: &Terms,
+        now: &Settings,
+        out: &mut O,
+    ) -> Result<(), ShowErr>
+        requires terms { terms.now ≡ query_terms (query_of query.now) }
+        requires fits { SearchFits (S.files store.old) self.old }
+        ensures fits { SearchFits (S.files store.new) self.new }
+        ensures same { SameOpened self.old self.new }
+        ensures answer { AnswersOpened S.Store O.Sink store.old store.new out.old out.new result self.old now.now
+            (λ collection. satisfying collection (query_of query.now))
+            (λ collection. boolean_bound collection (query_of query.now)) }
+        ensures step { Between S.files S.reads S.faults store.old store.new (Stepped now.now.mode) }
+        ensures cause { HasShowCause result (S.faults store.old) (S.faults store.new) (O.faults out.old) (O.faults out.new) }
+        ensures lack { HasShowLack (O.lacks out.old) (O.lacks out.new) result }
+    {
         let infos = match find_terms(self.alloc, store, &mut self.lex, terms.as_slice()) {
             Ok(infos) => infos,
             Err(refusal) => return Err(ShowErr::from(refusal)),
@@ -86,7 +111,7 @@ impl<'a, S: Store> Searcher<'a, S> {
             store,
             self.base,
             &mut self.texts,
-            &query,
+            query,
             &infos,
             self.all,
             now,
@@ -111,10 +136,31 @@ impl<'a, S: Store> Searcher<'a, S> {
         ensures cause { HasShowCause result (S.faults store.old) (S.faults store.new) (O.faults out.old) (O.faults out.new) }
         ensures lack { HasShowLack (O.lacks out.old) (O.lacks out.new) result }
     {
-        let terms = match parse_ranked(self.alloc, line) {
-            Ok(terms) => terms,
-            Err(why) => return answer_refused(out, why),
-        };
+        match parse_ranked(self.alloc, line) {
+            Ok(terms) => self.answer_distinct(store, &terms, now, out),
+            Err(why) => answer_refused(out, why),
+        }
+    }
+
+    /// Writes the ranking by distinct terms.
+    fn answer_distinct<O: Sink>(
+        &mut self,
+        store: &mut S,
+        terms: &Terms,
+        now: &Settings,
+        out: &mut O,
+    ) -> Result<(), ShowErr>
+        requires few { length terms.now ≤ 64 }
+        requires apart { IsDistinct bytes_eq terms.now }
+        requires fits { SearchFits (S.files store.old) self.old }
+        ensures fits { SearchFits (S.files store.new) self.new }
+        ensures same { SameOpened self.old self.new }
+        ensures answer { AnswersOpened S.Store O.Sink store.old store.new out.old out.new result self.old now.now
+            (λ collection. ranking collection terms.now) (λ collection. ranked_bound collection terms.now) }
+        ensures step { Between S.files S.reads S.faults store.old store.new (Stepped now.now.mode) }
+        ensures cause { HasShowCause result (S.faults store.old) (S.faults store.new) (O.faults out.old) (O.faults out.new) }
+        ensures lack { HasShowLack (O.lacks out.old) (O.lacks out.new) result }
+    {
         let infos = match find_terms(self.alloc, store, &mut self.lex, terms.as_slice()) {
             Ok(infos) => infos,
             Err(refusal) => return Err(ShowErr::from(refusal)),
