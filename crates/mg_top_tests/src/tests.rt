@@ -243,39 +243,58 @@ fn other_words_are_not_understood(rt: HostRuntime) -> Result<(), Fail> {
     Ok(())
 }
 
+/// The three documents twice.
+const LETTERS_TWICE: &[u8] =
+    b"the cat sat\n\x02the dog\n\x02Cat, cat & dog!\n\x02the cat sat\n\x02the dog\n\x02Cat, cat & dog!\n\x02";
+
 #[test]
 fn builds_answer(rt: HostRuntime) -> Result<(), Fail> {
-    let rows: [(&[&str], &[u8]); 2] = [
+    // A build, its summary, and the summary of the set that is made of it twice.
+    let rows: [(&[&str], &[u8], &[u8]); 2] = [
         (
             &["build", "text", "set"],
             b"documents 3\nwords 5\nothers 5\nterms 4\noccurrences 8\nruns 1\npool 96 of 16777216\n",
+            b"documents 6\nwords 5\nothers 5\nterms 4\noccurrences 16\nruns 1\npool 192 of 16777212\n",
         ),
         (
             &["build", "--budget=4096", "text", "set"],
             b"documents 3\nwords 5\nothers 5\nterms 4\noccurrences 8\nruns 1\npool 96 of 4096\n",
+            b"documents 6\nwords 5\nothers 5\nterms 4\noccurrences 16\nruns 1\npool 192 of 4096\n",
         ),
     ];
-    // What is run over each set, one after the other.
-    let later: [(&[&str], &[u8], &[u8]); 4] = [
+    // What is run over each set, one after the other: no clause refuses a tool that always lacks memory.
+    let later: [(&[&str], &[u8], &[u8]); 6] = [
         (&["decode", "set"], b"", LETTERS),
         (&["query", "set"], b"cat\n!the\n", b"1\n3\n= 2\n3\n= 1\n"),
+        (&["phrase", "set"], b"the cat\n", b"1 1\n= 1\n"),
+        (&["wild", "set"], b"*at\n", b"+ cat 2\n+ sat 1\n1\n3\n= 2\n"),
         (&["migrate", "set", "new"], b"", b"documents 3\n"),
         (&["decode", "new"], b"", LETTERS),
     ];
     let alloc = rt.alloc();
-    for (given, wanted) in rows {
+    for (given, wanted, merged) in rows {
         let mut store = store_of(alloc, &[("text", LETTERS)])?;
         assert!(rt; prints(alloc, given, &mut store, b"", wanted)?);
         for (asked, lines, printed) in later {
             assert!(rt; prints(alloc, asked, &mut store, lines, printed)?);
         }
+        assert!(rt;
+            prints(
+                alloc,
+                &["merge", "set", "set", "new"],
+                &mut store,
+                b"",
+                merged
+            )?
+        );
+        assert!(rt; prints(alloc, &["decode", "new"], &mut store, b"", LETTERS_TWICE)?);
     }
     Ok(())
 }
 
 #[test]
 fn refused_builds_and_missing_files_are_told(rt: HostRuntime) -> Result<(), Fail> {
-    let rows: [(&[&str], &[u8], Fault, &[u8]); 6] = [
+    let rows: [(&[&str], &[u8], Fault, &[u8]); 7] = [
         (
             &["build", "none", "set"],
             b"",
@@ -311,6 +330,12 @@ fn refused_builds_and_missing_files_are_told(rt: HostRuntime) -> Result<(), Fail
             b"cat\n",
             Fault::NoCollection,
             b"mg: there is no such collection\n",
+        ),
+        (
+            &["merge", "set", "new", "set"],
+            b"",
+            Fault::SameName,
+            b"mg: both names are the same\n",
         ),
     ];
     let alloc = rt.alloc();
