@@ -6,8 +6,9 @@
 A wrong body is an edit `crates/NAME/wrong-bodies/*.edit`, in the form of those in `must-fail/`. The gate tries
 only those in `must-fail/`, since it proves a crate that has any twice. Here the repository is copied to a temporary
 folder, each crate's wrong bodies stand in the copy's `must-fail/`, and the kit's own `rt must-fail` tries them there;
-with --all those of the gate too. What is kept of the libraries below, `crates/NAME/out/`, is taken along, so that they are not proved
-again. Crates are tried side by side, one for each processor and 4 GB of memory.
+with --all those of the gate too. The libraries below are taken along, so that they are not proved again: what
+`rt check` keeps of them in `crates/NAME/out/`, or what a whole `rt ci` over just these files left there. Crates are
+tried side by side, one for each processor and 4 GB of memory.
 
 Each edit gives a row: the crate, the edit, the function that is refused first and its clause, and the seconds that the
 check took; with --table the rows are written to a file too. The exit status is 1 where an edit is not refused. --list
@@ -113,6 +114,16 @@ def copy_repository(room, chosen, folders):
                 shutil.copy2(path, to / GATE)
 
 
+def is_left_by_gate(name):
+    """Whether the gate left the library of a crate, and none of the crate's files is newer."""
+    crate = ROOT / "crates" / name
+    library = list((crate / "out" / "rlib" / f"{name}.rlib").rglob("*"))
+    if not library or (crate / "out" / "rlib" / "stamp").exists():
+        return False
+    sources = [ROOT / "crates.txt", *(path for part in ("src", "specs", "proofs") for path in (crate / part).rglob("*"))]
+    return max(path.stat().st_mtime for path in sources) <= min(path.stat().st_mtime for path in library)
+
+
 def take_kept_work(crate):
     """Copies what is kept of a library's proof where the library itself is not at hand."""
     name = os.path.basename(crate.folder)
@@ -189,11 +200,14 @@ def edits(rt, crate, watched, given):
 def tasks_of(rt, crates, chosen, watched):
     """The tasks of a run: each library below, and the edits of each chosen crate once those below it stand."""
     needed = {dep.name for crate in crates if crate.name in chosen for dep in crate.below()}
+    # The gate's libraries fit each other alone, so they are taken all or none.
+    are_left = all(is_left_by_gate(name) for name in needed)
     tasks = {}
     for crate in crates:
         waits, lines, memory = [(dep.name, "lib") for dep in crate.below()], crate.count(rb"\n"), rt.need(crate)
         if crate.name in needed:
-            tasks[crate.name, "lib"] = (waits, lines, memory, lambda given, jobs, it=crate: library(it))
+            call = lambda given, jobs, it=crate: are_left or library(it)
+            tasks[crate.name, "lib"] = (waits, lines, memory, call)
         if crate.name in chosen:
             call = lambda given, jobs, it=crate: edits(rt, it, watched, given)
             tasks[crate.name, "edits"] = (waits, lines, memory, call)
