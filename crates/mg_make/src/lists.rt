@@ -9,6 +9,7 @@ ghost use Rattle.std.specs.List.Sorted.{IsStrictlySortedBy};
 ghost use Rattle.std.specs.Ordering.{nat_cmp};
 ghost use Rattle.mg_dev.specs.Causes.{HasPutCause};
 ghost use Rattle.mg_dev.specs.Each.{ForEach};
+ghost use Rattle.mg_dev.specs.Files.{SameReads};
 ghost use Rattle.mg_dev.specs.Names.{full_name};
 ghost use Rattle.mg_dev.specs.declared.part.Part.TheVariants as part;
 ghost use Rattle.mg_defs.specs.declared.Posting.{Posting};
@@ -18,6 +19,7 @@ ghost use Rattle.mg_lex.specs.Writing.{TookTerms};
 ghost use Rattle.mg_post.specs.Writing.{Took};
 ghost use Rattle.mg_runs.specs.Left.{IsMerging};
 ghost use Rattle.mg_make.specs.Each.{RefusedUnless, RefusedIfNone};
+ghost use Rattle.mg_make.specs.Finishing.{ReadRuns};
 ghost use Rattle.mg_make.specs.Listed.{EndsIndex, HasAllTerms, HasPostBytes, HasSkipCount, IndexedTo, IndexesAll, IndexesTerm, ListsAreLeft};
 ghost use Rattle.mg_make.specs.Listed.{NothingLeft, SumsAreSquares, ToIndex, WhereAllTaken, WroteLists};
 ghost use Rattle.mg_make.specs.Listing.{AreListSizes, CanIndex, SameMerge};
@@ -64,6 +66,7 @@ fn start_writers<'a, S: Store>(
     ensures all { IfOk result (λ w. w.lists.all ≡ all) }
     ensures nothing { IfOk result (λ w. w.lists.total ≡ 0) }
     ensures wrote { WroteParts OfLists base.entry.now (S.files store.old) (S.files store.new) }
+    ensures reads { SameReads (S.reads store.old) (S.reads store.new) }
     ensures cause { HasPutCause (S.faults store.old) (S.faults store.new) result }
 {
     let lists = match ListWriter::start(alloc, store, base, all) {
@@ -99,6 +102,7 @@ fn write_term<S: Store>(
     ensures all { writer.new.lists.all ≡ writer.old.lists.all }
     ensures same { SameMerge merge.old merge.new }
     ensures wrote { WroteParts OfLists merge.old.base (S.files store.old) (S.files store.new) }
+    ensures reads { ReadRuns (S.reads store.old) (S.reads store.new) }
     ensures later { S.faults store.old ≤ S.faults store.new }
 {
     let docs = counts.docs(number);
@@ -135,6 +139,7 @@ fn write_terms<S: Store>(
     ensures all { writer.new.lists.all ≡ writer.old.lists.all }
     ensures same { SameMerge merge.old merge.new }
     ensures wrote { WroteParts OfLists merge.old.base (S.files store.old) (S.files store.new) }
+    ensures reads { ReadRuns (S.reads store.old) (S.reads store.new) }
     ensures later { S.faults store.old ≤ S.faults store.new }
 {
     for number in 0..table.count() {
@@ -149,6 +154,7 @@ fn expect_end<S: Store>(store: &mut S, merge: &mut Merge<'_>) -> Result<(), Faul
     ensures refused { RefusedUnless S.faults store.old store.new (NothingLeft merge.old (S.files store.old)) result }
     ensures same { SameMerge merge.old merge.new }
     ensures files { S.files store.new ≡ S.files store.old }
+    ensures reads { ReadRuns (S.reads store.old) (S.reads store.new) }
     ensures later { S.faults store.old ≤ S.faults store.new }
 {
     match merge.next(store) {
@@ -169,6 +175,7 @@ fn finish<S: Store>(store: &mut S, writer: &mut IndexWriter<'_>) -> Result<Sizes
     ensures skip_count { WhereAllTaken writer.old.lists (S.files store.old) (HasSkipCount result) }
     ensures few { IfOk result (λ sizes. sizes.skip_count ≤ writer.old.lists.total) }
     ensures wrote { WroteParts OfLists writer.old.lex.base (S.files store.old) (S.files store.new) }
+    ensures reads { SameReads (S.reads store.old) (S.reads store.new) }
     ensures cause { HasPutCause (S.faults store.old) (S.faults store.new) result }
 {
     writer.lex.finish(store)?;
@@ -201,6 +208,7 @@ fn write_index<S: Store>(
     ensures refused { RefusedIfNone S.faults store.old store.new (ToIndex table.now counts.now merge.old writer.old sums.old (S.files store.old)) result }
     ensures same { SameMerge merge.old merge.new }
     ensures wrote { WroteParts OfLists merge.old.base (S.files store.old) (S.files store.new) }
+    ensures reads { ReadRuns (S.reads store.old) (S.reads store.new) }
     ensures later { S.faults store.old ≤ S.faults store.new }
 {
     write_terms(store, merge, writer, sums, table, counts)?;
@@ -234,6 +242,7 @@ pub(crate) fn write_lists<S: Store>(
     ensures refused { RefusedIfNone S.faults store.old store.new (ListsAreLeft table.now counts.now sums.old merge.old (S.files store.old)) result }
     ensures same { SameMerge merge.old merge.new }
     ensures wrote { WroteParts OfLists base.now (S.files store.old) (S.files store.new) }
+    ensures reads { ReadRuns (S.reads store.old) (S.reads store.new) }
     ensures later { S.faults store.old ≤ S.faults store.new }
 {
     let all = sums.len() as u32;

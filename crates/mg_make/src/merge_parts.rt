@@ -1,7 +1,7 @@
 //! The working parts of merging.
 ghost use Rattle.std.specs.Prelude.{◌≡◌, [], OnOk, IsSome, Some, is_some};
 ghost use Rattle.mg_dev.specs.Causes.{HasPutCause};
-ghost use Rattle.mg_dev.specs.Files.{file_at};
+ghost use Rattle.mg_dev.specs.Files.{SameReads, file_at};
 ghost use Rattle.mg_dev.specs.Names.{full_name};
 ghost use Rattle.mg_dev.specs.declared.part.Part.TheVariants as part;
 ghost use Rattle.mg_make.specs.Listed.{OnlyMergesChange};
@@ -15,6 +15,7 @@ pub(crate) fn reset_merge_parts<S: Store>(store: &mut S, base: &str) -> Result<(
     ensures second { IsSome (S.files store.old) → OnOk result (file_at (S.files store.new) (full_name base.now part.MergeB) ≡ Some []) }
     ensures others { OnlyMergesChange base.now (S.files store.old) (S.files store.new) }
     ensures told { is_some (S.files store.new) ≡ is_some (S.files store.old) }
+    ensures reads { SameReads (S.reads store.old) (S.reads store.new) }
     ensures cause { HasPutCause (S.faults store.old) (S.faults store.new) result }
 {
     let first = FileRef {

@@ -6,13 +6,14 @@
 ghost use Rattle.std.specs.Prelude.{◌≡◌, ◌≢◌, ◌<◌, ◌≤◌, ◌+◌, ◌-◌, ◌*◌, ◌^◌, ℕ, List, length, drop, IfOk, OnOk, is_some};
 ghost use Rattle.mg_dev.specs.Causes.{HasPutCause};
 ghost use Rattle.mg_dev.specs.Faults.{IsDamagedPart};
-ghost use Rattle.mg_dev.specs.Files.{file_at};
+ghost use Rattle.mg_dev.specs.Files.{SameReads, file_at};
 ghost use Rattle.mg_defs.specs.declared.Posting.{Posting};
 ghost use Rattle.mg_defs.specs.declared.TermPosting.{TermPosting};
 ghost use Rattle.mg_defs.specs.Lists.{Follows};
 ghost use Rattle.mg_post.specs.Writing.{Pushed, PushedMore, SameFiles, Took, posting_of};
 ghost use Rattle.mg_runs.specs.Left.{IsMerging};
 ghost use Rattle.mg_make.specs.Each.{RefusedUnless};
+ghost use Rattle.mg_make.specs.Finishing.{ReadRuns};
 ghost use Rattle.mg_make.specs.Listed.{BeginsInPost, BeginsInSkip, EndsList, ForListLeft, ForFirstLeft, ListTakes, SumsTake, TakesPosting, TakesPostings};
 ghost use Rattle.mg_make.specs.Listing.{CanList, HasList, HasNext, HasRest, ListedMore, OfPostings, SameMerge};
 ghost use Rattle.mg_make.specs.Written.{WroteParts};
@@ -55,6 +56,7 @@ fn next_posting<S: Store>(
     ensures refused { RefusedUnless S.faults store.old store.new (HasNext number all last merge.old (S.files store.old)) result }
     ensures same { SameMerge merge.old merge.new }
     ensures files { S.files store.new ≡ S.files store.old }
+    ensures reads { ReadRuns (S.reads store.old) (S.reads store.new) }
     ensures later { S.faults store.old ≤ S.faults store.new }
 {
     let posting = match merge.next(store) {
@@ -106,6 +108,7 @@ fn write_posting<S: Store>(
     ensures same { SameFiles lists.old lists.new }
     ensures others { (n : List ℕ) → n ≢ lists.old.post.name → n ≢ lists.old.skip.name → file_at (S.files store.new) n ≡ file_at (S.files store.old) n }
     ensures told { is_some (S.files store.new) ≡ is_some (S.files store.old) }
+    ensures reads { SameReads (S.reads store.old) (S.reads store.new) }
     ensures cause { HasPutCause (S.faults store.old) (S.faults store.new) result }
 {
     lists.push(store, posting.doc, posting.count)?;
@@ -134,6 +137,7 @@ fn take_posting<S: Store>(
     ensures same { SameMerge merge.old merge.new }
     ensures files { SameFiles lists.old lists.new }
     ensures wrote { WroteParts OfPostings merge.old.base (S.files store.old) (S.files store.new) }
+    ensures reads { ReadRuns (S.reads store.old) (S.reads store.new) }
     ensures later { S.faults store.old ≤ S.faults store.new }
 {
     let all = sums.len() as u32;
@@ -166,6 +170,7 @@ fn take_postings<S: Store>(
     ensures same { SameMerge merge.old merge.new }
     ensures files { SameFiles lists.old lists.new }
     ensures wrote { WroteParts OfPostings merge.old.base (S.files store.old) (S.files store.new) }
+    ensures reads { ReadRuns (S.reads store.old) (S.reads store.new) }
     ensures later { S.faults store.old ≤ S.faults store.new }
 {
     let mut last = 0;
@@ -198,6 +203,7 @@ pub(crate) fn write_list<S: Store>(
     ensures same { SameMerge merge.old merge.new }
     ensures files { SameFiles lists.old lists.new }
     ensures wrote { WroteParts OfPostings merge.old.base (S.files store.old) (S.files store.new) }
+    ensures reads { ReadRuns (S.reads store.old) (S.reads store.new) }
     ensures later { S.faults store.old ≤ S.faults store.new }
 {
     if docs == 0 {

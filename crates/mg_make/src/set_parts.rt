@@ -7,7 +7,7 @@
 ghost use Rattle.std.specs.Prelude.{◌≡◌, ◌≤◌, ◌<◌, ◌^◌, ℕ, List, [], Option, length, replicate, IfOk, OnOk, Some};
 ghost use Rattle.std.specs.Option.{IsSome};
 ghost use Rattle.mg_dev.specs.Causes.{HasPutCause};
-ghost use Rattle.mg_dev.specs.Files.{Files, file_at};
+ghost use Rattle.mg_dev.specs.Files.{Files, SameReads, file_at};
 ghost use Rattle.mg_dev.specs.Names.{full_name};
 ghost use Rattle.mg_dev.specs.declared.part.Part.TheVariants as part;
 ghost use Rattle.mg_defs.specs.Heads.{IsWithin};
@@ -16,7 +16,7 @@ ghost use Rattle.mg_defs.specs.Occurrences.{occurrences};
 ghost use Rattle.mg_layout.specs.HeadAnswers.{fields_of};
 ghost use Rattle.mg_model.specs.Models.{PartsHold};
 ghost use Rattle.mg_make.specs.DocCounting.{AreDocCounts};
-ghost use Rattle.mg_make.specs.Finishing.{budget_of};
+ghost use Rattle.mg_make.specs.Finishing.{ReadRuns, budget_of};
 ghost use Rattle.mg_make.specs.Plans.{IsPlan, IsPlanOf};
 ghost use Rattle.mg_make.specs.Putting.{ForHanded, ForScanned, HandedRefused, HandsFor, HasPeakOf, IsHanded, IsUnbuilt, MakesHead, MakesIndex, OfPass, ScannedRefused};
 ghost use Rattle.mg_make.specs.Scanning.{HasMet};
@@ -42,6 +42,7 @@ pub(crate) fn reset_head<S: Store>(store: &mut S, base: &str) -> Result<(), PutE
     ensures empty { IsSome (S.files store.old) → OnOk result (file_at (S.files store.new) (full_name base.now part.Head) ≡ Some []) }
     ensures unbuilt { IsUnbuilt base.now (S.files store.old) (S.files store.new) }
     ensures wrote { WroteParts (λ p. p ≡ part.Head) base.now (S.files store.old) (S.files store.new) }
+    ensures reads { SameReads (S.reads store.old) (S.reads store.new) }
     ensures cause { HasPutCause (S.faults store.old) (S.faults store.new) result }
 {
     let head = FileRef {
@@ -69,6 +70,7 @@ pub(crate) fn open_parts<'a, S: Store>(
     ensures limit { IfOk result (λ pass. budget_of pass ≡ pool.limit) }
     ensures models { IsSome (S.files store.old) → OnOk result (PartsHold (S.files store.new) base.entry.now plan.entry.now.code) }
     ensures wrote { WroteParts OfPass base.entry.now (S.files store.old) (S.files store.new) }
+    ensures reads { SameReads (S.reads store.old) (S.reads store.new) }
     ensures cause { HasPutCause (S.faults store.old) (S.faults store.new) result }
 {
     plan.model.write(alloc, store, base)?;
@@ -85,6 +87,7 @@ pub(crate) fn end_pass<'a, S: Store>(
     ensures handed { ForScanned scanner.old pass.entry (S.files store.old)
         (HandsFor pass.entry (S.files store.old) (S.files store.new) result) }
     ensures wrote { WroteSecond pass.entry.base (S.files store.old) (S.files store.new) }
+    ensures reads { ReadRuns (S.reads store.old) (S.reads store.new) }
     ensures later { S.faults store.old ≤ S.faults store.new }
     ensures refused { ScannedRefused scanner.old pass.entry S.files S.faults store.old store.new result }
 {
@@ -120,6 +123,7 @@ pub(crate) fn write_rest<S: Store>(
     ensures stand { ForHanded plan.now limit base.now (S.files store.old) inverted.entry
         (MakesIndex plan.now base.now S.files store.old store.new result) }
     ensures wrote { WroteParts OfIndex base.now (S.files store.old) (S.files store.new) }
+    ensures reads { ReadRuns (S.reads store.old) (S.reads store.new) }
     ensures later { S.faults store.old ≤ S.faults store.new }
     ensures refused { HandedRefused plan.now limit base.now inverted.entry S.files S.faults store.old store.new result }
 {

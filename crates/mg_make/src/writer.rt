@@ -6,12 +6,13 @@
 ghost use Rattle.std.specs.Prelude.{◌≡◌, ◌<◌, ◌≤◌, ◌-◌, ◌^◌, ◌++◌, ◌∷◌, ℕ, List, [], length, IfOk, OnOk, Option, Some};
 ghost use Rattle.std.specs.Option.{IsSome};
 ghost use Rattle.mg_dev.specs.Causes.{HasPutCause};
-ghost use Rattle.mg_dev.specs.Files.{Files, file_at};
+ghost use Rattle.mg_dev.specs.Files.{Files, SameReads, file_at};
 ghost use Rattle.mg_dev.specs.Names.{full_name};
 ghost use Rattle.mg_dev.specs.declared.part.Part.TheVariants as part;
 ghost use Rattle.mg_defs.specs.Heads.{IsWithin};
 ghost use Rattle.mg_layout.specs.HeadAnswers.{fields_of};
 ghost use Rattle.mg_layout.specs.Stands.{StandsForNone, StandsIn};
+ghost use Rattle.mg_make.specs.Finishing.{ReadRuns};
 ghost use Rattle.mg_make.specs.Plans.{IsPlan, IsPlanOf, IsRoomFor};
 ghost use Rattle.mg_make.specs.Putting.{ForPut, GrewByHead, HasHeadOf, HasPeakOf, HasPut, IsEmptied, IsUnbuilt, MakesReady, NextRefused, OthersSame, PutRefused};
 ghost use Rattle.mg_make.specs.Putting.{StandsForNoOther, WhereHeadLacks, with_head};
@@ -65,6 +66,7 @@ impl<'a> SetWriter<'a> {
         ensures limit { IfOk result (λ w. w.limit ≡ room.pool.limit) }
         ensures unbuilt { IsUnbuilt base.entry.now (S.files store.old) (S.files store.new) }
         ensures others { OthersSame base.entry.now (S.files store.old) (S.files store.new) }
+        ensures plain { S.reads store.old part.Plain ≤ S.reads store.new part.Plain }
         ensures cause { HasPutCause (S.faults store.old) (S.faults store.new) result }
     {
         let Room { pool, counts, sums } = room;
@@ -93,6 +95,7 @@ impl<'a> SetWriter<'a> {
         ensures limit { self.new.limit ≡ self.old.limit }
         ensures head { IsSome (S.files store.old) → file_at (S.files store.new) (full_name self.old.base part.Head) ≡ Some [] }
         ensures others { OthersSame self.old.base (S.files store.old) (S.files store.new) }
+        ensures plain { S.reads store.old part.Plain ≤ S.reads store.new part.Plain }
         ensures later { S.faults store.old ≤ S.faults store.new }
         ensures refused { NextRefused self.old (λ more. byte ∷ more) S.files S.faults store.old store.new result }
     {
@@ -112,6 +115,7 @@ impl<'a> SetWriter<'a> {
         ensures limit { self.new.limit ≡ self.old.limit }
         ensures head { IsSome (S.files store.old) → file_at (S.files store.new) (full_name self.old.base part.Head) ≡ Some [] }
         ensures others { OthersSame self.old.base (S.files store.old) (S.files store.new) }
+        ensures reads { SameReads (S.reads store.old) (S.reads store.new) }
         ensures later { S.faults store.old ≤ S.faults store.new }
         ensures refused { NextRefused self.old (λ more. byte ∷ more) S.files S.faults store.old store.new result }
     {
@@ -134,6 +138,7 @@ impl<'a> SetWriter<'a> {
         ensures peak { (fed : List ℕ) → HasPut self.entry (S.files store.old) fed → IsPlanOf self.entry.plan fed → HasPeakOf self.entry.limit result fed }
         ensures gone { IsSome (S.files store.old) → file_at (S.files store.new) (full_name self.entry.base part.Head) ≡ Some [] }
         ensures others { OthersSame self.entry.base (S.files store.old) (S.files store.new) }
+        ensures reads { ReadRuns (S.reads store.old) (S.reads store.new) }
         ensures later { S.faults store.old ≤ S.faults store.new }
         ensures refused { PutRefused self.entry S.files S.faults store.old store.new result }
     {
@@ -169,6 +174,7 @@ impl<'a> SetWriter<'a> {
         ensures merge_b { ForPut self.entry (S.files store.old) (λ fed. OnOk result (IsEmptied (S.files store.new) self.entry.base part.MergeB)) }
         ensures left { ForPut self.entry (S.files store.old) (StandsForNoOther (S.files store.new) self.entry.base) }
         ensures others { OthersSame self.entry.base (S.files store.old) (S.files store.new) }
+        ensures plain { S.reads store.old part.Plain ≤ S.reads store.new part.Plain }
         ensures later { S.faults store.old ≤ S.faults store.new }
         ensures refused { PutRefused self.entry S.files S.faults store.old store.new result }
     {

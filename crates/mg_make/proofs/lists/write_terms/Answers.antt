@@ -3,6 +3,7 @@ use Rattle.std.proofs.lemmas.Result.{err_from_is_err_and}
 use Rattle.mg_make.specs.Listing.{AreListSizes, HasIndexed}
 use Rattle.mg_make.specs.Written.{OfLists, WroteParts}
 use Rattle.mg_make.proofs.ListFrames.{passed_on_each, rose_later, same_more, wrote_more}
+use Rattle.mg_make.proofs.ReadSteps.{runs_read}
 use Rattle.mg_make.proofs.lists.write_terms.Goals as goal
 
 pub write_term-requires-clause-sizes : goal.write_term-requires-clause-sizes
@@ -33,5 +34,6 @@ loop-number-preserved g c =
       wrote =
           wrote_more OfLists c.args.merge.now.base _ _ _ inv.wrote
           (subst (λ b. WroteParts OfLists b (g.S.Store.files c.loop-number.store) (g.S.Store.files c.write_term.new.store)) inv.same.base c.write_term.ensures.wrote);
+      reads = runs_read _ (g.S.Store.reads c.loop-number.store) _ inv.reads c.write_term.ensures.reads;
       later = omega (arith, inv.later, c.write_term.ensures.later);
     }

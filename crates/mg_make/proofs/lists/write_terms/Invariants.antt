@@ -1,4 +1,5 @@
 use Rattle.std.proofs.Common.{◌≡◌, ◌≤◌, ℕ, List}
+use Rattle.mg_make.specs.Finishing.{ReadRuns}
 use Rattle.mg_make.specs.Listing.{CanIndex, HasIndexed, SameMerge}
 use Rattle.mg_make.specs.Written.{OfLists, WroteParts}
 use Rattle.mg_make.proofs.lists.write_terms.Given as goal
@@ -10,5 +11,6 @@ invariant-loop-number g l = record {
   all : l.writer.lists.all ≡ l.initial.writer.lists.all;
   same : SameMerge l.initial.merge l.merge;
   wrote : WroteParts OfLists l.initial.merge.base (g.S.Store.files l.initial.store) (g.S.Store.files l.store);
+  reads : ReadRuns (g.S.Store.reads l.initial.store) (g.S.Store.reads l.store);
   later : g.S.Store.faults l.initial.store ≤ g.S.Store.faults l.store;
 }

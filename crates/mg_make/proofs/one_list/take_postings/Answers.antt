@@ -4,6 +4,7 @@ use Rattle.mg_make.specs.Listing.{IsInList, OfPostings}
 use Rattle.mg_make.specs.Written.{WroteParts}
 use Rattle.mg_make.proofs.ListFrames.{passed_on, rose_later, same_more, wrote_more}
 use Rattle.mg_make.proofs.ListSteps.{names_more, one_more_taken, pushed_more, rest_after}
+use Rattle.mg_make.proofs.ReadSteps.{runs_read}
 use Rattle.mg_make.proofs.one_list.take_postings.Goals as goal
 
 pub returns-in_err-last-clause-refused : goal.returns-in_err-last-clause-refused
@@ -32,6 +33,7 @@ loop-preserved g c =
       same = same_more _ _ _ inv.same c.take_posting.ensures.same;
       names = names_more _ _ _ inv.names c.take_posting.ensures.files;
       wrote = wrote_more OfPostings c.args.merge.now.base _ _ _ inv.wrote (subst (λ b. WroteParts OfPostings b (g.S.Store.files c.loop.store) (g.S.Store.files c.take_posting.new.store)) inv.same.base c.take_posting.ensures.wrote);
+      reads = runs_read _ (g.S.Store.reads c.loop.store) _ inv.reads c.take_posting.ensures.reads;
       later = omega (arith, inv.later, c.take_posting.ensures.later);
     }
 

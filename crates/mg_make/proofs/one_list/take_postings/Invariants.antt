@@ -2,6 +2,7 @@ use Rattle.std.proofs.Common.{◌≡◌, ◌≤◌, ◌++◌, List, length, take
 use Rattle.mg_defs.specs.declared.Posting.{Posting}
 use Rattle.mg_defs.specs.declared.TermPosting.{TermPosting}
 use Rattle.mg_post.specs.Writing.{PushedMore, SameFiles}
+use Rattle.mg_make.specs.Finishing.{ReadRuns}
 use Rattle.mg_make.specs.Listing.{CanList, IsInList, OfPostings, SameMerge}
 use Rattle.mg_make.specs.Written.{WroteParts}
 use Rattle.mg_make.proofs.one_list.take_postings.Given as goal
@@ -15,5 +16,6 @@ invariant-loop g l = record {
   same : SameMerge l.initial.merge l.merge;
   names : SameFiles l.initial.lists l.lists;
   wrote : WroteParts OfPostings l.initial.merge.base (g.S.Store.files l.initial.store) (g.S.Store.files l.store);
+  reads : ReadRuns (g.S.Store.reads l.initial.store) (g.S.Store.reads l.store);
   later : g.S.Store.faults l.initial.store ≤ g.S.Store.faults l.store;
 }

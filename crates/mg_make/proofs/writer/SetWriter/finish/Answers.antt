@@ -5,7 +5,7 @@ use Rattle.mg_make.specs.Listing.{ListStops}
 use Rattle.mg_make.specs.Plans.{IsPlanOf}
 use Rattle.mg_dev.specs.Files.{GrewInPart, file_at, grown}
 use Rattle.mg_dev.specs.Names.{full_name}
-use Rattle.mg_dev.specs.declared.part.Part.TheVariants.{Head}
+use Rattle.mg_dev.specs.declared.part.Part.TheVariants.{Head, Plain}
 use Rattle.mg_defs.specs.Heads as heads
 use Rattle.mg_defs.specs.Heads.{IsWithin}
 use Rattle.mg_defs.specs.Stands.{head_of}
@@ -100,3 +100,12 @@ returns-in-Err-write-clause-others g c = others_both c.args.self.base (g.S.Store
 pub returns-in-Err-write-clause-refused : goal.returns-in-Err-write-clause-refused
 returns-in-Err-write-clause-refused g c = λ fed put. subst (λ (fault : Fault). ListStops (Rose (g.S.Store.faults c.args.store.now) (g.S.Store.faults c.write.new.store)) (IsSome (g.S.Store.files c.args.store.now) × IsPlanOf c.args.self.plan fed) fault) (sym c.of_store.ensures)
     (append_stops _ _ _ c.in-Err-write.refusal _ c.in-Ok.ensures.later c.in-Err-write.ensures.cause)
+
+pub returns-in-Err-clause-plain : goal.returns-in-Err-clause-plain
+returns-in-Err-clause-plain g c = omega (arith, c.write_parts.ensures.reads Plain refl refl refl)
+
+pub returns-in-Ok-write-clause-plain : goal.returns-in-Ok-write-clause-plain
+returns-in-Ok-write-clause-plain g c = omega (arith, c.write_parts.ensures.reads Plain refl refl refl, c.write.ensures.reads Plain)
+
+pub returns-in-Err-write-clause-plain : goal.returns-in-Err-write-clause-plain
+returns-in-Err-write-clause-plain g c = omega (arith, c.write_parts.ensures.reads Plain refl refl refl, c.write.ensures.reads Plain)

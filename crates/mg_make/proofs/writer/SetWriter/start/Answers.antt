@@ -1,7 +1,8 @@
-use Rattle.std.proofs.Common.{◌≡◌, ◌∙◌, ap, sym}
+use Rattle.std.proofs.Common.{arith, ◌≡◌, ◌∙◌, ap, sym}
 use Rattle.mg_make.proofs.PutSteps.{head_others, pass_others, put_nothing, unbuilt_behind}
 use Rattle.mg_make.proofs.SetFrames.{others_both}
 use Rattle.mg_make.specs.Plans.{Rooming}
+use Rattle.mg_dev.specs.declared.part.Part.TheVariants.{Plain}
 use Rattle.mg_make.proofs.writer.SetWriter.start.Goals as goal
 
 pub returns-in_err-pass-clause-unbuilt : goal.returns-in_err-pass-clause-unbuilt
@@ -19,3 +20,12 @@ returns-clause-unbuilt g c = unbuilt_behind c.args.base.now _ _ _ c.in_ok-reset_
 
 pub returns-clause-others : goal.returns-clause-others
 returns-clause-others g c = others_both c.args.base.now _ _ _ (head_others c.args.base.now _ _ c.in_ok-reset_head.ensures.wrote) (pass_others c.args.base.now _ _ c.in_ok-pass.ensures.wrote)
+
+pub returns-in_err-reset_head-clause-plain : goal.returns-in_err-reset_head-clause-plain
+returns-in_err-reset_head-clause-plain g c = omega (arith, c.reset_head.ensures.reads Plain)
+
+pub returns-in_err-pass-clause-plain : goal.returns-in_err-pass-clause-plain
+returns-in_err-pass-clause-plain g c = omega (arith, c.reset_head.ensures.reads Plain, c.open_parts.ensures.reads Plain)
+
+pub returns-clause-plain : goal.returns-clause-plain
+returns-clause-plain g c = omega (arith, c.reset_head.ensures.reads Plain, c.open_parts.ensures.reads Plain)

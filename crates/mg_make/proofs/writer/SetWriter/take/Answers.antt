@@ -3,6 +3,7 @@ use Rattle.std.proofs.lemmas.Result.{on_ok_weaker}
 use Rattle.mg_make.specs.Putting.{HasPut, Putting}
 use Rattle.mg_make.specs.Scanning.{Scanning}
 use Rattle.mg_make.proofs.PutSteps.{writing}
+use Rattle.mg_dev.specs.declared.part.Part.TheVariants.{Plain}
 use Rattle.mg_make.proofs.writer.SetWriter.take.Goals as goal
 
 pub returns-then-goes_on-clause-put : goal.returns-then-goes_on-clause-put
@@ -33,3 +34,6 @@ returns-clause-put g c =
     let own : HasPut (writing i.base.now i.plan.now i.limit i.sums.items i.size i.scanner i.pass) before fed = subst (λ (w : Putting). HasPut w before fed) (sym c.self.view_is) put in
     more fed (subst (λ (s : Scanning). HasPut (writing i.base.now i.plan.now i.limit i.sums.items i.size s i.pass) before fed) (sym same) own))
     c.take_other.ensures.put
+
+pub returns-clause-plain : goal.returns-clause-plain
+returns-clause-plain g c = omega (arith, c.take_other.ensures.reads Plain)
