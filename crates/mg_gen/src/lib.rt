@@ -16,6 +16,3 @@ mod syllable;
 mod writer;
 
 pub use make::{make_collection, make_session};
-
-#[cfg(test)]
-mod tests;

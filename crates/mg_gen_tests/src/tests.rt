@@ -1,7 +1,5 @@
-use crate::generator::Generator;
-use crate::syllable::word;
-use crate::{make_collection, make_session};
 use mg_dev::PutErr;
+use mg_gen::{make_collection, make_session};
 use mg_mem::{MemSink, SureSink};
 use sha2::{Digest, Sha256};
 use std::test::Fail;
@@ -52,15 +50,6 @@ fn one_document(rt: HostRuntime) -> Result<(), Fail> {
     assert_eq!(rt; out.bytes(), expected.as_slice());
     assert_eq!(rt; Sha256::digest(out.bytes()), ONE_DOCUMENT_DIGEST);
     Ok(())
-}
-
-#[test]
-fn first_numbers_and_words(rt: HostRuntime) {
-    let mut generator = Generator { state: 0 };
-    assert_eq!(rt; generator.draw(2000), 1807);
-    assert_eq!(rt; generator.state >> 33, 167951807);
-    assert_eq!(rt; word(5).as_slice(), b"baha".as_slice());
-    assert_eq!(rt; word(1807).as_slice(), b"kibav\xc3\xa9".as_slice());
 }
 
 #[test]
