@@ -1,7 +1,7 @@
 #!/usr/bin/python3
 """mg beside SQLite's FTS5, Xapian and grep, on one collection of real text and in one run.
 
-    python3 bench/compare.py bin/mg [--runs N] [--keep FOLDER]
+    python3 bench/compare.py bin/mg [--runs N] [--keep FOLDER] [--figures FILE]
 
 The collection is the kernel's documentation of Debian's package linux-doc: each of its files that
 end in .rst or .txt is a document, in the order of their names, closed by control-B. A second one
@@ -9,7 +9,8 @@ has each text once, since a third of these files repeat another. The same 500 Bo
 ranked questions, drawn with a fixed seed from the words of the collection, go to each system; each
 answers with ten rows. Times are those of the processor (user and system), of a whole process from
 its start to its end, Python's own start included where Python drives the system; peaks are the
-greatest resident sizes. Each figure is the median of the runs. The table is printed as Markdown.
+greatest resident sizes. Each figure is the median of the runs. The table is printed as Markdown, and
+the figures go to a file, from which charts.py draws.
 """
 
 import argparse
@@ -22,6 +23,8 @@ import statistics
 import subprocess
 import sys
 import tempfile
+
+import figures
 
 DOCUMENTATION = "/usr/share/doc/linux-doc-6.1"
 CLOSE = b"\x02"
@@ -231,71 +234,79 @@ def size_of(place):
     return sum(os.path.getsize(os.path.join(place, name)) for name in os.listdir(place))
 
 
-class Table:
-    """Rows of what was measured: a name, and a figure for each system."""
-
-    def __init__(self, title, systems):
-        self.lines = ["", "**%s**" % title, "", "| | " + " | ".join(systems) + " |", "|---" * (len(systems) + 1) + "|"]
-        self.systems = systems
-
-    def row(self, name, figures):
-        cells = [figures.get(system, "") for system in self.systems]
-        self.lines.append("| %s | %s |" % (name, " | ".join(cells)))
-
-    def show(self):
-        print("\n".join(self.lines), flush=True)
+NAMES = {
+    "build": "build",
+    "query": "500 Boolean and 500 ranked lines, ten rows each",
+    "one": "one line of a word, process start to end",
+    "decode": "decode",
+}
 
 
-def measured(mg, folder, title, documents, runs):
-    collection = os.path.join(folder, "collection")
-    write_collection(collection, documents)
-    size = os.path.getsize(collection)
-    boolean, ranked = questions(collection)
-    with open(collection + ".questions", "w", encoding="ascii") as file:
-        file.writelines(" ".join(question) + "\n" for question in boolean)
-        file.writelines("ranked " + " ".join(question) + "\n" for question in ranked)
-    lines = session(boolean, ranked)
-    child = [sys.executable, os.path.abspath(__file__), "--child"]
-    others = ["FTS5"] + (["Xapian"] if has_xapian() else [])
-    places = {"FTS5": os.path.join(folder, "fts5"), "Xapian": os.path.join(folder, "xapian")}
-    made = os.path.join(folder, "set")
-
-    def other(system, work):
-        return lambda: run(child + ["%s_%s" % (system.lower(), work), collection, places[system]])
-
-    def built_anew(system):
-        def build():
-            shutil.rmtree(places[system], ignore_errors=True)
-            if os.path.exists(places[system]):
-                os.remove(places[system])
-            return other(system, "build")()
-        return build
-
-    work = {
+def work_of_mg(mg, collection, made, lines):
+    """What each row has mg do."""
+    return {
         "build": lambda: run([mg, "build", collection, made]),
         "query": lambda: run([mg, "query", made], lines),
         "one": lambda: run([mg, "query", made], b".set maxdocs 10\nkernel\n"),
         "decode": lambda: run([mg, "decode", made]),
     }
-    names = {
-        "build": "build",
-        "query": "500 Boolean and 500 ranked lines, ten rows each",
-        "one": "one line of a word, process start to end",
-        "decode": "decode",
-    }
-    table = Table("%s: %d documents, %.1f MB" % (title, len(documents), size / 1e6), ["mg"] + others)
-    for key in ("build", "query", "one", "decode"):
-        times, peaks = {}, {}
-        for system in ["mg"] + others:
-            measure = work[key] if system == "mg" else built_anew(system) if key == "build" else other(system, key)
-            times[system], peaks[system] = medians(runs, measure)
-        table.row(names[key], {s: "%.3f s (%.2f)" % (times[s], times["mg"] / times[s]) if s != "mg" else "%.3f s" % times[s] for s in times})
-        table.row(names[key] + ": peak", {s: "%.0f MB" % (peaks[s] / 1e6) for s in peaks})
-    files = sum(os.path.getsize(os.path.join(folder, name)) for name in os.listdir(folder) if name.startswith("set."))
-    disk = {"mg": files, **{system: size_of(places[system]) for system in others}}
-    table.row("bytes on disk, of the collection", {s: "%.1f %%" % (100 * disk[s] / size) for s in disk})
-    table.show()
-    beside_grep(mg, collection, boolean, runs)
+
+
+def work_of_other(system, collection, place):
+    """What each row has another system do; each build begins with nothing there."""
+    child = [sys.executable, os.path.abspath(__file__), "--child"]
+
+    def build():
+        shutil.rmtree(place, ignore_errors=True)
+        if os.path.exists(place):
+            os.remove(place)
+        return run(child + ["%s_build" % system.lower(), collection, place])
+
+    asked = {key: lambda key=key: run(child + ["%s_%s" % (system.lower(), key), collection, place]) for key in NAMES}
+    return {**asked, "build": build}
+
+
+def measured(mg, folder, title, documents, runs):
+    """What each system took for one collection."""
+    collection, made = os.path.join(folder, "collection"), os.path.join(folder, "set")
+    write_collection(collection, documents)
+    boolean, ranked = questions(collection)
+    with open(collection + ".questions", "w", encoding="ascii") as file:
+        file.writelines(" ".join(question) + "\n" for question in boolean)
+        file.writelines("ranked " + " ".join(question) + "\n" for question in ranked)
+    places = {system: os.path.join(folder, system.lower()) for system in ["FTS5"] + ["Xapian"] * has_xapian()}
+    work = {"mg": work_of_mg(mg, collection, made, session(boolean, ranked))}
+    work |= {system: work_of_other(system, collection, place) for system, place in places.items()}
+    systems = {system: {} for system in work}
+    for key in NAMES:
+        for system in work:
+            seconds, peak = medians(runs, work[system][key])
+            systems[system][key] = {"seconds": seconds, "peak": peak}
+    systems["mg"]["disk"] = sum(size_of(os.path.join(folder, name)) for name in os.listdir(folder) if name.startswith("set."))
+    for system, place in places.items():
+        systems[system]["disk"] = size_of(place)
+    row = {"title": title, "documents": len(documents), "bytes": os.path.getsize(collection), "systems": systems}
+    return {**row, "scan": beside_grep(mg, collection, boolean, runs)}
+
+
+def show(row):
+    """The table of one collection."""
+    systems = row["systems"]
+
+    def cells(name, cell):
+        print("| %s | %s |" % (name, " | ".join(cell(systems[system], system) for system in systems)))
+
+    print("\n**%s: %d documents, %.1f MB**\n" % (row["title"], row["documents"], row["bytes"] / 1e6))
+    print("| | %s |\n%s|" % (" | ".join(systems), "|---" * (len(systems) + 1)))
+    for key, name in NAMES.items():
+        own = systems["mg"][key]["seconds"]
+        times = lambda told, system: "%.3f s" % told[key]["seconds"] + (" (%.2f)" % (own / told[key]["seconds"]) if system != "mg" else "")
+        cells(name, times)
+        cells(name + ": peak", lambda told, _: "%.0f MB" % (told[key]["peak"] / 1e6))
+    cells("bytes on disk, of the collection", lambda told, _: "%.1f %%" % (100 * told["disk"] / row["bytes"]))
+    scan = row["scan"]
+    told = (scan["seconds"], scan["peak"] / 1e6, scan["grep"], scan["seconds"] / scan["grep"])
+    print("\n`mg scan` of twenty words: %.2f s, peak %.0f MB; twenty runs of grep: %.2f s (%.2f)" % told, flush=True)
 
 
 def beside_grep(mg, collection, boolean, runs):
@@ -305,7 +316,7 @@ def beside_grep(mg, collection, boolean, runs):
     scan, peak = medians(runs, lambda: run([mg, "scan", collection], lines))
     script = "for word in %s; do grep -a -c -i -w -F $word %s | cat; done" % (" ".join(words), collection)
     grep, _ = medians(runs, lambda: run(["sh", "-c", script]))
-    print("\n`mg scan` of twenty words: %.2f s, peak %.0f MB; twenty runs of grep: %.2f s (%.2f)" % (scan, peak / 1e6, grep, scan / grep))
+    return {"seconds": scan, "peak": peak, "grep": grep}
 
 
 def has_xapian():
@@ -320,17 +331,22 @@ def main():
     words.add_argument("mg")
     words.add_argument("--runs", type=int, default=3)
     words.add_argument("--keep", help="a folder for the files, which stay")
+    words.add_argument("--figures", help="a file for the figures, beside those of other benches")
     asked = words.parse_args()
     mg = os.path.abspath(asked.mg)
     documents = list(texts(DOCUMENTATION))
     folder = asked.keep or tempfile.mkdtemp()
     os.makedirs(folder, exist_ok=True)
+    rows = []
     try:
-        measured(mg, folder, "The kernel's documentation", documents, asked.runs)
-        measured(mg, folder, "The same, each text once", list(dict.fromkeys(documents)), asked.runs)
+        for title, chosen in [("The kernel's documentation", documents), ("The same, each text once", list(dict.fromkeys(documents)))]:
+            rows.append(measured(mg, folder, title, chosen, asked.runs))
+            show(rows[-1])
     finally:
         if not asked.keep:
             shutil.rmtree(folder)
+    if asked.figures:
+        figures.put(asked.figures, "peers", rows)
 
 
 if __name__ == "__main__":
