@@ -21,6 +21,7 @@ from parts import Damaged, build, summary
 from sessions import session
 from standing import check, read_parts
 from texts import Collection
+from usages import not_understood
 
 EXPECTED = pathlib.Path(__file__).parent / "expected"
 KEPT = pathlib.Path(__file__).parent / "data" / "version_1.zip"
@@ -97,7 +98,7 @@ def refusals(suite):
     suite.check("a folder in place of a collection", suite.run(["build", "folder", "set"]), failed)
     suite.file("text", K)
     suite.check("a name in no folder", suite.run(["build", "text", "nowhere/set"]), failed)
-    unread = (1, b"", b"mg: the words are not understood\n")
+    unread = not_understood(["build"])
     for budget in ["4095", "1073741825", "-1", "x", ""]:
         suite.check(f"a budget of {budget!r}", suite.run(["build", "text", "set", "--budget", budget]), unread)
     suite.check("nothing was built", (suite.folder / "set.head").exists(), False)
@@ -148,7 +149,7 @@ def trials(suite):
     for seed, docs in [(7, 2000), (0, 1), (2**64 - 1, 20)]:
         got = suite.run(["trial", str(seed), str(docs)])
         suite.check(f"a trial of {seed} and {docs}", got, (0, trial(seed, docs), b""))
-    usage = (1, b"", b"mg: the words are not understood\n")
+    usage = not_understood(["trial"])
     for words in [["7", "0"], ["7", "20001"], [str(2**64), "1"], ["7"]]:
         suite.check(f"a trial of {words}", suite.run(["trial", *words]), usage)
     suite.check("a trial changes no file", (suite.folder / "text").read_bytes(), K)
@@ -176,7 +177,7 @@ def migrations(suite):
     unbuilt = suite.run(["migrate", "none", "new"])
     suite.check("a set made from none", (unbuilt[0], unbuilt[1]), (5, b""))
     suite.check("which makes none", (suite.folder / "new.head").exists(), False)
-    unread = (1, b"", b"mg: the words are not understood\n")
+    unread = not_understood(["migrate"])
     for words in [["old"], ["old", "new", "more"], ["old", ""]]:
         suite.check(f"a migration of {words}", suite.run(["migrate", *words]), unread)
     with open("/dev/full", "wb") as full:

@@ -15,27 +15,29 @@ import signal
 import subprocess
 
 from files import K
-from transcripts import ROOT, fresh_folder, manual_blocks, run_block, tools
+from transcripts import ROOT, VERSION, fresh_folder, manual_blocks, run_block, tools
+from usages import hint, synopsis
 
 MAN = ROOT / "man"
 PAGES = ["mg.1", "mg-collect.1", "mg-files.5"]
 # How many commands the examples of each page have: one that is not found is not run.
-COMMANDS = {"mg.1": 15, "mg-collect.1": 9, "mg-files.5": 22}
+COMMANDS = {"mg.1": 19, "mg-collect.1": 9, "mg-files.5": 22}
 
 
 def lint(suite):
-    """mandoc finds nothing to say, but that a page that is named is not installed here."""
+    """mandoc finds nothing to say, but that a page that is named is not installed here, and that mg is no operating system."""
     if not shutil.which("mandoc"):
         suite.check("mandoc is installed (Debian's package mandoc)", False, True)
         return
     for page in PAGES:
         told = subprocess.run(["mandoc", "-T", "lint", MAN / page], capture_output=True, text=True).stdout
-        others = [line for line in told.splitlines() if "referenced manual not found" not in line and "mandoc.db" not in line]
+        known = ["referenced manual not found", "mandoc.db", "operating system explicitly specified: Os mg"]
+        others = [line for line in told.splitlines() if not any(text in line for text in known)]
         suite.check(f"mandoc of {page}", others, [])
         for name, section in re.findall(r"^\.Xr (mg\S*) (\d)", (MAN / page).read_text(), re.M):
             suite.check(f"{page}: {name}({section}) is there", f"{name}.{section}" in PAGES, True)
         shown = subprocess.run(["mandoc", "-T", "ascii", MAN / page], capture_output=True, text=True).stdout
-        shown = re.sub(".\b", "", shown)
+        shown = re.sub(".\b", "", shown).replace("@VERSION@", VERSION)
         lines = [line.rstrip() for block in manual_blocks(MAN / page) for line in block]
         suite.check(f"{page} shows its examples", [line for line in lines if line.expandtabs() not in shown], [])
 
@@ -89,8 +91,12 @@ def told_statuses():
 
 
 def told(suite, statuses, status, run):
-    """A run ended with this status and with the line that the manual has for it."""
+    """A run ended with this status and with the line that the manual has for it; at status 1 the hint follows."""
     line = run[2].decode()
+    if status == 1:
+        line, _, hinted = line.partition("\n")
+        line += "\n"
+        suite.check(f"the hint {hinted!r}", hinted in [hint(words) for words in ([], *([tool] for tool in synopsis()))], True)
     lines = statuses.get(status, [])
     fits = any(re.fullmatch(wanted + "\n" if wanted else "", line) for wanted in lines)
     suite.check(f"status {status} of the manual: {line!r}", (run[0], fits), (status, True))

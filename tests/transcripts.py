@@ -11,6 +11,8 @@ import subprocess
 import tempfile
 
 ROOT = pathlib.Path(__file__).resolve().parent.parent
+# What `make install` writes into a page.
+VERSION = (ROOT / "VERSION").read_text().strip()
 # What mdoc writes otherwise within a literal display.
 ESCAPES = {"\\e": "\\", "\\(aq": "'", "\\-": "-", "\\ ": " ", "\\&": ""}
 
@@ -23,8 +25,9 @@ def plain(line):
 
 
 def manual_blocks(path):
-    """The literal displays of a manual page, each a list of lines."""
-    blocks = re.findall(r"^\.Bd -literal[^\n]*\n(.*?)^\.Ed$", path.read_text(), re.M | re.S)
+    """The literal displays of a manual page as it is installed, each a list of lines."""
+    page = path.read_text().replace("@VERSION@", VERSION)
+    blocks = re.findall(r"^\.Bd -literal[^\n]*\n(.*?)^\.Ed$", page, re.M | re.S)
     return [[plain(line) for line in block.splitlines()] for block in blocks]
 
 

@@ -1,6 +1,12 @@
 //! The program: it makes the devices of the system, and ends with the status of the run.
+//!
+//! Words that ask for help or for the version are answered here, before the run, and words that the run
+//! did not understand get a second line behind the fault's. So the clause of `mg_top::run` says nothing
+//! of help, and a page is printed only where the run has nothing to do.
 #![tactic(auto)]
 
+use mg_dev::{Fault, Sink, Status, put_fault_line};
+use mg_help::{Page, hint, page_asked, text_of};
 use mg_host::{HostSink, HostSource, HostStore};
 use std::process::ExitCode;
 use std::{env, io};
@@ -8,14 +14,37 @@ use std::{env, io};
 /// The status where the system does not give the words or a device.
 const NO_DEVICES: u8 = 18;
 
+/// Prints a page; where that fails, its fault's line is told.
+fn print_page<O: Sink, E: Sink>(page: Page, out: &mut O, err: &mut E) -> Status {
+    match out.put(text_of(page).as_bytes()) {
+        Ok(()) => Status::Done,
+        Err(cause) => {
+            let fault = Fault::of_output(cause);
+            let _ = put_fault_line(err, &fault);
+            Status::Stopped(fault)
+        }
+    }
+}
+
+/// Tells behind words that were not understood where help is; a failed write changes nothing.
+fn tell_hint<E: Sink>(words: &[String], status: &Status, err: &mut E) {
+    if matches!(status, Status::Stopped(Fault::Usage)) {
+        let _ = err.put(hint(words).as_bytes());
+    }
+}
+
 fn try_main(rt: HostRuntime) -> io::Result<u8> {
     let alloc = rt.alloc();
     let words: Vec<String> = env::args(&rt)?.skip(1).collect(alloc)?;
-    let mut store = HostStore::new(alloc, rt.clone()?);
-    let mut input = HostSource::new(rt.stdin());
     let mut out = HostSink::new(rt.stdout());
     let mut err = HostSink::new(rt.stderr());
+    if let Some(page) = page_asked(&words) {
+        return Ok(print_page(page, &mut out, &mut err).number());
+    }
+    let mut store = HostStore::new(alloc, rt.clone()?);
+    let mut input = HostSource::new(rt.stdin());
     let status = mg_top::run(alloc, &words, &mut store, &mut input, &mut out, &mut err);
+    tell_hint(&words, &status, &mut err);
     Ok(status.number())
 }
 
