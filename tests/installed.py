@@ -7,11 +7,21 @@ import subprocess
 from files import K
 from transcripts import ROOT, fresh_folder
 
-INSTALLED = {
-    "usr/bin/mg": 0o755, "usr/bin/mg-collect": 0o755, "usr/share/man/man1/mg.1": 0o644,
-    "usr/share/man/man1/mg-collect.1": 0o644, "usr/share/man/man5/mg-files.5": 0o644,
-    "usr/share/bash-completion/completions/mg": 0o644, "usr/share/bash-completion/completions/mg-collect": 0o644,
-}
+
+def expected_files(name):
+    """What is installed below a root with the prefix /usr, each with its rights, where the program has this name."""
+    contrib, files = ROOT / "contrib", {f"usr/bin/{name}": 0o755}
+    files |= {f"usr/bin/{path.name}": 0o755 for path in contrib.glob("mg-*")}
+    files |= {f"usr/lib/mg/{path.relative_to(contrib)}": 0o644 for path in contrib.glob("*/*.py")}
+    own = {"mg": name, "mg.1": f"{name}.1"}
+    for path in (ROOT / "man").iterdir():
+        files[f"usr/share/man/man{path.name[-1]}/{own.get(path.name, path.name)}"] = 0o644
+    for path in (contrib / "completions").iterdir():
+        files[f"usr/share/bash-completion/completions/{own.get(path.name, path.name)}"] = 0o644
+    for document in ["README.md", "CHANGELOG.md", "LICENSE-MIT", "LICENSE-APACHE"]:
+        if (ROOT / document).exists():
+            files[f"usr/share/doc/{name}/{document}"] = 0o644
+    return files
 
 
 def make(suite, target, destination):
@@ -30,9 +40,9 @@ def installation(suite):
         destination = os.path.join(folder, "a folder")
         run = make(suite, "install", destination)
         suite.check("make install", (run.returncode, run.stderr), (0, ""))
-        suite.check("installed files", files_below(destination), sorted(INSTALLED))
+        suite.check("installed files", files_below(destination), sorted(expected_files("mg")))
         rights = {name: os.stat(os.path.join(destination, name)).st_mode & 0o777 for name in files_below(destination)}
-        suite.check("the rights of installed files", rights, INSTALLED)
+        suite.check("the rights of installed files", rights, expected_files("mg"))
         program = os.path.join(destination, "usr/bin/mg")
         with open(program, "rb") as file:
             suite.check("the installed program", file.read(), suite.program.read_bytes())
@@ -48,6 +58,7 @@ def installation(suite):
         run = make(suite, "uninstall", destination)
         suite.check("make uninstall", (run.returncode, run.stderr), (0, ""))
         suite.check("files of others stay", files_below(destination), ["usr/share/man/man1/other.1"])
+        suite.check("our own folders go", [os.path.exists(os.path.join(destination, "usr", name)) for name in ["lib/mg", "share/doc/mg"]], [False] * 2)
 
 
 def completed(words, folder):
@@ -71,7 +82,7 @@ def completion(suite):
                 pass
         files = sorted(["letters", "letters.mail", "letters.head", "letters.words", "a set.head", "x.table", ".head", "sub"])
         for words, wanted in [
-            (["mg", ""], tools), (["mg", "q"], ["query"]), (["mg", "x"], []), (["mg", "x", ""], []),
+            (["mg", ""], tools), (["mg", "-"], ["--help", "--version"]), (["mg", "--v"], ["--version"]), (["mg", "q"], ["query"]), (["mg", "x"], []), (["mg", "x", ""], []),
             (["mg", "query", ""], ["a set", "letters", "sub"]), (["mg", "query", "let"], ["letters"]),
             (["mg", "query", "a\\ s"], ["a set"]), (["mg", "query", "'a s"], ["a set"]), (["mg", "query", "sub/"], ["sub/more"]),
             (["mg", "query", "letters", ""], []), (["mg", "decode", "s"], ["sub"]), (["mg", "decode", "z"], []), (["mg", "check", "let"], ["letters"]),

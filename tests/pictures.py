@@ -32,7 +32,7 @@ def layers(suite):
     suite.check("the layers of crates.txt are those of docs/layers.dot (make docs)", (ROOT / "docs" / "layers.dot").read_text(), drawn.stdout)
     picture = LAYERS.read_text()
     crates = used_by((ROOT / "crates.txt").read_text())
-    shown = sorted(name for name in crates if not re.search(r"_tests$|^mg_bench$|^query_lines$", name))
+    shown = sorted(name for name in crates if not re.search(r"_tests$|^mg_bench$", name))
     suite.check("the crates of the picture (make docs)", titles(picture, "node"), shown)
     lines = {}
     for title in titles(picture, "edge"):

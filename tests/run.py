@@ -24,15 +24,19 @@ import damages
 import dialogs
 import docs
 import files
+import helped
 import installed
 import manual
 import merges
+import packaging
 import pages
 import patterns
 import phrases
+import pictures
 import shards
 import wrong_bodies
 from kinds import Draws, cases
+from usages import not_understood
 
 EXPECTED = pathlib.Path(__file__).parent / "expected"
 K = b"the cat sat\n\x02the dog\n\x02Cat, cat & dog!\n\x02"
@@ -147,12 +151,11 @@ def stored(suite):
 def words(suite):
     """The words of the command line."""
     suite.file("text", K)
-    usage = (1, b"", b"mg: the words are not understood\n")
     for name, given in [
         ("no words", []), ("no tool", ["index"]), ("no name", ["scan"]), ("a word too many", ["scan", "text", "more"]),
         ("an empty name", ["scan", ""]), ("an option", ["scan", "--all", "text"]),
     ]:
-        suite.check(name, suite.run(given, b"sat\n"), usage)
+        suite.check(name, suite.run(given, b"sat\n"), not_understood(given))
     for name in ["name with blanks", "Bücher.txt", "a.b"]:
         suite.file(name, K)
         suite.check(f"a collection {name!r}", suite.run(["scan", name], b"sat\n"), (0, replies("1", "= 1"), b""))
@@ -233,9 +236,12 @@ MODULES = (
     dialogs,
     damages,
     manual,
+    helped,
     collect,
     installed,
+    packaging,
     pages,
+    pictures,
     docs,
     wrong_bodies,
 )

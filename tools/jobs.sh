@@ -8,7 +8,7 @@ set -eu
 
 # The kilobytes of the machine, or of the control group where that has fewer. The kernel keeps some hundred megabytes for
 # itself, so half a gigabyte is added.
-kilobytes=$(awk '/^MemTotal:/ { print $2 }' "${1:-/proc/meminfo}")
+kilobytes=$(sed -n 's/^MemTotal: *\([0-9]*\) kB$/\1/p' "${1:-/proc/meminfo}")
 for limit in /sys/fs/cgroup/memory.max /sys/fs/cgroup/memory/memory.limit_in_bytes; do
     [ -r "$limit" ] || continue
     bytes=$(cat "$limit")

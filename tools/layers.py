@@ -4,8 +4,8 @@
     python3 tools/layers.py            writes docs/layers.dot and docs/layers.svg
     python3 tools/layers.py --print    prints the text for graphviz
 
-A crate stands above all crates that it uses, each at the height of its longest way down. Crates of tests, mg_bench and
-query_lines are left out, and so is a line to a crate that another line leads to already. In brackets stand the
+A crate stands above all crates that it uses, each at the height of its longest way down. Crates of tests and mg_bench
+are left out, and so is a line to a crate that another line leads to already. In brackets stand the
 libraries of the kit that a crate uses.
 """
 
@@ -14,7 +14,7 @@ import subprocess
 import sys
 
 ROOT = pathlib.Path(__file__).resolve().parent.parent
-LEFT_OUT = ("mg_bench", "query_lines")
+LEFT_OUT = ("mg_bench",)
 
 
 def read_crates(text):
