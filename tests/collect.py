@@ -1,20 +1,10 @@
-"""mg-collect: collections from mailboxes, folders and lists, the tables beside them, and the names of rows.
-
-Each case is run with every awk and every shell of Debian that is here; mawk, busybox and dash are wanted.
-"""
+"""mg-collect: mailboxes as they are, folders and lists, the tables beside them, and the names of rows."""
 
 import os
-import resource
-import shutil
-import signal
 import subprocess
 
-from transcripts import ROOT, fresh_folder, tools
-
-SCRIPT = ROOT / "contrib" / "mg-collect"
-AWKS = ["mawk", "busybox awk", "gawk", "original-awk"]
-SHELLS = ["dash", "busybox sh", "bash"]
-WANTED = ["mawk", "busybox", "dash"]
+from collecting import Collect, row
+from transcripts import fresh_folder, tools
 
 # Lines that begin with From in every way: a From_ line of the first message that says little, quoted ones, one of text
 # behind an empty line, remote ones of old networks, a folded field and one that comes twice, 8-bit fields and bodies.
@@ -60,223 +50,180 @@ MESSAGES = [
     b"",
     b"To: nobody\n\nno newline at the end",
 ]
-
+# The beginning of each message in the mbox, and Message-ID, date, sender and subject.
 FIELDS = [
-    (1, b"=?ISO-8859-1?Q?J=F6rg?= <joerg@harbour.example>\tThu, 1 Jan 1970 00:00:00 +0000\tthe crane at berth 7"),
-    (15, b"J\xf6rg\t\tGr\xfc\xdfe aus K\xf6ln"), (21, b"\t\t"), (23, b"\t\tonly a header"), (27, b"\t\t"), (28, b"\t\t"),
+    (b"From: =?ISO", b"", b"1970-01-01T00:00:00+00:00", "Jörg <joerg@harbour.example>".encode(), b"the crane at berth 7"),
+    (b"Subject: Gr", b"", b"", b"J\xf6rg", b"Gr\xfc\xdfe aus K\xf6ln"), (b"\nFrom header", b"", b"", b"", b""),
+    (b"subject:only", b"", b"", b"", b"only a header"), (b"From gone", b"", b"", b"", b""), (b"To: nobody", b"", b"", b"", b""),
 ]
 
 
-def table(name, first=1):
-    return b"".join(b"%d\t%s:%d\t%s\n" % (first + i, name, line, fields) for i, (line, fields) in enumerate(FIELDS))
-
-
-class Collect:
-    """Runs of the script with one shell and one awk in a folder of its own."""
-
-    def __init__(self, suite, shell, awk, folder):
-        self.suite = suite
-        self.shell = shell.split()
-        self.awk = awk
-        self.folder = folder
-
-    def run(self, *words, given=b"", most=resource.RLIM_INFINITY):
-        """The script's status, output and error output, where a file may have at most so many bytes."""
-
-        def narrow():
-            signal.signal(signal.SIGXFSZ, signal.SIG_IGN)
-            resource.setrlimit(resource.RLIMIT_FSIZE, (most, most))
-
-        run = subprocess.run(
-            [*self.shell, SCRIPT, *words], cwd=self.folder, input=given, capture_output=True, preexec_fn=narrow,
-            env={**os.environ, "AWK": self.awk}, timeout=300,
-        )
-        return run.returncode, run.stdout, run.stderr
-
-    def file(self, name, content=b""):
-        path = os.path.join(self.folder, name)
-        os.makedirs(os.path.dirname(path), exist_ok=True)
-        with open(path, "wb") as file:
-            file.write(content)
-
-    def check(self, name, got, wanted):
-        self.suite.check(f"{name} ({' '.join(self.shell)}, {self.awk})", got, wanted)
-
-    def made(self, name, documents, rows, printed, *words, given=b""):
-        """The words make this collection and this table, and leave nothing else."""
-        before = set(os.listdir(self.folder))
-        self.check(name, self.run(*words, given=given), (0, printed, b""))
-        for ending, wanted in [("", b"".join(document + b"\x02" for document in documents)), (".table", rows)]:
-            path = os.path.join(self.folder, "new" + ending)
-            with open(path, "rb") as file:
-                self.check(f"{name}: new{ending}", file.read(), wanted)
-            os.remove(path)
-        self.check(f"{name}: leaves no other file", set(os.listdir(self.folder)), before)
-
-    def refused(self, name, status, told, *words, given=b""):
-        """The words are refused, and what was there stays."""
-        self.file("new", b"old")
-        before = set(os.listdir(self.folder))
-        self.check(name, self.run(*words, given=given), (status, b"", told))
-        with open(os.path.join(self.folder, "new"), "rb") as file:
-            self.check(f"{name}: the old collection", file.read(), b"old")
-        self.check(f"{name}: leaves no file", set(os.listdir(self.folder)), before)
-        os.remove(os.path.join(self.folder, "new"))
+def table(name, mbox, first=1):
+    """The rows of the messages, each where it stands in the mbox."""
+    rows = []
+    for number, ((beginning, *fields), message) in enumerate(zip(FIELDS, MESSAGES), first):
+        offset = mbox.index(beginning.replace(b"\n", b"\r\n") if b"\r" in mbox else beginning)
+        # In the mbox two lines have one sign more, before From.
+        length = len(message.replace(b"\n", b"\r\n") if b"\r" in mbox else message) + 2 * (b"twice quoted" in message)
+        rows.append(row(number, name, offset, length, *fields))
+    return b"".join(rows)
 
 
 def mailboxes(case):
-    case.file("a.mbox", MBOX)
-    case.file("b.mbox", MBOX.replace(b"\n", b"\r\n"))
-    case.file("empty", b"")
-    case.file("blank", b"\n\r\n\n")
-    returned = [message.replace(b"\n", b"\r\n") for message in MESSAGES]
-    case.made("an mbox", MESSAGES, table(b"a.mbox"), b"documents 6\n", "mbox", "new", "a.mbox")
+    """Messages as they are, with --raw."""
+    returned = MBOX.replace(b"\n", b"\r\n")
+    for name, content in [("a.mbox", MBOX), ("b.mbox", returned), ("empty", b""), ("blank", b"\n\r\n\n")]:
+        case.file(name, content)
+    case.made("an mbox", MESSAGES, table(b"a.mbox", MBOX), b"documents 6\n", "mbox", "--raw", "new", "a.mbox")
     case.made(
-        "two mboxes", MESSAGES + returned, table(b"a.mbox") + table(b"b.mbox", 7), b"documents 12\n",
-        "mbox", "new", "a.mbox", "empty", "b.mbox", "blank",
+        "two mboxes", MESSAGES + [message.replace(b"\n", b"\r\n") for message in MESSAGES],
+        table(b"a.mbox", MBOX) + table(b"b.mbox", returned, 7), b"documents 12\n",
+        "--raw", "mbox", "new", "a.mbox", "empty", "b.mbox", "blank",
     )
     case.made("an empty mbox", [], b"", b"documents 0\n", "mbox", "new", "empty")
     case.file("ended", b"From a\nSubject: s\n\nbody\n\n\n")
-    case.made("a body that ends in empty lines", [b"Subject: s\n\nbody\n\n"], b"1\tended:1\t\t\ts\n", b"documents 1\n", "mbox", "new", "ended")
+    rows = row(1, b"ended", 7, 18, b"", b"", b"", b"s")
+    case.made("a body that ends in empty lines", [b"Subject: s\n\nbody\n\n"], rows, b"documents 1\n", "mbox", "new", "ended", "--raw")
     case.file("odd name\\n %s", b"From a\n\nx\n")
-    case.made("an odd name", [b"\nx\n"], b"1\todd name\\n %s:1\t\t\t\n", b"documents 1\n", "mbox", "new", "odd name\\n %s")
+    rows = row(1, b"odd name\\n %s", 7, 3)
+    case.made("an odd name", [b"\nx\n"], rows, b"documents 1\n", "mbox", "new", "odd name\\n %s", "--raw")
+    case.file("nulls", b"From a\n\nx\x00y\n")
+    case.made("a null byte", [b"\nx\x00y\n"], row(1, b"nulls", 7, 5), b"documents 1\n", "mbox", "new", "nulls", "--raw")
     case.file("text", b"\nHello,\n")
     case.refused("no mbox", 3, b"mg-collect: text:2: no mbox: a line before the first From line\n", "mbox", "new", "a.mbox", "text")
-    case.file("closed", b"From a\nSubject: s\n\na\x02b\x02\n")
-    told = b"mg-collect: closed:4:2: a control-B within a document; -r BYTE replaces it\n"
-    case.refused("a control-B in an mbox", 3, told, "mbox", "new", "a.mbox", "closed")
+    closes(case)
+
+
+def closes(case):
+    """A control-B in a message that is to stay as it is."""
+    mbox = b"From a\nSubject: s\n\na\x02b\x02\n\nFrom b@c Tue Mar  5 10:11:00 2002\n\nnext\n"
+    case.file("closed", mbox)
+    second = row(1, b"closed", mbox.index(b"\nnext"), 6)
+    told = b"mg-collect: left out closed: a control-B at 4:2\n"
+    choice = b"mg-collect: 1 documents were left out; --skip says that this is meant, --replace BYTE takes such bytes\n"
+    case.made("a control-B in an mbox", [b"\nnext\n"], second, b"documents 1\nskipped 1\n", "mbox", "--raw", "new", "closed", status=5, told=told + choice)
+    case.made("which is skipped", [b"\nnext\n"], second, b"documents 1\nskipped 1\n", "mbox", "--raw", "--skip", "new", "closed", told=told)
+    both = row(1, b"closed", 7, 17, b"", b"", b"", b"s") + row(2, b"closed", mbox.index(b"\nnext"), 6)
     for byte in ["?", "\\", "-", " "]:
         case.made(
-            f"replaced by {byte!r}", [b"Subject: s\n\na%sb%s\n" % (byte.encode(), byte.encode())], b"1\tclosed:1\t\t\ts\n",
-            b"documents 1\nreplaced 2\n", "-r", byte, "mbox", "new", "closed",
+            f"replaced by {byte!r}", [b"Subject: s\n\na%sb%s\n" % (byte.encode(), byte.encode()), b"\nnext\n"], both,
+            b"documents 2\nreplaced 2\n", "--raw", f"-r{byte}", "mbox", "new", "closed",
         )
 
 
-def maildirs(case):
-    for name, content in [
-        ("cur/1700000003.M1.host:2,S", MESSAGES[0]), ("new/1700000001.M7.host", MESSAGES[1].replace(b"\n", b"\r\n")),
-        ("cur/1700000002.M1.host:2,RS", b""), ("tmp/1700000000.M1.host", b"not yet there"),
-    ]:
-        case.file("Mail/" + name, content)
-    rows = b"1\tMail/new/1700000001.M7.host\t%s\n2\tMail/cur/1700000002.M1.host:2,RS\t\t\t\n3\tMail/cur/1700000003.M1.host:2,S\t%s\n"
-    case.made(
-        "a Maildir", [MESSAGES[1].replace(b"\n", b"\r\n"), b"", MESSAGES[0]], rows % (FIELDS[1][1], FIELDS[0][1]),
-        b"documents 3\n", "maildir", "new", "Mail/",
-    )
-    case.refused("no Maildir", 3, b"mg-collect: Mail/cur: no Maildir: it has no folders cur and new\n", "maildir", "new", "Mail/cur")
-    case.file("Mail/new/1700000009.M1.host", b"Subject: s\n\n\x02")
-    told = b"mg-collect: Mail/new/1700000009.M1.host:3:1: a control-B within a document; -r BYTE replaces it\n"
-    case.refused("a control-B in a Maildir", 3, told, "maildir", "new", "Mail")
+def blocks(case):
+    """Messages whose lines stand across the blocks in which an mbox is read: every place of a From_ line, and a large one."""
+    line = b"From a@b.example Thu Jan  1 00:00:00 1970\n"
+    for shift in range(-50, 3):
+        first = b"x" * ((1 << 20) + shift - len(line) - 2) + b"\n"
+        case.file("m", line + b"\n" + first + b"\n" + line + b"\nnext\n")
+        rows = row(1, b"m", len(line), len(first) + 1) + row(2, b"m", 2 * len(line) + len(first) + 2, 6)
+        case.made(f"a From line {shift} bytes from a block", [b"\n" + first, b"\nnext\n"], rows, b"documents 2\n", "mbox", "--raw", "new", "m")
+    large = b"\n" + b"From the north a line of text\n" * 100_000
+    case.file("m", line + large + b"\n" + line + b"\n")
+    rows = row(1, b"m", len(line), len(large)) + row(2, b"m", 2 * len(line) + len(large) + 1, 0)
+    case.made("a message of three megabytes", [large, b""], rows, b"documents 2\n", "mbox", "--raw", "new", "m")
 
 
 def folders(case):
-    contents = {"notes/B": b"a cat\n", "notes/a b": b"\xff\x00 dog", "notes/empty": b"", "notes/sub/-x": b"deep\r\n"}
+    contents = {"notes/B": b"a cat\n", "notes/a b": b"\xff\xfe dog", "notes/empty": b"", "notes/sub/-x": b"deep\r\n", "notes/sub.d": b"."}
     for name, content in contents.items():
         case.file(name, content)
-    rows = b"".join(b"%d\t%s\n" % (i, name.encode()) for i, name in enumerate(contents, 1))
-    documents = list(contents.values())
-    case.made("a folder", documents, rows, b"documents 4\n", "folder", "new", "notes")
-    case.made("files", documents, rows, b"documents 4\n", "files", "new", *contents)
-    names = "\n".join(contents).encode()
-    case.made("a list", documents, rows, b"documents 4\n", "files", "new", given=names)
+    ordered = sorted(contents, key=str.encode)
+    rows = b"".join(row(i, name.encode(), 0, len(contents[name])) for i, name in enumerate(ordered, 1))
+    documents = [contents[name] for name in ordered]
+    case.made("a folder", documents, rows, b"documents 5\n", "folder", "new", "notes")
+    case.made("a folder with a slash", documents, rows, b"documents 5\n", "folder", "new", "notes/")
+    case.made("files", documents, rows, b"documents 5\n", "files", "new", *ordered)
+    names = "\n".join(ordered).encode()
+    for name, given in [("a list", names), ("a list with a newline at its end", names + b"\n")]:
+        case.made(name, documents, rows, b"documents 5\n", "files", "new", given=given)
     case.made("an empty list", [], b"", b"documents 0\n", "files", "new")
     for _ in range(2):
-        case.check("a folder that has the collection", case.run("folder", "notes/all", "notes"), (0, b"documents 4\n", b""))
-    os.remove(os.path.join(case.folder, "notes/all"))
-    os.remove(os.path.join(case.folder, "notes/all.table"))
+        case.check("a folder that has the collection", case.run("folder", "notes/all", "notes"), (0, b"documents 5\n", b""))
+    os.remove(case.path("notes/all"))
+    os.remove(case.path("notes/all.table"))
     case.file("-d/a", b"x")
-    case.made("a folder that looks like an option", [b"x"], b"1\t./-d/a\n", b"documents 1\n", "folder", "new", "-d")
-    case.file("notes/sub/closed", b"one\ntwo \x02\n\x02")
-    told = b"mg-collect: notes/sub/closed:2:5: a control-B within a document; -r BYTE replaces it\n"
-    case.refused("a control-B in a folder", 3, told, "folder", "new", "notes")
-    replaced = documents + [b"one\ntwo _\n_"]
-    case.made(
-        "replaced in a folder", replaced, rows + b"5\tnotes/sub/closed\n", b"documents 5\nreplaced 2\n",
-        "-r", "_", "folder", "new", "notes",
-    )
-    case.file("notes/two\nlines", b"")
-    told = b"mg-collect: a name with a tab or a newline: notes/two\n"
-    case.refused("a name of two lines, of which the first is told", 3, told, "folder", "new", "notes")
-    for words, name in [(["folder", "new", "none"], b"folder"), (["files", "new", "notes/B", "none"], b"file")]:
+    case.made("a folder that looks like an option", [b"x"], row(1, b"./-d/a", 0, 1), b"documents 1\n", "folder", "new", "--", "-d")
+    case.refused("a list with an empty line", 3, b"mg-collect: an empty name\n", "files", "new", given=b"notes/B\n\nnotes/B\n")
+    for words, name in [(["folder", "new", "none"], b"folder"), (["files", "new", "notes/B", "none"], b"file"), (["mbox", "new", "none"], b"file")]:
         case.refused(f"no {name}", 2, b"mg-collect: none: there is no such %s\n" % name, *words)
     case.refused("a folder in a list", 2, b"mg-collect: notes: it is a folder\n", "files", "new", given=b"notes/B\nnotes\n")
-
-
-def full(case):
-    """A disk that takes no more than a few bytes of a file: the old collection stays."""
-    case.file("a.mbox", MBOX)
-    case.file("Mail/cur/1", MESSAGES[0])
-    case.file("Mail/new/2", MESSAGES[1])
-    case.file("new", b"old")
-    before = set(os.listdir(case.folder))
-    for words in [["mbox", "new", "a.mbox"], ["maildir", "new", "Mail"], ["folder", "new", "Mail"]]:
-        for most in [0, 20, 300]:
-            status, out, _ = case.run(*words, most=most)
-            with open(os.path.join(case.folder, "new"), "rb") as file:
-                case.check(f"{words[0]} into files of at most {most} bytes", (status, out, file.read()), (2, b"", b"old"))
-            case.check(f"{words[0]} into files of {most} bytes leaves none", set(os.listdir(case.folder)), before)
+    case.refused("a folder as mbox", 2, b"mg-collect: notes: it is a folder\n", "mbox", "new", "notes")
+    told = b"mg-collect: notes: it is a folder\n"
+    case.check("a folder as collection", case.run("files", "notes", "notes/B"), (2, b"", told))
+    told = b"mg-collect: notes/B: it would be written over by the collection or its table\n"
+    case.check("a source as collection", case.run("files", "notes/B", "notes/B"), (3, b"", told))
+    case.check("which stays", case.content("notes/B"), contents["notes/B"])
 
 
 def named(case):
-    case.file("text.table", b"1\tnotes/a\n2\tm.mbox:7\tJ\xf6rg\t\tcrane\n12\tlast\n")
-    given = b"2\n12 3456\n= 2\n-- 1\n2\n12 3456\n= 9\n-- 2\n\xff\x02\n= 1\n-- 2 77\n\x02\n= 1\n? syntax at 2\n\n? bad command\n"
+    case.file("text.table", b"1\tnotes/a\n2\tm.mbox:7\tJ\xf6rg\t\tcr\x00ane\n3\t\n")
+    given = b"2\n3 3456\n= 2\n-- 1\n2\n3 3456\n= 9\n-- 2\n\xff\x00\x02\n= 1\n-- 2 77\n\x02\n= 1\n? syntax at 2\n\n? bad command\n"
     wanted = (
-        b"2\tm.mbox:7\tJ\xf6rg\t\tcrane\n12 3456\tlast\n= 2\n-- 1\tnotes/a\n2\n12 3456\n= 9\n-- 2\n\xff\x02\n= 1\n"
-        b"-- 2 77\tm.mbox:7\tJ\xf6rg\t\tcrane\n\x02\n= 1\n? syntax at 2\n\n? bad command\n"
+        b"2\tm.mbox:7\tJ\xf6rg\t\tcr\x00ane\n3 3456\t\n= 2\n-- 1\tnotes/a\n2\n3 3456\n= 9\n-- 2\n\xff\x00\x02\n= 1\n"
+        b"-- 2 77\tm.mbox:7\tJ\xf6rg\t\tcr\x00ane\n\x02\n= 1\n? syntax at 2\n\n? bad command\n"
     )
     case.check("names", case.run("names", "text.table", given=given), (0, wanted, b""))
-    unnamed = (4, b"1\tnotes/a\n3\n4 5\n= 3\n", b"mg-collect: text.table: it has no document 3\n")
-    case.check("rows of another collection", case.run("names", "text.table", given=b"1\n3\n4 5\n= 3\n"), unnamed)
+    case.check("names of a last line without its end", case.run("names", "text.table", given=b"= 0\n1"), (0, b"= 0\n1\tnotes/a", b""))
+    unnamed = (4, b"1\tnotes/a\n4\n5 5\n= 3\n", b"mg-collect: text.table: it has no document 4\n")
+    case.check("rows of another collection", case.run("names", "text.table", given=b"1\n4\n5 5\n= 3\n"), unnamed)
     case.check("no table", case.run("names", "none"), (2, b"", b"mg-collect: none: it cannot be read\n"))
+    large = b"-- 1\n" + b"1\n2\n" * 300_000 + b"no \x02 end\n\x02\n1\n"
+    wanted = large.replace(b"-- 1\n", b"-- 1\tnotes/a\n", 1)[:-2] + b"1\tnotes/a\n"
+    case.check("a shown document of more than a megabyte", case.run("names", "text.table", given=large), (0, wanted, b""))
+    merged(case)
+
+
+def merged(case):
+    """The tables of merged sets, and tables whose numbers are not 1, 2, 3 and so on."""
+    case.file("a.table", b"1\tone\n2\ttwo\n")
+    case.file("b.table", b"1\tthree\n")
+    case.file("none.table", b"")
+    given = b"1\n2\n3\n= 3\n"
+    wanted = b"1\tone\n2\ttwo\n3\tthree\n= 3\n"
+    case.check("names of a merge", case.run("names", "a.table", "none.table", "b.table", given=given), (0, wanted, b""))
+    case.check("the other way", case.run("names", "b.table", "a.table", given=given), (0, b"1\tthree\n2\tone\n3\ttwo\n= 3\n", b""))
+    told = b"mg-collect: a.table, b.table: they have no document 4\n"
+    case.check("beyond both", case.run("names", "a.table", "b.table", given=b"4\n"), (4, b"4\n", told))
+    for name, content, line in [
+        ("starts later", b"2\tx\n", 1), ("a gap", b"1\tx\n3\ty\n", 2), ("twice", b"1\tx\n1\ty\n", 2), ("none", b"x\n", 1), ("empty", b"1\tx\n\n", 2),
+        ("zeros", b"01\tx\n", 1),
+    ]:
+        case.file("odd.table", content)
+        told = b"mg-collect: odd.table:%d: no row %d of a table\n" % (line, line)
+        case.check(f"a table that has numbers otherwise: {name}", case.run("names", "a.table", "odd.table", given=b"1\n"), (3, b"", told))
 
 
 def usage(case):
-    for words in [[], ["mbox"], ["mbox", "new"], ["folder", "new"], ["names"], ["names", "a", "b"], ["index", "new", "a"],
-                  ["-r", "", "files", "new"], ["-r", "ab", "files", "new"], ["-r", "\x02", "files", "new"], ["-x", "files", "new"]]:
+    last = b"options: --raw, --skip, --replace BYTE (-r BYTE), --filter COMMAND, --text, --help\n"
+    for words in [[], ["mbox"], ["mbox", "new"], ["folder", "new"], ["names"], ["index", "new", "a"], ["-r", "", "files", "new"],
+                  ["-r", "ab", "files", "new"], ["-r", "\x02", "files", "new"], ["-x", "files", "new"], ["names", "a", "--raw"],
+                  ["mbox", "new", "a", "--text"], ["maildir", "new", "a", "--filter", "cat"], ["files", ""], ["files", "new", "--ra"]]:
         status, out, err = case.run(*words)
-        case.check(f"words {words}", (status, out, err.endswith(b"       mg-collect names TABLE\n")), (1, b"", True))
+        case.check(f"words {words}", (status, out, err.endswith(last)), (1, b"", True))
+    status, out, err = case.run("--help")
+    case.check("help", (status, out.endswith(last), err), (0, True, b""))
 
 
-def every_case(suite):
-    """Every case with every awk in the shell of the system, and with every shell and mawk."""
-    for name in WANTED:
-        suite.check(f"{name} is installed (Debian's package {name})", bool(shutil.which(name)), True)
-    here = lambda command: bool(shutil.which(command.split()[0]))
-    pairs = [("sh", awk) for awk in AWKS if here(awk)] + [(shell, "mawk") for shell in SHELLS if here(shell)]
-    for shell, awk in pairs:
-        for part in [mailboxes, maildirs, folders, full, named, usage]:
-            with fresh_folder(suite) as folder:
-                part(Collect(suite, shell, awk, folder))
-
-
-def nulls(suite):
-    """A null byte in an mbox stays, or is refused where the awk would lose it."""
-    for awk in filter(lambda awk: shutil.which(awk.split()[0]), AWKS):
+def every_part(suite):
+    for part in [mailboxes, blocks, folders, named, usage]:
         with fresh_folder(suite) as folder:
-            case = Collect(suite, "sh", awk, folder)
-            case.file("m", b"From a\n\nx\x00y\n")
-            status, _, err = case.run("mbox", "new", "m")
-            if status == 0:
-                with open(os.path.join(folder, "new"), "rb") as file:
-                    case.check("a null byte", file.read(), b"\nx\x00y\n\x02")
-            else:
-                told = b"mg-collect: m: it has null bytes, which this awk loses; set AWK to another one, such as mawk or gawk\n"
-                case.check("a null byte is refused", (status, err), (3, told))
+            part(Collect(suite, folder))
 
 
 def asked(suite):
     """From an mbox to an answer with names."""
     with fresh_folder(suite) as folder:
-        case = Collect(suite, "sh", "awk", folder)
+        case = Collect(suite, folder)
         case.file("a.mbox", MBOX)
-        case.run("mbox", "mail", "a.mbox")
+        case.run("--raw", "mbox", "mail", "a.mbox")
         program = tools(suite) / "mg"
         subprocess.run([program, "build", "mail", "mail"], cwd=folder, stdout=subprocess.DEVNULL)
         lines = b"crane & stands\ndredger\n"
         out = subprocess.run([program, "query", "mail"], cwd=folder, input=lines, stdout=subprocess.PIPE).stdout
-        named = case.run("names", "mail.table", given=out)[1]
-        wanted = table(b"a.mbox").splitlines(keepends=True)
-        suite.check("an answer with names", named, wanted[0] + b"= 1\n" + wanted[1] + b"= 1\n")
+        rows = table(b"a.mbox", MBOX).splitlines(keepends=True)
+        case.check("an answer with names", case.run("names", "mail.table", given=out)[1], rows[0] + b"= 1\n" + rows[1] + b"= 1\n")
 
 
-PARTS = [every_case, nulls, asked]
+PARTS = [every_part, asked]
