@@ -62,8 +62,10 @@ def installation(suite):
 
 
 def completed(words, folder):
-    """What bash offers for the last word of a line, in a folder."""
-    script = ". \"$1/$2\"; shift; COMP_WORDS=(\"$@\"); COMP_CWORD=$(($# - 1)); _${1/-/_}; printf '%s\\n' \"${COMPREPLY[@]}\""
+    """What bash offers for the last word of a line, in a folder. The file is sourced within a function, as bash-completion
+    does it, where `declare` alone makes a variable of that function."""
+    asked = "COMP_WORDS=(\"$@\"); COMP_CWORD=$(($# - 1)); _${1/-/_}; printf '%s\\n' \"${COMPREPLY[@]}\""
+    script = f"load() {{ . \"$1\"; }}; load \"$1/$2\"; shift; {asked}"
     command = ["bash", "-c", script, "bash", ROOT / "contrib" / "completions", *words]
     run = subprocess.run(command, cwd=folder, stdout=subprocess.PIPE, text=True)
     return sorted(line for line in run.stdout.splitlines() if line)
