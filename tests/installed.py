@@ -52,6 +52,8 @@ def installation(suite):
         suite.file("other", b"a cat")
         out = subprocess.run(["sh", "-c", asked], cwd=suite.folder, env=environment, stdout=subprocess.PIPE, stderr=subprocess.DEVNULL)
         suite.check("the installed tools", out.stdout, b"documents 1\n1\n3\n= 2\n")
+        out = subprocess.run(["mg-shards", "build", "text", "two shards", "--shards", "2"], cwd=suite.folder, env=environment, capture_output=True)
+        suite.check("the installed mg-shards", (out.stdout, out.stderr), (b"shards 2\nsets 1\ndocuments 3\nbytes 39\n", b""))
         other = os.path.join(destination, "usr/share/man/man1/other.1")
         with open(other, "w"):
             pass
@@ -101,6 +103,13 @@ def completion(suite):
             (["mg-collect", "m"], ["maildir", "mbox"]), (["mg-collect", "-r", ""], []), (["mg-collect", "-r", "?", "fi"], ["files"]),
             (["mg-collect", "names", ""], ["sub", "x.table"]), (["mg-collect", "names", "x.table", ""], []),
             (["mg-collect", "mbox", "letters.m"], ["letters.mail"]), (["mg-collect", "folder", "new", ""], ["sub"]),
+            (["mg-shards", "q"], ["query"]), (["mg-shards", "build", "letters.m"], ["letters.mail"]), (["mg-shards", "build", "letters.mail", ""], ["sub"]),
+            (["mg-shards", "build", "letters.mail", "new", ""], []), (["mg-shards", "build", "--e"], ["--engine"]),
+            (["mg-shards", "build", "--engine", "s"], ["slurm"]), (["mg-shards", "build", "--engine", "=", "p"], ["parallel"]),
+            (["mg-shards", "build", "--shards", ""], []), (["mg-shards", "build", "--shards", "9", "letters.m"], ["letters.mail"]),
+            (["mg-shards", "build", "--shards", "=", "9", "letters.mail", "s"], ["sub"]), (["mg-shards", "build", "--sshloginfile", "x"], ["x.table"]),
+            (["mg-shards", "query", ""], ["sub"]), (["mg-shards", "query", "sub", ""], []), (["mg-shards", "check", "-"], ["--jobs"]),
+            (["mg-shards", "decode", "-"], []), (["mg-shards", "step", "s"], ["sub"]), (["mg-shards", "step", "sub", ""], []),
             (["mg-collect", "-r", "?", "maildir", "new", ""], ["sub"]), (["mg-collect", "files", "new", "let"], [f for f in files if f[:3] == "let"]),
         ]:
             suite.check(f"completion of {words}", completed(words, folder), wanted)

@@ -19,9 +19,9 @@ from transcripts import ROOT, VERSION, fresh_folder, manual_blocks, run_block, t
 from usages import hint, synopsis
 
 MAN = ROOT / "man"
-PAGES = ["mg.1", "mg-collect.1", "mg-files.5"]
+PAGES = ["mg.1", "mg-collect.1", "mg-shards.1", "mg-files.5"]
 # How many commands the examples of each page have: one that is not found is not run.
-COMMANDS = {"mg.1": 19, "mg-collect.1": 11, "mg-files.5": 22}
+COMMANDS = {"mg.1": 19, "mg-collect.1": 11, "mg-shards.1": 9, "mg-files.5": 22}
 
 
 def lint(suite):

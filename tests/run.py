@@ -34,6 +34,8 @@ import patterns
 import phrases
 import pictures
 import shards
+import shards_asked
+import shards_slurm
 import wrong_bodies
 from kinds import Draws, cases
 from usages import not_understood
@@ -230,9 +232,11 @@ MODULES = (
     builds,
     checks,
     merges,
-    shards,
     phrases,
     patterns,
+    shards,
+    shards_asked,
+    shards_slurm,
     dialogs,
     damages,
     manual,

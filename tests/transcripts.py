@@ -55,12 +55,13 @@ def commands_of(block):
 
 
 def tools(suite):
-    """A folder with the program and mg-collect by their names."""
+    """A folder with the program, mg-collect and mg-shards by their names."""
     folder = suite.folder / "tools"
     if not folder.exists():
         folder.mkdir()
         (folder / "mg").symlink_to(suite.program)
-        (folder / "mg-collect").symlink_to(ROOT / "contrib" / "mg-collect")
+        for name in ("mg-collect", "mg-shards"):
+            (folder / name).symlink_to(ROOT / "contrib" / name)
     return folder
 
 
