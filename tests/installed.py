@@ -48,7 +48,7 @@ def installation(suite):
             suite.check("the installed program", file.read(), suite.program.read_bytes())
         suite.file("text", K)
         environment = {**os.environ, "PATH": f"{os.path.dirname(program)}:{os.environ['PATH']}"}
-        asked = "mg-collect files new other; echo cat | mg scan text"
+        asked = "mg-collect files new other; echo cat | mg scan text; mg-archive kept add --budget 4096 files other; mg-archive kept show 1"
         suite.file("other", b"a cat")
         out = subprocess.run(["sh", "-c", asked], cwd=suite.folder, env=environment, stdout=subprocess.PIPE, stderr=subprocess.DEVNULL)
         suite.check("the installed tools", out.stdout, b"documents 1\n1\n3\n= 2\n")
@@ -100,6 +100,12 @@ def completion(suite):
             (["mg", "build", "--budget", "=", "4096", "letters.mail", "l"], ["letters"]),
             (["mg", "build", "letters.mail", "--budget", "4096", "l"], ["letters"]), (["mg", "build", "--", "letters.m"], ["letters.mail"]),
             (["mg", "build", "letters.mail", "letters", ""], []), (["mg", "trial", ""], []), (["mg", "trial", "7", ""], []),
+            (["mg-archive", "s"], ["sub"]), (["mg-archive", "sub", ""], ["add", "find", "show", "status"]),
+            (["mg-archive", "sub", "add", ""], ["files", "folder", "maildir", "mbox"]), (["mg-archive", "sub", "add", "--b"], ["--budget"]),
+            (["mg-archive", "sub", "add", "--budget", ""], []), (["mg-archive", "sub", "add", "--raw", "mbox", "letters.m"], ["letters.mail"]),
+            (["mg-archive", "sub", "add", "--filter", "mbox", "fo"], ["folder"]), (["mg-archive", "sub", "add", "folder", ""], ["sub"]),
+            (["mg-archive", "sub", "find", "--r"], ["--rows"]), (["mg-archive", "sub", "find", "x"], []),
+            (["mg-archive", "sub", "show", "--o"], ["--original"]), (["mg-archive", "sub", "status", ""], []),
             (["mg-collect", "m"], ["maildir", "mbox"]), (["mg-collect", "-r", ""], []), (["mg-collect", "-r", "?", "fi"], ["files"]),
             (["mg-collect", "names", ""], ["sub", "x.table"]), (["mg-collect", "names", "x.table", ""], []),
             (["mg-collect", "mbox", "letters.m"], ["letters.mail"]), (["mg-collect", "folder", "new", ""], ["sub"]),

@@ -17,6 +17,7 @@ import sys
 import tempfile
 import time
 
+import archive
 import builds
 import checks
 import collect
@@ -242,6 +243,7 @@ MODULES = (
     manual,
     helped,
     collect,
+    archive,
     installed,
     packaging,
     pages,

@@ -55,12 +55,12 @@ def commands_of(block):
 
 
 def tools(suite):
-    """A folder with the program, mg-collect and mg-shards by their names."""
+    """A folder with the program and its companions by their names."""
     folder = suite.folder / "tools"
     if not folder.exists():
         folder.mkdir()
         (folder / "mg").symlink_to(suite.program)
-        for name in ("mg-collect", "mg-shards"):
+        for name in ("mg-collect", "mg-archive", "mg-shards"):
             (folder / name).symlink_to(ROOT / "contrib" / name)
     return folder
 
