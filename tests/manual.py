@@ -19,9 +19,9 @@ from transcripts import ROOT, VERSION, fresh_folder, manual_blocks, run_block, t
 from usages import hint, synopsis
 
 MAN = ROOT / "man"
-PAGES = ["mg.1", "mg-collect.1", "mg-shards.1", "mg-files.5"]
+PAGES = ["mg.1", "mg-collect.1", "mg-archive.1", "mg-shards.1", "mg-files.5"]
 # How many commands the examples of each page have: one that is not found is not run.
-COMMANDS = {"mg.1": 19, "mg-collect.1": 11, "mg-shards.1": 9, "mg-files.5": 22}
+COMMANDS = {"mg.1": 19, "mg-collect.1": 11, "mg-archive.1": 8, "mg-shards.1": 9, "mg-files.5": 22}
 
 
 def lint(suite):
@@ -229,6 +229,45 @@ def limits(suite):
             suite.check(f"{limit}: {number}", (refusal + "\n" == out) == refused and ("?" in out) == refused, True)
 
 
+# What each line of the table for people who come from other systems means elsewhere, over the terms of a document.
+HABITS = {
+    "berth AND silt": lambda terms: "berth" in terms and "silt" in terms,
+    "+berth +silt": lambda terms: "berth" in terms and "silt" in terms,
+    "berth -silt": lambda terms: "berth" in terms and "silt" not in terms,
+    "berth NOT silt": lambda terms: "berth" in terms and "silt" not in terms,
+    "berth OR silt": lambda terms: "berth" in terms or "silt" in terms,
+    '"north basin"': lambda terms: ("north", "basin") in zip(terms, terms[1:]),
+    "thirty-eight": lambda terms: ("thirty", "eight") in zip(terms, terms[1:]),
+    "dredg*": lambda terms: any(term.startswith("dredg") for term in terms),
+    "from:mara": lambda terms: "mara" in terms,
+    "“berth”": lambda terms: "berth" in terms,
+}
+
+
+def habits(suite):
+    """Of each line that is written elsewhere: what it is taken as here, and that what to write instead answers what it
+    means, in the sample."""
+    letters = (ROOT / "examples" / "letters.mail").read_text()
+    suite.file("letters", letters.encode())
+    suite.run(["build", "letters", "letters", "--budget", "65536"])
+    documents = [re.findall("[0-9a-z\x80-\U0010ffff]+", text.lower()) for text in letters.split("\x02")[:-1]]
+    text = section("mg.1", "FROM OTHER SYSTEMS")
+    for escape, sign in [("\\(dq", '"'), ("\\(lq", "“"), ("\\(rq", "”"), ("\\-", "-")]:
+        text = text.replace(escape, sign)
+    rows = re.findall(r"^\.It Ic (.*) Ta Ic (.*) Ta Ic (.*?)(?: No to Cm mg (.*))?$", text, re.M)
+    suite.check("lines of other systems", sorted(row[0] for row in rows), sorted(HABITS))
+    page = (ROOT / "docs" / "FROM-GREP.md").read_text().replace("\\|", "|")
+    told = re.findall(r"^\| `(.*?)` \| `(.*?)` \| `(.*?)`(?: to `mg (.*)`)? \|$", page, re.M)
+    suite.check("the same table in FROM-GREP.md", told, rows)
+    for elsewhere, taken, write, tool in rows:
+        replies = [suite.run(["query", "letters"], line.encode()) for line in (elsewhere, taken)]
+        suite.check(f"{elsewhere} is taken as {taken}", replies[0], replies[1])
+        out = suite.run([tool or "query", "letters"], write.encode())[1].decode()
+        found = [int(number) for number in re.findall(r"^(\d+)(?: \d+)?$", out, re.M)]
+        wanted = [number for number, terms in enumerate(documents, 1) if HABITS[elsewhere](terms)]
+        suite.check(f"{elsewhere} is written {write}", (found, bool(wanted)), (wanted, True))
+
+
 class Terminal:
     """A command in a terminal of its own, typed to line by line."""
 
@@ -288,5 +327,5 @@ def greatest(suite):
     suite.file("text", b"")
 
 
-PARTS = [lint, examples, first_version, statuses, out_of_memory, changed, refused_lines, commands, limits, by_hand]
+PARTS = [lint, examples, first_version, statuses, out_of_memory, changed, refused_lines, commands, habits, limits, by_hand]
 SLOW = [greatest]

@@ -27,7 +27,7 @@ def questions(suite):
     with fresh_folder(suite) as folder:
         shutil.copy(ROOT / "examples" / "letters.mail", folder)
         count = sum(run_block(suite, PAGE.name, block, folder) for block in markdown_blocks(PAGE))
-        suite.check(f"commands of {PAGE.name}", count, 38)
+        suite.check(f"commands of {PAGE.name}", count, 42)
         asked = 0
         for number in range(1, 11):
             section = next(section for section in sections if section.startswith(f"{number}. "))
