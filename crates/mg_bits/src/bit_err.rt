@@ -1,4 +1,4 @@
-// Why a bit was not read.
+//! Why a bit was not read.
 
 /// Why a bit was not read.
 #[derive(Clone, Copy, Debug, PartialEq, Eq)]

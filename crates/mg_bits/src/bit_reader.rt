@@ -1,4 +1,4 @@
-// Bits of a feed.
+//! Bits of a feed.
 ghost use Rattle.std.specs.Prelude.{◌≡◌, ◌+◌, ◌-◌, ◌*◌, ◌/◌, ◌≤◌, ◌<◌, ◌^◌, ◌∷◌, [], IfOk, ◌%◌, OnOk, OnErr, MatchResult, Option, Some, IfSome, IsSome, OnSome, IfNone};
 ghost use Rattle.mg_dev.specs.Files.{Files};
 ghost use Rattle.mg_bits.specs.Feed.{HasBits, HoldsBits, KeepsPage, ToldBits};

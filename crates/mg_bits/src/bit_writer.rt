@@ -1,4 +1,4 @@
-// Bits into a file.
+//! Bits into a file.
 ghost use Rattle.std.specs.Prelude.{◌≡◌, ◌+◌, ◌*◌, ◌/◌, ◌%◌, ◌≤◌, ◌<◌, ◌^◌, ◌++◌, [], IfOk, OnOk, IsSome, length};
 ghost use Rattle.mg_dev.specs.Names.{full_name};
 ghost use Rattle.mg_dev.specs.Files.{AfterReset, bytes_at};

@@ -1,4 +1,4 @@
-// Why a code was not read.
+//! Why a code was not read.
 
 /// Why a code was not read. `at` is the bit place where the code begins.
 #[derive(Clone, Copy, Debug, PartialEq, Eq)]

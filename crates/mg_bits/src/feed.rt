@@ -1,4 +1,4 @@
-// Bytes of a file, through pages.
+//! Bytes of a file, through pages.
 ghost use Rattle.std.specs.Prelude.{◌≡◌, ◌+◌, ◌*◌, Option, IfOk, IfSome, IsSome, OnSome, slice_get};
 ghost use Rattle.mg_dev.specs.Files.{Files};
 ghost use Rattle.mg_dev.specs.Causes.{HasCause};

@@ -1,4 +1,4 @@
-// Bits that a bit reader keeps.
+//! Bits that a bit reader keeps.
 ghost use Rattle.std.specs.Prelude.{◌≡◌};
 
 /// Bits that a bit reader keeps of the page that its feed holds.

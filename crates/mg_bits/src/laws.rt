@@ -1,4 +1,4 @@
-// Laws of bytes, of what was written, and of pages that are held.
+//! Laws of bytes, of what was written, and of pages that are held.
 ghost use Rattle.std.specs.Prelude.{◌≡◌, ℕ, List, Option};
 ghost use Rattle.mg_dev.specs.Files.{Files};
 ghost use Rattle.mg_defs.specs.Bits.{Bits, bits_of, as_bytes};

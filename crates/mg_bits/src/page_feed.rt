@@ -1,4 +1,4 @@
-// A feed over a file, through one page of 4,096 bytes.
+//! A feed over a file, through one page of 4,096 bytes.
 ghost use Rattle.std.specs.Prelude.{◌≡◌, ◌≢◌, ◌≤◌, ◌<◌, ◌+◌, ◌*◌, ◌^◌, Option, Some, None, IfOk, IfSome, OnSome, slice_get, take, drop, length, IsSome, true};
 ghost use Rattle.std.proofs.Common.{rules};
 ghost use Rattle.mg_dev.specs.Files.{Files, SameReads, bytes_at};

@@ -1,4 +1,4 @@
-// A bit reader's refusal as that of a reader of a code.
+//! A bit reader's refusal as that of a reader of a code.
 ghost use Rattle.std.specs.Prelude.{◌≡◌};
 ghost use Rattle.mg_bits.specs.CodeAnswers.{of_bit};
 

@@ -1,4 +1,4 @@
-// A feed over bytes in memory.
+//! A feed over bytes in memory.
 ghost use Rattle.std.specs.Prelude.{◌≡◌, Option};
 ghost use Rattle.std.proofs.Common.{rules};
 ghost use Rattle.mg_dev.specs.Files.{Files};

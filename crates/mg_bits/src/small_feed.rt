@@ -1,4 +1,4 @@
-// A feed over a file, through a lent slot of 64 bytes.
+//! A feed over a file, through a lent slot of 64 bytes.
 ghost use Rattle.std.specs.Prelude.{◌≡◌, ◌≤◌, Option, None, IsSome, take};
 ghost use Rattle.std.proofs.Common.{rules};
 ghost use Rattle.mg_dev.specs.Files.{Files, bytes_at};

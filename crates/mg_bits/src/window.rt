@@ -1,4 +1,4 @@
-// One page of a file, kept in a buffer.
+//! One page of a file, kept in a buffer.
 ghost use Rattle.std.specs.Prelude.{◌≡◌, ◌≢◌, ◌+◌, ◌-◌, ◌*◌, ◌/◌, ◌%◌, ◌≤◌, ◌<◌, ◌^◌, Option, Some, None, IfOk, IfSome, OnOk, OnSome, slice_get, length, IsSome};
 ghost use Rattle.std.specs.Bool.{OnTrue, OnFalse};
 ghost use Rattle.mg_dev.specs.Files.{bytes_at};

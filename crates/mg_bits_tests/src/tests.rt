@@ -1,4 +1,4 @@
-// Files read and written, over a slice, a page and a slot.
+//! Files read and written, over a slice, a page and a slot.
 ghost use Rattle.std.specs.Prelude.{◌≡◌};
 ghost use Rattle.mg_bits.specs.BitWriting.{Holds};
 

@@ -1,4 +1,4 @@
-// The next document of a query that needs one of its terms, where no list leads.
+//! The next document of a query that needs one of its terms, where no list leads.
 ghost use Rattle.std.specs.Prelude.{◌≡◌, false, [], None};
 ghost use Rattle.mg_dev.specs.Moments.{Between};
 ghost use Rattle.mg_query.specs.QueryOf.{query_of};

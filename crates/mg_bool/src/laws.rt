@@ -1,4 +1,4 @@
-// The laws of the documents that satisfy a query.
+//! The laws of the documents that satisfy a query.
 ghost use Rattle.std.specs.Prelude.{◌≡◌, ℕ, List, Option};
 ghost use Rattle.mg_dev.specs.Files.{Files};
 ghost use Rattle.mg_query.specs.QueryOf.{query_of};

@@ -1,4 +1,4 @@
-// The next document that satisfies a query.
+//! The next document that satisfies a query.
 ghost use Rattle.std.specs.Prelude.{◌≡◌, ◌≢◌, ℕ, ◌+◌, ◌<◌, List, Err, IfErr, IfOk, IfSome, OnOk, length};
 ghost use Rattle.mg_dev.specs.Moments.{Between};
 ghost use Rattle.mg_dev.specs.PartCauses.{HasPartCause};

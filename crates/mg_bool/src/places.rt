@@ -1,4 +1,4 @@
-// All places of a query.
+//! All places of a query.
 ghost use Rattle.std.specs.Prelude.{◌≡◌, ◌≢◌, ℕ, ◌≤◌, ◌<◌, true, false, List, Option, None, Err, IfErr, IfOk, IfSome, OnOk};
 ghost use Rattle.std.specs.Prelude.{get_or, length, slice_index_or, slice_set};
 ghost use Rattle.mg_dev.specs.Files.{Files};

@@ -1,4 +1,4 @@
-// What the documents of a query are walked with.
+//! What the documents of a query are walked with.
 use crate::place::Place;
 use mg_dev::Store;
 use mg_query::Query;

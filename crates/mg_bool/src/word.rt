@@ -1,4 +1,4 @@
-// The next document of a query of one word.
+//! The next document of a query of one word.
 ghost use Rattle.std.specs.Prelude.{◌≡◌, ◌≢◌, ℕ, ◌+◌, ◌<◌, List, Some, Err, IfErr, IfOk, IfSome, OnOk, length};
 ghost use Rattle.mg_dev.specs.PartCauses.{HasPartCause};
 ghost use Rattle.mg_defs.specs.Sat.{term};

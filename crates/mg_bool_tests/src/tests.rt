@@ -1,4 +1,4 @@
-// What no clause says: answers over real parts, and that calls succeed.
+//! What no clause says: answers over real parts, and that calls succeed.
 ghost use Rattle.std.specs.Prelude.{◌≡◌, IfOk, IfSome, length};
 
 use mg_bool::Matches;

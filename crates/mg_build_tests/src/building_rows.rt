@@ -1,4 +1,4 @@
-// Collections and the parts of their sets, which an independent reference made.
+//! Collections and the parts of their sets, which an independent reference made.
 use mg_make::Summary;
 
 /// Bytes: pieces, each so many times in a row.

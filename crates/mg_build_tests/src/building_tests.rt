@@ -1,5 +1,5 @@
-// What no clause says: that builds succeed, the parts of real collections, how a collection is read, and what a store that
-// fails or lies leaves.
+//! What no clause says: that builds succeed, the parts of real collections, how a collection is read, and what a store that
+//! fails or lies leaves.
 use crate::building_rows::{Pieces, ROWS};
 use crate::other_store::OtherStore;
 use mg_build::{build, decode};

@@ -1,5 +1,5 @@
-// What no clause says: that the sets of real collections are printed, in few puts, and that their damages are told
-// by their numbers.
+//! What no clause says: that the sets of real collections are printed, in few puts, and that their damages are told
+//! by their numbers.
 use mg_build::decode;
 use mg_dev::{Fault, Part};
 use mg_mem::{MemSink, MemStore};

@@ -1,4 +1,4 @@
-// What no clause says: that sets are made anew where memory is there, the parts of one, and what a failing store leaves.
+//! What no clause says: that sets are made anew where memory is there, the parts of one, and what a failing store leaves.
 use crate::other_store::OtherStore;
 use mg_build::{decode, migrate};
 use mg_dev::{Bad, Fault, Part};

@@ -1,4 +1,4 @@
-// A store that tells nothing of its files, and lies about one of them.
+//! A store that tells nothing of its files, and lies about one of them.
 ghost use Rattle.std.specs.Prelude.{None};
 ghost use Rattle.mg_dev.specs.Files.{Files};
 

@@ -1,3 +1,4 @@
+//! Codewords that are written and read back, and what is refused, through public calls.
 ghost use Rattle.std.specs.Prelude.{◌≡◌, ◌<◌, ◌≤◌, length, IfOk, OnOk};
 ghost use Rattle.mg_bits.specs.BitWriting.{Holds};
 

@@ -1,4 +1,4 @@
-// One document of the text.
+//! One document of the text.
 ghost use Rattle.std.specs.Prelude.{◌≡◌, ◌<◌, ◌≤◌, ◌-◌, length, IfErr, OnOk};
 ghost use Rattle.mg_dev.specs.Bads.{IsNotBad};
 ghost use Rattle.mg_dev.specs.PartCauses.{HasPartCause};

@@ -1,4 +1,4 @@
-// Sets that stand, and sets that were changed. Which changes leave a set that stands was counted by a reference.
+//! Sets that stand, and sets that were changed. Which changes leave a set that stands was counted by a reference.
 use mg_check::{Found, check};
 use mg_dev::Fault;
 use mg_mem::MemStore;

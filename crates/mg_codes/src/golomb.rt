@@ -1,4 +1,4 @@
-// The Golomb code.
+//! The Golomb code.
 ghost use Rattle.std.specs.Prelude.{◌≡◌, ◌+◌, ◌-◌, ◌*◌, ◌≤◌, ◌<◌, ◌^◌, ◌/◌, ◌%◌, IfOk, OnOk, OnErr, MatchResult, length};
 ghost use Rattle.mg_defs.specs.Codes.{golomb};
 ghost use Rattle.mg_defs.specs.Answers.{UpTo};

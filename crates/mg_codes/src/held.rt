@@ -1,7 +1,7 @@
-// Codes that stand whole on the page that is held.
-//
-// A code of two parts is read from 57 bits at once, with no division: a value's quotient is counted,
-// and the value is compared with the limit.
+//! Codes that stand whole on the page that is held.
+//!
+//! A code of two parts is read from 57 bits at once, with no division: a value's quotient is counted,
+//! and the value is compared with the limit.
 ghost use Rattle.std.specs.Prelude.{◌≡◌, ◌+◌, ◌-◌, ◌*◌, ◌≤◌, ◌<◌, ◌^◌, ◌%◌, Option, IfSome, length};
 ghost use Rattle.mg_defs.specs.Bits.{Begins};
 ghost use Rattle.mg_defs.specs.Codes.{gamma, golomb};

@@ -1,4 +1,4 @@
-// Refusals of a part of a code as those of the whole.
+//! Refusals of a part of a code as those of the whole.
 ghost use Rattle.std.specs.Prelude.{◌≡◌};
 ghost use Rattle.mg_codes.specs.Refusals.{of_whole};
 

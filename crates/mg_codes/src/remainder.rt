@@ -1,4 +1,4 @@
-// Short codes up to a bound, which are the second part of the gamma and Golomb codes.
+//! Short codes up to a bound, which are the second part of the gamma and Golomb codes.
 ghost use Rattle.std.specs.Prelude.{◌≡◌, ◌+◌, ◌-◌, ◌*◌, ◌≤◌, ◌<◌, ◌^◌, ◌/◌, Option, IfOk, IfSome, OnErr, MatchResult, MatchOption, length, if◌then◌else◌};
 ghost use Rattle.mg_defs.specs.Bits.{Begins, digits};
 ghost use Rattle.mg_defs.specs.Codes.{short, shorter, ceil_log2};

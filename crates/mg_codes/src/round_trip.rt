@@ -1,4 +1,4 @@
-// Codes that were written are read.
+//! Codes that were written are read.
 ghost use Rattle.std.specs.Prelude.{◌≡◌, ℕ, ◌^◌, ◌<◌, ◌≤◌};
 ghost use Rattle.mg_defs.specs.Bits.{Bits};
 ghost use Rattle.mg_defs.specs.Codes.{unary, gamma, short, golomb};

@@ -1,4 +1,4 @@
-// The short code of a remainder.
+//! The short code of a remainder.
 ghost use Rattle.std.specs.Prelude.{◌≡◌, ◌+◌, ◌-◌, ◌≤◌, ◌<◌, ◌^◌, IfOk, OnOk, OnErr, MatchResult, length};
 ghost use Rattle.mg_defs.specs.Codes.{short};
 ghost use Rattle.mg_defs.specs.Answers.{Below};

@@ -1,4 +1,4 @@
-// The unary code.
+//! The unary code.
 ghost use Rattle.std.specs.Prelude.{◌≡◌, ◌+◌, ◌≤◌, ◌<◌, ◌^◌, ◌-◌, ◌*◌, Option, IfOk, IfSome, OnOk, OnErr, MatchResult, length};
 ghost use Rattle.mg_defs.specs.Bits.{Begins};
 ghost use Rattle.mg_defs.specs.Codes.{unary};

@@ -1,4 +1,4 @@
-// Codes written and read back, over a slice, a page and a slot.
+//! Codes written and read back, over a slice, a page and a slot.
 ghost use Rattle.std.specs.Prelude.{◌<◌};
 
 use mg_bits::{BitReader, BitWriter, CodeErr, Feed, NoDev, PageFeed, SliceFeed, SmallFeed};

@@ -1,4 +1,4 @@
-// The law of the bits of a block.
+//! The law of the bits of a block.
 ghost use Rattle.std.specs.Prelude.{◌≡◌, ℕ, List};
 ghost use Rattle.mg_defs.specs.declared.Posting.{Posting};
 ghost use Rattle.mg_defs.specs.Bits.{Bits};

@@ -1,4 +1,4 @@
-// Laws of the codes and of the pages on which bits lie.
+//! Laws of the codes and of the pages on which bits lie.
 ghost use Rattle.std.specs.Prelude.{◌↔◌, ℕ, ◌-◌, ◌^◌, ◌<◌, ◌≤◌};
 ghost use Rattle.mg_defs.specs.Bits.{Bits};
 ghost use Rattle.mg_defs.specs.Codes.{unary, gamma, short, golomb};

@@ -1,4 +1,4 @@
-// Laws of front coding.
+//! Laws of front coding.
 ghost use Rattle.std.specs.Prelude.{◌≡◌, ◌≢◌, ◌+◌, ◌*◌, ◌/◌, ◌<◌, ◌≤◌, ◌↔◌, ℕ, List, [], length, take, drop, slice_get, Some, None, true};
 ghost use Rattle.mg_defs.specs.Front.{AreEntries, Entry, Found, IsEntry, IsFront, IsReadBack, NoEntry, StandsFirst, WhereInOrder};
 ghost use Rattle.mg_defs.specs.Front.{front, is_below, read_entry, shared, whole_at};

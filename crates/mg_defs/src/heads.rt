@@ -1,4 +1,4 @@
-// Laws of heads.
+//! Laws of heads.
 ghost use Rattle.std.specs.Prelude.{◌≡◌, ◌≤◌, ℕ, List};
 ghost use Rattle.mg_defs.specs.Heads.{HasNoDamage, Head, IsHead, IsOfBytes, IsWithin, head_bytes, read_head};
 

@@ -1,4 +1,4 @@
-// Laws of code lengths and canonical codewords.
+//! Laws of code lengths and canonical codewords.
 ghost use Rattle.std.specs.Prelude.{◌≡◌, ℕ, ◌-◌, ◌*◌, ◌^◌, ◌<◌, ◌≤◌, List, length, slice_index};
 ghost use Rattle.std.specs.List.Sorted.{IsPermutation};
 ghost use Rattle.mg_defs.specs.Answers.{Below, IsPrefixFree};

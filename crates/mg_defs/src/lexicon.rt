@@ -1,4 +1,4 @@
-// Laws of the lexicon.
+//! Laws of the lexicon.
 ghost use Rattle.std.specs.Prelude.{◌≡◌, ℕ, List, [], length};
 ghost use Rattle.mg_defs.specs.Front.{AreEntries, Entry};
 ghost use Rattle.mg_defs.specs.Lexicon.{IsEntryAt, IsTermAt, term_entry, info_bytes, info_of, lexicon};

@@ -1,4 +1,4 @@
-// Laws of the lines of an input.
+//! Laws of the lines of an input.
 ghost use Rattle.std.specs.Prelude.{◌≡◌, ℕ, ◌<◌, List, [], ◌∷◌, ◌++◌, length};
 ghost use Rattle.mg_defs.specs.Lines.{lines, HasNoEnd};
 ghost use Rattle.mg_defs.specs.Session.{ends};

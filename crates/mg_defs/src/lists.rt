@@ -1,4 +1,4 @@
-// Laws of inverted lists.
+//! Laws of inverted lists.
 ghost use Rattle.std.specs.Prelude.{◌≡◌, ℕ, ◌^◌, ◌<◌, ◌≤◌, List, length};
 ghost use Rattle.mg_defs.specs.declared.Posting.{Posting};
 ghost use Rattle.mg_defs.specs.Bits.{Bits, Begins};

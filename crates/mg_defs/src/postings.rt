@@ -1,4 +1,4 @@
-// Laws of occurrences and postings.
+//! Laws of occurrences and postings.
 ghost use Rattle.std.specs.Prelude.{◌≡◌, ◌≤◌, ◌++◌, ℕ, List, map};
 ghost use Rattle.mg_defs.specs.Postings.{ArePostings, merged_two, merged, once, term_postings};
 ghost use Rattle.mg_defs.specs.Runs.{runs_of};

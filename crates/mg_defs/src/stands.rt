@@ -1,4 +1,4 @@
-// Laws of the parts of a set: what they determine.
+//! Laws of the parts of a set: what they determine.
 ghost use Rattle.std.specs.Prelude.{◌≡◌, ℕ, List, [], ◌≤◌, ◌<◌, ◌%◌, ◌+◌, ◌++◌, length, get_or, sum_by};
 ghost use Rattle.std.specs.List.{AllByRecursion};
 ghost use Rattle.mg_defs.specs.Bits.{Bits, as_bytes};

@@ -1,4 +1,4 @@
-// Laws of the logarithm, the root and the order of a ranked answer.
+//! Laws of the logarithm, the root and the order of a ranked answer.
 ghost use Rattle.std.specs.Prelude.{◌≡◌, ℕ, List, length, sum_by, ◌+◌, ◌*◌, ◌^◌, ◌<◌, ◌≤◌};
 ghost use Rattle.mg_defs.specs.Fixed.{lg, isqrt, IsRoot};
 ghost use Rattle.mg_defs.specs.Weights.{AreHits, Hit, hits, hits_over, score, score_over, sorted_hits, wd, weight};

@@ -1,4 +1,4 @@
-// What was found wrong in a part.
+//! What was found wrong in a part.
 ghost use Rattle.std.specs.Prelude.{◌<◌, ◌≤◌};
 
 use crate::Part;

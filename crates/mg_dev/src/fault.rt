@@ -1,4 +1,4 @@
-// Why a run stopped.
+//! Why a run stopped.
 ghost use Rattle.std.specs.Prelude.{◌≡◌};
 ghost use Rattle.mg_dev.specs.Faults.{fault_number, fault_of_part, fault_of_show, fault_of_store, fault_of_output};
 ghost use Rattle.mg_dev.specs.declared.fault.Fault.TheVariants.{Memory};

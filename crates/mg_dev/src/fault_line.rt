@@ -1,4 +1,4 @@
-// The line of a fault.
+//! The line of a fault.
 ghost use Rattle.std.specs.Prelude.{◌≡◌};
 ghost use Rattle.std.specs.List.{flat_map};
 ghost use Rattle.mg_dev.specs.Streams.{AfterPut};

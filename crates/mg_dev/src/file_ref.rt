@@ -1,4 +1,4 @@
-// The name of a file, in two halves.
+//! The name of a file, in two halves.
 use crate::Part;
 
 /// A file: the part of the set that a base names. Its full name is the base and then the part's

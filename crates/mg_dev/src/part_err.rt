@@ -1,4 +1,4 @@
-// Why a part could not be read.
+//! Why a part could not be read.
 ghost use Rattle.std.specs.Prelude.{◌≡◌};
 ghost use Rattle.mg_dev.specs.declared.part_err.PartErr.TheVariants.{Device, Memory};
 

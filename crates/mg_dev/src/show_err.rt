@@ -1,4 +1,4 @@
-// Why a document could not be shown.
+//! Why a document could not be shown.
 ghost use Rattle.std.specs.Prelude.{◌≡◌};
 ghost use Rattle.mg_dev.specs.Faults.{show_of_put};
 ghost use Rattle.mg_dev.specs.declared.part_err.PartErr.TheVariants as part_refused;

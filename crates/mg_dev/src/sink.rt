@@ -1,4 +1,4 @@
-// Where bytes go.
+//! Where bytes go.
 ghost use Rattle.std.specs.Prelude.{ℕ, List, Option};
 ghost use Rattle.mg_dev.specs.Causes.{HasPutCause, HasLack};
 ghost use Rattle.mg_dev.specs.Streams.{AfterPut};

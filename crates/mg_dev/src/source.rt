@@ -1,4 +1,4 @@
-// Where bytes come from.
+//! Where bytes come from.
 ghost use Rattle.std.specs.Prelude.{ℕ, List, Option};
 ghost use Rattle.std.specs.Io.{ReadsAtMost};
 ghost use Rattle.mg_dev.specs.Causes.{HasCause};

@@ -1,4 +1,4 @@
-// Files by name.
+//! Files by name.
 ghost use Rattle.std.specs.Prelude.{◌≡◌, ℕ, Option};
 ghost use Rattle.std.specs.Io.{ReadsAtMost};
 ghost use Rattle.mg_dev.specs.Causes.{HasCause, HasPutCause};

@@ -1,4 +1,4 @@
-// What was counted twice.
+//! What was counted twice.
 ghost use Rattle.std.specs.Prelude.{◌≡◌};
 ghost use Rattle.mg_dev.specs.Names.{counted_name};
 

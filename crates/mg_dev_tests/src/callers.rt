@@ -1,4 +1,4 @@
-// Small callers over any store, source and sink: what a contract above can say of them.
+//! Small callers over any store, source and sink: what a contract above can say of them.
 ghost use Rattle.std.specs.Prelude.{◌≡◌, ◌≤◌, ◌+◌, ◌≢◌, ◌↔◌, ◌++◌, ℕ, List, OnOk, Some, IsSome};
 ghost use Rattle.mg_dev.specs.Names.{full_name};
 ghost use Rattle.mg_dev.specs.Files.{file_at, written, SameReads};

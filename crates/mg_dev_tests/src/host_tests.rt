@@ -1,4 +1,4 @@
-// What the real devices do, on files and streams of the system.
+//! What the real devices do, on files and streams of the system.
 use mg_dev::*;
 use mg_host::*;
 use std::fs::{File, OpenOptions};

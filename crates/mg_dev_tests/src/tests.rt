@@ -1,4 +1,4 @@
-// What no clause says: that calls succeed where memory is ample, and what fault lines read like.
+//! What no clause says: that calls succeed where memory is ample, and what fault lines read like.
 use super::callers::{peek_two, put_both, write_two, write_two_surely};
 use mg_defs::Stream;
 use mg_dev::*;

@@ -1,4 +1,4 @@
-// The logarithm.
+//! The logarithm.
 ghost use Rattle.std.specs.Prelude.{◌≡◌, ◌*◌, ◌/◌, ◌^◌, ◌<◌, ◌≤◌};
 ghost use Rattle.mg_defs.specs.Fixed.{square as square_of, digit, next, lg as logarithm};
 

@@ -1,4 +1,4 @@
-// The square root.
+//! The square root.
 ghost use Rattle.std.specs.Prelude.{◌≡◌};
 ghost use Rattle.mg_defs.specs.Fixed.{isqrt as root, IsRoot};
 

@@ -1,4 +1,4 @@
-// Weights and scores.
+//! Weights and scores.
 ghost use Rattle.std.specs.Prelude.{◌≡◌, ◌^◌, ◌<◌, ◌≤◌};
 ghost use Rattle.mg_defs.specs.Weights.{weight_of_term, weight_in_doc, score_of};
 

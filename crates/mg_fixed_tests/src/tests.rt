@@ -1,3 +1,4 @@
+//! The arithmetic beside the numbers of an independent reference.
 use mg_fixed::{doc_term_weight, isqrt, lg, score, term_weight};
 use std::test::Fail;
 

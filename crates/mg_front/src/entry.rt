@@ -1,4 +1,4 @@
-// One entry, and how it is read.
+//! One entry, and how it is read.
 ghost use Rattle.std.specs.Prelude.{◌≡◌, ◌≤◌, ◌<◌, ◌+◌, ◌^◌, ◌%◌, ◌==◌, ◌||◌, [], IfOk, IfSome, OnSome, IsSome, true, length, drop, slice_get};
 ghost use Rattle.mg_dev.specs.Files.{bytes_at};
 ghost use Rattle.mg_dev.specs.Causes.{HasCause};

@@ -1,4 +1,4 @@
-// Laws of writers, walks and readers while other files change.
+//! Laws of writers, walks and readers while other files change.
 ghost use Rattle.std.specs.Prelude.{List, Option};
 ghost use Rattle.mg_dev.specs.Files.{Files};
 ghost use Rattle.mg_defs.specs.Front.{Entry};

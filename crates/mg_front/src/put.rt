@@ -1,4 +1,4 @@
-// How an entry is written.
+//! How an entry is written.
 ghost use Rattle.std.specs.Prelude.{◌≡◌, ◌≤◌, ◌<◌, ◌+◌, ◌-◌, ◌++◌, ◌∷◌, ◌%◌, ◌^◌, ◌==◌, if◌then◌else◌, [], IfOk, OnOk, length};
 ghost use Rattle.mg_dev.specs.Causes.{HasPutCause};
 ghost use Rattle.mg_bits.specs.Writer.{WroteTo, Wrote};

@@ -1,4 +1,4 @@
-// Entries of a part by their number.
+//! Entries of a part by their number.
 ghost use Rattle.std.specs.Prelude.{Err, ◌≡◌, ◌≢◌, ◌-◌, if◌then◌else◌, ◌≤◌, ◌<◌, ◌+◌, ◌*◌, ◌%◌, ◌/◌, ◌^◌, List, IfErr, IfOk, IfSome, IsSome, None, Some, true, false};
 ghost use Rattle.mg_dev.specs.Files.{bytes_at};
 ghost use Rattle.mg_dev.specs.Causes.{HasCause};

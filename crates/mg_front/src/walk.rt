@@ -1,4 +1,4 @@
-// All entries of a part, in order.
+//! All entries of a part, in order.
 ghost use Rattle.std.specs.Prelude.{Err, None, ◌≢◌, ◌≡◌, ◌≤◌, ◌<◌, ◌+◌, List, [], IfOk, IfErr, IsSome};
 ghost use Rattle.mg_dev.specs.Files.{bytes_at};
 ghost use Rattle.mg_dev.specs.PartCauses.{HasPartCause};

@@ -1,4 +1,4 @@
-// Entries into a part, in order.
+//! Entries into a part, in order.
 ghost use Rattle.std.specs.Prelude.{◌≡◌, ◌≢◌, ◌≤◌, ◌<◌, ◌+◌, ◌^◌, List, ℕ, [], IfOk, OnOk, length, take, None, Some};
 ghost use Rattle.std.specs.Option.{is_some, option_map, ForSome};
 ghost use Rattle.mg_dev.specs.Files.{written, SameReads};

@@ -1,4 +1,4 @@
-// What no clause says: the bytes of real parts, that calls succeed, and how much is read.
+//! What no clause says: the bytes of real parts, that calls succeed, and how much is read.
 ghost use Rattle.std.specs.Prelude.{◌≡◌, ◌≤◌, ◌==◌, ◌||◌};
 ghost use Rattle.std.specs.Bool.{OnTrue};
 ghost use Rattle.mg_defs.specs.Front.{IsEntry, is_below};

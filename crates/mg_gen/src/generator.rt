@@ -1,4 +1,4 @@
-// The generator of numbers.
+//! The generator of numbers.
 ghost use Rattle.std.specs.Prelude.{◌≡◌, ◌<◌};
 ghost use Rattle.mg_defs.specs.Generator.{draw as draw_of, pick as pick_of, stepped};
 

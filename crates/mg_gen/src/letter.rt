@@ -1,4 +1,4 @@
-// Documents.
+//! Documents.
 ghost use Rattle.std.specs.Prelude.{◌+◌, ◌≤◌, length};
 ghost use Rattle.mg_defs.specs.Generator.{heading as heading_of, sentence as sentence_of, sentences as sentences_of, mail as mail_of};
 ghost use Rattle.mg_gen.specs.Grew.{Grew};

@@ -1,4 +1,4 @@
-// The two calls.
+//! The two calls.
 ghost use Rattle.std.specs.Prelude.{◌≤◌, ◌+◌, ℕ, List, Option, length, OnOk};
 ghost use Rattle.mg_defs.specs.Generator.{Made, made_collection, made_session};
 ghost use Rattle.mg_dev.specs.Streams.{AfterPut};

@@ -1,4 +1,4 @@
-// Queries.
+//! Queries.
 ghost use Rattle.std.specs.Prelude.{◌+◌, ◌≤◌, length};
 ghost use Rattle.mg_defs.specs.Generator.{one_word as one_word_of, one_without as one_without_of, either_and as either_and_of, made_ranked as ranked_of, four_queries as four_queries_of};
 ghost use Rattle.mg_gen.specs.Grew.{Grew};

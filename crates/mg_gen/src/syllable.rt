@@ -1,4 +1,4 @@
-// Words of syllables.
+//! Words of syllables.
 ghost use Rattle.std.specs.Prelude.{◌≡◌, ◌<◌, ◌≤◌, ◌+◌, ◌++◌, length};
 ghost use Rattle.mg_defs.specs.Generator.{syllable as syllable_of, made_word as word_of};
 

@@ -1,4 +1,4 @@
-// A text that is being made.
+//! A text that is being made.
 ghost use Rattle.std.specs.Prelude.{◌≡◌, ◌+◌, ◌≤◌, [], length};
 ghost use Rattle.mg_defs.specs.Generator.{made_bytes as text_of, pick as pick_of, capital_pick as capital_pick_of, separator as separator_of};
 ghost use Rattle.mg_gen.specs.Grew.{Grew};

@@ -1,3 +1,4 @@
+//! Generated texts beside those of an independent reference.
 use mg_dev::PutErr;
 use mg_gen::{make_collection, make_session};
 use mg_mem::{MemSink, SureSink};

@@ -1,4 +1,4 @@
-// Which words ask for a page.
+//! Which words ask for a page.
 ghost use Rattle.std.specs.Prelude.{◌≡◌, map, string_bytes};
 ghost use Rattle.mg_help.specs.Pages.{is_help as is_help_spec, is_version as is_version_spec, page_of};
 

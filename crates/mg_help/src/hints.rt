@@ -1,4 +1,4 @@
-// What is told behind words that are not understood.
+//! What is told behind words that are not understood.
 
 /// The line that stands behind the line of words that are not understood: the words of the tool that the
 /// first of them names, or where help is found.

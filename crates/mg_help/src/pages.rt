@@ -1,4 +1,4 @@
-// The pages.
+//! The pages.
 use crate::asking::Page;
 
 /// The version stands here and in the file VERSION, which a test compares.

@@ -1,4 +1,4 @@
-// Reads and writes of the system, tried again where they were interrupted.
+//! Reads and writes of the system, tried again where they were interrupted.
 ghost use Rattle.std.specs.Io.{ReadsAtMost};
 
 use std::io;

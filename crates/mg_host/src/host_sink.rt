@@ -1,4 +1,4 @@
-// A writer of the system as a sink.
+//! A writer of the system as a sink.
 ghost use Rattle.std.specs.Prelude.{None};
 
 use crate::host_io::write_whole;

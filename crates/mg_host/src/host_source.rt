@@ -1,4 +1,4 @@
-// A reader of the system as a source.
+//! A reader of the system as a source.
 ghost use Rattle.std.specs.Prelude.{None};
 
 use crate::host_io::read_some;

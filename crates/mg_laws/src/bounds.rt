@@ -1,4 +1,4 @@
-// What the bounds on the pages of a query line come to.
+//! What the bounds on the pages of a query line come to.
 ghost use Rattle.std.specs.Prelude.{◌≡◌, ◌+◌, ℕ, List, []};
 ghost use Rattle.mg_defs.specs.PageBounds.{all_numbers, boolean_bound, leading, list_pages, pages_for};
 ghost use Rattle.mg_defs.specs.Sat.{Query, term};

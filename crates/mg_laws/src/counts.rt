@@ -1,4 +1,4 @@
-// Laws of how many documents have a term, and of the ranges of terms, lists and occurrences.
+//! Laws of how many documents have a term, and of the ranges of terms, lists and occurrences.
 ghost use Rattle.std.specs.Prelude.{◌≡◌, ◌≤◌, ◌+◌, ◌==◌, ◌++◌, if◌then◌else◌, ℕ, List, [], ◌∷◌, length, map, get_or, sum, All};
 ghost use Rattle.std.specs.List.{AllByRecursion};
 ghost use Rattle.mg_defs.specs.DocCounts.{NeverFall, docs_with, last_with};

@@ -1,4 +1,4 @@
-// Laws of the inverted collection as a whole.
+//! Laws of the inverted collection as a whole.
 ghost use Rattle.std.specs.Prelude.{◌≡◌, ◌<◌, ◌≤◌, ◌+◌, ◌^◌, ◌++◌, ℕ, List, length, map};
 ghost use Rattle.mg_defs.specs.declared.Posting.{Posting};
 ghost use Rattle.mg_defs.specs.Fixed.{isqrt};

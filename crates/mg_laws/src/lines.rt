@@ -1,4 +1,4 @@
-// A law of sessions without commands.
+//! A law of sessions without commands.
 ghost use Rattle.std.specs.Prelude.{◌≡◌, ℕ, ◌≤◌, false, List, length, map};
 ghost use Rattle.mg_defs.specs.PlainSession.{plain_text, plain_session, plain_questions};
 ghost use Rattle.mg_defs.specs.Lines.{lines};

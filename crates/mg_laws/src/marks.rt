@@ -1,4 +1,4 @@
-// Laws of what is met in a collection.
+//! Laws of what is met in a collection.
 ghost use Rattle.std.specs.Prelude.{◌≡◌, ◌<◌, ◌+◌, ℕ, Bool, false, List, [], ◌++◌, length, map};
 ghost use Rattle.mg_defs.specs.Bits.{Bits};
 ghost use Rattle.mg_defs.specs.CodedText.{TextCode, coded_doc};

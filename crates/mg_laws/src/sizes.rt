@@ -1,4 +1,4 @@
-// Laws of how large a collection's numbers are.
+//! Laws of how large a collection's numbers are.
 ghost use Rattle.std.specs.Prelude.{◌≡◌, ◌<◌, ◌≤◌, ◌+◌, ◌-◌, ◌*◌, ◌/◌, ◌^◌, ℕ, List, length, sum, sum_by};
 ghost use Rattle.std.specs.Int.{div_ceil};
 ghost use Rattle.mg_defs.specs.CodedText.{IsTextCode, TextCode, text_part};

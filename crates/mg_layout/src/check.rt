@@ -1,4 +1,4 @@
-// What is found in a part against the range in which it is to be.
+//! What is found in a part against the range in which it is to be.
 ghost use Rattle.std.specs.Prelude.{◌≡◌, None, Some, MatchResult, find, map, true};
 ghost use Rattle.mg_defs.specs.Heads.{is_wrong, exactly, within};
 ghost use Rattle.mg_layout.specs.HeadAnswers.{TellsOf, check_of};

@@ -1,4 +1,4 @@
-// Numbers behind each other, the highest byte first.
+//! Numbers behind each other, the highest byte first.
 ghost use Rattle.std.specs.Prelude.{◌≡◌, ◌+◌, ◌≤◌, ◌++◌, [], length, take};
 ghost use Rattle.mg_defs.specs.Numbers.{four, eight};
 

@@ -1,4 +1,4 @@
-// The head of a set.
+//! The head of a set.
 ghost use Rattle.std.specs.Prelude.{◌≡◌, ◌⊎◌, ◌+◌, ◌≤◌, IsSome, length};
 ghost use Rattle.mg_dev.specs.Causes.{HasPutCause};
 ghost use Rattle.mg_dev.specs.Files.{AfterAppend, OneRead, SameReads, part_bytes};

@@ -1,4 +1,4 @@
-// The head that bytes write, or what is wrong first in them.
+//! The head that bytes write, or what is wrong first in them.
 ghost use Rattle.std.specs.Prelude.{◌≡◌, ◌+◌, ◌≤◌, ◌<◌, ℕ, List, IfOk, length, map, min, slice_index, take};
 ghost use Rattle.mg_defs.specs.Heads as defs;
 ghost use Rattle.mg_defs.specs.Numbers.{four_at};

@@ -1,4 +1,4 @@
-// The size of a part against the one that it is to have.
+//! The size of a part against the one that it is to have.
 ghost use Rattle.std.specs.Prelude.{◌≡◌, ◌≢◌, IsSome, Err};
 ghost use Rattle.mg_dev.specs.Files.{SameReads, file_bytes};
 ghost use Rattle.mg_dev.specs.PartCauses.{HasPartCause};

@@ -1,4 +1,4 @@
-// What the lexicon tells of a term.
+//! What the lexicon tells of a term.
 ghost use Rattle.std.specs.Prelude.{◌≡◌};
 ghost use Rattle.mg_defs.specs.Lexicon.{info_bytes};
 ghost use Rattle.mg_layout.specs.Infos.{info_of};

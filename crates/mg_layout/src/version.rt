@@ -1,4 +1,4 @@
-// The versions of a set.
+//! The versions of a set.
 
 /// The version of the sets that are built.
 pub const BUILT: u8 = 2;

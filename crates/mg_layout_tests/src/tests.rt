@@ -1,4 +1,4 @@
-// What no clause says: the bytes of real heads, the damages by their numbers, and that calls succeed.
+//! What no clause says: the bytes of real heads, the damages by their numbers, and that calls succeed.
 use mg_dev::{FileRef, Part, PartErr};
 use mg_layout::{BUILT, Head, TermInfo, expect_bytes, expect_size};
 use mg_mem::MemStore;

@@ -1,4 +1,4 @@
-// Laws of the lexicon.
+//! Laws of the lexicon.
 ghost use Rattle.std.specs.Prelude.{◌≡◌, ℕ, List, Option, length};
 ghost use Rattle.mg_dev.specs.Files.{Files};
 ghost use Rattle.mg_defs.specs.Lexicon.{TermInfo, info_bytes, lexicon};

@@ -1,4 +1,4 @@
-// What a lexicon tells of a term.
+//! What a lexicon tells of a term.
 ghost use Rattle.std.specs.Prelude.{◌≡◌, ◌≢◌, Err, IfErr, IfOk, IsSome, List, ℕ, take};
 ghost use Rattle.mg_dev.specs.Files.{SameReads};
 ghost use Rattle.mg_dev.specs.Moments.{Between};

@@ -1,4 +1,4 @@
-// Terms into a lexicon, in order.
+//! Terms into a lexicon, in order.
 ghost use Rattle.std.specs.Prelude.{◌≡◌, ◌≤◌, ◌<◌, ◌+◌, ◌^◌, ◌==◌, ◌||◌, List, [], IfOk, OnOk, length, true};
 ghost use Rattle.std.specs.Option.{is_some};
 ghost use Rattle.mg_dev.specs.Causes.{HasPutCause};

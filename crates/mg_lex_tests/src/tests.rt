@@ -1,4 +1,4 @@
-// What no clause says: the bytes of real lexicons, that calls succeed, and what a look-up reads.
+//! What no clause says: the bytes of real lexicons, that calls succeed, and what a look-up reads.
 ghost use Rattle.std.specs.Prelude.{◌≡◌, ◌==◌, ◌||◌};
 ghost use Rattle.mg_defs.specs.Front.{is_below};
 ghost use Rattle.mg_front.specs.Reading.{FrontFits};

@@ -1,4 +1,4 @@
-// Which calls of a device in memory fail.
+//! Which calls of a device in memory fail.
 ghost use Rattle.std.specs.Prelude.{◌≡◌, ℕ, None, OnOk, OnErr, filter, fold, nat_lt};
 ghost use Rattle.mg_mem.specs.Plans.{calls_of, keep_at, keep_from, keep_of, lesser, next_keep, AfterCall, FailsAt, FailsFrom, SamePlan};
 

@@ -1,4 +1,4 @@
-// A sink in memory whose puts fail where it is told to.
+//! A sink in memory whose puts fail where it is told to.
 ghost use Rattle.std.specs.Prelude.{◌≡◌, ◌≢◌, ℕ, [], None, Some, IsSome, IsErr, IsErrOf, OnOk, OnErr};
 ghost use Rattle.mg_dev.specs.Causes.{HasPutCause, HasLack};
 ghost use Rattle.mg_dev.specs.Streams.{AfterPut};

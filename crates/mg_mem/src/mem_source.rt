@@ -1,4 +1,4 @@
-// A source in memory whose reads fail where it is told to.
+//! A source in memory whose reads fail where it is told to.
 ghost use Rattle.std.specs.Prelude.{◌≡◌, ◌≤◌, ◌↔◌, ℕ, None, Some, IsSome, IsErr, IfOk, OnOk, OnErr};
 ghost use Rattle.std.specs.Io.{ReadsAtMost};
 ghost use Rattle.mg_dev.specs.Causes.{HasCause};

@@ -1,4 +1,4 @@
-// A store in memory whose calls fail where it is told to.
+//! A store in memory whose calls fail where it is told to.
 ghost use Rattle.std.specs.Prelude.{◌≡◌, ◌≢◌, ◌≤◌, ◌↔◌, ℕ, None, Some, IsSome, IsErr, IsErrOf, OnOk, OnErr};
 ghost use Rattle.std.specs.Io.{ReadsAtMost};
 ghost use Rattle.std.specs.Option.{option_copied};

@@ -1,4 +1,4 @@
-// A sink in memory that never fails.
+//! A sink in memory that never fails.
 ghost use Rattle.std.specs.Prelude.{◌≡◌, ◌≢◌, [], Some, OnOk, OnErr};
 ghost use Rattle.mg_dev.specs.Causes.{HasPutCause, HasLack};
 ghost use Rattle.mg_dev.specs.Streams.{AfterPut};

@@ -1,4 +1,4 @@
-// A store in memory that never fails.
+//! A store in memory that never fails.
 ghost use Rattle.std.specs.Prelude.{◌≡◌, ◌≢◌, ◌+◌, ◌-◌, ◌^◌, ◌≤◌, [], IsOk, min, take, drop, length, unwrap_or, Some, OnOk, OnErr, slice_index};
 ghost use Rattle.std.specs.Io.{ReadsAtMost};
 ghost use Rattle.std.specs.Option.{option_copied};

@@ -1,4 +1,4 @@
-// What no clause says: that merges succeed, that a merged set is the one that a build makes, and what a store that fails leaves.
+//! What no clause says: that merges succeed, that a merged set is the one that a build makes, and what a store that fails leaves.
 use mg_build::{build, decode};
 use mg_dev::{Bad, Fault, Part};
 use mg_make::Summary;

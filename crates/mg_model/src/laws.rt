@@ -1,4 +1,4 @@
-// Laws of symbols, of models of a collection and of its terms.
+//! Laws of symbols, of models of a collection and of its terms.
 ghost use Rattle.std.specs.Prelude.{◌≡◌, ◌≢◌, ◌≤◌, Contains, ◌↔◌, ◌^◌, ℕ, List, [], length, None};
 ghost use Rattle.mg_defs.specs.CodedText.{IsCodeOf, StreamCode};
 ghost use Rattle.mg_defs.specs.Sorted.{number_of, sorted_distinct};

@@ -1,4 +1,4 @@
-// Bytes of words and of others.
+//! Bytes of words and of others.
 ghost use Rattle.std.specs.Prelude.{◌≡◌, ◌≤◌, ◌++◌, length, drop};
 ghost use Rattle.std.specs.List.{prefix_len};
 ghost use Rattle.mg_defs.specs.Parse.{is_word_byte as is_word_byte_spec, is_of_kind as is_of_kind_spec, piece_len as piece_len_spec};

@@ -1,4 +1,4 @@
-// The pairs of a document that is held.
+//! The pairs of a document that is held.
 ghost use Rattle.std.specs.Prelude.{◌≡◌, ◌≤◌, length};
 ghost use Rattle.mg_defs.specs.Parse.{piece_of, after_piece, parse};
 

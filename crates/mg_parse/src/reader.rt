@@ -1,4 +1,4 @@
-// The pieces of a document that comes one byte at a time.
+//! The pieces of a document that comes one byte at a time.
 ghost use Rattle.std.specs.Prelude.{◌≡◌, ◌≤◌, ℕ, List, [], ◌∷◌, ◌++◌, length};
 ghost use Rattle.mg_defs.specs.Pieces.{Reads, other_kind as other_kind_spec, left_at_end, pieces};
 ghost use Rattle.mg_parse.specs.Offered.{Offered, Ends, ReadsEnded};

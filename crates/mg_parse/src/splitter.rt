@@ -1,4 +1,4 @@
-// Documents of a collection that comes one byte at a time.
+//! Documents of a collection that comes one byte at a time.
 ghost use Rattle.std.specs.Prelude.{◌≡◌, ℕ, ◌<◌, ◌^◌, ◌↔◌, List, [], ◌∷◌, ◌++◌, length};
 ghost use Rattle.mg_defs.specs.Split.{closed_count, has_open_end};
 ghost use Rattle.mg_parse.specs.Seen.{StandsFor};

@@ -1,4 +1,4 @@
-// The worked examples, and pieces at the edges of 255 bytes, by both ways to read them.
+//! The worked examples, and pieces at the edges of 255 bytes, by both ways to read them.
 ghost use Rattle.std.specs.Prelude.{◌≡◌, ◌<◌, ◌^◌, [], ◌∷◌, ◌++◌, IfOk, length};
 ghost use Rattle.mg_defs.specs.Pieces.{pieces, left_at_end, other_kind};
 ghost use Rattle.mg_defs.specs.Split.{closed_count, has_open_end};

@@ -1,4 +1,4 @@
-// The places of a phrase in a document.
+//! The places of a phrase in a document.
 ghost use Rattle.std.specs.Prelude.{◌≡◌, ◌≤◌, ◌<◌, ◌∷◌, length};
 ghost use Rattle.mg_defs.specs.OnePass.{carry_on as carry_on_spec, complete};
 ghost use Rattle.mg_defs.specs.Phrases.{one_if, phrase_places as phrase_places_spec};

@@ -1,4 +1,4 @@
-// Boolean lines.
+//! Boolean lines.
 ghost use Rattle.std.specs.Prelude.{◌≡◌, ◌≤◌, ◌^◌, length, vec_len, IfOk, IfErr, IsErrOf};
 ghost use Rattle.mg_defs.specs.Sat.{satisfies};
 ghost use Rattle.mg_defs.specs.QueryTerms.{query_terms};

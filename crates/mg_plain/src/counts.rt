@@ -1,4 +1,4 @@
-// How often the terms of a query come in a document.
+//! How often the terms of a query come in a document.
 ghost use Rattle.std.specs.Prelude.{◌≡◌, ℕ, ◌+◌, ◌^◌, ◌<◌, [], length, get_or, true, nat_lt, cond};
 ghost use Rattle.mg_defs.specs.Terms.{same_term, folded, freq_in};
 ghost use Rattle.mg_plain.specs.Counts.{AreCounts};

@@ -1,4 +1,4 @@
-// The documents of a collection, one after another.
+//! The documents of a collection, one after another.
 ghost use Rattle.std.specs.Prelude.{◌≡◌, ℕ, ◌<◌, ◌≤◌, List, [], ◌∷◌, length, drop, MatchOption};
 ghost use Rattle.std.specs.List.{prefix_len};
 ghost use Rattle.mg_defs.specs.Split.{documents};

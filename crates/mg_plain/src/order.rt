@@ -1,4 +1,4 @@
-// The rows of a ranked answer.
+//! The rows of a ranked answer.
 ghost use Rattle.std.specs.Prelude.{◌≡◌};
 ghost use Rattle.std.specs.List.Sorted.{IsPermutation};
 ghost use Rattle.mg_defs.specs.Order.{AreRisingByNumber};

@@ -1,4 +1,4 @@
-// A collection that is held as it is.
+//! A collection that is held as it is.
 ghost use Rattle.std.specs.Prelude.{◌≡◌, ◌≤◌, ◌^◌, false, length, vec_len, Some, IsSome, IfOk, IfErr, IsErrOf};
 ghost use Rattle.mg_dev.specs.Causes.{Rose};
 ghost use Rattle.mg_dev.specs.Files.{HasSize, file_at};

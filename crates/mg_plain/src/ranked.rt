@@ -1,4 +1,4 @@
-// Ranked lines.
+//! Ranked lines.
 ghost use Rattle.std.specs.Prelude.{◌≡◌, ◌<◌, ◌≤◌, ◌^◌, length, take, drop, Some, IfErr, IsErrOf};
 ghost use Rattle.std.specs.List.{All, prefix_len};
 ghost use Rattle.mg_defs.specs.Weights.{hits_over, limited_to};

@@ -1,4 +1,4 @@
-// The documents of a ranked answer, found and scored in two passes over the collection.
+//! The documents of a ranked answer, found and scored in two passes over the collection.
 ghost use Rattle.std.specs.Prelude.{◌≡◌, ℕ, ◌+◌, ◌^◌, ◌<◌, ◌≤◌, length, get_or, nat_lt, cond, All, IfOk};
 ghost use Rattle.std.specs.List.{list_any};
 ghost use Rattle.mg_defs.specs.Split.{documents};

@@ -1,4 +1,4 @@
-// A session over a collection, from its name to its last reply.
+//! A session over a collection, from its name to its last reply.
 ghost use Rattle.std.specs.Prelude.{◌≡◌, ◌≢◌, ◌≤◌, ℕ, List, false, None, IsSome, OnOk, IsErrOf, refl};
 ghost use Rattle.std.specs.Option.{ForSome};
 ghost use Rattle.std.proofs.Common.{◌∙◌, ap, sym};

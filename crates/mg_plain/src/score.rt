@@ -1,4 +1,4 @@
-// The score of a document.
+//! The score of a document.
 ghost use Rattle.std.specs.Prelude.{◌≡◌, ℕ, ◌*◌, ◌^◌, ◌<◌, ◌≤◌, length, get_or, nat_lt, cond, IfOk};
 ghost use Rattle.mg_defs.specs.Weights.{weight, weight_in_doc};
 ghost use Rattle.mg_plain.specs.Products.{products};

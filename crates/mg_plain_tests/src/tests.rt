@@ -1,4 +1,4 @@
-// Query lines over small collections, and why a load or an answer stops.
+//! Query lines over small collections, and why a load or an answer stops.
 ghost use Rattle.std.specs.Prelude.{None};
 
 use mg_defs::{Mode, Settings};

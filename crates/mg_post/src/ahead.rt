@@ -1,7 +1,7 @@
-// Postings within bits that were looked at.
-//
-// Most codes are short, so that 57 bits, looked at once, have many postings. Each code is read from
-// the bits as a number, and none is read twice.
+//! Postings within bits that were looked at.
+//!
+//! Most codes are short, so that 57 bits, looked at once, have many postings. Each code is read from
+//! the bits as a number, and none is read twice.
 ghost use Rattle.std.specs.Prelude.{◌≡◌, ◌+◌, ◌-◌, ◌*◌, ◌%◌, ◌<◌, ◌≤◌, ◌^◌, IfSome};
 ghost use Rattle.mg_defs.specs.Codes.{ceil_log2, gamma, golomb, short, unary};
 ghost use Rattle.mg_defs.specs.Lists.{posting_bits, Follows};

@@ -1,4 +1,4 @@
-// Entering a block.
+//! Entering a block.
 ghost use Rattle.std.specs.Prelude.{◌≡◌, ◌+◌, ◌-◌, ◌*◌, ◌<◌, ◌≤◌, ◌^◌, min, IfOk, OnOk, Some};
 ghost use Rattle.mg_bits.specs.Feed.{Calm};
 ghost use Rattle.mg_defs.specs.PagesOf.{pages};

@@ -1,8 +1,8 @@
-// The block of a document, by the skip entries.
-//
-// The entries of a list rise, so a page of them is passed by a look at its last one, and within a
-// page the entry is found by halves. Each page is read at most once, and in rising order: over a
-// cursor's life the reads of Skip are at most the pages of the list's entries.
+//! The block of a document, by the skip entries.
+//!
+//! The entries of a list rise, so a page of them is passed by a look at its last one, and within a
+//! page the entry is found by halves. Each page is read at most once, and in rising order: over a
+//! cursor's life the reads of Skip are at most the pages of the list's entries.
 ghost use Rattle.std.specs.Prelude.{◌≡◌, ◌+◌, ◌-◌, ◌*◌, ◌/◌, ◌%◌, ◌<◌, ◌≤◌, ◌^◌, ℕ, Some, IfOk, OnOk, IfSome};
 ghost use Rattle.mg_bits.specs.Feed.{Calm, lacks};
 ghost use Rattle.mg_defs.specs.Bits.{Begins, FromPlace, Shows, digits};

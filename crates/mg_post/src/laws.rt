@@ -1,4 +1,4 @@
-// The laws of lists that stand in Post and Skip.
+//! The laws of lists that stand in Post and Skip.
 ghost use Rattle.std.specs.Prelude.{◌≡◌, ◌≢◌, ◌-◌, ◌^◌, ◌<◌, ◌≤◌, ℕ, List, [], true, Contains, length};
 ghost use Rattle.mg_defs.specs.declared.Posting.{Posting};
 ghost use Rattle.mg_defs.specs.Split.{documents};

@@ -1,4 +1,4 @@
-// Postings and skip entries into bits.
+//! Postings and skip entries into bits.
 ghost use Rattle.std.specs.Prelude.{◌≡◌, ◌+◌, ◌-◌, ◌<◌, ◌≤◌, ◌^◌, OnOk};
 ghost use Rattle.mg_dev.specs.Causes.{HasPutCause};
 ghost use Rattle.mg_bits.specs.Writer.{Wrote, WroteTo};

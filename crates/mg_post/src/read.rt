@@ -1,4 +1,4 @@
-// Postings from bits.
+//! Postings from bits.
 ghost use Rattle.std.specs.Prelude.{◌≡◌, ◌+◌, ◌-◌, ◌*◌, ◌<◌, ◌≤◌, ◌^◌, length, take, IfOk, OnOk, OnErr, MatchResult};
 ghost use Rattle.mg_bits.specs.Feed.{Calm};
 ghost use Rattle.mg_defs.specs.Bits.{Begins};

@@ -1,4 +1,4 @@
-// Why a part of a list was not read.
+//! Why a part of a list was not read.
 ghost use Rattle.std.specs.Prelude.{◌≡◌};
 ghost use Rattle.mg_post.specs.Answers.{of_bits, of_code, IsRefused};
 

@@ -1,4 +1,4 @@
-// Lists and their skip entries into two parts.
+//! Lists and their skip entries into two parts.
 ghost use Rattle.std.specs.Prelude.{◌≡◌, ◌+◌, ◌*◌, ◌/◌, ◌<◌, ◌≤◌, ◌^◌, [], List, Ok, OnOk, IfOk};
 ghost use Rattle.std.specs.Option.{is_some};
 ghost use Rattle.mg_dev.specs.Files.{SameReads};

@@ -1,4 +1,4 @@
-// What no clause says: the bytes of real parts, that calls succeed, and how much is read.
+//! What no clause says: the bytes of real parts, that calls succeed, and how much is read.
 ghost use Rattle.std.specs.Prelude.{◌≡◌, ◌+◌, ◌<◌, ◌^◌, List, [], length, IfOk, IfSome, OnOk};
 ghost use Rattle.mg_defs.specs.declared.Posting.{Posting};
 ghost use Rattle.mg_post.specs.Writing.{Took};

@@ -1,4 +1,4 @@
-// Blanks of a line.
+//! Blanks of a line.
 ghost use Rattle.std.specs.Prelude.{◌≡◌, ◌≤◌, length};
 ghost use Rattle.std.specs.List.{prefix_len};
 ghost use Rattle.mg_defs.specs.Commands.{is_blank as is_blank_spec};

@@ -1,4 +1,4 @@
-// What no clause says: that calls succeed, and rows over parts that another implementation made.
+//! What no clause says: that calls succeed, and rows over parts that another implementation made.
 ghost use Rattle.std.specs.Prelude.{◌≤◌, length};
 
 use mg_dev::{Part, PartErr, PutErr};

@@ -1,4 +1,4 @@
-// What a line of a session is.
+//! What a line of a session is.
 ghost use Rattle.std.specs.Prelude.{◌≡◌, ◌+◌, ◌*◌, ◌-◌, ◌<◌, ◌≤◌, [], ◌∷◌, length, IfSome, IfNone, true, false};
 ghost use Rattle.std.specs.List.{prefix_len, list_all};
 ghost use Rattle.mg_defs.specs.Terms.{same_term};

@@ -1,4 +1,4 @@
-// Bytes that come in pieces, taken one at a time.
+//! Bytes that come in pieces, taken one at a time.
 ghost use Rattle.std.specs.Prelude.{◌≡◌, ℕ, ◌+◌, ◌-◌, ◌<◌, ◌≤◌, List, [], ◌∷◌, length, take, drop, IsTrue, ◌↔◌};
 ghost use Rattle.mg_dev.specs.Causes.{HasCause};
 ghost use Rattle.mg_dev.specs.Streams.{prepended};

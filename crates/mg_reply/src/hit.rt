@@ -1,4 +1,4 @@
-// The documents of an answer, as they are shown.
+//! The documents of an answer, as they are shown.
 ghost use Rattle.std.specs.Prelude.{◌≡◌, ◌++◌, Some, None};
 ghost use Rattle.mg_dev.specs.Causes.{HasPutCause, HasLack};
 ghost use Rattle.mg_defs.specs.Texts.{close};

@@ -1,4 +1,4 @@
-// The first bytes of a line.
+//! The first bytes of a line.
 ghost use Rattle.std.specs.Prelude.{◌≡◌, ℕ, ◌+◌, ◌-◌, ◌<◌, ◌≤◌, List, [], ◌∷◌, ◌++◌, length, take};
 ghost use Rattle.mg_defs.specs.Lines.{without_return};
 

@@ -1,4 +1,4 @@
-// Bytes on the way to a sink.
+//! Bytes on the way to a sink.
 ghost use Rattle.std.specs.Prelude.{◌≡◌, ◌+◌, ◌≤◌, List, [], ◌++◌, length, take, OnOk, decimal, codes, None};
 ghost use Rattle.mg_dev.specs.Causes.{HasPutCause, HasLack};
 ghost use Rattle.mg_dev.specs.Streams.{AfterPut};

@@ -1,4 +1,4 @@
-// Lines of an input whose bytes come in pieces.
+//! Lines of an input whose bytes come in pieces.
 ghost use Rattle.std.specs.Prelude.{◌≡◌, ◌+◌, ◌-◌, ◌<◌, ◌≤◌, [], IsErrOf};
 ghost use Rattle.mg_dev.specs.Causes.{Rose};
 ghost use Rattle.mg_dev.specs.Streams.{prepended};

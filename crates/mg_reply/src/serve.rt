@@ -1,4 +1,4 @@
-// A session: a reply to each line of an input.
+//! A session: a reply to each line of an input.
 ghost use Rattle.std.specs.Prelude.{◌≡◌, ℕ, ◌≤◌, List, [], ◌∷◌, ◌++◌, length, OnOk, IfOk, IfErr, IsErrOf, false};
 ghost use Rattle.std.specs.Option.{ForSome};
 ghost use Rattle.mg_dev.specs.Causes.{Rose};

@@ -1,4 +1,4 @@
-// The texts of replies.
+//! The texts of replies.
 ghost use Rattle.std.specs.Prelude.{◌≡◌, ◌≢◌, ◌≤◌, ◌++◌, ℕ, List, decimal, codes, IfSome, IfErr, IsErrOf};
 ghost use Rattle.mg_dev.specs.Causes.{HasPutCause, HasLack, Rose};
 ghost use Rattle.mg_dev.specs.Streams.{AfterPut};

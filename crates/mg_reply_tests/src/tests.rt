@@ -1,4 +1,4 @@
-// Lines, commands, texts and sessions, on whole examples.
+//! Lines, commands, texts and sessions, on whole examples.
 ghost use Rattle.std.specs.Prelude.{◌≡◌, ℕ, List, ⊤};
 ghost use Rattle.mg_defs.specs.declared.session.Settings.{Settings};
 

@@ -1,4 +1,4 @@
-// A place in a run.
+//! A place in a run.
 use mg_defs::TermPosting;
 
 /// A place in a run, and the posting before it.

@@ -1,4 +1,4 @@
-// Numbers and postings from bits in memory.
+//! Numbers and postings from bits in memory.
 ghost use Rattle.std.specs.Prelude.{◌≡◌, ◌+◌, ◌-◌, ◌≤◌, ◌<◌, ◌^◌, ℕ, Some, IfSome, length};
 ghost use Rattle.mg_defs.specs.Answers.{UpTo};
 ghost use Rattle.mg_defs.specs.Bits.{Bits};

@@ -1,4 +1,4 @@
-// Entries as bytes.
+//! Entries as bytes.
 ghost use Rattle.std.specs.Prelude.{◌≡◌, ◌≤◌, ◌<◌, ◌+◌, ◌*◌, ◌++◌, [], ◌∷◌, length};
 ghost use Rattle.mg_runs.specs.Bytes.{entries_in, bytes_of, number_in};
 

@@ -1,4 +1,4 @@
-// Runs that are merged.
+//! Runs that are merged.
 ghost use Rattle.std.specs.Prelude.{◌≡◌, ◌≤◌, ◌<◌, ◌+◌, ◌-◌, ◌*◌, ◌/◌, ◌^◌, ℕ, [], Some, IfErr, IfOk, IfSome, OnOk, OnSome, length, max, slice_index, slice_index_or, drop};
 ghost use Rattle.std.specs.List.{All};
 ghost use Rattle.mg_dev.specs.PartCauses.{HasPartCause};

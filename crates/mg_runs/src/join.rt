@@ -1,4 +1,4 @@
-// Runs of one file that are joined into runs of another.
+//! Runs of one file that are joined into runs of another.
 ghost use Rattle.std.specs.Prelude.{◌≡◌, ◌≢◌, ◌≤◌, ◌<◌, ◌+◌, ◌*◌, ◌↔◌, ◌^◌, ℕ, Err, IfErr, IfOk, OnOk, OnSome, IsTrue, [], length, max, ◌%◌, ◌/◌};
 ghost use Rattle.mg_dev.specs.Names.{full_name};
 ghost use Rattle.mg_dev.specs.declared.part.Part.{Part as AnyPart};

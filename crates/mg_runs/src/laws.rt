@@ -1,4 +1,4 @@
-// The laws of runs and of merges of them.
+//! The laws of runs and of merges of them.
 ghost use Rattle.std.specs.Prelude.{ℕ, List};
 ghost use Rattle.std.specs.declared.option.Option.{Option};
 ghost use Rattle.mg_dev.specs.Files.{Files};

@@ -1,4 +1,4 @@
-// Memory of fixed size.
+//! Memory of fixed size.
 ghost use Rattle.std.specs.Prelude.{◌≡◌, ◌≤◌, ◌<◌, ◌+◌, ◌*◌, ◌/◌, ◌^◌, ◌++◌, ◌↔◌, [], ◌∷◌, IfOk, IsTrue, length, max, slice_index_or};
 ghost use Rattle.mg_dev.specs.Causes.{HasCause};
 ghost use Rattle.mg_bits.specs.Pages.{Looked};

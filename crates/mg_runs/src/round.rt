@@ -1,4 +1,4 @@
-// Rounds: the runs of one part, joined into fewer runs of another.
+//! Rounds: the runs of one part, joined into fewer runs of another.
 ghost use Rattle.std.specs.Prelude.{◌≡◌, ◌≢◌, ◌≤◌, ◌<◌, ◌+◌, ◌-◌, ◌*◌, ◌/◌, ◌%◌, ◌^◌, [], IfErr, IfOk, OnOk, length, max};
 ghost use Rattle.mg_dev.specs.Names.{full_name};
 ghost use Rattle.mg_dev.specs.PartCauses.{HasPartCause};

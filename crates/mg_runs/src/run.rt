@@ -1,4 +1,4 @@
-// The entries of a pool as a run.
+//! The entries of a pool as a run.
 ghost use Rattle.std.specs.Prelude.{◌≡◌, ◌+◌, ◌*◌, ◌%◌, ◌≤◌, ◌<◌, ◌^◌, OnOk, length, map};
 ghost use Rattle.std.specs.List.{All};
 ghost use Rattle.mg_dev.specs.Causes.{HasPutCause};

@@ -1,4 +1,4 @@
-// Occurrences that are taken, and written as runs.
+//! Occurrences that are taken, and written as runs.
 ghost use Rattle.std.specs.Prelude.{◌≡◌, ◌+◌, ◌-◌, ◌*◌, ◌/◌, ◌%◌, ◌≤◌, ◌<◌, ◌^◌, [], ℕ, List, Some, IfErr, IfOk, OnOk, IsSome, is_some, length};
 ghost use Rattle.mg_dev.specs.Causes.{HasPutCause};
 ghost use Rattle.mg_dev.specs.Files.{SameReads, bytes_at, file_at};

@@ -1,4 +1,4 @@
-// Slots of 64 bytes, as buffers of a file.
+//! Slots of 64 bytes, as buffers of a file.
 ghost use Rattle.std.specs.Prelude.{◌≡◌, ◌≤◌, ◌<◌, ◌*◌, ◌+◌, ℕ, [], length, slice_index_or};
 ghost use Rattle.std.specs.Simd.{first_chunks};
 ghost use Rattle.mg_dev.specs.Causes.{HasCause};

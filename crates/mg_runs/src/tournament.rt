@@ -1,4 +1,4 @@
-// The least of many keys.
+//! The least of many keys.
 ghost use Rattle.std.specs.Prelude.{◌≡◌, ◌≤◌, ◌<◌, ◌+◌, ◌*◌, ◌-◌, ◌^◌, ℕ, IfOk, length, slice_index, slice_set};
 ghost use Rattle.mg_runs.specs.Tournament.{IsNode};
 

@@ -1,4 +1,4 @@
-// The postings of a run, one after the other.
+//! The postings of a run, one after the other.
 ghost use Rattle.std.specs.Prelude.{◌≡◌, ◌≤◌, ◌<◌, ◌+◌, ◌-◌, ◌*◌, ◌/◌, ◌^◌, ℕ, Err, IfErr, IfOk, IsOkAnd, length};
 ghost use Rattle.mg_dev.specs.PartCauses.{HasPartCause, IsCaused};
 ghost use Rattle.mg_bits.specs.Pages.{Looked};

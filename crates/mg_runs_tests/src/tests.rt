@@ -1,5 +1,5 @@
-// What no clause says: bytes of runs as they stand in a file, postings beside those of a plain
-// sort, refusals of a store, and which damage is met first.
+//! What no clause says: bytes of runs as they stand in a file, postings beside those of a plain
+//! sort, refusals of a store, and which damage is met first.
 ghost use Rattle.std.specs.Prelude.{◌≡◌, ◌≤◌, ◌^◌, ℕ, List, IfOk, None, codes, length};
 ghost use Rattle.mg_runs.specs.Fed.{IsFed};
 ghost use Rattle.mg_runs.specs.Left.{IsMerging};

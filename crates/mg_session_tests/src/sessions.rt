@@ -1,4 +1,4 @@
-// What sessions over a store print and how they end, and the set of three documents.
+//! What sessions over a store print and how they end, and the set of three documents.
 use mg_dev::Fault;
 use mg_mem::{MemSink, MemSource, MemStore};
 use mg_session::{serve, serve_phrase, serve_wild};

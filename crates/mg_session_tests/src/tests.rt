@@ -1,4 +1,4 @@
-// What no clause says: that sessions over real parts succeed, and what failing devices leave.
+//! What no clause says: that sessions over real parts succeed, and what failing devices leave.
 use crate::sessions::{
     Kind, THREE, answers, is_damaged, is_not_built, prints, served, session, stops_at, store_of,
 };

@@ -1,4 +1,4 @@
-// Coded documents into two parts.
+//! Coded documents into two parts.
 ghost use Rattle.std.specs.Prelude.{◌≡◌, ◌≢◌, ◌≤◌, ◌<◌, ◌+◌, ◌-◌, ◌^◌, [], ℕ, List, true, false, length, IfOk, OnOk};
 ghost use Rattle.std.specs.Option.{is_some};
 ghost use Rattle.mg_dev.specs.Causes.{HasPutCause};

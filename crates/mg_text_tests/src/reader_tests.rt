@@ -1,5 +1,5 @@
-// What no clause says: that real parts are read, and how seldom. The bytes of texts that are written,
-// damages and failing devices stand with the builds and the decoding.
+//! What no clause says: that real parts are read, and how seldom. The bytes of texts that are written,
+//! damages and failing devices stand with the builds and the decoding.
 ghost use Rattle.std.specs.Prelude.{◌≡◌};
 
 use mg_dev::{Part, PartErr, ShowErr, Sink, Store};

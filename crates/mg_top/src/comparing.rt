@@ -1,4 +1,4 @@
-// What a set and the collection's text tell, compared.
+//! What a set and the collection's text tell, compared.
 ghost use Rattle.std.specs.Prelude.{◌≡◌, ◌≤◌, true, length, IfErr, IfOk, Ok};
 ghost use Rattle.mg_dev.specs.Causes.{Rose};
 ghost use Rattle.mg_dev.specs.Each.{ForEach};

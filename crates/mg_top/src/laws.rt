@@ -1,4 +1,4 @@
-// What holds for every line of the table.
+//! What holds for every line of the table.
 ghost use Rattle.std.specs.Prelude.{◌≡◌, Option, None};
 ghost use Rattle.mg_dev.specs.declared.fault.Fault.TheVariants.{Usage, Memory};
 ghost use Rattle.mg_words.specs.Tasks.{Task};

@@ -1,4 +1,4 @@
-// How a run stops.
+//! How a run stops.
 ghost use Rattle.std.specs.Prelude.{◌≡◌};
 ghost use Rattle.mg_dev.specs.declared.status.Status.TheVariants.{Stopped};
 ghost use Rattle.mg_top.specs.Ends.{ToldWhy};

@@ -1,4 +1,4 @@
-// The tool `build`.
+//! The tool `build`.
 ghost use Rattle.std.specs.Prelude.{◌≤◌, ◌^◌};
 ghost use Rattle.mg_top.specs.Running.{RunsByStore};
 ghost use Rattle.mg_top.specs.Built.{Built};

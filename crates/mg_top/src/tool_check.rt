@@ -1,4 +1,4 @@
-// The tool `check`.
+//! The tool `check`.
 ghost use Rattle.mg_top.specs.Running.{RunsByStore};
 ghost use Rattle.mg_top.specs.Checked.{Checked};
 ghost use Rattle.mg_top.specs.Ends.{ToldWhy};

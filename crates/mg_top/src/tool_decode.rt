@@ -1,4 +1,4 @@
-// The tool `decode`.
+//! The tool `decode`.
 ghost use Rattle.mg_top.specs.Running.{RunsByStore};
 ghost use Rattle.mg_build.specs.Decoded.{Decoded};
 ghost use Rattle.mg_top.specs.Ends.{ToldWhy};

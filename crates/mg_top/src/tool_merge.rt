@@ -1,4 +1,4 @@
-// The tool `merge`.
+//! The tool `merge`.
 ghost use Rattle.mg_top.specs.Running.{RunsByStore};
 ghost use Rattle.mg_top.specs.Merged.{Merged};
 ghost use Rattle.mg_top.specs.Ends.{ToldWhy};

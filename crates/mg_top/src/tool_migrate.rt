@@ -1,4 +1,4 @@
-// The tool `migrate`.
+//! The tool `migrate`.
 ghost use Rattle.mg_top.specs.Running.{RunsByStore};
 ghost use Rattle.mg_top.specs.Migrated.{Migrated};
 ghost use Rattle.mg_top.specs.Ends.{ToldWhy};

@@ -1,4 +1,4 @@
-// The tool `phrase`.
+//! The tool `phrase`.
 ghost use Rattle.mg_top.specs.Running.{RunsBy};
 ghost use Rattle.mg_session.specs.Phrased.{Phrased};
 ghost use Rattle.mg_top.specs.Ends.{ToldWhy};

@@ -1,4 +1,4 @@
-// The tool `query`.
+//! The tool `query`.
 ghost use Rattle.mg_top.specs.Running.{RunsBy};
 ghost use Rattle.mg_session.specs.Queried.{Queried};
 ghost use Rattle.mg_top.specs.Ends.{ToldWhy};

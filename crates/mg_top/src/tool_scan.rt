@@ -1,4 +1,4 @@
-// The tool `scan`.
+//! The tool `scan`.
 ghost use Rattle.mg_top.specs.Running.{RunsBy};
 ghost use Rattle.mg_plain.specs.Scanned.{Scanned};
 ghost use Rattle.mg_top.specs.Ends.{ToldWhy};

@@ -1,4 +1,4 @@
-// The tool `trial`.
+//! The tool `trial`.
 ghost use Rattle.std.specs.Prelude.{◌≤◌};
 ghost use Rattle.mg_top.specs.Running.{RunsAlone};
 ghost use Rattle.mg_top.specs.Tried.{Tried};

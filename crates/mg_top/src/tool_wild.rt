@@ -1,4 +1,4 @@
-// The tool `wild`.
+//! The tool `wild`.
 ghost use Rattle.mg_top.specs.Running.{RunsBy};
 ghost use Rattle.mg_session.specs.Matched.{Matched};
 ghost use Rattle.mg_top.specs.Ends.{ToldWhy};

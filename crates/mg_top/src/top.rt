@@ -1,4 +1,4 @@
-// The words of a command line are carried out.
+//! The words of a command line are carried out.
 ghost use Rattle.std.specs.Prelude.{Some, None};
 ghost use Rattle.mg_top.specs.Running.{RunsBy};
 ghost use Rattle.mg_top.specs.Does.{RanFor};

@@ -1,4 +1,4 @@
-// What a trial finds.
+//! What a trial finds.
 /// The numbers of a collection and of its set, and how what was asked both ways compares.
 #[derive(Clone, Copy, Debug, PartialEq, Eq)]
 pub(crate) struct TrialSummary {

@@ -1,4 +1,4 @@
-// Runs over devices in memory. Expected answers are rows worked by hand.
+//! Runs over devices in memory. Expected answers are rows worked by hand.
 use mg_dev::{Fault, Part, Status};
 use mg_mem::{MemSink, MemSource, MemStore};
 use mg_top::run;

@@ -1,4 +1,4 @@
-// Trials over devices in memory. The numbers are those of another implementation.
+//! Trials over devices in memory. The numbers are those of another implementation.
 use crate::tests::{prints, stops, store_of};
 use mg_build::{build, decode};
 use mg_dev::{Fault, Part};

@@ -1,5 +1,5 @@
-// What no clause says: that calls succeed, on the documents "the cat sat", "the dog" and
-// "Cat, cat & dog!".
+//! What no clause says: that calls succeed, on the documents "the cat sat", "the dog" and
+//! "Cat, cat & dog!".
 use mg_dev::{FileRef, Part, PartErr, Store};
 use mg_layout::Head;
 use mg_mem::MemStore;

@@ -1,4 +1,4 @@
-// The tools' commands: arguments, ranges and the default, as `clap` reads them.
+//! The tools' commands: arguments, ranges and the default, as `clap` reads them.
 ghost use Rattle.std.specs.Prelude.{◌≡◌, ◌≢◌, IfOk, OnOk, IsErrOf, [], codes, map, string_bytes, true};
 ghost use Rattle.clap.specs.Words.{app_of, is_simple, is_simple_and_free, rows_of, found_of, kind_of, IsParsedFrom};
 ghost use Rattle.mg_words.specs.declared.command.NotTaken.TheVariants.{Memory};

@@ -1,4 +1,4 @@
-// Words that are read by a rule of their own: names, and numbers without leading zeros.
+//! Words that are read by a rule of their own: names, and numbers without leading zeros.
 ghost use Rattle.std.specs.Prelude.{◌≡◌, ◌≤◌, IfSome};
 ghost use Rattle.mg_words.specs.Plain.{is_plain_name as is_plain_name_spec, plain_number as plain_number_spec};
 

@@ -1,4 +1,4 @@
-// Plain words: each tool's names and numbers in order.
+//! Plain words: each tool's names and numbers in order.
 ghost use Rattle.std.specs.Prelude.{◌≡◌, ◌∷◌, [], IfSome, map, option_map, string_bytes};
 ghost use Rattle.std.specs.Option.{option_copied};
 ghost use Rattle.mg_words.specs.Plain.{budget_in_one as budget_in_one_spec, budget_in_two as budget_in_two_spec, plain_budget as plain_budget_spec, IsBudget};

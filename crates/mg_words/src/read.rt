@@ -1,4 +1,4 @@
-// The words of a command line: plain ones by their rule, others by the tool's command.
+//! The words of a command line: plain ones by their rule, others by the tool's command.
 ghost use Rattle.std.specs.Prelude.{◌≡◌, ◌∷◌, [], IfOk, IfSome, None, codes, map, option_map, string_bytes};
 ghost use Rattle.std.specs.Option.{option_copied};
 ghost use Rattle.mg_words.specs.Commands.{name_app, build_app, build_names, trial_app, migrate_app, migrate_names, merge_app, merge_names, IsOwnId, IsRefusedBy};

@@ -1,4 +1,4 @@
-// What the tools' commands take, read from their matches.
+//! What the tools' commands take, read from their matches.
 ghost use Rattle.std.specs.Prelude.{◌≡◌, ℕ, List, ◌∷◌, [], ◌≢◌, IfOk, IfSome, Some, None, codes, map, option_map, string_bytes};
 ghost use Rattle.std.specs.Option.{option_copied};
 ghost use Rattle.clap.specs.Words.{first_of, one_of, IsUnsignedIn};

@@ -1,4 +1,4 @@
-// What a command line asks for.
+//! What a command line asks for.
 
 /// A tool, and the values of its arguments.
 #[derive(Clone, Copy, Debug, PartialEq, Eq)]

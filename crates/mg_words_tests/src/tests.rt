@@ -1,4 +1,4 @@
-// What words ask, in rows.
+//! What words ask, in rows.
 use mg_words::{Task, read_words};
 use std::alloc::{AllocError, Global};
 use std::test::Fail;

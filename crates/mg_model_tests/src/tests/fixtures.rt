@@ -1,4 +1,4 @@
-// What several tests stand on: a collection's vocabularies, and pieces of six digits.
+//! What several tests stand on: a collection's vocabularies, and pieces of six digits.
 ghost use Rattle.std.specs.Prelude.{◌≡◌, ◌+◌, ◌-◌, ◌<◌, ◌≤◌, ◌^◌, OnOk};
 ghost use Rattle.mg_defs.specs.Vocabulary.{total};
 
