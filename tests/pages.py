@@ -56,7 +56,7 @@ def shown(suite, page, wanted):
 
 def readme(suite):
     """The commands of the README."""
-    shown(suite, "README.md", 8)
+    shown(suite, "README.md", 7)
 
 
 def formats(suite):
