@@ -194,7 +194,8 @@ def limits(suite):
 
 
 def links(suite):
-    """Each link of a page leads to a file, and one within a page to a heading."""
+    """Each link of a page leads to a file, and one within a page to a heading; each page of docs/ has one to it."""
+    linked = set()
     for page in pages():
         text = (ROOT / page).read_text()
         headings = {re.sub(r"[^\w -]", "", line.lstrip("# ").lower()).replace(" ", "-") for line in text.splitlines() if line.startswith("#")}
@@ -202,6 +203,9 @@ def links(suite):
             path, _, heading = target.partition("#")
             there = (ROOT / page).parent.joinpath(path).exists() if path else heading in headings
             suite.check(f"{page}: the link to {target}", "://" in target or there, True)
+            linked.add((ROOT / page).parent.joinpath(path).resolve())
+    lost = [page for page in pages() if page.startswith("docs/") and (ROOT / page).resolve() not in linked]
+    suite.check("pages of docs/ that no page leads to", lost, [])
 
 
 def is_there(suite, command):
