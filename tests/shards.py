@@ -58,32 +58,60 @@ def whole(suite):
     suite.check("a session over one set is mg's own", tool.run(["query", "shards"], line), suite.run(["query", "whole"], line))
 
 
+# In place of mg where only the cuts matter: a set is its head, with the documents and bytes that were counted, and the text.
+COUNTING = """#!/usr/bin/python3 -I
+import sys
+tool, *names = [word for word in sys.argv[1:] if word not in ("--budget", "4096")]
+if tool == "build":
+    data = open(names[0], "rb").read()
+    documents = data.count(2) + (not data.endswith(b"\\x02") and data != b"")
+    open(names[1] + ".text", "wb").write(data)
+    open(names[1] + ".head", "wb").write(b"MGROWv2\\n%b%20b%b%40b" % (documents.to_bytes(4, "big"), b"", len(data).to_bytes(8, "big"), b""))
+elif tool == "merge":
+    sys.exit(9)
+else:
+    sys.stdout.buffer.write(open(names[0] + ".text", "rb").read())
+"""
+
+
 def cut(suite):
     """Shards of at most so many bytes, and so many shards: each has whole documents, and all have all of them."""
-    tool = Tool(suite, 1)
+    tool = Tool(suite)
+    tool.put_mg(COUNTING)
     draws = Draws(5)
-    collections = [("nothing", b""), ("one byte", CLOSE), ("an open end", b"ab\x02" * 9 + b"c" * 70_000), ("no end", b"a b"),
-                   ("long documents", b"".join(b"x" * draws.below(200_000) + CLOSE for _ in range(6)))]
-    for name, collection in collections:
+    for name, collection in [
+        ("nothing", b""), ("one byte", CLOSE), ("empty documents", CLOSE * 9), ("an open end", b"ab\x02" * 4 + b"c" * 70_000), ("no end", b"a b"),
+        ("long documents", b"".join(b"x" * draws.below(200_000) + CLOSE for _ in range(6))),
+        ("documents at the ends of pages", b"".join(b"y" * (65_534 + size) + CLOSE for size in range(4))),
+    ]:
         suite.file("text", collection)
-        documents = documents_of(collection)
-        for words, most, count in [(["--shards", "3"], None, 3), (["--bytes", "70000"], 70_000, None), (["--bytes", "1"], 1, None), (["--shards", "99"], None, 99)]:
+        for words in (["--shards", "3"], ["--shards", "99"], ["--bytes", "65537"], ["--bytes", "2"]):
             got = tool.build("text", "shards", *words)
             suite.check(f"{name}: {words}", (got[0], got[2]), (0, b""))
-            rows = [list(map(int, row[:3])) for row in tool.rows("shards")]
-            befores = [sum(documents for _, documents, _ in rows[:place]) for place in range(len(rows))]
-            suite.check(f"{name}: {words}: documents before each", [row[0] for row in rows], befores)
-            sizes = [sum(map(len, documents[before : before + held])) for before, held, _ in rows]
-            suite.check(f"{name}: {words}: bytes of whole documents", [row[2] for row in rows], sizes)
-            suite.check(f"{name}: {words}: all documents", sum(row[1] for row in rows), len(documents))
-            if most:
-                suite.check(f"{name}: {words}: none longer", [row for row in rows if row[2] > most and row[1] > 1], [])
-                # What follows would not fit: no shard is smaller than it need be.
-                fits = [row for row, after in zip(rows, rows[1:]) if row[2] + len(documents[after[0]]) <= most]
-                suite.check(f"{name}: {words}: none smaller", fits, [])
-            else:
-                suite.check(f"{name}: {words}: how many", 1 <= len(rows) <= count and (len(rows) == 1 or 0 not in sizes), True)
+            cut_well(suite, f"{name}: {words}", collection, tool.rows("shards"), words)
             suite.check(f"{name}: {words}: decode", tool.run(["decode", "shards"]), (0, collection, b""))
+
+
+def cut_well(suite, name, collection, rows, words):
+    """Every shard has whole documents, the list tells them, and the shards are as many or as large as was asked."""
+    documents = documents_of(collection)
+    shards = [(suite.folder / "shards" / row[3]).with_suffix(".text").read_bytes() for row in rows]
+    held = [documents_of(shard) for shard in shards]
+    suite.check(f"{name}: documents", [document for shard in held for document in shard], documents)
+    befores = [sum(map(len, held[:place])) for place in range(len(held))]
+    told = [[str(before), str(len(inside)), str(len(shard))] for before, inside, shard in zip(befores, held, shards)]
+    suite.check(f"{name}: the list", [row[:3] for row in rows], told)
+    suite.check(f"{name}: none empty", [shard for shard in shards if not shard], [b""] * (not collection))
+    number = int(words[1])
+    if words[0] == "--shards":
+        # No cut is further from its place than one document is long.
+        longest = max(map(len, documents), default=0)
+        suite.check(f"{name}: how many", len(shards) <= number, True)
+        suite.check(f"{name}: about as many bytes", [len(shard) for shard in shards if len(shard) > len(collection) / number + longest], [])
+    else:
+        suite.check(f"{name}: none longer", [len(shard) for shard, inside in zip(shards, held) if len(shard) > number and len(inside) > 1], [])
+        fits = [len(shard) for shard, after in zip(shards, held[1:]) if len(shard) + len(after[0]) <= number]
+        suite.check(f"{name}: none smaller than it need be", fits, [])
 
 
 def limits(suite):

@@ -128,4 +128,73 @@ def kinds(suite):
     suite.check("kinds with several sets", several, 11)
 
 
-PARTS = [kinds]
+def statuses(suite):
+    """Streams that fail, and sets that are missing, damaged, or not those of the list; what was printed is the beginning of the answer."""
+    tool = Tool(suite, 1)
+    put_archive(tool, K, 3)
+    folder = suite.folder / "several"
+    with open("/dev/full", "wb") as full:
+        got = tool.run(["query", "several"], b"cat\n", stdout=full)
+    suite.check("a full output", got, (4, None, b"mg-shards: the output could not be written\n"))
+    reader, writer = os.pipe()
+    os.close(reader)
+    got = tool.run(["query", "several"], b"cat\n", stdout=writer)
+    os.close(writer)
+    suite.check("a reader that went away", (got[0], got[2]), (4, b"mg-shards: the output could not be written\n"))
+    with open(suite.folder / "written", "wb") as unread:
+        got = tool.run(["query", "several"], stdin=unread)
+    suite.check("an input that cannot be read", got, (3, b"", b"mg-shards: the input could not be read\n"))
+    second = (folder / "sets").read_text().splitlines()[1].split("\t")[3]
+    (folder / f"{second}.text").write_bytes(b"")
+    told = f"mg-shards: {folder}/{second}: mg: damaged: part text at 0: found 0, wanted "
+    lines = b"the\n.set mode text\nsat | dog\n"
+    for words, given, wanted in [(["decode", "several"], b"", b"the cat sat\n\x02"), (["check", "several", "--jobs", "1"], b"", b""),
+                                 (["query", "several"], lines, b"1\n2\n= 2\n-- 1\nthe cat sat\n\x02\n")]:
+        status, out, err = tool.run(words, given)
+        suite.check(f"a damaged set: {words[0]}", (status, out, err.decode()[: len(told)]), (6, wanted, told))
+    suite.check("a damaged set: wild", tool.run(["wild", "several"], b"*at\n"), (0, b"+ cat 2\n+ sat 1\n1\n3\n= 2\n", b""))
+    (folder / f"{second}.head").unlink()
+    missing = f"mg-shards: {folder}/{second}: nothing is built under this name\n".encode()
+    suite.check("a missing set", tool.run(["phrase", "several"], b"cat\n"), (5, b"", missing))
+    list_of = (folder / "sets").read_text()
+    for name, text in [("fewer documents", list_of.replace("\t1\t", "\t2\t")), ("no numbers", "a\tb\tc\td\n"), ("no set", "")]:
+        (folder / "sets").write_text(text)
+        status, out, err = tool.run(["query", "several"], b"cat\n")
+        suite.check(f"a list with {name}", (status, out, err.decode().startswith(f"mg-shards: {folder}/sets:")), (6, b"", True))
+
+
+def by_hand(suite):
+    """Each line is answered before the next is written."""
+    tool = Tool(suite, 1)
+    put_archive(tool, K, 3)
+    for name, rows in [("query", [(b"cat", b"1\n3\n= 2\n"), (b".set maxdocs 1\ncat", b"1\n= 2\n"), (b"cat &", b"? syntax at 5\n")]),
+                       ("phrase", [(b"cat", b"1 1\n3 2\n= 2\n")]), ("wild", [(b"?", b"? bad pattern at 0\n"), (b"*o*", b"? bad pattern at 2\n")])]:
+        process = subprocess.Popen([tool.launcher, name, "several"], cwd=suite.folder, env=tool.environment, stdin=subprocess.PIPE, stdout=subprocess.PIPE, bufsize=0)
+        for line, wanted in rows:
+            process.stdin.write(line + b"\n")
+            told = b""
+            while len(told) < len(wanted) and select.select([process.stdout], [], [], 120)[0]:
+                told += process.stdout.read(4096)
+            suite.check(f"{name}: {line} by hand", told, wanted)
+        process.stdin.write(b"cat")
+        process.stdin.close()
+        process.stdout.read()
+        suite.check(f"{name} by hand: the end", process.wait(120), 0)
+
+
+def long_input(suite):
+    """An input of more than 2^32 bytes, and one of as many."""
+    tool = Tool(suite, 1)
+    put_archive(tool, K, 3)
+    for tail, wanted in [(b"sat\n", (14, b"? line too long\n" * 2**12, b"mg-shards: the input is longer than 4294967296 bytes\n")), (b"", (0, b"? line too long\n", b""))]:
+        process = subprocess.Popen([tool.launcher, "query", "several"], cwd=suite.folder, env=tool.environment, stdin=subprocess.PIPE, stdout=subprocess.PIPE, stderr=subprocess.PIPE)
+        # Lines that are too long in the first, and one line in the second.
+        page = b"x" * (2**20 - len(tail[-1:])) + tail[-1:]
+        for _ in range(2**12):
+            process.stdin.write(page)
+        out, err = process.communicate(tail)
+        suite.check(f"a long input and {tail}", (process.returncode, out, err), wanted)
+
+
+PARTS = [kinds, statuses, by_hand]
+SLOW = [long_input]

@@ -71,7 +71,7 @@ def free_ports(count):
         return [one.getsockname()[1] for one in sockets]
 
 
-def waited(what, seconds=60):
+def waited(what, seconds=300):
     """Waits till something holds; tells whether it did in time."""
     end = time.monotonic() + seconds
     while not what():
@@ -89,7 +89,7 @@ class Cluster:
         self.environment = {**os.environ, "SLURM_CONF": f"{work}/slurm.conf", "PATH": os.environ["PATH"] + ":/usr/sbin:/sbin"}
 
     def run(self, *words):
-        return subprocess.run(words, env=self.environment, cwd=self.work, capture_output=True, text=True, timeout=120)
+        return subprocess.run(words, env=self.environment, cwd=self.work, capture_output=True, text=True, timeout=300)
 
     def begin(self):
         """Begins all of it; what failed, or nothing."""
@@ -143,7 +143,7 @@ def drained(suite, tool, cluster):
     drain = cluster.run("scontrol", "update", "NodeName=second", "State=DRAIN", "Reason=test")
     waiting = cluster.jobs("-t", "PD", "-r", "-o", "%i")
     suite.check("Slurm: a node is drained in the middle", (drain.returncode, len(waiting) > 7), (0, True))
-    out, told = process.communicate(timeout=600)
+    out, told = process.communicate(timeout=1800)
     suite.check("Slurm: a build", (process.returncode, out, told), (0, b"shards 8\nsets 1\ndocuments 60\nbytes %d\n" % (suite.folder / "text").stat().st_size, b""))
     suite.check("Slurm: parts that differ", same_parts(suite.folder / "shards" / "1-8" / "set", suite.folder / "whole"), [])
     lines = [line.split(" ", 2) for line in (tool.folder / "runs").read_text().splitlines()]
@@ -177,7 +177,7 @@ def stopped(suite, tool, cluster):
     process = subprocess.Popen(words, cwd=suite.folder, env=tool.environment, stdout=subprocess.PIPE, stderr=subprocess.PIPE)
     suite.check("Slurm: jobs are in the queue", waited(lambda: len(cluster.jobs("-r")) == 15), True)
     process.send_signal(signal.SIGTERM)
-    process.communicate(timeout=60)
+    process.communicate(timeout=300)
     suite.check("Slurm: jobs have left the queue", (waited(lambda: not cluster.jobs()), process.returncode), (True, 143))
 
 
