@@ -210,7 +210,7 @@ def links(suite):
 
 def is_there(suite, command):
     """A command of a page that is no transcript: its target, its script or its program is there."""
-    words = command.split("#")[0].split()
+    words = [word for word in command.split("#")[0].split() if not re.match(r"[A-Z_]+=", word)]
     if words[0] == "make":
         folder = ROOT / words[words.index("-C") + 1] if "-C" in words else ROOT
         makefile = (folder / "Makefile").read_text()
@@ -221,12 +221,14 @@ def is_there(suite, command):
     if words[0] == "bin/mg":
         path = f"PATH={suite.program.parent}:$PATH"
         return "mg: " not in shell(suite, f"{path} {suite.program} {' '.join(words[1:])}", ROOT)
+    if words[0].startswith("mg-"):
+        return (ROOT / "contrib" / words[0]).exists() and (ROOT / "man" / f"{words[0]}.1").exists()
     return words[0] == "rt" or command.startswith(("file: ", "old: ", "new: "))
 
 
 def commands(suite):
     """Pages with transcripts are run by the suite, and every other command of a block is one."""
-    run = {"README.md", "docs/FROM-GREP.md", "docs/FORMAT.md"}
+    run = {"README.md", "docs/FROM-GREP.md", "docs/FORMAT.md", "examples/shards/README.md"}
     for page in pages():
         blocks = markdown_blocks(ROOT / page)
         suite.check(f"{page} is run where it has transcripts", page in run, any(commands_of(block) for block in blocks))
