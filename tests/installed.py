@@ -51,7 +51,7 @@ def installation(suite):
         asked = "mg-collect files new other; echo cat | mg scan text; mg-archive kept add --budget 4096 files other; mg-archive kept show 1"
         suite.file("other", b"a cat")
         out = subprocess.run(["sh", "-c", asked], cwd=suite.folder, env=environment, stdout=subprocess.PIPE, stderr=subprocess.DEVNULL)
-        suite.check("the installed tools", out.stdout, b"documents 1\n1\n3\n= 2\n")
+        suite.check("the installed tools", out.stdout, b"documents 1\n1\n3\n= 2\nadded 1\nknown 0\ndocuments 1\na cat")
         out = subprocess.run(["mg-shards", "build", "text", "two shards", "--shards", "2"], cwd=suite.folder, env=environment, capture_output=True)
         suite.check("the installed mg-shards", (out.stdout, out.stderr), (b"shards 2\nsets 1\ndocuments 3\nbytes 39\n", b""))
         other = os.path.join(destination, "usr/share/man/man1/other.1")
