@@ -28,7 +28,7 @@ pub struct HostStore<R: Files + Drop> {
     alloc: Global,
     reads: [u64; 14],
     faults: u64,
-    open: Vec<Open<R::File>>,
+    kept: Vec<Open<R::File>>,
 }
 
 /// A file that is kept open.
@@ -52,7 +52,7 @@ impl<R: Files + Drop> HostStore<R> {
             alloc,
             reads: [0; 14],
             faults: 0,
-            open: Vec::new(alloc),
+            kept: Vec::new(alloc),
         }
     }
 
@@ -83,10 +83,10 @@ impl<R: Files + Drop> HostStore<R> {
 
     /// The place of a file that is kept open.
     fn find(&self, file: &FileRef<'_>, appends: bool) -> Option<usize>
-        ensures { IfSome result (λ i. i < vec_len self.now.open) }
+        ensures { IfSome result (λ i. i < vec_len self.now.kept) }
     {
-        for i in 0..self.open.len() {
-            let there = &self.open[i];
+        for i in 0..self.kept.len() {
+            let there = &self.kept[i];
             if there.part.number() == file.part.number()
                 && there.appends == appends
                 && there.base.as_str() == file.base
@@ -104,22 +104,22 @@ impl<R: Files + Drop> HostStore<R> {
         appends: bool,
         opened: R::File,
     ) -> Result<usize, AllocError>
-        ensures within { IfOk result (λ i. i < vec_len self.new.open) }
+        ensures within { IfOk result (λ i. i < vec_len self.new.kept) }
         ensures faults { self.new.faults ≡ self.old.faults }
         ensures reads { self.new.reads ≡ self.old.reads }
     {
-        if self.open.len() >= MOST_OPEN {
-            let _ = self.open.remove(0);
+        if self.kept.len() >= MOST_OPEN {
+            let _ = self.kept.remove(0);
         }
         let base = String::from_str(self.alloc, file.base)?;
-        self.open.push(Open {
+        self.kept.push(Open {
             base,
             part: file.part,
             appends,
             place: Some(0),
             file: opened,
         })?;
-        Ok(self.open.len() - 1)
+        Ok(self.kept.len() - 1)
     }
 
     fn try_read(&mut self, file: &FileRef<'_>, at: u64, buf: &mut [u8]) -> io::Result<usize>
@@ -138,7 +138,7 @@ impl<R: Files + Drop> HostStore<R> {
                 }
             }
         };
-        let there = &mut self.open[i];
+        let there = &mut self.kept[i];
         if there.place != Some(at) {
             match there.file.seek(SeekFrom::Start(at)) {
                 Ok(_) => {}
@@ -164,7 +164,7 @@ impl<R: Files + Drop> HostStore<R> {
 
     /// The place of the file that is open to be added to.
     fn opened_to_append(&mut self, file: &FileRef<'_>) -> Result<usize, PutErr>
-        ensures within { IfOk result (λ i. i < vec_len self.new.open) }
+        ensures within { IfOk result (λ i. i < vec_len self.new.kept) }
         ensures reads { self.new.reads ≡ self.old.reads }
         ensures cause { HasPutCause self.old.faults self.new.faults result }
     {
@@ -207,7 +207,7 @@ impl<R: Files + Drop> Store for HostStore<R> {
     }
 
     fn reset(&mut self, file: &FileRef<'_>) -> Result<(), PutErr> {
-        self.open.clear();
+        self.kept.clear();
         let name = self.name(file)?;
         match self.try_reset(name.as_str()) {
             Ok(()) => Ok(()),
@@ -217,7 +217,7 @@ impl<R: Files + Drop> Store for HostStore<R> {
 
     fn append(&mut self, file: &FileRef<'_>, piece: &[u8]) -> Result<(), PutErr> {
         let i = self.opened_to_append(file)?;
-        match write_whole(&mut self.open[i].file, piece) {
+        match write_whole(&mut self.kept[i].file, piece) {
             Ok(()) => Ok(()),
             Err(_) => Err(self.failed().into()),
         }
