@@ -1,5 +1,6 @@
 """Help, the version, and the hint behind words that are not understood."""
 
+import re
 import subprocess
 
 from files import K
@@ -23,8 +24,8 @@ def pages(suite):
     for word in ["--version", "-V"]:
         suite.check(f"mg {word}", suite.run([word]), (0, f"mg {VERSION}\n".encode(), b""))
     for tool, usage in synopsis().items():
-        lines = [line.split("mg ", 1)[1] for line in wanted.splitlines() if f"mg {tool} " in line and not line.startswith("    mg")]
-        suite.check(f"help has the words of {tool}", [line.split("  ")[0] for line in lines], [usage])
+        lines = re.findall(rf"^(?:usage:|      ) mg ({tool} .*?)(?:  .*)?$", wanted, re.M)
+        suite.check(f"help has the words of {tool}", lines, [usage])
     suite.check("help fits a terminal", [line for line in wanted.splitlines() if len(line) > 80], [])
     folder = subprocess.run([suite.program, "--help"], cwd=suite.folder, stdin=subprocess.DEVNULL, capture_output=True)
     suite.check("help at a closed input", folder.stdout.decode(), wanted)
