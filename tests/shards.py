@@ -42,7 +42,7 @@ def whole(suite):
     for seed, (name, collection, _) in enumerate(cases(), 1):
         suite.file("text", collection)
         suite.check(f"{name}: the whole is built", suite.run(["build", "text", "whole", "--budget", "4096"])[0], 0)
-        words = ["--shards", str(seed)] if seed % 2 else ["--bytes", str(max(1, len(collection) // seed))]
+        words = ["--shards", str(1 + seed // 2)] if seed % 2 else ["--bytes", str(len(collection) // (1 + seed // 3))]
         got = tool.build("text", "shards", *words)
         rows = tool.rows("shards")
         documents = len(documents_of(collection))
@@ -125,9 +125,8 @@ def limits(suite):
         got = tool.build("text", "shards", "--shards", str(shards))
         suite.check(f"at most {limit} documents", (got[0], got[2]), (0, b""))
         counts = [int(row[1]) for row in tool.rows("shards")]
-        built = [step for step in range(1, shards + 1)]
         fits = [pair for pair in zip(counts, counts[1:]) if sum(pair) <= limit]
-        suite.check(f"at most {limit} documents: neighbours that would fit, of {counts} of {len(built)} shards", fits, [])
+        suite.check(f"at most {limit} documents: neighbours that would fit, of {counts} of {shards} shards", fits, [])
         suite.check(f"at most {limit} documents: decode", tool.run(["decode", "shards"]), (0, collection, b""))
         suite.check(f"at most {limit} documents: check", tool.run(["check", "shards", "--jobs", "1"]), (0, b"stands %d documents %d bytes\n" % (len(sizes), len(collection)), b""))
         left = sorted(name for name in os.listdir(suite.folder / "shards") if not name[0].isdigit())
