@@ -1,6 +1,6 @@
 """The black-box suite: drives the built program through real files and pipes.
 
-    python3 tests/run.py [--slow] [--seed N] bin/mg
+    python3 tests/run.py [--slow] [--seed N] [--only NAME]... bin/mg
 
 Expected outputs are rows worked by hand or stored ones, which a reference wrote that shares no
 code with the program (tests/make_expected.py). The last line is `N passed, N failed`. With --slow
@@ -21,6 +21,9 @@ import archive
 import builds
 import checks
 import collect
+import collect_mail
+import collect_odd
+import collect_sources
 import damages
 import dialogs
 import docs
@@ -243,6 +246,9 @@ MODULES = (
     manual,
     helped,
     collect,
+    collect_mail,
+    collect_sources,
+    collect_odd,
     archive,
     installed,
     packaging,
@@ -251,20 +257,28 @@ MODULES = (
     docs,
     wrong_bodies,
 )
-for module in MODULES:
-    PARTS += module.PARTS
-    SLOW += getattr(module, "SLOW", [])
+
+
+def parts_of(only, slow):
+    """What is to be run: all parts, or those of the modules of these names."""
+    chosen = [module for module in MODULES if not only or module.__name__ in only]
+    parts = [] if only else PARTS + SLOW * slow
+    for module in chosen:
+        parts = parts + module.PARTS + getattr(module, "SLOW", []) * slow
+    return parts
 
 
 def main():
     parser = argparse.ArgumentParser(description="Drives the built program through real files and pipes.")
     parser.add_argument("--slow", action="store_true", help="also the cases that take minutes and gigabytes")
     parser.add_argument("--seed", type=int, default=time.time_ns() % 2**32, help="the seed of the damages of files")
+    names = [module.__name__ for module in MODULES]
+    parser.add_argument("--only", action="append", choices=names, metavar="NAME", help="only this module: " + ", ".join(names))
     parser.add_argument("program")
     given = parser.parse_args()
     with tempfile.TemporaryDirectory() as folder:
         suite = Suite(given.program, folder, given.seed)
-        for part in PARTS + SLOW * given.slow:
+        for part in parts_of(given.only, given.slow):
             part(suite)
     print(f"{suite.passed} passed, {suite.failed} failed")
     return 1 if suite.failed or not suite.passed else 0

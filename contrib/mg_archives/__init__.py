@@ -18,7 +18,7 @@ What other programs of the package call:
     from mg_archives.choices import Choices, Tally
     from mg_archives.documents import read_documents
     from mg_archives.writing import Output, write_documents
-    from mg_archives.sources import read_original
+    from mg_archives.originals import read_original
     from mg_archives.tables import Row, read_row, read_table
     from mg_archives.progress import Progress
     from mg_archives.refusals import Refusal
@@ -40,8 +40,9 @@ What other programs of the package call:
 into files of a work folder beside the collection; it counts `tally.documents` and `tally.bytes`. `output.finish()` moves
 both into place; an `Output` that is left without it removes its work folder, and nothing changed.
 
-`read_original(row)` answers the bytes of a message in its source, by path, offset and length; a message of a Maildir
-whose file was renamed since is found by the unique part of its name, or by its Message-ID.
+`read_original(row)` answers the bytes of a document in its source, by path, offset and length; a message of a Maildir
+whose file was renamed since is found by the unique part of its name, or by its Message-ID, and so is one in an mbox that
+was written anew.
 
 Each of these raises `Refusal`, which has the status to end with and a line of text.
 """

@@ -10,6 +10,7 @@ from mg_archives.progress import Progress
 from mg_archives.refusals import FAILED, LEFT_OUT, REFUSED, USAGE, Refusal, shown
 
 PROGRAM = "mg-collect"
+SIGNALS = (signal.SIGHUP, signal.SIGINT, signal.SIGTERM)
 KINDS = ("mbox", "maildir", "folder", "files")
 USAGE_TEXT = """\
 usage: mg-collect [OPTION]... mbox COLLECTION FILE...
@@ -141,6 +142,9 @@ def tell(lines):
 
 
 def end_by_signal(number, _):
+    """Ends the program, which takes its work folder away; a second signal does not disturb it."""
+    for other in SIGNALS:
+        signal.signal(other, signal.SIG_IGN)
     sys.exit(128 + number)
 
 
@@ -151,7 +155,7 @@ def run(given):
 
         name_rows(given.names)
         return 0
-    for number in (signal.SIGHUP, signal.SIGINT, signal.SIGTERM):
+    for number in SIGNALS:
         if signal.getsignal(number) != signal.SIG_IGN:
             signal.signal(number, end_by_signal)
     collection, *names = given.names

@@ -204,7 +204,7 @@ def read_documents(kind, names, choices, tally, leave=()):
             yield from reader.mailbox(name)
     elif kind == "maildir":
         for name in names:
-            yield from reader.each(maildirs.mail_files(name, tally), reader.mail_file)
+            yield from reader.each(maildirs.mail_files(name), reader.mail_file)
     elif kind == "folder":
         tree = Tree(tally, places_of(leave))
         for name in names:

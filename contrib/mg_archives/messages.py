@@ -146,20 +146,23 @@ def add_text_part(part, text):
         text.add(data.replace(b"\r\n", b"\n"), charset_of(part))
 
 
-def has_text(part):
-    """Whether a part of an alternative is plain text that says anything."""
-    return part.get_content_type() == "text/plain" and not is_attachment(part) and bool(bytes_of(part).strip())
+def chosen_of(parts):
+    """Which parts of an alternative are read: those of plain text that say anything, or else the best form, which is the
+    last; all where none is a form of text."""
+    plain = [part for part in parts if part.get_content_type() == "text/plain" and not is_attachment(part) and bytes_of(part).strip()]
+    forms = [part for part in parts if part.get_content_maintype() == "multipart" or part.get_content_type() == "text/html"]
+    return plain or forms[-1:] or parts
 
 
 def add_alternative(parts, text):
-    """The plain text of an alternative, or else the best form, which is the last; and what is attached to the others."""
-    forms = [part for part in parts if part.is_multipart() or part.get_content_type() in ("text/html", "text/plain")]
-    chosen = next(filter(has_text, parts), forms[-1] if forms else None)
+    """What is read of an alternative, and what is attached to its other parts."""
+    chosen = chosen_of(parts)
     for part in parts:
-        if part is chosen:
+        if part in chosen:
             add_part(part, text)
-        else:
-            for inner in filter(is_attachment, part.walk()):
+            continue
+        for inner in part.walk():
+            if is_attachment(inner) or (inner.get_filename() and not inner.is_multipart()):
                 add_attachment(inner, text)
 
 

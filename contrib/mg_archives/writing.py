@@ -1,9 +1,9 @@
 """The files of a collection and its table, written beside their names and moved there when all is done."""
 
 import os
+import secrets
 import shutil
 import stat
-import tempfile
 
 from mg_archives.refusals import FAILED, Refusal, shown, unwritten
 from mg_archives.trees import WORK
@@ -33,13 +33,12 @@ class Output:
         self.names = (collection, table)
         self.targets = [target_of(name) for name in self.names]
         self.files = []
-        try:
-            self.folder = tempfile.mkdtemp(prefix=WORK, dir=os.path.dirname(self.targets[0]))
-        except OSError as error:
-            raise unwritten(collection, error) from error
+        # The name is known before the folder is there, so that a signal between the two leaves nothing.
+        self.folder = os.path.join(os.path.dirname(self.targets[0]), WORK + secrets.token_hex(8).encode())
 
     def __enter__(self):
         try:
+            self.tried(self.names[0], os.mkdir, self.folder)
             for place, name in enumerate(self.names):
                 self.files.append(self.tried(name, open, self.work_file(place), "wb", ROOM))
         except BaseException:
