@@ -4,9 +4,11 @@ leaves that was stopped.
 The reference (`reference/`) decides of every part whether it is the collection's.
 """
 
+import os
 import pathlib
 import resource
 import signal
+import socket
 import subprocess
 import sys
 import time
@@ -24,13 +26,15 @@ from texts import Collection
 from usages import not_understood
 
 EXPECTED = pathlib.Path(__file__).parent / "expected"
+A = b"a a a a "
+FAILED = (2, b"", b"mg: the store failed\n")
 KEPT = pathlib.Path(__file__).parent / "data" / "version_1.zip"
 BUDGETS = [4096, 65_536, BUDGET]
 # The parts that no choice of codeword lengths and no budget changes.
 SETTLED = ["lex", "lexat", "post", "skip", "weights"]
 
 SMALL = [
-    ("nothing", b""), ("three documents", K), ("an open end", K[:-1]), ("one word four times", b"a a a a "),
+    ("nothing", b""), ("three documents", K), ("an open end", K[:-1]), ("one word four times", A),
     ("two empty documents", b"\x02\x02"), ("an empty document", b"\x02"), ("256 letters", b"a" * 256),
     ("300 blanks", b" " * 300), ("200 documents of one word", b"x\x02" * 200),
 ]
@@ -93,11 +97,8 @@ def refusals(suite):
         (suite.folder / f"N.{ending}").unlink()
     missing = (7, b"", b"mg: there is no such collection\n")
     suite.check("no collection", suite.run(["build", "none", "set"]), missing)
-    failed = (2, b"", b"mg: the store failed\n")
-    (suite.folder / "folder").mkdir(exist_ok=True)
-    suite.check("a folder in place of a collection", suite.run(["build", "folder", "set"]), failed)
     suite.file("text", K)
-    suite.check("a name in no folder", suite.run(["build", "text", "nowhere/set"]), failed)
+    suite.check("a name in no folder", suite.run(["build", "text", "nowhere/set"]), FAILED)
     unread = not_understood(["build"])
     for budget in ["4095", "1073741825", "-1", "x", ""]:
         suite.check(f"a budget of {budget!r}", suite.run(["build", "text", "set", "--budget", budget]), unread)
@@ -106,6 +107,59 @@ def refusals(suite):
         unwritten = (4, None, b"mg: the output could not be written\n")
         suite.check("a full output of build", suite.run(["build", "text", "set"], stdout=full), unwritten)
     suite.check("and the set stands", suite.run(["decode", "set"]), (0, K, b""))
+    remove(suite, "set")
+
+
+def unreadable(suite):
+    """What may not be read, by one who may write the set: the file's rights bind no superuser."""
+    suite.file("secret", A)
+    (suite.folder / "secret").chmod(0)
+    if os.geteuid():
+        return suite.run(["build", "secret", "set"])
+    suite.folder.chmod(0o777)
+    for file in suite.folder.glob("set.*"):
+        file.chmod(0o666)
+
+    def become_nobody():
+        os.setgroups([])
+        os.setgid(65534)
+        os.setuid(65534)
+
+    words = [suite.program, "build", "secret", "set"]
+    run = subprocess.run(words, cwd=suite.folder, capture_output=True, preexec_fn=become_nobody, timeout=60)
+    return run.returncode, run.stdout, run.stderr
+
+
+def piped(suite, tool, name):
+    """A tool and a collection that a pipe gives, as the shell's `<(..)` names one."""
+    reader, writer = os.pipe()
+    os.write(writer, A)
+    os.close(writer)
+    words = [suite.program, tool, f"/dev/fd/{reader}", name][: 4 if tool == "build" else 3]
+    run = subprocess.run(words, cwd=suite.folder, capture_output=True, pass_fds=(reader,), timeout=60)
+    os.close(reader)
+    return run.returncode, run.stdout, run.stderr
+
+
+def no_regular_files(suite):
+    """Collections that are no regular files, or that may not be read: the set that was there stays as it was."""
+    (suite.folder / "folder").mkdir(exist_ok=True)
+    os.mkfifo(suite.folder / "fifo")
+    with socket.socket(socket.AF_UNIX) as listener:
+        listener.bind(str(suite.folder / "socket"))
+    put_set(suite, "set", K, 2)
+    before = read_parts(suite.folder / "set")
+    rows = [(name, lambda tool, name=name: suite.run([tool, name, "set"][: 3 if tool == "build" else 2], A))
+            for name in ["folder", "fifo", "socket", "/dev/null", "/dev/zero", "/dev/stdin"]]
+    for name, run in rows + [("/dev/fd", lambda tool: piped(suite, tool, "set"))]:
+        for tool in ("build", "scan"):
+            suite.check(f"{tool} of {name}", run(tool), FAILED)
+        suite.check(f"{name}: the set that was there", read_parts(suite.folder / "set"), before)
+    suite.check("build of a file that may not be read", unreadable(suite), FAILED)
+    suite.check("and the set that was there", read_parts(suite.folder / "set"), before)
+    suite.check("which answers", suite.run(["query", "set"], b"cat\n"), (0, b"1\n3\n= 2\n", b""))
+    for name in ("fifo", "socket", "secret"):
+        (suite.folder / name).unlink()
     remove(suite, "set")
 
 
@@ -188,6 +242,26 @@ def migrations(suite):
     remove(suite, "new")
 
 
+def cut_sets(suite):
+    """A set of which a part is cut is not made anew, and the set that was under the new name stays."""
+    put_set(suite, "new", A, 2)
+    before = read_parts(suite.folder / "new")
+    for version in (1, 2):
+        for part in ["text", "places", "lexat", "post", "skip", "weights"]:
+            put_set(suite, "old", K, version)
+            file = suite.folder / f"old.{part}"
+            size = file.stat().st_size
+            for cut in {1, min(5, size), size}:
+                os.truncate(file, size - cut)
+                line = f"mg: damaged: part {part} at 0: found {size - cut}, wanted {size} to {size}\n"
+                name = f"version {version}, {part} without {cut} bytes"
+                suite.check(name, suite.run(["migrate", "old", "new"]), (6, b"", line.encode()))
+                suite.check(f"{name}: the set that was there", read_parts(suite.folder / "new"), before)
+    suite.check("which answers", suite.run(["query", "new"], b"a\n"), (0, b"1\n= 1\n", b""))
+    remove(suite, "old")
+    remove(suite, "new")
+
+
 def kept_set(suite):
     """A set of version 1 with 3,000 documents that is kept as a file: made anew, it answers the same lines."""
     with zipfile.ZipFile(KEPT) as archive:
@@ -234,5 +308,5 @@ def many_runs(suite):
     remove(suite, "set")
 
 
-PARTS = [kinds, many_runs, bytes_of_parts, refusals, stopped, trials, migrations, kept_set]
+PARTS = [kinds, many_runs, bytes_of_parts, refusals, no_regular_files, stopped, trials, migrations, cut_sets, kept_set]
 SLOW = [limits]

@@ -9,7 +9,9 @@ mod WidenLaws
 mod MigrateLaws
 mod PlaceLaws
 mod WideLaws
+mod SizeLaws
 mod MigrateStopLaws
+mod MadeFromLaws
 mod MadeLaws
 mod MadeAnewLaws
 mod DecodedLaws

@@ -12,9 +12,10 @@ use Rattle.mg_defs.specs.WithinLimits.{IsWithinLimits}
 use Rattle.mg_defs.specs.Stands.{AreParts, Parts}
 use Rattle.mg_layout.specs.Stands.{SameSet, StandsBy, parts_at}
 use Rattle.mg_layout.specs.declared.head.Head as layout
-use Rattle.mg_make.specs.Putting.{IsApart, IsUnbuilt, LacksOnlyHead, OthersSame}
+use Rattle.mg_make.specs.Putting.{IsUnbuilt, LacksOnlyHead, OthersSame}
 use Rattle.mg_build.specs.Copying.{ChangedAlone}
-use Rattle.mg_build.specs.Migrating.{AreCopied, AreEmptied, IsCopied, IsMadeAnew, copied_part}
+use Rattle.mg_defs.specs.Heads as defs
+use Rattle.mg_build.specs.Migrating.{AreCopied, AreEmptied, IsCopied, IsMadeAnew, LacksHead, copied_part}
 
 -- ---- which parts are copied
 
@@ -147,6 +148,36 @@ module _ (name new : List ℕ) (head : layout.Head) (code : TextCode) (collectio
     gone = still Head tt (λ same. omega (arith, ap number same)) ∙ empty.head;
     low = stands.are.cap_low;
     high = stands.are.cap_high;
+  }
+
+-- ---- what is taken over, whatever it means
+
+-- what is copied as it is now was so before
+module _ (name new : List ℕ) (before middle now : Option Files) (names : (a b : List ℕ) (p q : Part) → p ≢ Plain → q ≢ Plain → full_name a p ≡ full_name b q → (a ≡ b) × (p ≡ q)) (apart : new ≢ name) (others : OthersSame new before middle) where
+  pub copied_then : (p : Part) → p ≢ Plain → IsCopied name new middle now p → IsCopied name new before now p
+  copied_then p own is = is ∙ ap (λ (file : Option (List ℕ)). unwrap_or file []) (old_stays name new p before middle names apart own others)
+
+  pub all_copied_then : AreCopied name new middle now → AreCopied name new before now
+  all_copied_then are = record {
+    words = copied_then Words (λ same. omega (arith, ap number same)) are.words;
+    nonwords = copied_then Nonwords (λ same. omega (arith, ap number same)) are.nonwords;
+    text = copied_then Text (λ same. omega (arith, ap number same)) are.text;
+    lex = copied_then Lex (λ same. omega (arith, ap number same)) are.lex;
+    lex_at = copied_then LexAt (λ same. omega (arith, ap number same)) are.lex_at;
+    post = copied_then Post (λ same. omega (arith, ap number same)) are.post;
+    skip = copied_then Skip (λ same. omega (arith, ap number same)) are.skip;
+    weights = copied_then Weights (λ same. omega (arith, ap number same)) are.weights;
+    run = copied_then Run (λ same. omega (arith, ap number same)) are.run;
+  }
+
+-- the places are made behind the emptied head, and the copies behind them
+module _ (head : defs.Head) (name new : List ℕ) (before emptied placed now : Option Files) (names : (a b : List ℕ) (p q : Part) → p ≢ Plain → q ≢ Plain → full_name a p ≡ full_name b q → (a ≡ b) × (p ≡ q)) (apart : new ≢ name)
+    (others : OthersSame new before emptied) (alone : ChangedAlone (full_name new Places) emptied placed) (kept : (p : Part) → IsMadeAnew p → file_at now (full_name new p) ≡ file_at placed (full_name new p)) where
+  pub lacks_head : AreEmptied emptied new → (head.version ≡ 2 → IsCopied name new emptied placed Places) → AreCopied name new placed now → LacksHead head name new before now
+  lacks_head empty places copied = record {
+    gone = kept Head tt ∙ part_stays new Places Head emptied placed (λ same. omega (arith, ap number same)) alone ∙ empty.head;
+    copied = all_copied_then name new before placed now names apart (others_of_part new Places before emptied placed (λ same. omega (arith, ap number same)) others alone) copied;
+    places = λ is. ap (λ (file : Option (List ℕ)). unwrap_or file []) (kept Places tt) ∙ copied_then name new before emptied placed names apart others Places (λ same. omega (arith, ap number same)) (places is);
   }
 
 -- ---- where there is no head yet

@@ -1,7 +1,8 @@
 -- Why a set is not made anew.
-use Rattle.std.proofs.Common.{◌≡◌, ◌≢◌, ◌≤◌, ◌∙◌, ℕ, List, [], Option, Some, Ok, Err, IsSome, refl, sym, ap, subst}
+use Rattle.std.proofs.Common.{◌≡◌, ◌≢◌, ◌≤◌, ◌∙◌, ℕ, List, Option, Err, IsSome, sym, ap}
 use Rattle.mg_dev.specs.Causes.{Rose}
 use Rattle.mg_dev.specs.Faults.{ReadStops, fault_of_part}
+use Rattle.mg_dev.specs.PartCauses.{HasPartCause}
 use Rattle.mg_dev.specs.Files.{Files, bytes_at}
 use Rattle.mg_dev.specs.Names.{full_name}
 use Rattle.mg_dev.specs.declared.fault.Fault.{Fault}
@@ -19,16 +20,40 @@ use Rattle.mg_layout.specs.HeadAnswers.{fields_of}
 use Rattle.mg_layout.specs.Stands.{IsSetBy, Stands, StandsBy, StandsIn, parts_at}
 use Rattle.mg_layout.specs.declared.head.Head.{Head}
 use Rattle.mg_build.specs.Migrating.{MigrateStops}
+use Rattle.mg_build.specs.Sizes.{AnswersSizesOf}
+use Rattle.mg_build.proofs.SizeLaws.{stands_sized}
 use Rattle.mg_dev.specs.Runs.{IsDone}
 use Rattle.mg_build.specs.Outcomes.{DecodeStops}
 use Rattle.mg_build.proofs.PassLaws.{rose_behind}
 use Rattle.mg_layout.proofs.CallerLemmas.{head_there}
 
--- a head that was refused
-pub head_refused : (refusal : PartErr) (rose : Type 0) (files : Option Files) (name new : List ℕ) → DecodeStops rose (Unit {0}) files name (fault_of_part refusal) → MigrateStops rose files name new (fault_of_part refusal)
-head_refused Device rose files name new stops = stops
-head_refused Memory rose files name new stops = tt
-head_refused (Bad bad) rose files name new stops = stops
+-- a head that was not loaded
+pub head_refused : (refusal : Fault) (rose : Type 0) (files : Option Files) (name new : List ℕ) → DecodeStops rose ⊥ files name refusal → MigrateStops rose files name new refusal
+head_refused fault.Usage rose files name new stops = stops
+head_refused fault.StoreFault rose files name new stops = stops
+head_refused fault.ReadFault rose files name new stops = stops
+head_refused fault.WriteFault rose files name new stops = absurd stops
+head_refused fault.NotBuilt rose files name new stops = stops
+head_refused (fault.Damaged bad) rose files name new stops = stops
+head_refused fault.NoCollection rose files name new stops = stops
+head_refused (fault.TooLarge size most) rose files name new stops = stops
+head_refused fault.TooManyDocuments rose files name new stops = stops
+head_refused (fault.TooManyPieces stream) rose files name new stops = stops
+head_refused (fault.Changed what first second) rose files name new stops = stops
+head_refused fault.Memory rose files name new stops = stops
+head_refused (fault.NameClash p) rose files name new stops = stops
+head_refused fault.InputTooLong rose files name new stops = stops
+head_refused fault.SameName rose files name new stops = absurd stops
+head_refused (fault.TooManyRotations count) rose files name new stops = stops
+
+-- a part of another size than follows from a head that was loaded
+pub size_refused : (refusal : PartErr) (head : Head) (s t u : ℕ) (before loaded : Option Files) (name : List ℕ) → s ≤ t → loaded ≡ before → HasPartCause {T = Unit {0}} t u (Err refusal) → (IsSome loaded → AnswersSizesOf (fields_of head) loaded name (Err refusal))
+    → ((collection : List ℕ) → Stands before name collection → (code : TextCode) × StandsBy head code loaded name collection) → DecodeStops (Rose s u) ⊥ before name (fault_of_part refusal)
+size_refused Device head s t u before loaded name up same cause answer by = rose_behind s t u up cause.device
+size_refused Memory head s t u before loaded name up same cause answer by = tt
+size_refused (Bad bad) head s t u before loaded name up same cause answer by = λ collection stands.
+    let it = by collection stands in
+    answer it.1.told (stands_sized head it.0 loaded name collection it.1)
 
 -- a set whose parts were not made
 pub set_refused : (refusal : Fault) (head : Head) (s t u : ℕ) (before middle : Option Files) (name new : List ℕ) → s ≤ t

@@ -1,10 +1,8 @@
 -- The head of a set that is made anew.
-use Rattle.std.proofs.Common.{arith, ◌≡◌, ◌≢◌, ◌≤◌, ◌<◌, ◌^◌, ◌-◌, ◌==◌, ◌∙◌, ◌⊎◌, inl, inr, if◌then◌else◌, ℕ, Bool, true, false, cond, List, [], Ok, Err, refl, sym, ap, subst, IsSome, Option, Some}
-use Rattle.std.specs.Option.{is_some}
-use Rattle.std.specs.declared.result.Result.{Result}
+use Rattle.std.proofs.Common.{arith, ◌≡◌, ◌≤◌, ◌<◌, ◌^◌, ◌-◌, ◌==◌, ◌∙◌, inl, inr, if◌then◌else◌, ℕ, Bool, true, false, cond, List, [], Err, refl, ap, subst, IsSome, Option, Some}
 use Rattle.mg_dev.specs.Causes.{HasPutCause, Rose}
 use Rattle.mg_dev.specs.Faults.{ReadStops, fault_of_store}
-use Rattle.mg_dev.specs.Files.{AfterAppend, Files, GrewInPart, file_at, grown}
+use Rattle.mg_dev.specs.Files.{Files, GrewInPart, file_at, grown}
 use Rattle.mg_dev.specs.Names.{full_name, number}
 use Rattle.mg_dev.specs.declared.device.PutErr.{PutErr}
 use Rattle.mg_dev.specs.declared.device.PutErr.TheVariants as put_err
@@ -15,31 +13,13 @@ use Rattle.mg_defs.specs.Heads.{IsWithin, head_bytes}
 use Rattle.mg_defs.specs.Limits.{version_1, version_2}
 use Rattle.mg_defs.specs.Stands.{head_of}
 use Rattle.mg_layout.specs.HeadAnswers.{fields_of}
-use Rattle.mg_layout.specs.Stands.{Stands, StandsBy, StandsForNone, StandsIn}
+use Rattle.mg_layout.specs.Stands.{StandsBy, StandsForNone, StandsIn}
 use Rattle.mg_layout.specs.declared.head.Head as layout
-use Rattle.mg_make.specs.Putting.{IsUnbuilt, LacksOnlyHead}
+use Rattle.mg_make.specs.Putting.{IsUnbuilt}
 use Rattle.mg_make.specs.Outcomes.{Left}
 use Rattle.mg_build.specs.Copying.{ChangedAlone}
-use Rattle.mg_build.proofs.CopyLaws.{append_alone}
+use Rattle.mg_build.specs.Migrating.{wide_of}
 use Rattle.mg_build.proofs.MigrateLaws.{part_stays}
-
--- the fields of a head, in version 2
-abbrev pub wide_of : defs.Head → defs.Head
-wide_of h = record {
-  version = 2;
-  documents = h.documents;
-  words = h.words;
-  others = h.others;
-  terms = h.terms;
-  cap = h.cap;
-  open_end = h.open_end;
-  collection = h.collection;
-  occurrences = h.occurrences;
-  runs = h.runs;
-  text_bytes = h.text_bytes;
-  post_bytes = h.post_bytes;
-  skip_count = h.skip_count;
-}
 
 docs_fit : (narrow : Bool) (n : ℕ) → n ≤ (cond narrow version_1 version_2).documents → n ≤ 2 ^ 24
 docs_fit true n h = omega (arith, h)

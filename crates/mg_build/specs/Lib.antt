@@ -3,7 +3,9 @@ pub mod Documents
 pub mod Sources
 pub mod Building
 pub mod Copying
+pub mod Sizes
 pub mod Migrating
+pub mod MadeFrom
 pub mod Made
 pub mod MadeAnew
 pub mod Decoded

@@ -1,5 +1,5 @@
 -- Sets that are made anew in version 2.
-use Rattle.std.specs.Prelude.{◌≡◌, ℕ, List, [], ◌∷◌, slice_index_or, OnOk, Some}
+use Rattle.std.specs.Prelude.{◌≡◌, ℕ, List, [], ◌∷◌, slice_index_or, take, OnOk, Some}
 use Rattle.std.specs.Option.{IsSome}
 use Rattle.std.specs.declared.option.Option.{Option}
 use Rattle.std.specs.declared.result.Result.{Result}
@@ -10,6 +10,8 @@ use Rattle.mg_dev.specs.declared.fault.Fault.TheVariants.{Damaged, Memory, NotBu
 use Rattle.mg_dev.specs.declared.part.Part.{Part}
 use Rattle.mg_dev.specs.declared.part.Part.TheVariants.{Head, Lex, LexAt, MergeA, MergeB, Nonwords, Places, Post, Run, Skip, Text, Weights, Words}
 use Rattle.mg_defs.specs.CodedText.{TextCode, places_part}
+use Rattle.mg_defs.specs.Heads as defs
+use Rattle.mg_defs.specs.Heads.{head_bytes}
 use Rattle.mg_layout.specs.Stands.{HasNoHead, StandsForNone, StandsIn}
 use Rattle.mg_make.specs.Putting.{LacksOnlyHead}
 
@@ -40,6 +42,41 @@ pub record AreCopied (name new : List ℕ) (before now : Option Files) : Type 0 
   pub skip : IsCopied name new before now Skip
   pub weights : IsCopied name new before now Weights
   pub run : IsCopied name new before now Run
+
+-- the fields of a head, in version 2
+abbrev pub wide_of : defs.Head → defs.Head
+wide_of h = record {
+  version = 2;
+  documents = h.documents;
+  words = h.words;
+  others = h.others;
+  terms = h.terms;
+  cap = h.cap;
+  open_end = h.open_end;
+  collection = h.collection;
+  occurrences = h.occurrences;
+  runs = h.runs;
+  text_bytes = h.text_bytes;
+  post_bytes = h.post_bytes;
+  skip_count = h.skip_count;
+}
+
+-- Whatever its bytes mean, the set with this head was made anew: the new head is the same in version 2, and each part that is the same in both versions is copied, in version 2 the places too.
+pub record IsTakenOver (head : defs.Head) (name new : List ℕ) (before now : Option Files) : Type 0 where
+  pub wide : file_at now (full_name new Head) ≡ Some (head_bytes (wide_of head))
+  pub copied : AreCopied name new before now
+  pub places : head.version ≡ 2 → IsCopied name new before now Places
+
+-- All that is taken over but the head, which is there and empty.
+pub record LacksHead (head : defs.Head) (name new : List ℕ) (before now : Option Files) : Type 0 where
+  pub gone : file_at now (full_name new Head) ≡ Some []
+  pub copied : AreCopied name new before now
+  pub places : head.version ≡ 2 → IsCopied name new before now Places
+
+-- The head's part of a base is there, with so many of the first bytes of this head in version 2: none, some or all.
+pub record HasBegun (head : defs.Head) (files : Option Files) (base : List ℕ) : Type 0 where
+  pub count : ℕ
+  pub first : file_at files (full_name base Head) ≡ Some (take count (head_bytes (wide_of head)))
 
 -- head and working parts of a base are there and empty
 pub record AreEmptied (files : Option Files) (base : List ℕ) : Type 0 where

@@ -15,6 +15,7 @@ mod documents;
 mod migrating;
 mod names;
 mod passes;
+mod sizes;
 mod source;
 mod widening;
 

@@ -2,27 +2,27 @@
 //!
 //! Every part but the head and the places is the same in both versions and is copied. The head of the new set is
 //! emptied first and appended last, so that what is left in between stands for no collection.
-ghost use Rattle.std.specs.Prelude.{◌≡◌, ◌≢◌, ◌≤◌, ◌+◌, ℕ, List, IfErr, IfOk, OnOk, IsSome, Err, Some, length};
+ghost use Rattle.std.specs.Prelude.{◌≡◌, ◌≢◌, ◌≤◌, ◌+◌, ℕ, List, IfErr, IfOk, OnOk, IsSome, length};
 ghost use Rattle.mg_dev.specs.Causes.{Rose};
-ghost use Rattle.mg_dev.specs.Each.{ForEach};
 ghost use Rattle.mg_dev.specs.Faults.{ReadStops};
 ghost use Rattle.mg_dev.specs.Files.{file_at};
 ghost use Rattle.mg_dev.specs.Names.{full_name};
-ghost use Rattle.mg_dev.specs.Runs.{IsDone, RefusedFor, status_of};
-ghost use Rattle.mg_dev.specs.declared.fault.Fault.TheVariants as fault;
+ghost use Rattle.mg_dev.specs.Runs.{status_of};
 ghost use Rattle.mg_dev.specs.declared.part.Part.{Part as AnyPart};
 ghost use Rattle.mg_dev.specs.declared.part.Part.TheVariants as part;
 ghost use Rattle.mg_defs.specs.Heads.{IsWithin};
 ghost use Rattle.mg_defs.specs.Split.{documents};
 ghost use Rattle.mg_layout.specs.HeadAnswers.{fields_of};
-ghost use Rattle.mg_layout.specs.Stands.{ForSetBy, HasNoHead, IsSetBy, Stands, StandsIn};
-ghost use Rattle.mg_make.specs.Putting.{IsEmptied, IsUnbuilt, OthersSame};
-ghost use Rattle.mg_make.specs.Outcomes.{BetweenMoments, Fails, Left};
+ghost use Rattle.mg_layout.specs.Stands.{ForSetBy, IsSetBy, Stands};
+ghost use Rattle.mg_make.specs.Putting.{IsUnbuilt, OthersSame};
+ghost use Rattle.mg_make.specs.Outcomes.{BetweenMoments};
 ghost use Rattle.mg_build.specs.Copying.{ChangedAlone};
 ghost use Rattle.mg_build.specs.MadeAnew.{MadeAnew};
-ghost use Rattle.mg_build.specs.Migrating.{AreCopied, AreEmptied, ComesFirst, ForSetIn, HasWidePlaces, IsMadeAnew, MigrateStops, ReadyForHead};
+ghost use Rattle.mg_build.specs.MadeFrom.{MadeFrom};
+ghost use Rattle.mg_build.specs.Migrating.{AreCopied, AreEmptied, HasWidePlaces, IsCopied, IsMadeAnew, LacksHead, ReadyForHead};
 
 use crate::copying::copy_part;
+use crate::sizes::load_sized;
 use crate::widening::widen_places;
 use mg_dev::{Fault, FileRef, Part, Store, names_apart};
 use mg_layout::{BUILT, Head, sets_stand};
@@ -46,12 +46,14 @@ const COPIED: [Part; 9] = [
 ];
 
 /// Makes a set of version 2 under one base from the set under another, of either version, and answers how many
-/// documents it has. The other set stays as it is.
+/// documents it has. The other set stays as it is. The sizes that follow from its head are compared before anything
+/// is written; what its parts mean is not looked at.
 ///
 /// # Errors
 ///
-/// `SameName` where both bases are the same, `NotBuilt` where the set has no head; then nothing was written. `Damaged`
-/// only where the set stands for no collection; the store's faults, and want of memory.
+/// `SameName` where both bases are the same, `NotBuilt` where the set has no head, `Damaged` where a part has another
+/// size than follows from the head; then nothing was written. `Damaged` only where the set stands for no collection;
+/// the store's faults, and want of memory.
 pub fn migrate<S: Store>(alloc: Global, store: &mut S, name: &str, new: &str) -> Result<u32, Fault>
     ensures made_anew { BetweenMoments S.files S.reads S.faults store.old store.new
         (λ before now. MadeAnew name.now new.now before now (status_of result)) }
@@ -59,48 +61,16 @@ pub fn migrate<S: Store>(alloc: Global, store: &mut S, name: &str, new: &str) ->
     ensures documents { (collection : List ℕ) → Stands (S.files store.old) name.now collection → IfOk result (λ count. count ≡ length (documents collection)) }
     ensures later { S.faults store.old ≤ S.faults store.new }
 {
-    migrate_files(alloc, store, name, new)
-}
-
-// Makes a set of version 2 under one base from the set under another, and tells how the store stands then.
-fn migrate_files<S: Store>(
-    alloc: Global,
-    store: &mut S,
-    name: &str,
-    new: &str,
-) -> Result<u32, Fault>
-    // At `Ok` the new set stands for the same collection, with as many occurrences to a run.
-    ensures stands { ForSetIn (S.files store.old) name.now (λ cap collection. OnOk result (StandsIn 2 cap (S.files store.new) new.now collection)) }
-    ensures documents { (collection : List ℕ) → Stands (S.files store.old) name.now collection → IfOk result (λ count. count ≡ length (documents collection)) }
-    ensures merge_a { ForEach (Stands (S.files store.old) name.now) (λ _. OnOk result (IsEmptied (S.files store.new) new.now part.MergeA)) }
-    ensures merge_b { ForEach (Stands (S.files store.old) name.now) (λ _. OnOk result (IsEmptied (S.files store.new) new.now part.MergeB)) }
-    // Whatever it answers: files of other names are as before, and the new set is as before, or stands for no
-    // collection, or for this one.
-    ensures others { OthersSame new.now (S.files store.old) (S.files store.new) }
-    ensures left { (collection : List ℕ) → Stands (S.files store.old) name.now collection → Left new.now (S.files store.old) (S.files store.new) collection }
-    ensures early { IfErr result (λ fault. ComesFirst fault → S.files store.new ≡ S.files store.old) }
-    // The cause of each refusal.
-    ensures cause { IfErr result (MigrateStops (Rose (S.faults store.old) (S.faults store.new)) (S.files store.old) name.now new.now) }
-    ensures same { new.now ≡ name.now → result ≡ Err fault.SameName }
-    ensures not_built { IsSome (S.files store.old) → new.now ≢ name.now → HasNoHead (S.files store.old) name.now → RefusedFor result fault.NotBuilt }
-    ensures complete { ForEach (Stands (S.files store.old) name.now)
-        (λ _. new.now ≢ name.now → ¬ Fails S.faults store.old store.new → IsDone result) }
-    ensures later { S.faults store.old ≤ S.faults store.new }
-{
     if new == name {
         return Err(Fault::SameName);
     }
-    let loaded = match Head::load(store, name) {
-        Ok(loaded) => loaded,
-        Err(refusal) => return Err(Fault::from(refusal)),
-    };
-    let head = match loaded {
-        Some(head) => head,
-        None => return Err(Fault::NotBuilt),
+    let head = match load_sized(store, name) {
+        Ok(head) => head,
+        Err(fault) => return Err(fault),
     };
     match make_set(alloc, store, name, new, &head) {
         Ok(()) => Ok(head.documents),
-        Err(refusal) => Err(refusal),
+        Err(fault) => Err(fault),
     }
 }
 
@@ -141,6 +111,8 @@ fn copy_places<S: Store>(
     requires within { IsWithin (fields_of head.now) }
     requires room { 1 ≤ length block.old }
     ensures places { ForSetBy head.now (S.files store.old) name.now (λ code collection. OnOk result (HasWidePlaces (S.files store.new) new.now code collection)) }
+    ensures copied { IsSome (S.files store.old) → head.now.version ≡ 2 →
+        OnOk result (IsCopied name.now new.now (S.files store.old) (S.files store.new) part.Places) }
     ensures alone { ChangedAlone (full_name new.now part.Places) (S.files store.old) (S.files store.new) }
     ensures room { length block.new ≡ length block.old }
     ensures refused { IfErr result (ReadStops (Rose (S.faults store.old) (S.faults store.new)) (IsSetBy head.now (S.files store.old) name.now)) }
@@ -200,6 +172,8 @@ fn make_parts<S: Store>(
     requires within { IsWithin (fields_of head.now) }
     requires room { 1 ≤ length block.old }
     ensures ready { ForSetBy head.now (S.files store.old) name.now (ReadyForHead new.now head.now.cap (S.files store.new) result) }
+    ensures lacks { IsSome (S.files store.old) →
+        OnOk result (LacksHead (fields_of head.now) name.now new.now (S.files store.old) (S.files store.new)) }
     ensures unbuilt { IsUnbuilt new.now (S.files store.old) (S.files store.new) }
     ensures others { OthersSame new.now (S.files store.old) (S.files store.new) }
     ensures refused { IfErr result (ReadStops (Rose (S.faults store.old) (S.faults store.new)) (IsSetBy head.now (S.files store.old) name.now)) }
@@ -229,12 +203,7 @@ fn make_set<S: Store>(
 ) -> Result<(), Fault>
     requires apart { new.now ≢ name.now }
     requires within { IsWithin (fields_of head.now) }
-    ensures stands { ForSetBy head.now (S.files store.old) name.now
-        (λ _ collection. OnOk result (StandsIn 2 head.now.cap (S.files store.new) new.now collection)) }
-    ensures merge_a { ForSetBy head.now (S.files store.old) name.now (λ _ _. OnOk result (IsEmptied (S.files store.new) new.now part.MergeA)) }
-    ensures merge_b { ForSetBy head.now (S.files store.old) name.now (λ _ _. OnOk result (IsEmptied (S.files store.new) new.now part.MergeB)) }
-    ensures left { ForSetBy head.now (S.files store.old) name.now (λ _ collection. Left new.now (S.files store.old) (S.files store.new) collection) }
-    ensures others { OthersSame new.now (S.files store.old) (S.files store.new) }
+    ensures made { MadeFrom head.now name.now new.now (S.files store.old) (S.files store.new) (status_of result) }
     ensures refused { IfErr result (ReadStops (Rose (S.faults store.old) (S.faults store.new)) (IsSetBy head.now (S.files store.old) name.now)) }
     ensures later { S.faults store.old ≤ S.faults store.new }
 {

@@ -261,6 +261,36 @@ fn a_call_that_fails_leaves_the_old_set_or_none_or_the_new_one(
     Ok(())
 }
 
+/// How many calls a build of this collection makes before the first one that writes; none where it fails.
+fn calls_before_writing(alloc: Global, collection: &[u8]) -> Result<u64, Fail> {
+    let mut store = holding(alloc, &[("text", collection)])?;
+    let made = built(alloc, &mut store, 4096).is_ok();
+    Ok(match store.before_puts {
+        Some(calls) if made => calls,
+        _ => 0,
+    })
+}
+
+#[test]
+fn a_call_that_fails_before_the_first_write_changes_nothing(rt: HostRuntime) -> Result<(), Fail> {
+    let alloc = rt.alloc();
+    let collection = joined(alloc, &[(250, LETTERS)])?;
+    // The size is asked for, and three pages are read.
+    let calls = calls_before_writing(alloc, &collection)?;
+    assert!(rt; calls == 4);
+    let before = old_set(alloc)?;
+    for call in 0..calls {
+        let mut store = old_set(alloc)?;
+        store.put_file("text", &collection)?;
+        let first = store.calls();
+        store.fail_at(first.saturating_add(call), 0)?;
+        let told = built(alloc, &mut store, 4096);
+        assert!(rt; told == Err(Fault::StoreFault), "call {call}");
+        assert!(rt; same_files(&store, &before, &PARTS), "call {call}");
+    }
+    Ok(())
+}
+
 /// Bytes behind those of the first page.
 fn behind_a_page(alloc: Global, end: &[u8]) -> Result<Vec<u8>, AllocError> {
     let mut bytes = joined(alloc, &[(5000, b"\x02")])?;

@@ -147,16 +147,63 @@ fn a_set_is_not_made_from_itself_or_from_none(rt: HostRuntime) -> Result<(), Fai
     assert!(rt; migrate(alloc, &mut store, "old", "old") == Err(Fault::SameName));
     assert!(rt; migrate(alloc, &mut store, "none", "new") == Err(Fault::NotBuilt));
     assert!(rt; store.file("new.head").is_none());
-    store.put_file("old.places", b"\0\0\0\0")?;
-    let bad = Bad {
-        part: Part::Places,
-        at: 0,
-        low: 8,
-        high: 8,
-        found: 4,
+    Ok(())
+}
+
+// The parts whose sizes follow from the head.
+const SIZED: [(Part, &str); 6] = [
+    (Part::Text, "old.text"),
+    (Part::Places, "old.places"),
+    (Part::LexAt, "old.lexat"),
+    (Part::Post, "old.post"),
+    (Part::Skip, "old.skip"),
+    (Part::Weights, "old.weights"),
+];
+
+// Takes the last byte from a file, and tells how many bytes it had.
+fn cut(alloc: Global, store: &mut MemStore, name: &str) -> Result<u64, AllocError> {
+    let mut bytes = match store.file(name) {
+        Some(bytes) => bytes.to_vec(alloc)?,
+        None => Vec::new(alloc),
     };
-    assert!(rt; migrate(alloc, &mut store, "old", "new") == Err(Fault::Damaged(bad)));
-    assert!(rt; decoded(alloc, &store, "new")? == Some(Err(Fault::NotBuilt)));
+    let size = bytes.len() as u64;
+    bytes.pop();
+    store.put_file(name, &bytes)?;
+    Ok(size)
+}
+
+// Whether each file of the new set is the same in both stores.
+fn same_new_set(one: &MemStore, other: &MemStore) -> bool {
+    for (_, name, _) in COPIED {
+        if one.file(name) != other.file(name) {
+            return false;
+        }
+    }
+    one.file("new.head") == other.file("new.head")
+        && one.file("new.places") == other.file("new.places")
+}
+
+#[test]
+fn a_part_of_another_size_leaves_the_set_that_was_there(rt: HostRuntime) -> Result<(), Fail> {
+    let alloc = rt.alloc();
+    for (head, places) in [(HEAD, PLACES), (WIDE_HEAD, WIDE_PLACES)] {
+        for (part, name) in SIZED {
+            let mut store = old_set(alloc, head, places)?;
+            assert!(rt; migrate(alloc, &mut store, "old", "new") == Ok(1));
+            let before = healed(alloc, &store)?;
+            let size = cut(alloc, &mut store, name)?;
+            let bad = Bad {
+                part,
+                at: 0,
+                low: size,
+                high: size,
+                found: size.saturating_sub(1),
+            };
+            let told = migrate(alloc, &mut store, "old", "new");
+            assert!(rt; told == Err(Fault::Damaged(bad)), "{name}");
+            assert!(rt; same_new_set(&store, &before), "{name}");
+        }
+    }
     Ok(())
 }
 

@@ -1,5 +1,5 @@
 //! A store that tells nothing of its files, and lies about one of them.
-ghost use Rattle.std.specs.Prelude.{None};
+ghost use Rattle.std.specs.Prelude.{◌≡◌, None};
 ghost use Rattle.mg_dev.specs.Files.{Files};
 
 use mg_dev::{Failed, FileRef, Part, PutErr, Store};
@@ -17,6 +17,8 @@ pub(crate) struct OtherStore {
     pub(crate) longest: usize,
     /// How often a collection was read before the first byte was appended to a part of runs.
     pub(crate) before_runs: Option<u64>,
+    /// How many calls there were before the first one that writes.
+    pub(crate) before_puts: Option<u64>,
     /// How many calls there were that write.
     pub(crate) puts: u64,
 }
@@ -31,8 +33,19 @@ impl OtherStore {
             from: u64::MAX,
             longest: 0,
             before_runs: None,
+            before_puts: None,
             puts: 0,
         }
+    }
+
+    // Counts a call that writes.
+    fn count_put(&mut self)
+        ensures { self.new.held ≡ self.old.held }
+    {
+        if self.before_puts.is_none() {
+            self.before_puts = Some(self.held.calls());
+        }
+        self.puts = self.puts.saturating_add(1);
     }
 }
 
@@ -65,7 +78,7 @@ impl Store for OtherStore {
     }
 
     fn reset(&mut self, file: &FileRef<'_>) -> Result<(), PutErr> {
-        self.puts = self.puts.saturating_add(1);
+        self.count_put();
         match self.held.reset(file) {
             Ok(()) => Ok(()),
             Err(refusal) => Err(refusal),
@@ -73,7 +86,7 @@ impl Store for OtherStore {
     }
 
     fn append(&mut self, file: &FileRef<'_>, piece: &[u8]) -> Result<(), PutErr> {
-        self.puts = self.puts.saturating_add(1);
+        self.count_put();
         if file.part == Part::Run && !piece.is_empty() && self.before_runs.is_none() {
             self.before_runs = Some(self.held.reads_of(Part::Plain));
         }

@@ -1,5 +1,5 @@
 -- What a migration answered, and the put of its line, is what the run did.
-use Rattle.std.proofs.Common.{◌≡◌, ℕ, List, length, Ok, Err, Option, refl, sym, ap, subst, inl}
+use Rattle.std.proofs.Common.{◌≡◌, ℕ, List, length, Ok, Err, Option, refl, sym, ap, subst, inl, inr}
 use Rattle.std.specs.Prelude.{Result, codes}
 use Rattle.mg_dev.specs.Causes.{HasLack, HasPutCause}
 use Rattle.mg_dev.specs.Files.{Files}
@@ -19,7 +19,7 @@ use Rattle.mg_build.specs.Migrating as migrating
 use Rattle.mg_build.specs.Migrating.{ComesFirst}
 use Rattle.mg_dev.proofs.CallerLemmas.{put_grew}
 use Rattle.mg_top.specs.Migrated.{Migrated, documents_line}
-use Rattle.mg_dev.specs.Runs.{IfStopped, Run, OutputFailed, SaysNothing, StoreFailed}
+use Rattle.mg_dev.specs.Runs.{IfStopped, Run, OutputFailed, SaysNothing, StoreFailed, Stops}
 use Rattle.mg_top.proofs.EndLaws.{never_refused, never_stopped, not_done, put_cause, put_done_or, put_silent, put_when_done, refused_cause, refused_silent, same_fault, status_of_put}
 
 -- ---- the migration was refused
@@ -32,16 +32,22 @@ module _ (name new : List ℕ) (run : Run) (f : Fault) (is : run.status ≡ Stop
   cause_is : migrating.MigrateStops (StoreFailed run) run.store.files name new f
   cause_is = subst (λ (s : Status). IfStopped s (migrating.MigrateStops (StoreFailed run) run.store.files name new)) is made.cause
 
+  wrote : Stops run WriteFault → ⊥
+  wrote end = subst (λ (g : Fault). migrating.MigrateStops (StoreFailed run) run.store.files name new g) (same_fault run.status f WriteFault is end) cause_is
+
   pub refused_by : Migrated name new run
   refused_by = record {
     done = made.done;
+    copied = λ told end. elim end [ inl done ↦ made.copied told done | inr unwritten ↦ absurd (wrote unwritten) ];
     printed = λ c stands end. absurd (not_done run.status f is end);
     prefix = λ c stands. subst (λ (w : Option (List ℕ)). GrewByPrefix run.out.written w (documents_line c)) (sym unwritten) (grew_nothing run.out.written (documents_line c));
     silent = refused_silent run f is out;
     unchanged = made.unchanged;
-    kept = λ version cap c stands end. absurd (subst (λ (g : Fault). migrating.MigrateStops (StoreFailed run) run.store.files name new g) (same_fault run.status f WriteFault is end) cause_is);
+    sizes = made.sizes;
+    kept = λ version cap c stands end. absurd (wrote end);
     left = made.left;
     others = made.others;
+    begun = made.begun;
     cause = refused_cause run f (migrating.MigrateStops (StoreFailed run) run.store.files name new) is (λ never. never) cause_is;
     same = λ e. inl (made.same e);
     not_built = made.not_built;
@@ -68,13 +74,16 @@ module _ (name new : List ℕ) (run : Run) (n : ℕ) (w : Result (Unit {0}) PutE
   pub made_by : Migrated name new run
   made_by = record {
     done = λ version cap c is_in end. made.done version cap c is_in refl;
+    copied = λ told end. made.copied told refl;
     printed = λ c it end. put_when_done w run.status _ _ _ is end (line c it);
     prefix = λ c it. put_grew w _ _ _ (line c it);
     silent = put_silent run w is lack;
     unchanged = λ g first end. absurd (never_first w run.status g is first end);
+    sizes = made.sizes;
     kept = λ version cap c is_in end. made.done version cap c is_in refl;
     left = made.left;
     others = made.others;
+    begun = made.begun;
     cause = put_cause run w (migrating.MigrateStops (StoreFailed run) run.store.files name new) is tt put;
     same = λ e. absurd (never_stopped _ (made.same e));
     not_built = λ told apart none. absurd (never_refused _ (made.not_built told apart none));

@@ -182,13 +182,16 @@ module _ (run : Run) (stops : Stops run Memory) (store : run.store_now ≡ run.s
   migrated : (n m : List ℕ) → Migrated n m run
   migrated n m = record {
     done = λ version cap c stands is. absurd (not_done is);
+    copied = λ told end. elim end [ inl is ↦ absurd (not_done is) | inr is ↦ absurd (not_write is) ];
     printed = λ c stands is. absurd (not_done is);
     prefix = λ c stands. prefix (documents_line c);
     silent = caused (SilentOnOutput run) (inl silent);
     unchanged = λ fault early is. files;
+    sizes = λ head told has wrong. files;
     kept = λ version cap c stands is. absurd (not_write is);
     left = λ c stands. inl files;
     others = same_files m;
+    begun = λ told. inl files;
     cause = caused (MigrateStops (StoreFailed run) (OutputFailed run) run.store.files n m) tt;
     same = λ is. inr stops;
     not_built = λ told apart none. inr (inr stops);

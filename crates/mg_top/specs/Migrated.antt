@@ -6,13 +6,16 @@ use Rattle.mg_dev.specs.Streams.{appended, GrewByPrefix}
 use Rattle.mg_dev.specs.declared.fault.Fault.{Fault}
 use Rattle.mg_dev.specs.declared.fault.Fault.TheVariants.{WriteFault, NotBuilt, Memory, SameName}
 use Rattle.mg_dev.specs.declared.status.Status.TheVariants.{Done}
+use Rattle.mg_defs.specs.Heads.{Head}
 use Rattle.mg_defs.specs.Split.{documents}
 use Rattle.mg_defs.specs.Summaries.{number_line}
 use Rattle.mg_layout.specs.Stands.{HasNoHead, Stands, StandsIn}
 use Rattle.mg_make.specs.Putting.{OthersSame}
 use Rattle.mg_make.specs.Outcomes.{AreMadeAnew, Left}
 use Rattle.mg_build.specs.Migrating as migrating
+use Rattle.mg_build.specs.MadeAnew.{BeginsHead, TakesOver}
 use Rattle.mg_build.specs.Migrating.{ComesFirst}
+use Rattle.mg_build.specs.Sizes.{HasHeadIn, HasSizesOf}
 use Rattle.mg_top.specs.Ends.{OrOutput, SilentOnOutput}
 use Rattle.mg_dev.specs.Runs.{IfStopped, Run, StoreFailed, OutputFailed, KeepsFiles, Stops, StopsUnless}
 
@@ -29,6 +32,8 @@ pub record Migrated (name new : List ℕ) (run : Run) : Type 0 where
   -- status 0: the new set is made, and the line is printed
   pub done : (version cap : ℕ) (collection : List ℕ) → StandsIn version cap run.store.files name collection → run.status ≡ Done
       → AreMadeAnew run.store_now.files new collection cap
+  -- status 0, and where the line could not be written, whatever the old set's bytes mean: all is taken over
+  pub copied : IsSome run.store.files → (run.status ≡ Done) ⊎ Stops run WriteFault → TakesOver name new run.store run.store_now
   pub printed : (collection : List ℕ) → Stands run.store.files name collection → run.status ≡ Done
       → run.out_now.written ≡ appended run.out.written (documents_line collection)
   -- every status: a prefix of the line is printed; after another status than 0, 4 and 12 nothing,
@@ -36,12 +41,17 @@ pub record Migrated (name new : List ℕ) (run : Run) : Type 0 where
   pub prefix : (collection : List ℕ) → Stands run.store.files name collection → GrewByPrefix run.out.written run.out_now.written (documents_line collection)
   pub silent : IfStopped run.status (SilentOnOutput run)
   pub unchanged : (fault : Fault) → ComesFirst fault → Stops run fault → KeepsFiles run
+  -- where a size is not the one that follows from the head no file changes
+  pub sizes : (head : Head) → IsSome run.store.files → HasHeadIn run.store.files name head → ¬ HasSizesOf head run.store.files name
+      → KeepsFiles run
   -- where the line could not be written the new set is made
   pub kept : (version cap : ℕ) (collection : List ℕ) → StandsIn version cap run.store.files name collection → Stops run WriteFault
       → AreMadeAnew run.store_now.files new collection cap
   -- every status: all files are as before, or the new set stands for none, or for this collection; no file but its own changes
   pub left : (collection : List ℕ) → Stands run.store.files name collection → Left new run.store.files run.store_now.files collection
   pub others : OthersSame new run.store.files run.store_now.files
+  -- every status, whatever the old set's bytes mean: all files are as before, or the new head was begun
+  pub begun : IsSome run.store.files → KeepsFiles run ⊎ BeginsHead name new run.store run.store_now
   -- the cause of every other status
   pub cause : IfStopped run.status (MigrateStops (StoreFailed run) (OutputFailed run) run.store.files name new)
   -- 16 and 5 come exactly where they have it, in this order, unless the store fails or memory is wanting

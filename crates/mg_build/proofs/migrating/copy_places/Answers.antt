@@ -1,3 +1,4 @@
+use Rattle.std.proofs.Common.{arith}
 use Rattle.mg_defs.specs.CodedText.{places}
 use Rattle.mg_build.proofs.CopyLaws.{refused_more}
 use Rattle.mg_build.proofs.PlaceLaws.{narrow_places}
@@ -11,3 +12,6 @@ pub returns-then-head-eq1-clause-refused : goal.returns-then-head-eq1-clause-ref
 returns-then-head-eq1-clause-refused g c = refused_more c.widen_places.result _ _ _
     (λ is. (is.2.told, places is.0 is.1, narrow_places c.args.head.now is.0 is.1 c.args.name.now (g.S.Store.files c.args.store.now) c.if-head-eq1.true c.requires.within is.2))
     c.widen_places.ensures.refused
+
+pub returns-then-head-eq1-clause-copied : goal.returns-then-head-eq1-clause-copied
+returns-then-head-eq1-clause-copied g c = λ told is. absurd (omega (arith, is, c.if-head-eq1.true))

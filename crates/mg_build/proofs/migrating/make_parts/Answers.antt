@@ -1,9 +1,10 @@
-use Rattle.std.proofs.Common.{arith, ◌≡◌, ◌≤◌, ◌∙◌, ap}
+use Rattle.std.proofs.Common.{arith, ◌∙◌, ap}
 use Rattle.mg_dev.specs.Names.{number}
 use Rattle.mg_dev.specs.declared.part.Part.TheVariants.{Places}
+use Rattle.mg_layout.specs.HeadAnswers.{fields_of}
 use Rattle.mg_make.specs.Putting.{OthersSame}
 use Rattle.mg_build.proofs.CopyLaws.{ok_more, stops_more}
-use Rattle.mg_build.proofs.MigrateLaws.{others_of_part, parts_ready, same_set, stands_too}
+use Rattle.mg_build.proofs.MigrateLaws.{lacks_head, others_of_part, parts_ready, same_set, stands_too}
 use Rattle.mg_build.proofs.PassLaws.{others_more, rose_behind}
 use Rattle.mg_build.proofs.migrating.make_parts.Goals as goal
 
@@ -38,3 +39,13 @@ pub returns-clause-others : goal.returns-clause-others
 returns-clause-others g c = others_more c.args.new.now _ _ _
     (others_of_part c.args.new.now Places (g.S.Store.files c.args.store.now) (g.S.Store.files c.empty_parts.new.store) (g.S.Store.files c.copy_places.new.store) (λ same. omega (arith, ap number same)) c.in-Ok.ensures.others c.in-Ok-copy_places.ensures.alone)
     c.copy_parts.ensures.others
+
+pub returns-clause-lacks : goal.returns-clause-lacks
+returns-clause-lacks g c = λ told.
+    let placed = c.in-Ok-copy_places.ensures in
+    let emptied = c.in-Ok.ensures in
+    let told_then = emptied.others.told ∙ told in
+    ok_more c.copy_parts.result _ _
+    (λ copied. lacks_head (fields_of c.args.head.now) c.args.name.now c.args.new.now _ _ _ _ c.names_apart.ensures.bases c.requires.apart emptied.others placed.alone c.copy_parts.ensures.kept
+    (emptied.emptied told) (placed.copied told_then) copied)
+    (c.copy_parts.ensures.copied (placed.alone.told ∙ told_then))
