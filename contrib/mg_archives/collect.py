@@ -1,6 +1,7 @@
 """The program mg-collect, of which mg-collect(1) is the manual."""
 
 import argparse
+import contextlib
 import os
 import signal
 import sys
@@ -8,6 +9,7 @@ import sys
 from mg_archives.choices import Choices, Tally
 from mg_archives.progress import Progress
 from mg_archives.refusals import FAILED, LEFT_OUT, REFUSED, USAGE, Refusal, shown
+from mg_archives.streams import write_whole
 
 PROGRAM = "mg-collect"
 SIGNALS = (signal.SIGHUP, signal.SIGINT, signal.SIGTERM)
@@ -72,7 +74,8 @@ def check_words(parser, given):
 
 def listed_names():
     """The names on standard input, one a line."""
-    text = sys.stdin.buffer.read()
+    with open(0, "rb", closefd=False) as file:
+        text = file.read()
     return text.removesuffix(b"\n").split(b"\n") if text else []
 
 
@@ -129,16 +132,14 @@ def print_tally(choices, tally):
     if tally.odd and not choices.skip:
         told.append(f"{len(tally.odd)} documents were left out; --skip says that this is meant, --replace BYTE takes such bytes")
     tell(told)
-    sys.stdout.write("".join(line + "\n" for line in lines))
-    sys.stdout.flush()
+    write_whole(1, "".join(line + "\n" for line in lines).encode())
 
 
 def tell(lines):
     """Lines on standard error, with bytes of names that are no UTF-8 as they are."""
     text = "".join(f"{PROGRAM}: {line}\n" for line in lines)
-    sys.stderr.flush()
-    sys.stderr.buffer.write(text.encode("utf-8", "surrogateescape"))
-    sys.stderr.buffer.flush()
+    with contextlib.suppress(OSError):
+        write_whole(2, text.encode("utf-8", "surrogateescape"))
 
 
 def end_by_signal(number, _):

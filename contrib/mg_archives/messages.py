@@ -13,7 +13,7 @@ from mg_archives import hypertext
 from mg_archives.texts import decoded, encoded, plain_signs
 
 # A head goes as far as its lines look like a field, the rest of one, or a line of another system's mailbox.
-HEAD = re.compile(rb"(?:(?:[!-9;-~]+[ \t]*:|[ \t]|>?From )[^\n]*(?:\n|\Z))*")
+HEAD = re.compile(rb"(?:(?:[!-9;-~]+[ \t]*:|[ \t]|>?From )[^\n]*(?:\n|\Z))*+")
 FIELD = re.compile(
     rb"^(from|to|cc|date|subject|message-id|content-type|content-transfer-encoding|content-disposition)[ \t]*:"
     rb"([^\n]*(?:\n[ \t][^\n]*)*)", re.I | re.M,
@@ -22,7 +22,8 @@ SHOWN = [
     (b"from", "From"), (b"to", "To"), (b"cc", "Cc"), (b"date", "Date"), (b"subject", "Subject"), (b"message-id", "Message-ID"),
 ]
 STRUCTURE = [b"content-type", b"content-transfer-encoding", b"content-disposition"]
-ENCODED_WORD = r"=\?[^?\s]+\?[bBqQ]\?.*?\?="
+# An encoded word may be longer than the standard says, but not without end.
+ENCODED_WORD = r"=\?[^?\s]+\?[bBqQ]\?.{0,1000}?\?="
 ENCODED_WORDS = re.compile(rf"{ENCODED_WORD}(?:\s*{ENCODED_WORD})*")
 CONTROLS = re.compile("[\x00-\x20\x7f]+")
 IDENTITY = re.compile(r"<[^<>]*>")
@@ -139,7 +140,7 @@ def add_attachment(part, text):
 
 def add_text_part(part, text):
     data = bytes_of(part)
-    if part.get_content_type() in ("text/html", "application/xhtml+xml"):
+    if part.get_content_type() == "text/html":
         page, right = hypertext.page_of(data, charset_of(part))
         text.add_text(hypertext.text_of(page), right)
     else:

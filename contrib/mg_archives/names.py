@@ -6,6 +6,7 @@ import re
 import signal
 
 from mg_archives.refusals import UNNAMED, Refusal, shown
+from mg_archives.streams import write_whole
 from mg_archives.tables import read_lines
 
 BLOCK = 1 << 16
@@ -64,11 +65,6 @@ class Naming:
         return b"".join(answers)
 
 
-def write_whole(data):
-    while data:
-        data = data[os.write(1, data) :]
-
-
 def rests_of(paths):
     """The rest of each line behind the number, of these tables in the order of the merge."""
     return [line.rstrip(b"\n").partition(b"\t")[2] for path in paths for line in read_lines(path)]
@@ -82,7 +78,8 @@ def name_rows(paths):
     held = bytearray()
     while block := os.read(0, BLOCK):
         held += block
-        write_whole(naming.taken(held, False))
-    write_whole(naming.taken(held, True))
+        write_whole(1, naming.taken(held, False))
+    write_whole(1, naming.taken(held, True))
     if naming.unnamed is not None:
-        raise Refusal(UNNAMED, f"{', '.join(map(shown, paths))}: {'they have' if len(paths) > 1 else 'it has'} no document {naming.unnamed}")
+        have = "they have" if len(paths) > 1 else "it has"
+        raise Refusal(UNNAMED, f"{', '.join(map(shown, paths))}: {have} no document {naming.unnamed}")
