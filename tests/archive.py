@@ -205,15 +205,21 @@ def copied(case, archive, name):
     return name
 
 
+def stand_in(case, name, script):
+    """A folder with mg-archive and a program beside it that it takes for mg."""
+    folder = case.folder / name
+    folder.mkdir(exist_ok=True)
+    if not (folder / "mg-archive").exists():
+        (folder / "mg-archive").symlink_to(ROOT / "contrib" / "mg-archive")
+    (folder / "mg").write_text(f"#!/bin/sh\n{script}\n")
+    (folder / "mg").chmod(0o755)
+
+
 def children(case):
     """The programs that a killed addition ran end with it, so that none writes into the next one."""
     found = messages(3)
     case.file("a.mbox", mbox(found))
-    (case.folder / "slow").mkdir()
-    (case.folder / "slow/mg-archive").symlink_to(ROOT / "contrib" / "mg-archive")
-    program = case.folder / "slow/mg"
-    program.write_text("#!/bin/sh\necho $$ > pid\nexec sleep 600\n")
-    program.chmod(0o755)
+    stand_in(case, "slow", "echo $$ > pid; exec sleep 600")
     words = [case.folder / "slow/mg-archive", "mail", "add", "mbox", "a.mbox"]
     run = subprocess.Popen(words, cwd=case.folder, stdout=subprocess.DEVNULL)
     told = case.folder / "mail/pid"
@@ -270,14 +276,17 @@ def limits(case):
     case.added("before the limits", "mail", (3, 0, 3), "mbox", "a.mbox")
     head = case.folder / "mail/1/set.head"
     sound = head.read_bytes()
-    for name, place, value, told in [
-        ("bytes", 32, (1 << 32) - 20, b"4294967295 bytes"), ("documents", 8, 1 << 24, b"16777216 documents"),
-    ]:
-        width = 8 if name == "bytes" else 4
-        head.write_bytes(sound[:place] + value.to_bytes(width, "big") + sound[place + width :])
-        case.refused(f"too many {name}", 3, b"the archive would have more than " + told, "mail", "add", *POOL, "mbox", "b.mbox")
-        head.write_bytes(sound)
-        case.check(f"too many {name}: the archive", (case.set_of("mail"), case.entries("mail")), ("1/set", ["1", "current", "lock"]))
+    # The head of a set that has nearly as many bytes as one may have, which a merge looks at first.
+    head.write_bytes(sound[:32] + ((1 << 32) - 20).to_bytes(8, "big") + sound[40:])
+    case.refused("too many bytes", 3, b"the archive would have more than 4294967295 bytes", "mail", "add", *POOL, "mbox", "b.mbox")
+    case.check("too many bytes: the archive", (case.set_of("mail"), case.entries("mail")), ("1/set", ["1", "current", "lock"]))
+    head.write_bytes(sound)
+    # A stand-in for mg that refuses what only very large sets have.
+    for status, told in [(9, "16777216 documents"), (10, "4194304 distinct words")]:
+        stand_in(case, "large", f"case $1 in merge) echo 'mg: more than {told}' >&2; exit {status} ;; esac; exec '{case.suite.program}' \"$@\"")
+        run = subprocess.run([case.folder / "large/mg-archive", "mail", "add", *POOL, "mbox", "b.mbox"], cwd=case.folder, capture_output=True)
+        case.check(f"status {status} of a merge", (run.returncode, f"the archive would have more than {told}".encode() in run.stderr), (3, True))
+        case.check(f"status {status}: the archive", (case.set_of("mail"), case.entries("mail")), ("1/set", ["1", "current", "lock"]))
     head.write_bytes(sound[:40] + b"\xff" * 8 + sound[48:])
     case.refused("a damaged set", 2, b"mg merge ended with status 6: damaged: part head", "mail", "add", *POOL, "mbox", "b.mbox")
     head.write_bytes(sound)

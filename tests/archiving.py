@@ -23,11 +23,12 @@ class Message:
 
     def __init__(self, number, draws):
         self.sender = PEOPLE[draws.below(len(PEOPLE))]
-        self.day = b"2023-%02d-%02d" % (1 + number // 10, 1 + number % 10 * 2)
+        self.day = b"2023-%02d-%02d" % (1 + number // 10 % 12, 1 + number % 10 * 2)
         year, month, day = self.day.split(b"-")
         names = b"Jan Feb Mar Apr May Jun Jul Aug Sep Oct Nov Dec".split()
         self.date = b"%d %s %s 11:%02d:00 +0000" % (int(day), names[int(month) - 1], year, number % 60)
-        self.identity = b"<%d.%d@harbour.example>" % (number, number * number)
+        # Some have a word by which mg finds the message, and some have none.
+        self.identity = b"<%s%d.%d@harbour.example>" % (b"" if number % 2 else b"2023000", number, number * number)
         self.subject = b" ".join(draws.one_of(VOCABULARY) for _ in range(2))
         lines = [b" ".join(draws.one_of(VOCABULARY) for _ in range(1 + draws.below(6))) for _ in range(1 + draws.below(3))]
         self.body = b"".join(line.capitalize() + b".\n" for line in lines)

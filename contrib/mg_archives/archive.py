@@ -6,10 +6,10 @@ import signal
 import sys
 
 from mg_archives.archive_folder import Archive
+from mg_archives.collect import KINDS, byte, end_by_signal
 from mg_archives.refusals import FAILED, LEFT_OUT, USAGE, Refusal, shown
 
 PROGRAM = "mg-archive"
-KINDS = ("mbox", "maildir", "folder", "files")
 MOST_ROWS = 1048576
 USAGE_TEXT = """\
 usage: mg-archive ARCHIVE add [OPTION]... mbox|maildir|folder|files [SOURCE]...
@@ -29,14 +29,6 @@ class Parser(argparse.ArgumentParser):
 
     def format_help(self):
         return USAGE_TEXT
-
-
-def byte(text):
-    """One byte that may stand in a document."""
-    value = os.fsencode(text)
-    if len(value) != 1 or value == b"\x02":
-        raise argparse.ArgumentTypeError("one byte is wanted, and no control-B")
-    return value
 
 
 def whole_number(text):
@@ -82,10 +74,6 @@ def split_words(words):
         else:
             asked.append(word)
     return options, asked
-
-
-def end_by_signal(number, _):
-    sys.exit(128 + number)
 
 
 def tell(lines):
@@ -192,6 +180,10 @@ def run(words):
         return 0
     if len(words) < 2 or not words[0] or words[1] not in COMMANDS:
         parser.error("an archive and one of add, find, show and status are wanted")
+    if words[1] != "add":
+        # An interrupt, or a reader that goes away, ends this program as it ends others in a pipe.
+        for number in (signal.SIGINT, signal.SIGPIPE):
+            signal.signal(number, signal.SIG_DFL)
     return COMMANDS[words[1]](Archive(words[0]), words[2:])
 
 
@@ -202,9 +194,6 @@ def main(words=None):
     except Refusal as refusal:
         tell([refusal.text])
         return refusal.status
-    except BrokenPipeError:
-        os.dup2(os.open(os.devnull, os.O_WRONLY), 1)
-        return FAILED
     except MemoryError:
         tell(["memory lacks"])
         return FAILED

@@ -14,7 +14,6 @@ removes it meanwhile; for other readers the generation before `current` stays un
 
 import contextlib
 import dataclasses
-import errno
 import fcntl
 import os
 import re
@@ -22,7 +21,7 @@ import shutil
 import socket
 import time
 
-from mg_archives.refusals import FAILED, REFUSED, Refusal
+from mg_archives.refusals import FAILED, REFUSED, Refusal, unwritten
 
 BUSY = 6
 CURRENT = re.compile(r"([1-9][0-9]*)/set\n")
@@ -99,30 +98,31 @@ class Archive:
             os.mkdir(self.path("adding"))
             yield Addition(self, lock)
         except OSError as error:
-            raise unwritten(self.root, error) from error
+            raise unwritten(error.filename or self.root, error) from error
         finally:
             with contextlib.suppress(OSError):
                 shutil.rmtree(self.path("adding"))
             os.close(lock)
 
     def prepare(self):
-        """Makes the folder where it is missing; one that has other files and is no archive is refused."""
+        """Makes the folder where it is missing, for its owner alone, since mail is; one that has other files and is no
+        archive is refused."""
         try:
             if os.path.isdir(self.root):
                 others = set(os.listdir(self.root)).difference(OWN)
                 if others and "lock" not in os.listdir(self.root):
                     raise Refusal(REFUSED, f"{self.root}: the folder is not empty, and is no archive")
             else:
-                os.mkdir(self.root)
+                os.mkdir(self.root, 0o700)
         except OSError as error:
-            raise unwritten(self.root, error) from error
+            raise unwritten(error.filename or self.root, error) from error
 
     def lock(self):
         """The lock as an open file, whose text then says who holds it."""
         try:
             file = os.open(self.path("lock"), os.O_RDWR | os.O_CREAT, 0o644)
         except OSError as error:
-            raise unwritten(self.root, error) from error
+            raise unwritten(error.filename or self.root, error) from error
         end = time.monotonic() + PATIENCE
         while True:
             try:
@@ -161,17 +161,16 @@ class Addition:
         current = self.old and int(self.old.name.partition("/")[0])
         for number in self.archive.generations():
             table = self.archive.path(f"{number}/set.table")
-            if number == current or (os.path.exists(table) and not self.unread(table)):
+            if number == current:
                 continue
-            remove(self.archive.path(str(number)))
-
-    @staticmethod
-    def unread(table):
-        """Whether no reader holds the generation with this table."""
-        lock = held(table, fcntl.LOCK_EX)
-        if lock is not None:
-            os.close(lock)
-        return lock is not None
+            # The lock is held until all is gone, so that no reader takes this generation meanwhile.
+            lock = held(table, fcntl.LOCK_EX)
+            try:
+                if lock is not None or not os.path.exists(table):
+                    remove(self.archive.path(str(number)))
+            finally:
+                if lock is not None:
+                    os.close(lock)
 
     def publish(self):
         """Makes the finished generation the current one: all is on the disk before the last renaming."""
@@ -225,10 +224,3 @@ def remove(path):
     else:
         with contextlib.suppress(FileNotFoundError):
             os.remove(path)
-
-
-def unwritten(path, error):
-    """Why an addition could not be written."""
-    if error.errno in (errno.ENOSPC, errno.EDQUOT, errno.EFBIG):
-        return Refusal(FAILED, f"{path}: the disk is full; the archive is as it was")
-    return Refusal(FAILED, f"{error.filename or path}: {error.strerror}")

@@ -8,7 +8,7 @@ import contextlib
 import os
 
 from mg_archives import maildirs, mboxes
-from mg_archives.archive_add import state_of
+from mg_archives.archive_add import mail_files, state_of
 from mg_archives.archive_find import record_of
 from mg_archives.archive_origins import digest_of, place_in_maildir
 from mg_archives.choices import Choices, Tally
@@ -118,7 +118,7 @@ class Original:
     def files(maildir):
         """The messages of the Maildir that the document came from."""
         try:
-            paths = maildirs.mail_files(maildir, Tally())
+            paths = mail_files(maildir, Tally())
         except (OSError, Refusal):
             return
         for path in paths:

@@ -4,8 +4,8 @@ A line of `set.origins` belongs to the document of its number, with tabs between
 
     size, time   of the file that is the document, when it was read; the time in nanoseconds
     digest       of the document, where a file or a message without Message-ID is known by it
-    words        words of the document by which a Boolean line of mg finds it; of a message that has its Message-ID in
-                 it the words of this are taken, and the column is empty
+    words        words of the document by which a Boolean line of mg finds it; of a message that has a telling
+                 Message-ID in it the words of this are taken, and the column is empty
 """
 
 import dataclasses
@@ -59,13 +59,18 @@ def telling_words(data):
 def origin_of(data, row, state=None):
     """The origin of a document that is added. `state` is the size and time of the file that it is, where it is one."""
     identity = row.message_id.encode("utf-8", "surrogateescape")
-    met = bool(WORD.search(identity)) and len(identity) < 900 and stands_alone(identity, data)
+    met = tells_apart(identity) and stands_alone(identity, data)
     origin = Origin(words=b"" if met else telling_words(data))
     if state is not None:
         origin.size, origin.time = map(str, state)
     if state is not None or not row.message_id:
         origin.digest = digest_of(data)
     return origin
+
+
+def tells_apart(identity):
+    """Whether a Message-ID has a word that few others have, and is no longer than a line of mg may be."""
+    return len(identity) < 900 and any(len(word) >= 6 and DIGIT.search(word) for word in WORD.findall(identity))
 
 
 def stands_alone(identity, data):

@@ -10,10 +10,13 @@ import sys
 import tempfile
 
 from mg_archives.progress import Progress
-from mg_archives.refusals import FAILED, REFUSED, USAGE, Refusal
+from mg_archives.refusals import FAILED, REFUSED, USAGE, Refusal, shown
 
 # The statuses by which mg tells that a set would be beyond a limit.
 LIMITS = {8: "4294967295 bytes", 9: "16777216 documents", 10: "4194304 distinct words"}
+STORE_FAILED = 2
+LEAST_ROOM = 1 << 16
+LIBRARY = ctypes.CDLL(None)
 PARENT_ENDS = 1
 INTERVAL = 0.1
 BLOCK = 1 << 20
@@ -39,9 +42,15 @@ def find_program():
 
 def end_with_parent(parent):
     """What a child does first, so that the system ends it when this program is killed."""
-    ctypes.CDLL(None).prctl(PARENT_ENDS, signal.SIGKILL)
+    LIBRARY.prctl(PARENT_ENDS, signal.SIGKILL)
     if os.getppid() != parent:
         os._exit(1)
+
+
+def room_in(folder):
+    """How many bytes the disk of a folder takes still."""
+    found = os.statvfs(folder)
+    return found.f_bavail * found.f_frsize
 
 
 def read_so_far(process):
@@ -93,6 +102,8 @@ class Program:
             told.seek(0)
             if status in LIMITS and words[0] in ("build", "merge"):
                 raise BeyondLimit(LIMITS[status])
+            if status == STORE_FAILED and room_in(self.root) < LEAST_ROOM:
+                raise Refusal(FAILED, f"{shown(self.root)}: the disk is full")
             refuse_status(words[0], status, told.read())
             return out.read()
 
