@@ -116,6 +116,11 @@ def folders(case):
     case.file("packed.gz", gzip.compress(b"the tide\n"))
     status, out, err = case.add("notes/kept", "files", given=os.fsencode(case.folder / "notes/a") + b"\npacked.gz\n")
     case.check("a list of files", (status, out, err), (0, b"added 1\nknown 1\ndocuments 5\n", b""))
+    os.symlink("a", case.folder / "notes/link")
+    status, out, _ = case.add("other", "folder", "notes")
+    kept = sum(len(names) for _, _, names in os.walk(case.folder / "notes/kept"))
+    told = b"added 3\nknown 0\ndocuments 3\nlinks 1\nmade %d\n" % kept
+    case.check("a folder with a link and another archive in it", (status, out), (0, told))
     case.added("by a filter", "shouted", (1, 0, 1), "--filter", "tr a-z A-Z", "files", "notes/a")
     case.check("by a filter: the document", case.decoded("shouted"), [b"THE CRANE\n"])
 

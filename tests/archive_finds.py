@@ -275,18 +275,18 @@ def originals(case):
     wanted = [*texts[:6], texts[6].replace(b"\n", b"\r\n"), b"Subject: s\n\nno name of its own\n", b"the crane\n"]
     for number, text in enumerate(wanted, 1):
         case.check(f"show --original {number}", case.run("mail", "show", "--original", str(number)), (0, text, b""))
-    case.refused("the original of piped mail", 3, b"pipe", "mail", "show", "--original", "10")
+    case.refused("the original of piped mail", 3, b"came from standard input, which is gone; show 10 has it", "mail", "show", "--original", "10")
     os.rename(case.folder / "Mail/new/1.M1.host", case.folder / "Mail/cur/1.M1.host:2,RS")
     os.rename(case.folder / "Mail/new/2.M1.host", case.folder / "Mail/cur/9.other.host")
     for number in (6, 7):
         case.check(f"a renamed message {number}", case.run("mail", "show", "--original", str(number))[1], wanted[number - 1])
     case.file("a.mbox", mbox(found[8:] + found[1:2]))
     case.check("a mailbox that was written anew", case.run("mail", "show", "--original", "2")[1], texts[1])
-    case.refused("a message that was taken out", 3, b"it has changed since", "mail", "show", "--original", "1")
+    case.refused("a message that was taken out", 3, b"a.mbox: document 1 is not there any more; show 1 has it", "mail", "show", "--original", "1")
     case.file("page", b"the winch\n")
-    case.refused("a file that was changed", 3, b"page: it has changed since", "mail", "show", "--original", "9")
+    case.refused("a file that was changed", 3, b"page: it has changed since; show 9 has it", "mail", "show", "--original", "9")
     os.remove(case.folder / "page")
-    case.refused("a file that is gone", 3, b"page: the source is gone", "mail", "show", "--original", "9")
+    case.refused("a file that is gone", 3, b"page: document 9 is not there any more; show 9 has it", "mail", "show", "--original", "9")
     case.check("the document stays", case.run("mail", "show", "9")[:2], (0, b"THE CRANE\n"))
 
 

@@ -6,7 +6,7 @@ import signal
 import sys
 
 from mg_archives.archive_folder import Archive
-from mg_archives.collect import KINDS, byte, end_by_signal
+from mg_archives.collect import KINDS, SIGNALS, byte, end_by_signal, folder_name, listed_names
 from mg_archives.refusals import FAILED, LEFT_OUT, USAGE, Refusal, shown
 
 PROGRAM = "mg-archive"
@@ -92,7 +92,6 @@ def start(archive):
 def run_add(archive, words):
     from mg_archives.archive_add import add
     from mg_archives.choices import Choices
-    from mg_archives.collect import folder_name, listed_names
 
     parser = parser_of("add")
     given = parser.parse_intermixed_args(words)
@@ -105,7 +104,7 @@ def run_add(archive, words):
         parser.error(f"{given.kind} wants a source")
     if given.kind in ("maildir", "folder"):
         names = [folder_name(name) for name in names]
-    for number in (signal.SIGHUP, signal.SIGINT, signal.SIGTERM):
+    for number in SIGNALS:
         if signal.getsignal(number) != signal.SIG_IGN:
             signal.signal(number, end_by_signal)
     choices = Choices(given.raw, given.replace, given.skip, given.filter, given.text)
@@ -115,7 +114,7 @@ def run_add(archive, words):
 def print_added(choices, added):
     """What came, on standard output, and what did not, on standard error; answers the status."""
     tally = added.tally
-    counts = {"replaced": tally.replaced, "undecoded": tally.undecoded, "skipped": len(tally.odd)}
+    counts = {"replaced": tally.replaced, "undecoded": tally.undecoded, "skipped": len(tally.odd), "links": tally.links, "made": tally.made}
     lines = [f"added {tally.documents}", f"known {added.known}", f"documents {added.documents}"]
     lines += [f"{name} {count}" for name, count in counts.items() if count]
     tell([f"left out {shown(name)}: {why}" for name, why in tally.odd])

@@ -8,7 +8,7 @@ import stat
 import time
 
 from mg_archives import maildirs
-from mg_archives.archive_folder import remove
+from mg_archives.archive_folder import is_within_archive, remove
 from mg_archives.archive_origins import Known, origin_of, place_in_maildir
 from mg_archives.archive_program import BeyondLimit, Program, beyond
 from mg_archives.choices import Tally
@@ -91,9 +91,18 @@ class Collecting:
             yield from self.reader.each(self.changed_files(paths), self.reader.file)
 
     def paths(self, kind, names):
+        """The files below folders; those of other archives are passed by."""
+        if kind == "maildir":
+            for name in names:
+                yield from maildirs.mail_files(name)
+            return
         tree = Tree(self.tally, places_of(self.leave))
         for name in names:
-            yield from mail_files(name, self.tally) if kind == "maildir" else tree.files(name)
+            for path in tree.files(name):
+                if is_within_archive(path):
+                    self.tally.made += 1
+                else:
+                    yield path
 
     def unread_mail(self, paths):
         """The files of mail that were not added under this name, whatever flags it has now."""
@@ -122,11 +131,6 @@ class Collecting:
             self.known.take(row, origin)
             origins.write(origin.line())
             yield data, row
-
-
-def mail_files(folder, tally):
-    """The files of mail in a folder."""
-    return maildirs.mail_files(folder, tally)
 
 
 def state_of(path):

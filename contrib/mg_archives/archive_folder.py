@@ -15,6 +15,7 @@ removes it meanwhile; for other readers the generation before `current` stays un
 import contextlib
 import dataclasses
 import fcntl
+import functools
 import os
 import re
 import shutil
@@ -188,6 +189,18 @@ class Addition:
         os.rename(archive.path("current.new"), archive.path("current"))
         settle(archive.root)
         return Generation(archive.root, f"{number}/set")
+
+
+@functools.cache
+def is_archive(folder):
+    """Whether a folder is an archive, of which nothing is a document."""
+    return os.path.isfile(os.path.join(folder, b"lock")) and os.path.isfile(os.path.join(folder, b"current"))
+
+
+def is_within_archive(path):
+    """Whether a file is one of an archive, or of its generations."""
+    folder = os.path.dirname(path)
+    return is_archive(folder) or is_archive(os.path.dirname(folder))
 
 
 def held(path, kind):
