@@ -33,7 +33,7 @@ def page(suite):
     with fresh_folder(suite) as folder:
         shutil.copy(ROOT / "examples" / "letters.mail", folder)
         count = sum(run_block(suite, "examples/shards", block, folder) for block in markdown_blocks(ROOT / "examples" / "shards" / "README.md"))
-        suite.check("commands of examples/shards", count, 9)
+        suite.check("commands of examples/shards", count, 8)
 
 
 def whole(suite):

@@ -25,8 +25,7 @@ FILES_BESIDE = 64
 
 
 def say(text):
-    line = text if isinstance(text, bytes) else text.encode("utf-8", "surrogateescape")
-    sys.stderr.buffer.write(b"mg-shards: " + line + b"\n")
+    sys.stderr.buffer.write(b"mg-shards: " + text.encode("utf-8", "surrogateescape") + b"\n")
     sys.stderr.flush()
 
 
@@ -152,7 +151,7 @@ def check(given):
         for row, run in zip(rows, pool.map(checked, rows)):
             if run.returncode:
                 refusal = refusal_of(run)
-                say(f"{archive.path(row.base)}: {refusal.text.decode('utf-8', 'surrogateescape')}")
+                say(f"{archive.path(row.base)}: {refusal.text}")
                 status = status or refusal.status
             elif run.stdout != b"stands %d documents %d bytes\n" % row[:2]:
                 say(f"{archive.path(row.base)}: it stands, but not for what the list tells")
@@ -169,7 +168,7 @@ def decode(given):
         run = subprocess.run([mg, "decode", archive.path(row.base)], stdin=subprocess.DEVNULL, stderr=subprocess.PIPE)
         if run.returncode:
             refusal = refusal_of(run)
-            raise Refusal(refusal.status, f"{archive.path(row.base)}: {refusal.text.decode('utf-8', 'surrogateescape')}")
+            raise Refusal(refusal.status, f"{archive.path(row.base)}: {refusal.text}")
     return 0
 
 

@@ -177,7 +177,7 @@ class Archive:
 
     def fail(self, step, refusal):
         """A step failed, and this is why."""
-        self.write(f"{refusal.status} {refusal.text.decode('utf-8', 'surrogateescape')}\n", "work", "failed", step.name)
+        self.write(f"{refusal.status} {refusal.text}\n", "work", "failed", step.name)
 
     def failure(self, step):
         """The status of a failed step and why it failed, or None."""

@@ -61,7 +61,7 @@ class Child:
         told = self.process.stderr.read()
         run = subprocess.CompletedProcess([], self.process.wait(), None, told)
         refusal = refusal_of(run) if run.returncode else Refusal(DAMAGED, "mg ended before its time")
-        raise Refusal(refusal.status, f"{self.base}: {refusal.text.decode('utf-8', 'surrogateescape')}")
+        raise Refusal(refusal.status, f"{self.base}: {refusal.text}")
 
     def terms(self):
         """The terms that match a pattern, each with the number of its documents."""
