@@ -1,31 +1,21 @@
 -- The end of the bytes, and what the second pass hands on there.
-use Rattle.std.proofs.Common.{append-nil, arith, min, ◌≡◌, ◌≢◌, ◌≤◌, ◌<◌, ◌^◌, ◌+◌, ◌-◌, ◌∙◌, ℕ, List, [], ◌++◌, length, refl, sym, ap, subst, Ok, Err, IsSome, is_some}
+use Rattle.std.proofs.Common.{append-nil, arith, ◌≡◌, ◌≤◌, ◌<◌, ◌^◌, ◌∙◌, ℕ, List, [], ◌++◌, length, sym, subst, Ok, Err, IsSome, is_some}
 use Rattle.std.specs.Prelude.{IfErr, IfOk, Result}
 use Rattle.std.specs.declared.option.Option.{Option}
 use Rattle.mg_dev.specs.Causes.{Rose}
 use Rattle.mg_dev.specs.declared.fault.Fault.{Fault}
 use Rattle.mg_dev.specs.declared.fault.Fault.TheVariants as cause
-use Rattle.mg_dev.specs.declared.part.Part.TheVariants.{Run}
-use Rattle.mg_dev.specs.Files.{Files, bytes_at}
-use Rattle.mg_dev.specs.Names.{full_name}
-use Rattle.mg_defs.specs.Bits.{as_bytes}
-use Rattle.mg_defs.specs.Heads.{run_count}
+use Rattle.mg_dev.specs.Files.{Files}
 use Rattle.mg_defs.specs.Marks.{Mark, marks}
-use Rattle.mg_defs.specs.Postings.{term_postings}
-use Rattle.mg_defs.specs.RunBits.{run_part_bits}
-use Rattle.mg_defs.specs.Summaries.{pool_peak, run_cap}
-use Rattle.mg_runs.specs.Left.{IsMerging}
-use Rattle.mg_text.specs.Writing.{DocumentsStand, text_bytes}
-use Rattle.mg_make.specs.DocCounting.{AreDocCounts}
 use Rattle.mg_make.specs.Finishing.{EndsWith, budget_of}
 use Rattle.mg_make.specs.Fronts.{IsFrontOf}
 use Rattle.mg_make.specs.Listing.{ListStops}
 use Rattle.mg_make.specs.Plans.{IsPlanOf}
 use Rattle.mg_make.specs.Putting.{IsHanded}
 use Rattle.mg_make.specs.Scanning.{HasMet, Scanning}
-use Rattle.mg_make.specs.Second.{FinishStops, HasWritten, Inversion, IsNext, IsWhole, SamePass, StopsBefore, WroteMarks, coded_by, occurring_by}
-use Rattle.mg_make.specs.Written.{SecondStops, WroteSecond}
-use Rattle.mg_make.specs.declared.second.Inverted.{Inverted}
+use Rattle.mg_make.specs.Second.{FinishStops, HasWritten, Inversion, IsNext, IsWhole, SamePass, StopsBefore, WroteMarks}
+use Rattle.mg_make.specs.Written.{SecondStops}
+use Rattle.mg_make.specs.declared.inverter.Inverted.{Inverted}
 
 -- ---- what is met at the end
 

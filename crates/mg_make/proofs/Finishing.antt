@@ -1,29 +1,36 @@
 -- What the second pass ends with, and why it does not.
-use Rattle.std.proofs.Common.{◌≡◌, ◌≤◌, ◌<◌, ℕ, false, List, [], refl, sym, ap, ◌∙◌, subst, length, arith, IsSome, is_some, unwrap_or}
+use Rattle.std.proofs.Common.{◌≡◌, ◌≤◌, ◌<◌, ℕ, false, Err, List, [], refl, sym, ap, ◌∙◌, subst, length, arith, IsSome, is_some, unwrap_or}
 use Rattle.std.specs.declared.option.Option.{Option}
+use Rattle.mg_dev.specs.Causes.{Rose}
+use Rattle.mg_dev.specs.Faults.{fault_of_part}
 use Rattle.mg_dev.specs.Files.{Files, bytes_at}
 use Rattle.mg_dev.specs.Names.{full_name}
+use Rattle.mg_dev.specs.declared.fault.Fault.{Fault}
+use Rattle.mg_dev.specs.declared.fault.Fault.TheVariants.{Changed, Memory, StoreFault}
+use Rattle.mg_dev.specs.PartCauses.{HasPartCause}
 use Rattle.mg_dev.specs.declared.part.Part.TheVariants.{Places, Run, Text}
-use Rattle.mg_defs.specs.Bits.{Bits, bits_of, as_bytes}
-use Rattle.mg_defs.specs.Heads.{run_count}
+use Rattle.mg_dev.specs.declared.part_err.PartErr.{PartErr}
+use Rattle.mg_dev.specs.declared.part_err.PartErr.TheVariants as part_err
+use Rattle.mg_defs.specs.Bits.{Bits, bits_of}
 use Rattle.mg_defs.specs.Marks.{Mark, coded_from, marks, terms_from}
 use Rattle.mg_defs.specs.Occurrences.{occurrences}
-use Rattle.mg_defs.specs.Postings.{term_postings}
-use Rattle.mg_defs.specs.RunBits.{run_part_bits}
-use Rattle.mg_defs.specs.Summaries.{pool_peak}
 use Rattle.mg_laws.proofs.MarkLaws.{marks_are_closed, marks_have_occurrences, marks_have_text}
-use Rattle.mg_runs.specs.Fed.{Inverting, IsFed, cap_of}
-use Rattle.mg_runs.specs.Left.{IsMerging, Merging}
+use Rattle.mg_runs.specs.Cursors.{NoDamage}
+use Rattle.mg_runs.specs.Fed.{IsFed}
+use Rattle.mg_runs.specs.Left.{Merging}
 use Rattle.mg_text.specs.Documents.{coded_docs}
 use Rattle.mg_text.specs.Writing.{DocumentsStand, IsOnText, text_bytes}
-use Rattle.mg_make.specs.Finishing.{EndsWith}
+use Rattle.mg_make.specs.DocCounting.{AreDocCounts, DocCounting}
+use Rattle.mg_make.specs.Finishing.{EndsWith, IsMergeOf}
 use Rattle.mg_make.specs.Indexes.{Indexing, OfRuns}
 use Rattle.mg_make.specs.Plans.{IsPlanOf, Plan}
-use Rattle.mg_make.specs.Second.{HasWritten, Inversion, IsWhole, coded_by, occurring_by}
-use Rattle.mg_make.specs.Written.{WroteParts}
+use Rattle.mg_make.specs.Second.{FinishStops, HasWritten, Inversion, IsWhole, coded_by, occurring_by}
+use Rattle.mg_make.specs.Written.{SecondStops, WroteParts}
 use Rattle.mg_make.proofs.Frames.{OthersStay, RunsStay, index_kept, places_file_kept, text_file_kept}
 use Rattle.mg_make.proofs.MarkFronts.{all_documents}
 use Rattle.mg_make.proofs.SecondSteps.{none_open}
+use Rattle.mg_make.proofs.Stopping.{rose_before}
+use Rattle.mg_make.specs.declared.inverter.Inverted.{Inverted}
 
 -- ---- content
 
@@ -36,14 +43,6 @@ documents_kept base own g h docs same wrote stand =
     let text : bytes_at h (full_name base Text) ≡ bytes_at g (full_name base Text) = ap (λ o. unwrap_or o []) (text_file_kept base g h here) in
     let places : bytes_at h (full_name base Places) ≡ bytes_at g (full_name base Places) = ap (λ o. unwrap_or o []) (places_file_kept base g h here) in
     subst (λ (b : List ℕ). DocumentsStand b h docs) refl (record { text = ap bits_of text ∙ stand.text; bytes = text ∙ stand.bytes; places = places ∙ stand.places })
-
--- what the merge of the runs says of itself
-pub record IsMergeOf (runs_in : Inverting) (g h : Option Files) (merge : Merging) (fed : List (ℕ × ℕ)) : Type 0 where
-  pub left : IsMerging merge h (term_postings fed)
-  pub run : IsSome g → bytes_at h (full_name runs_in.base Run) ≡ as_bytes (run_part_bits (cap_of runs_in.pool) fed)
-  pub runs : merge.runs ≡ run_count (length fed) (cap_of runs_in.pool)
-  pub peak : merge.peak ≡ pool_peak (length fed) runs_in.pool.limit
-  pub base : merge.base ≡ runs_in.base
 
 -- what both writers did
 pub record Finished (s : Inversion) (f g h : Option Files) (size : ℕ) (merge : Merging) (index : Indexing) : Type 0 where
@@ -79,6 +78,25 @@ ends_with s met f g h size merge index same closed all stay done is =
     subst (λ (i : Indexing). Finished s f g h size merge i → EndsWith s met f h (record { text_bytes = size; merge = merge; counts = i.counts; occurrences = i.occurrences })) (sym same)
     (λ it. ends_by s met f g h size merge closed all stay it is) done
 
+-- whatever hands on what the runs were merged to, behind a text of this size
+pub ends_all : (s : Inversion) (met : List Mark) (f g h : Option Files) (size : ℕ) (index : Indexing) (r : Inverted) → index ≡ s.index →
+    r.text_bytes ≡ size → r.counts ≡ index.counts → r.occurrences ≡ index.occurrences → s.text.is_open ≡ false → length s.plan.pairs ≤ s.doc → RunsStay →
+    Finished s f g h size r.merge index → HasWritten s f met → EndsWith s met f h r
+ends_all s met f g h size index r same bytes counts occurrences closed all stay done is =
+    let it = ends_with s met f g h size r.merge index same closed all stay done is in
+    record {
+      documents = it.documents;
+      text = it.text;
+      size = bytes ∙ it.size;
+      run = it.run;
+      merge = it.merge;
+      base = it.base;
+      runs = it.runs;
+      peak = it.peak;
+      counts = subst (λ (c : DocCounting). AreDocCounts c (length s.plan.terms.terms) (occurring_by s.plan met)) (sym counts) it.counts;
+      occurrences = occurrences ∙ it.occurrences;
+    }
+
 -- ---- the plan of a collection
 
 -- by the plan of a collection the text is the collection's, and so are the occurrences
@@ -95,3 +113,17 @@ fewer_documents s files collection is few of =
     let all = all_documents collection in
     let same = ap length of.pairs in
     omega (arith, all, same, is.doc)
+
+-- what stops the text stops the pass
+pub finish_stops : (rose same told : Type 0) (fault : Fault) → SecondStops rose same fault → FinishStops rose same told fault
+finish_stops rose same told StoreFault stops = stops
+finish_stops rose same told Memory stops = tt
+finish_stops rose same told (Changed what first second) stops = stops
+finish_stops rose same told fault stops = absurd stops
+
+-- and so does what stops the merge of the runs
+pub finish_by_part : {T : Type 0} {l m n : ℕ} (same : Type 0) (f g : Option Files) (refusal : PartErr) (fault : Fault) → fault ≡ fault_of_part refusal → l ≤ m →
+    HasPartCause {T = T} m n (Err refusal) → is_some g ≡ is_some f → (IsSome g → NoDamage {T = T} (Err refusal)) → FinishStops (Rose l n) same (IsSome f) fault
+finish_by_part {l = l} {m = m} {n = n} same f g part_err.Device fault is less cause told sound = rw is (rose_before l m n less cause.device)
+finish_by_part same f g part_err.Memory fault is less cause told sound = rw is tt
+finish_by_part same f g (part_err.Bad bad) fault is less cause told sound = rw is (λ t. sound (told ∙ t))

@@ -14,7 +14,7 @@ use Rattle.mg_make.specs.Index.{IsInverted}
 use Rattle.mg_make.specs.Listing.{AreListSizes}
 use Rattle.mg_make.specs.Plans.{IsPlanOf}
 use Rattle.mg_make.specs.Second.{HasWritten, Inversion, occurring_by}
-use Rattle.mg_make.specs.declared.second.Inverted.{Inverted}
+use Rattle.mg_make.specs.declared.inverter.Inverted.{Inverted}
 use Rattle.mg_make.proofs.CountSizes.{sizes_of_counts}
 
 -- over any store the lengths of lists are within what the writers take

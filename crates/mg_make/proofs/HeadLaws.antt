@@ -1,11 +1,11 @@
 -- A set without a head.
-use Rattle.std.proofs.Common.{arith, ◌≡◌, ◌∙◌, ◌≤◌, ℕ, List, [], Option, Some, length, sym, ap}
+use Rattle.std.proofs.Common.{arith, ◌≡◌, ◌∙◌, ℕ, List, [], Option, Some, length, sym, ap}
 use Rattle.mg_dev.specs.Files.{Files, file_at}
 use Rattle.mg_dev.specs.Names.{full_name}
 use Rattle.mg_dev.specs.declared.part.Part.TheVariants.{Head}
 use Rattle.mg_defs.specs.Heads as heads
 use Rattle.mg_defs.specs.Stands.{head_of}
-use Rattle.mg_layout.specs.Stands.{Stands, StandsForNone}
+use Rattle.mg_layout.specs.Stands.{StandsForNone}
 use Rattle.mg_laws.proofs.CutHeads.{head_long}
 use Rattle.std.specs.Option.{unwrap_or}
 

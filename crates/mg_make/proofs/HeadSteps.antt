@@ -1,5 +1,5 @@
 -- The append of the head, and what stands behind it.
-use Rattle.std.proofs.Common.{arith, min, ◌≡◌, ◌≢◌, ◌≤◌, ◌<◌, ◌^◌, ◌+◌, ◌-◌, ◌⊎◌, ◌∙◌, inl, inr, ℕ, List, [], ◌++◌, length, take, refl, sym, ap, subst, Ok, Err, IsSome, is_some, Some}
+use Rattle.std.proofs.Common.{arith, ◌≡◌, ◌≢◌, ◌≤◌, ◌<◌, ◌⊎◌, ◌∙◌, inl, inr, ℕ, List, [], ◌++◌, length, take, refl, sym, ap, Err, IsSome, is_some, Some}
 use Rattle.std.proofs.lemmas.Bool.{cases_lt}
 use Rattle.std.proofs.lemmas.List.{take_all}
 use Rattle.std.specs.Prelude.{Result}
@@ -8,11 +8,10 @@ use Rattle.std.specs.declared.option.Option.{Option}
 use Rattle.mg_dev.specs.Causes.{HasPutCause, Rose}
 use Rattle.mg_dev.specs.declared.device.PutErr.{PutErr}
 use Rattle.mg_dev.specs.declared.device.PutErr.TheVariants as put_err
-use Rattle.mg_dev.specs.declared.fault.Fault.{Fault}
 use Rattle.mg_dev.specs.declared.part.Part.{Part}
 use Rattle.mg_dev.specs.declared.part.Part.TheVariants.{Head, Lex, LexAt, MergeA, MergeB, Nonwords, Places, Plain, Post, Run, Skip, Text, Weights, Words}
 use Rattle.mg_dev.specs.Faults.{fault_of_store}
-use Rattle.mg_dev.specs.Files.{AfterAppend, Files, GrewInPart, bytes_at, file_at, grown, written}
+use Rattle.mg_dev.specs.Files.{AfterAppend, Files, GrewInPart, bytes_at, file_at, grown}
 use Rattle.mg_dev.specs.Laws.{append-others, append-told, file_at-other, file_at-written, same_part_of_name, told-written}
 use Rattle.mg_dev.specs.Names.{full_name, number}
 use Rattle.mg_defs.specs.CodedText.{TextCode}

@@ -13,6 +13,8 @@ pub mod SecondSteps
 pub mod Stopping
 pub mod Finishing
 pub mod Taking
+pub mod PassLaws
+pub mod StepLaws
 pub mod Scans
 pub mod Counted
 pub mod Planned
@@ -26,4 +28,3 @@ pub mod RestSteps
 pub mod HeadLaws
 pub mod ReadySteps
 pub mod HeadSteps
-pub mod ReadSteps

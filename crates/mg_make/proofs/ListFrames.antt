@@ -36,7 +36,7 @@ pub wrote_lists : (base post skip : List ℕ) (f g : Option Files) → post ≡ 
 wrote_lists base post skip f g post_is skip_is told others =
     record { told = told; others = λ name apart. others name (λ e. apart Post tt (e ∙ post_is)) (λ e. apart Skip tt (e ∙ skip_is)) }
 
-of_lists : (p : AnyPart) → OfPostings p → OfLists p
+pub of_lists : (p : AnyPart) → OfPostings p → OfLists p
 of_lists Head h = h
 of_lists Words h = h
 of_lists Nonwords h = h

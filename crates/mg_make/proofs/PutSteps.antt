@@ -1,7 +1,6 @@
 -- A set that is being written, from step to step.
-use Rattle.std.proofs.Common.{append-nil, arith, ◌≡◌, ◌≢◌, ◌≤◌, ◌<◌, ◌^◌, ◌+◌, ◌-◌, ◌⊎◌, ◌∙◌, inl, inr, ℕ, List, [], ◌∷◌, ◌++◌, length, replicate, refl, sym, ap, subst, Ok, Err, IsSome, is_some, Some}
+use Rattle.std.proofs.Common.{append-nil, arith, ◌≡◌, ◌<◌, ◌^◌, ◌+◌, ◌-◌, ◌∙◌, inr, ℕ, List, [], ◌∷◌, ◌++◌, length, replicate, refl, sym, ap, subst, IsSome, is_some, Some}
 use Rattle.std.proofs.lemmas.List.{append_assoc, length_push}
-use Rattle.std.specs.Prelude.{IfErr, OnOk, Result}
 use Rattle.std.specs.declared.option.Option.{Option}
 use Rattle.mg_dev.specs.declared.fault.Fault.{Fault}
 use Rattle.mg_dev.specs.declared.part.Part.TheVariants.{Head, Plain}
@@ -11,11 +10,10 @@ use Rattle.mg_defs.specs.Marks.{Mark, marks}
 use Rattle.mg_model.specs.Models.{PartsHold}
 use Rattle.mg_make.specs.Finishing.{budget_of}
 use Rattle.mg_make.specs.Fronts.{IsFrontOf}
-use Rattle.mg_make.specs.Meeting.{marks_of}
 use Rattle.mg_make.specs.Plans.{IsPlanOf, Plan}
 use Rattle.mg_make.specs.Putting.{HasPut, IsUnbuilt, OfPass, OthersSame, Putting}
 use Rattle.mg_make.specs.Scanning.{HasMet, Scanning}
-use Rattle.mg_make.specs.Second.{HasStopCause, HasWritten, Inversion, IsNext, SamePass, StopsBefore, WroteMarks}
+use Rattle.mg_make.specs.Second.{HasWritten, Inversion, IsNext, SamePass, StopsBefore, WroteMarks}
 use Rattle.mg_make.specs.Written.{SecondStops, WroteParts, WroteSecond}
 use Rattle.mg_make.proofs.Scans.{marks-go_on}
 use Rattle.mg_make.proofs.SetFrames.{head_of_second, kept, models_of_second, others_kept, others_of_second, pass_from}

@@ -1,5 +1,5 @@
 -- What stands before the head is appended, and behind it.
-use Rattle.std.proofs.Common.{arith, ◌≡◌, ◌≢◌, ◌≤◌, ◌<◌, ◌^◌, ◌+◌, ◌/◌, ◌⊎◌, ◌∙◌, inl, inr, ℕ, List, [], ◌++◌, length, take, refl, sym, ap, subst, Ok, Err, IsSome, is_some, Some}
+use Rattle.std.proofs.Common.{arith, ◌≡◌, ◌≤◌, ◌<◌, ◌^◌, ◌⊎◌, ◌∙◌, inl, inr, ℕ, List, length, refl, ap, subst, Ok, Err, IsSome}
 use Rattle.std.specs.Prelude.{IfErr, IfOk, OnOk, Result}
 use Rattle.std.specs.declared.option.Option.{Option}
 use Rattle.mg_dev.specs.declared.part.Part.{Part}
@@ -9,7 +9,7 @@ use Rattle.mg_dev.specs.declared.part.Part.TheVariants.{Head, Nonwords, Places, 
 use Rattle.mg_dev.specs.Files.{Files, bytes_at, file_at}
 use Rattle.mg_dev.specs.Names.{full_name, number}
 use Rattle.mg_defs.specs.Bits.{Bits, as_bytes}
-use Rattle.mg_defs.specs.CodedText.{TextCode, places_part, text_part}
+use Rattle.mg_defs.specs.CodedText.{TextCode, text_part}
 use Rattle.mg_defs.specs.Marks.{marks}
 use Rattle.mg_defs.specs.Occurrences.{occurrences}
 use Rattle.mg_defs.specs.RunBits.{run_part_bits}
@@ -23,7 +23,7 @@ use Rattle.mg_make.specs.Plans.{IsPlanOf, Plan}
 use Rattle.mg_make.specs.Putting.{HasPut, IsHanded, IsReady, OthersSame, Putting}
 use Rattle.mg_make.specs.Second.{coded_by, occurring_by}
 use Rattle.mg_make.specs.Written.{WroteParts, WroteSecond}
-use Rattle.mg_make.specs.declared.second.Inverted.{Inverted}
+use Rattle.mg_make.specs.declared.inverter.Inverted.{Inverted}
 use Rattle.mg_make.proofs.Finishing.{planned_occurrences, planned_text}
 use Rattle.mg_make.proofs.SetFrames.{bytes_kept, index_from, kept, models_of_second, others_kept}
 

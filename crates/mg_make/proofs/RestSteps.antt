@@ -1,24 +1,21 @@
 -- The parts behind the second pass, and the head that belongs to the set.
-use Rattle.std.proofs.Common.{arith, ◌≡◌, ◌≢◌, ◌≤◌, ◌<◌, ◌^◌, ◌+◌, ◌*◌, ◌/◌, ◌-◌, ◌∙◌, ℕ, Bool, List, [], length, map, refl, sym, ap, subst, Ok, Err, IsSome, is_some}
-use Rattle.std.specs.Prelude.{IfErr, IfOk, Result, sum}
+use Rattle.std.proofs.Common.{arith, ◌≡◌, ◌≤◌, ◌^◌, ◌∙◌, ℕ, Bool, List, length, sym, ap, subst, IsSome}
+use Rattle.std.specs.Prelude.{sum}
 use Rattle.std.specs.declared.option.Option.{Option}
 use Rattle.mg_dev.specs.declared.fault.Fault.{Fault}
 use Rattle.mg_dev.specs.declared.fault.Fault.TheVariants as cause
 use Rattle.mg_dev.specs.Files.{Files}
-use Rattle.mg_defs.specs.declared.Stream.TheVariants.{Others, Words}
 use Rattle.mg_defs.specs.CodedText.{TextCode, text_part}
-use Rattle.mg_defs.specs.Heads.{Head, IsWithin, run_count}
-use Rattle.mg_defs.specs.Marks.{marks, pair_counts}
-use Rattle.mg_defs.specs.Means.{IsStreamCode}
+use Rattle.mg_defs.specs.Heads.{Head, run_count}
+use Rattle.mg_defs.specs.Marks.{marks}
 use Rattle.mg_defs.specs.Occurrences.{occurrences}
-use Rattle.mg_defs.specs.Split.{documents}
 use Rattle.mg_defs.specs.Terms.{dictionary}
 use Rattle.mg_defs.specs.Summaries.{pool_peak, run_cap}
 use Rattle.mg_defs.proofs.TermLaws.{distinct-terms_short}
 use Rattle.mg_laws.proofs.DocCountLaws.{last_is_low, met_in_order}
 use Rattle.mg_laws.proofs.MarkLaws.{marks_have_occurrences}
 use Rattle.mg_laws.proofs.SizeLaws.{few_occurrences}
-use Rattle.mg_model.specs.Terms.{TermNumbers, terms_and_numbers}
+use Rattle.mg_model.specs.Terms.{TermNumbers}
 use Rattle.mg_text.specs.Documents.{coded_docs}
 use Rattle.mg_text.specs.Writing.{text_bytes}
 use Rattle.mg_make.specs.Finishing.{budget_of}
@@ -27,7 +24,7 @@ use Rattle.mg_make.specs.Listing.{AreListSizes, ListStops}
 use Rattle.mg_make.specs.Plans.{IsPlan, IsPlanOf, Plan}
 use Rattle.mg_make.specs.Putting.{IsHanded}
 use Rattle.mg_make.specs.Second.{coded_by, occurring_by}
-use Rattle.mg_make.specs.declared.second.Inverted.{Inverted}
+use Rattle.mg_make.specs.declared.inverter.Inverted.{Inverted}
 use Rattle.mg_make.proofs.CountSizes.{together}
 use Rattle.mg_make.proofs.Finishing.{planned_occurrences, planned_text}
 use Rattle.mg_make.proofs.MarkFronts.{same_number}

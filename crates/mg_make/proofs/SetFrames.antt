@@ -1,5 +1,5 @@
 -- Which parts a step of a set leaves as they were.
-use Rattle.std.proofs.Common.{arith, ◌≡◌, ◌≢◌, ◌≤◌, ◌⊎◌, ◌∙◌, inl, inr, ℕ, List, [], refl, sym, ap, subst, IsSome, is_some, Some, Ok, Err}
+use Rattle.std.proofs.Common.{arith, ◌≡◌, ◌≢◌, ◌≤◌, ◌∙◌, ℕ, List, [], refl, sym, ap, IsSome, is_some, Ok, Err}
 use Rattle.std.specs.declared.option.Option.{Option}
 use Rattle.std.specs.Option.{unwrap_or}
 use Rattle.std.specs.Prelude.{OnOk, Result}
@@ -11,7 +11,7 @@ use Rattle.mg_dev.specs.Names.{full_name, number}
 use Rattle.mg_defs.specs.CodedText.{TextCode}
 use Rattle.mg_model.specs.Models.{PartsHold}
 use Rattle.mg_make.specs.Index.{OfIndex}
-use Rattle.mg_make.specs.Putting.{IsApart, IsUnbuilt, OfPass, OthersSame}
+use Rattle.mg_make.specs.Putting.{OfPass, OthersSame}
 use Rattle.mg_make.specs.Written.{OfSecond, WroteParts, WroteSecond}
 
 -- ---- numbers of parts

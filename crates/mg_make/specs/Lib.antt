@@ -11,6 +11,7 @@ pub mod Indexes
 pub mod Listed
 pub mod Second
 pub mod Finishing
+pub mod Steps
 pub mod Scanning
 pub mod Counting
 pub mod Summaries

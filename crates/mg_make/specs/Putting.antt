@@ -30,7 +30,7 @@ use Rattle.mg_make.specs.Plans.{IsPlanOf, Plan}
 use Rattle.mg_make.specs.Scanning.{HasMet, Scanning}
 use Rattle.mg_make.specs.Second.{HasWritten, Inversion}
 use Rattle.mg_make.specs.Written.{OfSecond, SecondStops}
-use Rattle.mg_make.specs.declared.second.Inverted.{Inverted}
+use Rattle.mg_make.specs.declared.inverter.Inverted.{Inverted}
 use Rattle.mg_defs.specs.Limits.{least_cap, greatest_cap}
 
 -- ---- names

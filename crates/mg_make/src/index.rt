@@ -1,17 +1,16 @@
 //! Lists, lexicon and weights, from what was inverted.
 ghost use Rattle.std.specs.Prelude.{◌≡◌, ◌≤◌, List, [], length, replicate, IfOk, OnOk, IsSome, Some, sum};
-ghost use Rattle.mg_dev.specs.Causes.{HasPutCause};
 ghost use Rattle.mg_dev.specs.Each.{ForEach};
-ghost use Rattle.mg_dev.specs.Files.{SameReads, file_at};
+ghost use Rattle.mg_dev.specs.Files.{file_at};
 ghost use Rattle.mg_dev.specs.Names.{full_name};
 ghost use Rattle.mg_dev.specs.declared.part.Part.TheVariants as part;
+ghost use Rattle.mg_dev.specs.Moments.{Between};
 ghost use Rattle.mg_defs.specs.declared.TermPosting.{TermPosting};
 ghost use Rattle.mg_runs.specs.Left.{IsMerging};
 ghost use Rattle.mg_make.specs.Each.{RefusedIfNone};
-ghost use Rattle.mg_make.specs.Finishing.{ReadRuns};
 ghost use Rattle.mg_make.specs.Index.{HasPostPart, HasSkipPart, InvertedOf, OfIndex, OfWeights, WeightsAreRoots, WroteIndex};
-ghost use Rattle.mg_make.specs.Listing.{AreListSizes, SameMerge};
-ghost use Rattle.mg_make.specs.Written.{WroteParts};
+ghost use Rattle.mg_make.specs.Listing.{AreListSizes};
+ghost use Rattle.mg_make.specs.Steps.{PutStep, MergeStep};
 
 use crate::Plan;
 use crate::doc_counts::DocCounts;
@@ -33,9 +32,8 @@ fn write_weights_part<S: Store>(
     ensures bytes { IsSome (S.files store.old) → OnOk result (WeightsAreRoots (S.files store.new) base.now sums.now) }
     ensures first { IsSome (S.files store.old) → OnOk result (file_at (S.files store.new) (full_name base.now part.MergeA) ≡ Some []) }
     ensures second { IsSome (S.files store.old) → OnOk result (file_at (S.files store.new) (full_name base.now part.MergeB) ≡ Some []) }
-    ensures wrote { WroteParts OfWeights base.now (S.files store.old) (S.files store.new) }
-    ensures reads { SameReads (S.reads store.old) (S.reads store.new) }
-    ensures cause { HasPutCause (S.faults store.old) (S.faults store.new) result }
+    ensures step { Between S.files S.reads S.faults store.old store.new
+        (PutStep OfWeights base.now result) }
 {
     write_weights(alloc, store, base, sums)?;
     reset_merge_parts(store, base)
@@ -65,10 +63,8 @@ pub(crate) fn write_all<S: Store>(
     ensures skip_count { ForEach (InvertedOf plan.now counts.now merge.old (S.files store.old)) (HasSkipPart result) }
     ensures few { IfOk result (λ sizes. sizes.skip_count ≤ sum counts.now.docs) }
     ensures refused { RefusedIfNone S.faults store.old store.new (InvertedOf plan.now counts.now merge.old (S.files store.old)) result }
-    ensures same { SameMerge merge.old merge.new }
-    ensures wrote { WroteParts OfIndex base.now (S.files store.old) (S.files store.new) }
-    ensures reads { ReadRuns (S.reads store.old) (S.reads store.new) }
-    ensures later { S.faults store.old ≤ S.faults store.new }
+    ensures step { Between S.files S.reads S.faults store.old store.new
+        (MergeStep OfIndex base.now merge.old merge.new) }
 {
     postings_are_lists();
     documents_are_counted();

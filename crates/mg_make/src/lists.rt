@@ -7,11 +7,10 @@ ghost use Rattle.std.specs.Prelude.{◌≡◌, ◌<◌, ◌≤◌, ◌+◌, ◌^
 ghost use Rattle.std.specs.Cmp.Lexicographic.{slice_cmp};
 ghost use Rattle.std.specs.List.Sorted.{IsStrictlySortedBy};
 ghost use Rattle.std.specs.Ordering.{nat_cmp};
-ghost use Rattle.mg_dev.specs.Causes.{HasPutCause};
 ghost use Rattle.mg_dev.specs.Each.{ForEach};
-ghost use Rattle.mg_dev.specs.Files.{SameReads};
 ghost use Rattle.mg_dev.specs.Names.{full_name};
 ghost use Rattle.mg_dev.specs.declared.part.Part.TheVariants as part;
+ghost use Rattle.mg_dev.specs.Moments.{Between};
 ghost use Rattle.mg_defs.specs.declared.Posting.{Posting};
 ghost use Rattle.mg_defs.specs.declared.TermPosting.{TermPosting};
 ghost use Rattle.mg_lex.specs.Terms.{Term};
@@ -19,11 +18,11 @@ ghost use Rattle.mg_lex.specs.Writing.{TookTerms};
 ghost use Rattle.mg_post.specs.Writing.{Took};
 ghost use Rattle.mg_runs.specs.Left.{IsMerging};
 ghost use Rattle.mg_make.specs.Each.{RefusedUnless, RefusedIfNone};
-ghost use Rattle.mg_make.specs.Finishing.{ReadRuns};
 ghost use Rattle.mg_make.specs.Listed.{EndsIndex, HasAllTerms, HasPostBytes, HasSkipCount, IndexedTo, IndexesAll, IndexesTerm, ListsAreLeft};
 ghost use Rattle.mg_make.specs.Listed.{NothingLeft, SumsAreSquares, ToIndex, WhereAllTaken, WroteLists};
-ghost use Rattle.mg_make.specs.Listing.{AreListSizes, CanIndex, SameMerge};
-ghost use Rattle.mg_make.specs.Written.{OfLists, WroteParts};
+ghost use Rattle.mg_make.specs.Listing.{AreListSizes, CanIndex};
+ghost use Rattle.mg_make.specs.Written.{OfLists};
+ghost use Rattle.mg_make.specs.Steps.{PutStep, MergeStep, MergeLook};
 
 use crate::doc_counts::DocCounts;
 use crate::one_list::{stray, write_list};
@@ -65,9 +64,8 @@ fn start_writers<'a, S: Store>(
     ensures base { IfOk result (λ w. w.lex.base ≡ base.entry.now) }
     ensures all { IfOk result (λ w. w.lists.all ≡ all) }
     ensures nothing { IfOk result (λ w. w.lists.total ≡ 0) }
-    ensures wrote { WroteParts OfLists base.entry.now (S.files store.old) (S.files store.new) }
-    ensures reads { SameReads (S.reads store.old) (S.reads store.new) }
-    ensures cause { HasPutCause (S.faults store.old) (S.faults store.new) result }
+    ensures step { Between S.files S.reads S.faults store.old store.new
+        (PutStep OfLists base.entry.now result) }
 {
     let lists = match ListWriter::start(alloc, store, base, all) {
         Ok(lists) => lists,
@@ -100,10 +98,8 @@ fn write_term<S: Store>(
     ensures indexed { IndexesTerm number table.now counts.now merge.old merge.new writer.old writer.new sums.old sums.new S.files store.old store.new result }
     ensures refused { RefusedIfNone S.faults store.old store.new (IndexedTo number table.now counts.now merge.old writer.old sums.old (S.files store.old)) result }
     ensures all { writer.new.lists.all ≡ writer.old.lists.all }
-    ensures same { SameMerge merge.old merge.new }
-    ensures wrote { WroteParts OfLists merge.old.base (S.files store.old) (S.files store.new) }
-    ensures reads { ReadRuns (S.reads store.old) (S.reads store.new) }
-    ensures later { S.faults store.old ≤ S.faults store.new }
+    ensures step { Between S.files S.reads S.faults store.old store.new
+        (MergeStep OfLists merge.old.base merge.old merge.new) }
 {
     let docs = counts.docs(number);
     let (post_at, skip_at) = write_list(store, merge, &mut writer.lists, sums, number, docs)?;
@@ -137,10 +133,8 @@ fn write_terms<S: Store>(
     ensures indexed { IndexesAll table.now counts.now merge.old merge.new writer.old writer.new sums.old sums.new S.files store.old store.new result }
     ensures refused { RefusedIfNone S.faults store.old store.new (ToIndex table.now counts.now merge.old writer.old sums.old (S.files store.old)) result }
     ensures all { writer.new.lists.all ≡ writer.old.lists.all }
-    ensures same { SameMerge merge.old merge.new }
-    ensures wrote { WroteParts OfLists merge.old.base (S.files store.old) (S.files store.new) }
-    ensures reads { ReadRuns (S.reads store.old) (S.reads store.new) }
-    ensures later { S.faults store.old ≤ S.faults store.new }
+    ensures step { Between S.files S.reads S.faults store.old store.new
+        (MergeStep OfLists merge.old.base merge.old merge.new) }
 {
     for number in 0..table.count() {
         write_term(store, merge, writer, sums, table, counts, number)?;
@@ -152,10 +146,8 @@ fn write_terms<S: Store>(
 fn expect_end<S: Store>(store: &mut S, merge: &mut Merge<'_>) -> Result<(), Fault>
     requires left { (left : List TermPosting) × IsMerging merge.old (S.files store.old) left }
     ensures refused { RefusedUnless S.faults store.old store.new (NothingLeft merge.old (S.files store.old)) result }
-    ensures same { SameMerge merge.old merge.new }
-    ensures files { S.files store.new ≡ S.files store.old }
-    ensures reads { ReadRuns (S.reads store.old) (S.reads store.new) }
-    ensures later { S.faults store.old ≤ S.faults store.new }
+    ensures looked { Between S.files S.reads S.faults store.old store.new
+        (MergeLook merge.old merge.new) }
 {
     match merge.next(store) {
         Ok(None) => Ok(()),
@@ -174,9 +166,8 @@ fn finish<S: Store>(store: &mut S, writer: &mut IndexWriter<'_>) -> Result<Sizes
     ensures post_bytes { WhereAllTaken writer.old.lists (S.files store.old) (HasPostBytes result) }
     ensures skip_count { WhereAllTaken writer.old.lists (S.files store.old) (HasSkipCount result) }
     ensures few { IfOk result (λ sizes. sizes.skip_count ≤ writer.old.lists.total) }
-    ensures wrote { WroteParts OfLists writer.old.lex.base (S.files store.old) (S.files store.new) }
-    ensures reads { SameReads (S.reads store.old) (S.reads store.new) }
-    ensures cause { HasPutCause (S.faults store.old) (S.faults store.new) result }
+    ensures step { Between S.files S.reads S.faults store.old store.new
+        (PutStep OfLists writer.old.lex.base result) }
 {
     writer.lex.finish(store)?;
     lists_stay();
@@ -206,10 +197,8 @@ fn write_index<S: Store>(
     ensures skip_count { ForEach (ToIndex table.now counts.now merge.old writer.old sums.old (S.files store.old)) (HasSkipCount result) }
     ensures few { IfOk result (λ sizes. sizes.skip_count ≤ sum counts.now.docs) }
     ensures refused { RefusedIfNone S.faults store.old store.new (ToIndex table.now counts.now merge.old writer.old sums.old (S.files store.old)) result }
-    ensures same { SameMerge merge.old merge.new }
-    ensures wrote { WroteParts OfLists merge.old.base (S.files store.old) (S.files store.new) }
-    ensures reads { ReadRuns (S.reads store.old) (S.reads store.new) }
-    ensures later { S.faults store.old ≤ S.faults store.new }
+    ensures step { Between S.files S.reads S.faults store.old store.new
+        (MergeStep OfLists merge.old.base merge.old merge.new) }
 {
     write_terms(store, merge, writer, sums, table, counts)?;
     expect_end(store, merge)?;
@@ -240,10 +229,8 @@ pub(crate) fn write_lists<S: Store>(
     ensures skip_count { ForEach (ListsAreLeft table.now counts.now sums.old merge.old (S.files store.old)) (HasSkipCount result) }
     ensures few { IfOk result (λ sizes. sizes.skip_count ≤ sum counts.now.docs) }
     ensures refused { RefusedIfNone S.faults store.old store.new (ListsAreLeft table.now counts.now sums.old merge.old (S.files store.old)) result }
-    ensures same { SameMerge merge.old merge.new }
-    ensures wrote { WroteParts OfLists base.now (S.files store.old) (S.files store.new) }
-    ensures reads { ReadRuns (S.reads store.old) (S.reads store.new) }
-    ensures later { S.faults store.old ≤ S.faults store.new }
+    ensures step { Between S.files S.reads S.faults store.old store.new
+        (MergeStep OfLists base.now merge.old merge.new) }
 {
     let all = sums.len() as u32;
     let mut writer = match start_writers(alloc, store, base, all) {

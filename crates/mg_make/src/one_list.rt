@@ -7,16 +7,16 @@ ghost use Rattle.std.specs.Prelude.{◌≡◌, ◌≢◌, ◌<◌, ◌≤◌, �
 ghost use Rattle.mg_dev.specs.Causes.{HasPutCause};
 ghost use Rattle.mg_dev.specs.Faults.{IsDamagedPart};
 ghost use Rattle.mg_dev.specs.Files.{SameReads, file_at};
+ghost use Rattle.mg_dev.specs.Moments.{Between};
 ghost use Rattle.mg_defs.specs.declared.Posting.{Posting};
 ghost use Rattle.mg_defs.specs.declared.TermPosting.{TermPosting};
 ghost use Rattle.mg_defs.specs.Lists.{Follows};
 ghost use Rattle.mg_post.specs.Writing.{Pushed, PushedMore, SameFiles, Took, posting_of};
 ghost use Rattle.mg_runs.specs.Left.{IsMerging};
 ghost use Rattle.mg_make.specs.Each.{RefusedUnless};
-ghost use Rattle.mg_make.specs.Finishing.{ReadRuns};
 ghost use Rattle.mg_make.specs.Listed.{BeginsInPost, BeginsInSkip, EndsList, ForListLeft, ForFirstLeft, ListTakes, SumsTake, TakesPosting, TakesPostings};
-ghost use Rattle.mg_make.specs.Listing.{CanList, HasList, HasNext, HasRest, ListedMore, OfPostings, SameMerge};
-ghost use Rattle.mg_make.specs.Written.{WroteParts};
+ghost use Rattle.mg_make.specs.Listing.{CanList, HasList, HasNext, HasRest, ListedMore, OfPostings};
+ghost use Rattle.mg_make.specs.Steps.{MergeStep, MergeLook};
 
 use mg_defs::TermPosting;
 use mg_dev::{Bad, Fault, Part, PutErr, Store, What};
@@ -54,10 +54,8 @@ fn next_posting<S: Store>(
     ensures term { IfOk result (λ posting. posting.term ≡ number) }
     ensures follows { IfOk result (λ posting. Follows all last (posting_of posting.doc posting.count)) }
     ensures refused { RefusedUnless S.faults store.old store.new (HasNext number all last merge.old (S.files store.old)) result }
-    ensures same { SameMerge merge.old merge.new }
-    ensures files { S.files store.new ≡ S.files store.old }
-    ensures reads { ReadRuns (S.reads store.old) (S.reads store.new) }
-    ensures later { S.faults store.old ≤ S.faults store.new }
+    ensures looked { Between S.files S.reads S.faults store.old store.new
+        (MergeLook merge.old merge.new) }
 {
     let posting = match merge.next(store) {
         Ok(Some(posting)) => posting,
@@ -134,11 +132,9 @@ fn take_posting<S: Store>(
     ensures pushed { OnOk result (PushedMore lists.old lists.new 1) }
     ensures last { IfOk result (λ doc. lists.new.last ≡ doc) }
     ensures refused { RefusedUnless S.faults store.old store.new (HasRest number 1 merge.old lists.old sums.old.items (S.files store.old)) result }
-    ensures same { SameMerge merge.old merge.new }
     ensures files { SameFiles lists.old lists.new }
-    ensures wrote { WroteParts OfPostings merge.old.base (S.files store.old) (S.files store.new) }
-    ensures reads { ReadRuns (S.reads store.old) (S.reads store.new) }
-    ensures later { S.faults store.old ≤ S.faults store.new }
+    ensures step { Between S.files S.reads S.faults store.old store.new
+        (MergeStep OfPostings merge.old.base merge.old merge.new) }
 {
     let all = sums.len() as u32;
     let posting = next_posting(store, merge, number, last, all)?;
@@ -167,11 +163,9 @@ fn take_postings<S: Store>(
     ensures told { TakesPostings docs number merge.old merge.new lists.old lists.new sums.old sums.new S.files store.old store.new result }
     ensures pushed { OnOk result (PushedMore lists.old lists.new docs) }
     ensures refused { RefusedUnless S.faults store.old store.new (HasRest number docs merge.old lists.old sums.old.items (S.files store.old)) result }
-    ensures same { SameMerge merge.old merge.new }
     ensures files { SameFiles lists.old lists.new }
-    ensures wrote { WroteParts OfPostings merge.old.base (S.files store.old) (S.files store.new) }
-    ensures reads { ReadRuns (S.reads store.old) (S.reads store.new) }
-    ensures later { S.faults store.old ≤ S.faults store.new }
+    ensures step { Between S.files S.reads S.faults store.old store.new
+        (MergeStep OfPostings merge.old.base merge.old merge.new) }
 {
     let mut last = 0;
     for _ in 0..docs {
@@ -200,11 +194,9 @@ pub(crate) fn write_list<S: Store>(
     ensures skip_at { ForListLeft docs number merge.old lists.old sums.old (S.files store.old) (BeginsInSkip lists.old.all result) }
     ensures listed { OnOk result (ListedMore lists.old lists.new docs) }
     ensures refused { RefusedUnless S.faults store.old store.new (HasList number docs merge.old lists.old sums.old.items (S.files store.old)) result }
-    ensures same { SameMerge merge.old merge.new }
     ensures files { SameFiles lists.old lists.new }
-    ensures wrote { WroteParts OfPostings merge.old.base (S.files store.old) (S.files store.new) }
-    ensures reads { ReadRuns (S.reads store.old) (S.reads store.new) }
-    ensures later { S.faults store.old ≤ S.faults store.new }
+    ensures step { Between S.files S.reads S.faults store.old store.new
+        (MergeStep OfPostings merge.old.base merge.old merge.new) }
 {
     if docs == 0 {
         return Err(Fault::Changed {

@@ -4,25 +4,25 @@
 //! this in nothing: each document, pair and piece is compared with the plan, and a difference is
 //! refused with both numbers. So whatever a store does between the passes, no writer below is handed
 //! what it can't take.
-ghost use Rattle.std.specs.Prelude.{◌≡◌, ◌≤◌, ◌<◌, ◌*◌, ◌-◌, ◌∷◌, ℕ, List, [], length, get_or, IfOk, OnOk, Some, slice_get};
-ghost use Rattle.mg_dev.specs.Causes.{HasPutCause, Rose};
-ghost use Rattle.mg_dev.specs.Files.{SameReads};
+ghost use Rattle.std.specs.Prelude.{◌≡◌, ◌≤◌, ◌<◌, ◌*◌, ◌-◌, ◌∷◌, ℕ, List, [], length, get_or, IfOk, Some, slice_get};
+ghost use Rattle.mg_dev.specs.Moments.{Between};
 ghost use Rattle.mg_defs.specs.Marks.{code_of, start as start_mark, piece as piece_mark, stop as stop_mark};
 ghost use Rattle.mg_make.specs.DocCounting.{AreDocCounts};
-ghost use Rattle.mg_make.specs.Finishing.{HandsOn, ReadRuns};
+ghost use Rattle.mg_make.specs.Finishing.{HandsOn, TextEnd};
 ghost use Rattle.mg_make.specs.Meeting.{piece_if, marks_of, only_if};
 ghost use Rattle.mg_make.specs.Plans.{IsPlan};
-ghost use Rattle.mg_make.specs.Second.{EndRefused, HasStopCause, HasWritten, IsChange, IsNext, IsWhole, SamePass, WroteMarks, term_at};
-ghost use Rattle.mg_make.specs.Written.{WroteSecond};
+ghost use Rattle.mg_make.specs.Second.{EndRefused, HasWritten, IsChange, IsNext, IsWhole, term_at};
+ghost use Rattle.mg_make.specs.Steps.{PassStep, PutStep, SortStep};
+ghost use Rattle.mg_make.specs.Written.{OfSecond};
 
 use crate::doc_counts::DocCounts;
-use crate::inverter::Inverter;
+use crate::inverter::{Inverted, Inverter};
 use crate::met::Met;
 use crate::plan::Plan;
 use mg_dev::{Fault, PutErr, Store, What};
 use mg_model::{symbol_and_piece, terms_are_the_dictionary, words_have_terms};
 use mg_parse::Stream;
-use mg_runs::{Merge, Pool, runs_stay};
+use mg_runs::{Pool, runs_stay};
 use mg_text::{TextWriter, pieces_make_documents};
 use std::alloc::Global;
 use std::marker::Model;
@@ -46,16 +46,6 @@ impl<'a> Model for SecondPass<'a> {
     ghost view = { λ s. record { base = s.base.now; plan = s.plan.now; text = s.text; index = s.index; doc = s.doc; left = s.left } };
 }
 
-/// What a second pass hands on: the bytes of Text, the merge of the runs, how many documents have each
-/// term, and how many occurrences there are.
-#[derive(Drop)]
-pub(crate) struct Inverted<'a> {
-    pub(crate) text_bytes: u64,
-    pub(crate) merge: Merge<'a>,
-    pub(crate) counts: DocCounts,
-    pub(crate) occurrences: u64,
-}
-
 impl<'a> SecondPass<'a> {
     /// A pass that has written nothing. It empties the parts of the text and of the runs.
     pub(crate) fn start<S: Store>(
@@ -73,9 +63,8 @@ impl<'a> SecondPass<'a> {
         ensures base { IfOk result (λ pass. pass.base ≡ base.entry.now) }
         ensures plan { IfOk result (λ pass. pass.plan ≡ plan.entry.now) }
         ensures limit { IfOk result (λ pass. pass.index.runs.pool.limit ≡ pool.limit) }
-        ensures wrote { WroteSecond base.entry.now (S.files store.old) (S.files store.new) }
-        ensures reads { SameReads (S.reads store.old) (S.reads store.new) }
-        ensures cause { HasPutCause (S.faults store.old) (S.faults store.new) result }
+        ensures step { Between S.files S.reads S.faults store.old store.new
+            (PutStep OfSecond base.entry.now result) }
     {
         let text = match TextWriter::start(alloc, store, base) {
             Ok(text) => text,
@@ -98,12 +87,8 @@ impl<'a> SecondPass<'a> {
     /// Begins a document. Refused where the plan has no more documents.
     pub(crate) fn begin<S: Store>(&mut self, store: &mut S) -> Result<(), Fault>
         requires next { IsNext self.old (S.files store.old) (start_mark ∷ []) }
-        ensures written { OnOk result (WroteMarks self.old self.new (S.files store.old) (S.files store.new) (start_mark ∷ [])) }
-        ensures same { SamePass self.old self.new }
-        ensures wrote { WroteSecond self.old.base (S.files store.old) (S.files store.new) }
-        ensures reads { SameReads (S.reads store.old) (S.reads store.new) }
-        ensures faults { S.faults store.old ≤ S.faults store.new }
-        ensures refused { HasStopCause self.old (S.files store.old) (start_mark ∷ []) (Rose (S.faults store.old) (S.faults store.new)) result }
+        ensures { Between S.files S.reads S.faults store.old store.new
+            (PassStep self.old self.new (start_mark ∷ []) result) }
     {
         // A law: what the runs took stays while the text is written.
         runs_stay();
@@ -135,12 +120,8 @@ impl<'a> SecondPass<'a> {
         piece: &[u8],
     ) -> Result<(), Fault>
         requires next { IsNext self.old (S.files store.old) (piece_mark stream piece.now ∷ []) }
-        ensures written { OnOk result (WroteMarks self.old self.new (S.files store.old) (S.files store.new) (piece_mark stream piece.now ∷ [])) }
-        ensures same { SamePass self.old self.new }
-        ensures wrote { WroteSecond self.old.base (S.files store.old) (S.files store.new) }
-        ensures reads { SameReads (S.reads store.old) (S.reads store.new) }
-        ensures faults { S.faults store.old ≤ S.faults store.new }
-        ensures refused { HasStopCause self.old (S.files store.old) (piece_mark stream piece.now ∷ []) (Rose (S.faults store.old) (S.faults store.new)) result }
+        ensures { Between S.files S.reads S.faults store.old store.new
+            (PassStep self.old self.new (piece_mark stream piece.now ∷ []) result) }
     {
         // Laws: of the stream whose turn it is, of runs while the text is written, of symbols.
         pieces_make_documents();
@@ -172,12 +153,8 @@ impl<'a> SecondPass<'a> {
     /// Ends the open document. Refused where the document has more pairs by the plan.
     pub(crate) fn end<S: Store>(&mut self, store: &mut S) -> Result<(), Fault>
         requires next { IsNext self.old (S.files store.old) (stop_mark ∷ []) }
-        ensures written { OnOk result (WroteMarks self.old self.new (S.files store.old) (S.files store.new) (stop_mark ∷ [])) }
-        ensures same { SamePass self.old self.new }
-        ensures wrote { WroteSecond self.old.base (S.files store.old) (S.files store.new) }
-        ensures reads { SameReads (S.reads store.old) (S.reads store.new) }
-        ensures faults { S.faults store.old ≤ S.faults store.new }
-        ensures refused { HasStopCause self.old (S.files store.old) (stop_mark ∷ []) (Rose (S.faults store.old) (S.faults store.new)) result }
+        ensures { Between S.files S.reads S.faults store.old store.new
+            (PassStep self.old self.new (stop_mark ∷ []) result) }
     {
         // A law: what the runs took stays while the text is written.
         runs_stay();
@@ -193,12 +170,8 @@ impl<'a> SecondPass<'a> {
     // Begins a document where one begins.
     fn begin_if<S: Store>(&mut self, store: &mut S, begins: bool) -> Result<(), Fault>
         requires next { IsNext self.old (S.files store.old) (only_if begins start_mark) }
-        ensures written { OnOk result (WroteMarks self.old self.new (S.files store.old) (S.files store.new) (only_if begins start_mark)) }
-        ensures same { SamePass self.old self.new }
-        ensures wrote { WroteSecond self.old.base (S.files store.old) (S.files store.new) }
-        ensures reads { SameReads (S.reads store.old) (S.reads store.new) }
-        ensures faults { S.faults store.old ≤ S.faults store.new }
-        ensures refused { HasStopCause self.old (S.files store.old) (only_if begins start_mark) (Rose (S.faults store.old) (S.faults store.new)) result }
+        ensures { Between S.files S.reads S.faults store.old store.new
+            (PassStep self.old self.new (only_if begins start_mark) result) }
     {
         if begins { self.begin(store) } else { Ok(()) }
     }
@@ -212,12 +185,8 @@ impl<'a> SecondPass<'a> {
         piece: &[u8],
     ) -> Result<(), Fault>
         requires next { IsNext self.old (S.files store.old) (piece_if ends stream piece.now) }
-        ensures written { OnOk result (WroteMarks self.old self.new (S.files store.old) (S.files store.new) (piece_if ends stream piece.now)) }
-        ensures same { SamePass self.old self.new }
-        ensures wrote { WroteSecond self.old.base (S.files store.old) (S.files store.new) }
-        ensures reads { SameReads (S.reads store.old) (S.reads store.new) }
-        ensures faults { S.faults store.old ≤ S.faults store.new }
-        ensures refused { HasStopCause self.old (S.files store.old) (piece_if ends stream piece.now) (Rose (S.faults store.old) (S.faults store.new)) result }
+        ensures { Between S.files S.reads S.faults store.old store.new
+            (PassStep self.old self.new (piece_if ends stream piece.now) result) }
     {
         if ends {
             self.piece(store, stream, piece)
@@ -229,12 +198,8 @@ impl<'a> SecondPass<'a> {
     // Ends the open document where it ends.
     fn end_if<S: Store>(&mut self, store: &mut S, ends: bool) -> Result<(), Fault>
         requires next { IsNext self.old (S.files store.old) (only_if ends stop_mark) }
-        ensures written { OnOk result (WroteMarks self.old self.new (S.files store.old) (S.files store.new) (only_if ends stop_mark)) }
-        ensures same { SamePass self.old self.new }
-        ensures wrote { WroteSecond self.old.base (S.files store.old) (S.files store.new) }
-        ensures reads { SameReads (S.reads store.old) (S.reads store.new) }
-        ensures faults { S.faults store.old ≤ S.faults store.new }
-        ensures refused { HasStopCause self.old (S.files store.old) (only_if ends stop_mark) (Rose (S.faults store.old) (S.faults store.new)) result }
+        ensures { Between S.files S.reads S.faults store.old store.new
+            (PassStep self.old self.new (only_if ends stop_mark) result) }
     {
         if ends { self.end(store) } else { Ok(()) }
     }
@@ -243,12 +208,8 @@ impl<'a> SecondPass<'a> {
     #[inline]
     pub(crate) fn take<S: Store>(&mut self, store: &mut S, met: &Met) -> Result<(), Fault>
         requires next { IsNext self.old (S.files store.old) (marks_of met.now) }
-        ensures written { OnOk result (WroteMarks self.old self.new (S.files store.old) (S.files store.new) (marks_of met.now)) }
-        ensures same { SamePass self.old self.new }
-        ensures wrote { WroteSecond self.old.base (S.files store.old) (S.files store.new) }
-        ensures reads { SameReads (S.reads store.old) (S.reads store.new) }
-        ensures faults { S.faults store.old ≤ S.faults store.new }
-        ensures refused { HasStopCause self.old (S.files store.old) (marks_of met.now) (Rose (S.faults store.old) (S.faults store.new)) result }
+        ensures { Between S.files S.reads S.faults store.old store.new
+            (PassStep self.old self.new (marks_of met.now) result) }
     {
         if met.is_nothing() {
             return Ok(());
@@ -259,12 +220,8 @@ impl<'a> SecondPass<'a> {
     // Writes each of the four that is met.
     fn take_marks<S: Store>(&mut self, store: &mut S, met: &Met) -> Result<(), Fault>
         requires next { IsNext self.old (S.files store.old) (marks_of met.now) }
-        ensures written { OnOk result (WroteMarks self.old self.new (S.files store.old) (S.files store.new) (marks_of met.now)) }
-        ensures same { SamePass self.old self.new }
-        ensures wrote { WroteSecond self.old.base (S.files store.old) (S.files store.new) }
-        ensures reads { SameReads (S.reads store.old) (S.reads store.new) }
-        ensures faults { S.faults store.old ≤ S.faults store.new }
-        ensures refused { HasStopCause self.old (S.files store.old) (marks_of met.now) (Rose (S.faults store.old) (S.faults store.new)) result }
+        ensures { Between S.files S.reads S.faults store.old store.new
+            (PassStep self.old self.new (marks_of met.now) result) }
     {
         self.begin_if(store, met.begins())?;
         self.piece_if(store, met.has_piece(), met.kind(), met.piece())?;
@@ -278,44 +235,40 @@ impl<'a> SecondPass<'a> {
     pub(crate) fn finish<S: Store>(self, store: &mut S) -> Result<Inverted<'a>, Fault>
         requires whole { IsWhole self (S.files store.old) }
         ensures ends { HandsOn self.entry (S.files store.old) (S.files store.new) result }
-        ensures wrote { WroteSecond self.entry.base (S.files store.old) (S.files store.new) }
-        ensures reads { ReadRuns (S.reads store.old) (S.reads store.new) }
-        ensures faults { S.faults store.old ≤ S.faults store.new }
+        ensures step { Between S.files S.reads S.faults store.old store.new
+            (SortStep OfSecond self.entry.base) }
         ensures refused { EndRefused self.entry S.files S.faults store.old store.new result }
     {
         // A law: what the runs took stays while the text is written.
         runs_stay();
-        let SecondPass {
-            plan,
-            mut text,
-            index,
-            doc,
-            ..
-        } = self;
-        if (doc as usize) < plan.pairs.len() {
+        let mut pass = self;
+        let text_bytes = match pass.end_text(store) {
+            Ok(size) => size,
+            Err(refusal) => return Err(refusal),
+        };
+        let SecondPass { index, .. } = pass;
+        match index.merge(store, text_bytes) {
+            Ok(inverted) => Ok(inverted),
+            Err(refusal) => Err(Fault::from(refusal)),
+        }
+    }
+
+    // Ends the text, and answers its size. Refused where the plan has more documents.
+    fn end_text<S: Store>(&mut self, store: &mut S) -> Result<u64, Fault>
+        requires whole { IsWhole self.old (S.files store.old) }
+        ensures { Between S.files S.reads S.faults store.old store.new (TextEnd self.old self.new result) }
+    {
+        let plan = self.plan;
+        if (self.doc as usize) < plan.pairs.len() {
             return Err(Fault::Changed {
                 what: What::Documents,
                 first: plan.pairs.len() as u64,
-                second: u64::from(doc),
+                second: u64::from(self.doc),
             });
         }
-        let text_bytes = match text.finish(store) {
-            Ok(size) => size,
-            Err(refusal) => return Err(Fault::of_store(refusal)),
-        };
-        let Inverter {
-            runs,
-            counts,
-            occurrences,
-        } = index;
-        match runs.merge(store) {
-            Ok(merge) => Ok(Inverted {
-                text_bytes,
-                merge,
-                counts,
-                occurrences,
-            }),
-            Err(refusal) => Err(Fault::from(refusal)),
+        match self.text.finish(store) {
+            Ok(size) => Ok(size),
+            Err(refusal) => Err(Fault::of_store(refusal)),
         }
     }
 

@@ -4,31 +4,34 @@
 //! What is written here may be parts of no collection, where the bytes are not those that were counted or
 //! where a store gives back other bytes than it got. So each step says what it wrote for the bytes that
 //! came, and which numbers it hands on whatever comes.
-ghost use Rattle.std.specs.Prelude.{◌≡◌, ◌≤◌, ◌<◌, ◌^◌, ℕ, List, [], Option, length, replicate, IfOk, OnOk, Some};
+ghost use Rattle.std.specs.Prelude.{◌≡◌, ◌<◌, ◌^◌, ℕ, List, [], Option, length, replicate, IfOk, OnOk, Some};
 ghost use Rattle.std.specs.Option.{IsSome};
 ghost use Rattle.mg_dev.specs.Causes.{HasPutCause};
 ghost use Rattle.mg_dev.specs.Files.{Files, SameReads, file_at};
 ghost use Rattle.mg_dev.specs.Names.{full_name};
 ghost use Rattle.mg_dev.specs.declared.part.Part.TheVariants as part;
+ghost use Rattle.mg_dev.specs.Moments.{Between};
 ghost use Rattle.mg_defs.specs.Heads.{IsWithin};
 ghost use Rattle.mg_defs.specs.Marks.{Mark};
 ghost use Rattle.mg_defs.specs.Occurrences.{occurrences};
 ghost use Rattle.mg_layout.specs.HeadAnswers.{fields_of};
 ghost use Rattle.mg_model.specs.Models.{PartsHold};
 ghost use Rattle.mg_make.specs.DocCounting.{AreDocCounts};
-ghost use Rattle.mg_make.specs.Finishing.{ReadRuns, budget_of};
+ghost use Rattle.mg_make.specs.Finishing.{budget_of};
 ghost use Rattle.mg_make.specs.Plans.{IsPlan, IsPlanOf};
 ghost use Rattle.mg_make.specs.Putting.{ForHanded, ForScanned, HandedRefused, HandsFor, HasPeakOf, IsHanded, IsUnbuilt, MakesHead, MakesIndex, OfPass, ScannedRefused};
 ghost use Rattle.mg_make.specs.Scanning.{HasMet};
 ghost use Rattle.mg_make.specs.Second.{HasWritten};
 ghost use Rattle.mg_make.specs.Index.{OfIndex};
-ghost use Rattle.mg_make.specs.Written.{WroteParts, WroteSecond};
+ghost use Rattle.mg_make.specs.Steps.{PutStep, SortStep};
+ghost use Rattle.mg_make.specs.Written.{OfSecond, WroteParts};
 
 use crate::doc_counts::DocCounts;
 use crate::index::write_all;
+use crate::inverter::Inverted;
 use crate::plan::Plan;
 use crate::scanner::Scanner;
-use crate::second::{Inverted, SecondPass};
+use crate::second::SecondPass;
 use mg_dev::{Fault, FileRef, Part, PutErr, Store};
 use mg_layout::{BUILT, Head};
 use mg_model::Stream;
@@ -69,9 +72,8 @@ pub(crate) fn open_parts<'a, S: Store>(
     ensures plan { IfOk result (λ pass. pass.plan ≡ plan.entry.now) }
     ensures limit { IfOk result (λ pass. budget_of pass ≡ pool.limit) }
     ensures models { IsSome (S.files store.old) → OnOk result (PartsHold (S.files store.new) base.entry.now plan.entry.now.code) }
-    ensures wrote { WroteParts OfPass base.entry.now (S.files store.old) (S.files store.new) }
-    ensures reads { SameReads (S.reads store.old) (S.reads store.new) }
-    ensures cause { HasPutCause (S.faults store.old) (S.faults store.new) result }
+    ensures step { Between S.files S.reads S.faults store.old store.new
+        (PutStep OfPass base.entry.now result) }
 {
     plan.model.write(alloc, store, base)?;
     SecondPass::start(alloc, store, base, plan, pool, counts)
@@ -86,9 +88,8 @@ pub(crate) fn end_pass<'a, S: Store>(
     requires put { (fed : List ℕ) × (met : List Mark) × HasMet scanner.old fed met × HasWritten pass (S.files store.old) met × (length fed < 2 ^ 32) }
     ensures handed { ForScanned scanner.old pass.entry (S.files store.old)
         (HandsFor pass.entry (S.files store.old) (S.files store.new) result) }
-    ensures wrote { WroteSecond pass.entry.base (S.files store.old) (S.files store.new) }
-    ensures reads { ReadRuns (S.reads store.old) (S.reads store.new) }
-    ensures later { S.faults store.old ≤ S.faults store.new }
+    ensures step { Between S.files S.reads S.faults store.old store.new
+        (SortStep OfSecond pass.entry.base) }
     ensures refused { ScannedRefused scanner.old pass.entry S.files S.faults store.old store.new result }
 {
     let mut pass = pass;
@@ -122,9 +123,8 @@ pub(crate) fn write_rest<S: Store>(
     ensures peak { ForHanded plan.now limit base.now (S.files store.old) inverted.entry (λ fed. IsPlanOf plan.now fed → HasPeakOf limit result fed) }
     ensures stand { ForHanded plan.now limit base.now (S.files store.old) inverted.entry
         (MakesIndex plan.now base.now S.files store.old store.new result) }
-    ensures wrote { WroteParts OfIndex base.now (S.files store.old) (S.files store.new) }
-    ensures reads { ReadRuns (S.reads store.old) (S.reads store.new) }
-    ensures later { S.faults store.old ≤ S.faults store.new }
+    ensures step { Between S.files S.reads S.faults store.old store.new
+        (SortStep OfIndex base.now) }
     ensures refused { HandedRefused plan.now limit base.now inverted.entry S.files S.faults store.old store.new result }
 {
     let Inverted {

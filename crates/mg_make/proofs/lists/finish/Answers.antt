@@ -1,10 +1,11 @@
 use Rattle.std.proofs.Common.{arith, ◌∙◌, ◌/◌, [], length, ap}
+use Rattle.std.proofs.lemmas.Result.{err_from_is_err_and}
 use Rattle.mg_defs.specs.Lists.{inverted, lists_bits, lists_entries}
 use Rattle.mg_lex.specs.Terms.{terms_of}
-use Rattle.mg_make.specs.Written.{OfLists}
 use Rattle.mg_make.proofs.IndexEnds.{lists_are_there}
 use Rattle.mg_make.proofs.IndexSteps.{took_beside}
-use Rattle.mg_make.proofs.ListFrames.{wrote_lex, wrote_lists, wrote_more, wrote_wider}
+use Rattle.mg_make.proofs.ListFrames.{wrote_lists}
+use Rattle.mg_make.proofs.StepLaws.{put_err, put_lex, put_lists, put_more, put_ok}
 use Rattle.mg_make.proofs.lists.finish.Goals as goal
 
 pub finish-requires-2 : goal.finish-requires-2
@@ -15,17 +16,24 @@ finish-requires-2 g c = record {
   );
 }
 
-pub returns-in_err-post_bytes-clause-wrote : goal.returns-in_err-post_bytes-clause-wrote
-returns-in_err-post_bytes-clause-wrote g c =
-    let base = c.args.writer.now.lex.base in
-    wrote_more OfLists base _ _ _ (wrote_lex base _ _ c.finish.ensures.told c.finish.ensures.others)
-    (wrote_wider base _ _ (wrote_lists base _ _ _ _ c.requires.post c.requires.skip c.finish-2.ensures.told c.finish-2.ensures.others))
+pub returns-in_err-finish-clause-step : goal.returns-in_err-finish-clause-step
+returns-in_err-finish-clause-step g c =
+    let p = err_from_is_err_and c.from_residual.result c.from_residual.ensures.1 in
+    let e = c.in_err-finish.ensures in
+    rw (p.1, p.2) (put_err (put_lex e.told e.others e.reads e.cause))
 
-pub returns-clause-wrote : goal.returns-clause-wrote
-returns-clause-wrote g c =
-    let base = c.args.writer.now.lex.base in
-    wrote_more OfLists base _ _ _ (wrote_lex base _ _ c.finish.ensures.told c.finish.ensures.others)
-    (wrote_wider base _ _ (wrote_lists base _ _ _ _ c.requires.post c.requires.skip c.finish-2.ensures.told c.finish-2.ensures.others))
+pub returns-in_err-post_bytes-clause-step : goal.returns-in_err-post_bytes-clause-step
+returns-in_err-post_bytes-clause-step g c =
+    let p = err_from_is_err_and c.from_residual-in_err-post_bytes.result c.from_residual-in_err-post_bytes.ensures.1 in
+    let e = c.in_ok-finish.ensures in
+    let l = c.in_err-post_bytes.ensures in
+    rw (p.1, p.2) (put_more (put_lex e.told e.others e.reads e.cause) (put_err (put_lists c.requires.post c.requires.skip l.told l.others l.reads l.cause)))
+
+pub returns-clause-step : goal.returns-clause-step
+returns-clause-step g c =
+    let e = c.in_ok-finish.ensures in
+    let l = c.in_ok-post_bytes.ensures in
+    put_more (put_lex e.told e.others e.reads e.cause) (put_ok (put_lists c.requires.post c.requires.skip l.told l.others l.reads l.cause))
 
 pub returns-clause-stand : goal.returns-clause-stand
 returns-clause-stand g c = λ collection told all took terms.

@@ -1,7 +1,7 @@
-use Rattle.std.proofs.Common.{◌≡◌, ◌≤◌, ℕ, List}
-use Rattle.mg_make.specs.Finishing.{ReadRuns}
-use Rattle.mg_make.specs.Listing.{CanIndex, HasIndexed, SameMerge}
-use Rattle.mg_make.specs.Written.{OfLists, WroteParts}
+use Rattle.std.proofs.Common.{◌≡◌, ℕ, List}
+use Rattle.mg_make.specs.Listing.{CanIndex, HasIndexed}
+use Rattle.mg_make.specs.Steps.{MergeStep}
+use Rattle.mg_make.specs.Written.{OfLists}
 use Rattle.mg_make.proofs.lists.write_terms.Given as goal
 
 abbrev pub invariant-loop-number : goal.invariant-loop-number
@@ -9,8 +9,5 @@ invariant-loop-number g l = record {
   can : CanIndex l.table.terms l.counts.docs l.number l.merge l.writer.lists l.writer.lex l.sums.items (g.S.Store.files l.store);
   indexed : (collection : List ℕ) → HasIndexed l.table.terms l.counts.docs collection 0 l.initial.merge l.initial.writer.lists l.initial.writer.lex l.initial.sums.items (g.S.Store.files l.initial.store) → HasIndexed l.table.terms l.counts.docs collection l.number l.merge l.writer.lists l.writer.lex l.sums.items (g.S.Store.files l.store);
   all : l.writer.lists.all ≡ l.initial.writer.lists.all;
-  same : SameMerge l.initial.merge l.merge;
-  wrote : WroteParts OfLists l.initial.merge.base (g.S.Store.files l.initial.store) (g.S.Store.files l.store);
-  reads : ReadRuns (g.S.Store.reads l.initial.store) (g.S.Store.reads l.store);
-  later : g.S.Store.faults l.initial.store ≤ g.S.Store.faults l.store;
+  step : MergeStep OfLists l.initial.merge.base l.initial.merge l.merge (g.S.Store.files l.initial.store) (g.S.Store.files l.store) (g.S.Store.reads l.initial.store) (g.S.Store.reads l.store) (g.S.Store.faults l.initial.store) (g.S.Store.faults l.store);
 }

@@ -7,6 +7,7 @@ use Rattle.mg_defs.specs.PostingLists.{term_list}
 use Rattle.mg_post.specs.Writing.{posting_of}
 use Rattle.mg_make.proofs.ListFrames.{passed_on, wrote_lists}
 use Rattle.mg_make.proofs.ListSteps.{can_more, in_list_more, next_of_rest}
+use Rattle.mg_make.proofs.StepLaws.{step_lists, step_look, step_more}
 use Rattle.mg_make.proofs.one_list.take_posting.Goals as goal
 
 pub next_posting-requires-clause-last : goal.next_posting-requires-clause-last
@@ -22,19 +23,32 @@ pub returns-in-Ok-clause-can : goal.returns-in-Ok-clause-can
 returns-in-Ok-clause-can g c =
     let can = c.requires.can in
     let next = c.next_posting.ensures in
-    let base = next.same.base in
+    let base = next.looked.same.base in
     let wrote =
     wrote_lists c.next_posting.new.merge.base _ _ _ _ (can.post ∙ ap (λ b. full_name b Post) (sym base)) (can.skip ∙ ap (λ b. full_name b Skip) (sym base)) c.write_posting.ensures.told c.write_posting.ensures.others in
-    can_more c.runs_stay.ensures.left _ _ _ _ _ _ _ _ _ _ can next.same next.files c.in_ok-posting.ensures.left wrote c.in-Ok.ensures.took c.in-Ok.ensures.same c.in-Ok.ensures.each (omega (arith, c.in-Ok.ensures.pushed.last, c.in_ok-posting.ensures.follows.within, c.len-all.ensures, c.args.sums.now.ok.0, can.each))
+    can_more c.runs_stay.ensures.left _ _ _ _ _ _ _ _ _ _ can next.looked.same next.looked.files c.in_ok-posting.ensures.left wrote c.in-Ok.ensures.took c.in-Ok.ensures.same c.in-Ok.ensures.each (omega (arith, c.in-Ok.ensures.pushed.last, c.in_ok-posting.ensures.follows.within, c.len-all.ensures, c.args.sums.now.ok.0, can.each))
 
 pub returns-in-Ok-clause-told : goal.returns-in-Ok-clause-told
 returns-in-Ok-clause-told g c told done ps p left later is =
     let can = c.requires.can in
     let next = c.next_posting.ensures in
-    let base = next.same.base in
+    let base = next.looked.same.base in
     let wrote =
     wrote_lists c.next_posting.new.merge.base _ _ _ _ (can.post ∙ ap (λ b. full_name b Post) (sym base)) (can.skip ∙ ap (λ b. full_name b Skip) (sym base)) c.write_posting.ensures.told c.write_posting.ensures.others in
     let first : TermPosting = record { term = c.args.number; doc = p.doc; count = p.freq } in
     let read : c.in_ok-posting.posting ≡ first = c.in_ok-posting.ensures.told told first (term_list c.args.number left ++ later) is.merging in
-    in_list_more c.runs_stay.ensures.left c.args.number _ _ _ _ _ _ _ _ _ p _ done ps left later is next.files (ap (λ (x : TermPosting). posting_of x.doc x.count) read)
+    in_list_more c.runs_stay.ensures.left c.args.number _ _ _ _ _ _ _ _ _ p _ done ps left later is next.looked.files (ap (λ (x : TermPosting). posting_of x.doc x.count) read)
     c.in_ok-posting.ensures.left wrote c.in-Ok.ensures.took c.in-Ok.ensures.summed c.in-Ok.ensures.same.all c.in-Ok.ensures.pushed.last
+
+pub returns-in_err-posting-clause-step : goal.returns-in_err-posting-clause-step
+returns-in_err-posting-clause-step g c = step_look c.next_posting.ensures.looked
+
+pub returns-in-Ok-clause-step : goal.returns-in-Ok-clause-step
+returns-in-Ok-clause-step g c =
+    let e = c.write_posting.ensures in
+    step_more (step_look c.next_posting.ensures.looked) (step_lists c.requires.can.post c.requires.can.skip e.told e.others e.reads e.cause.later)
+
+pub returns-in-Err-clause-step : goal.returns-in-Err-clause-step
+returns-in-Err-clause-step g c =
+    let e = c.write_posting.ensures in
+    step_more (step_look c.next_posting.ensures.looked) (step_lists c.requires.can.post c.requires.can.skip e.told e.others e.reads e.cause.later)

@@ -2,9 +2,8 @@ use Rattle.std.proofs.Common.{◌≡◌, ◌≤◌, ◌++◌, List, length, take
 use Rattle.mg_defs.specs.declared.Posting.{Posting}
 use Rattle.mg_defs.specs.declared.TermPosting.{TermPosting}
 use Rattle.mg_post.specs.Writing.{PushedMore, SameFiles}
-use Rattle.mg_make.specs.Finishing.{ReadRuns}
-use Rattle.mg_make.specs.Listing.{CanList, IsInList, OfPostings, SameMerge}
-use Rattle.mg_make.specs.Written.{WroteParts}
+use Rattle.mg_make.specs.Listing.{CanList, IsInList, OfPostings}
+use Rattle.mg_make.specs.Steps.{MergeStep}
 use Rattle.mg_make.proofs.one_list.take_postings.Given as goal
 
 abbrev pub invariant-loop : goal.invariant-loop
@@ -13,9 +12,6 @@ invariant-loop g l = record {
   pushed : PushedMore l.initial.lists l.lists l.counter;
   last : l.lists.last ≡ l.last;
   told : IsSome (g.S.Store.files l.initial.store) → (done : List (List Posting)) (ps left : List Posting) (later : List TermPosting) → l.docs ≤ length left → IsInList l.number l.initial.merge l.initial.lists l.initial.sums.items (g.S.Store.files l.initial.store) done ps left later → IsInList l.number l.merge l.lists l.sums.items (g.S.Store.files l.store) done (ps ++ take l.counter left) (drop l.counter left) later;
-  same : SameMerge l.initial.merge l.merge;
   names : SameFiles l.initial.lists l.lists;
-  wrote : WroteParts OfPostings l.initial.merge.base (g.S.Store.files l.initial.store) (g.S.Store.files l.store);
-  reads : ReadRuns (g.S.Store.reads l.initial.store) (g.S.Store.reads l.store);
-  later : g.S.Store.faults l.initial.store ≤ g.S.Store.faults l.store;
+  step : MergeStep OfPostings l.initial.merge.base l.initial.merge l.merge (g.S.Store.files l.initial.store) (g.S.Store.files l.store) (g.S.Store.reads l.initial.store) (g.S.Store.reads l.store) (g.S.Store.faults l.initial.store) (g.S.Store.faults l.store);
 }

@@ -3,10 +3,10 @@ use Rattle.std.proofs.lemmas.Result.{err_from_is_err_and}
 use Rattle.mg_dev.specs.Causes.{Rose}
 use Rattle.mg_defs.specs.Lists.{lists_bits, lists_entries}
 use Rattle.mg_defs.specs.PostingLists.{by_terms}
-use Rattle.mg_make.specs.Listing.{IsInList, OfPostings}
-use Rattle.mg_make.specs.Written.{WroteParts}
-use Rattle.mg_make.proofs.ListFrames.{passed_on, wrote_lists, wrote_more, wrote_none}
+use Rattle.mg_make.specs.Listing.{IsInList}
+use Rattle.mg_make.proofs.ListFrames.{passed_on, wrote_lists}
 use Rattle.mg_make.proofs.ListSteps.{at_list_begun, at_list_ended, can_ended, rest_of_list, whole_taken}
+use Rattle.mg_make.proofs.StepLaws.{step_begun, step_lists, step_then}
 use Rattle.mg_make.proofs.one_list.write_list.Goals as goal
 
 pub returns-in_err-take_postings-clause-refused : goal.returns-in_err-take_postings-clause-refused
@@ -54,18 +54,17 @@ returns-in-Ok-end_list-clause-skip_at g c = λ told done ps more size is.
     let taken = c.in_ok-take_postings.ensures.told (ap is_some files ∙ told) done [] ps (by_terms (c.args.number + 1) more) enough begun in
     (c.in-Ok-end_list.ensures.answer done _ taken.took).1 ∙ ap (λ all. length (lists_entries all done)) (c.take_postings.ensures.files.all ∙ c.begin.ensures.same.all)
 
-pub returns-in-Ok-end_list-clause-wrote : goal.returns-in-Ok-end_list-clause-wrote
-returns-in-Ok-end_list-clause-wrote g c =
-    let files = ap (λ s. g.S.Store.files s) c.begin.ensures.store in
-    let can = c.in_ok-take_postings.ensures.can in
-    let wrote = wrote_lists c.take_postings.new.merge.base _ _ _ _ can.post can.skip c.end_list.ensures.told c.end_list.ensures.others in
-    let begun = wrote_more OfPostings c.args.merge.now.base _ _ _ (wrote_none OfPostings c.args.merge.now.base _ _ files) c.take_postings.ensures.wrote in
-    wrote_more OfPostings c.args.merge.now.base _ _ _ begun (subst (λ b. WroteParts OfPostings b (g.S.Store.files c.take_postings.new.store) (g.S.Store.files c.end_list.new.store)) c.take_postings.ensures.same.base wrote)
+pub returns-in_err-take_postings-clause-step : goal.returns-in_err-take_postings-clause-step
+returns-in_err-take_postings-clause-step g c = step_begun g.S.Store.files g.S.Store.reads g.S.Store.faults c.begin.ensures.store c.take_postings.ensures.step
 
-pub returns-in-Err-end_list-clause-wrote : goal.returns-in-Err-end_list-clause-wrote
-returns-in-Err-end_list-clause-wrote g c =
-    let files = ap (λ s. g.S.Store.files s) c.begin.ensures.store in
+pub returns-in-Ok-end_list-clause-step : goal.returns-in-Ok-end_list-clause-step
+returns-in-Ok-end_list-clause-step g c =
     let can = c.in_ok-take_postings.ensures.can in
-    let wrote = wrote_lists c.take_postings.new.merge.base _ _ _ _ can.post can.skip c.end_list.ensures.told c.end_list.ensures.others in
-    let begun = wrote_more OfPostings c.args.merge.now.base _ _ _ (wrote_none OfPostings c.args.merge.now.base _ _ files) c.take_postings.ensures.wrote in
-    wrote_more OfPostings c.args.merge.now.base _ _ _ begun (subst (λ b. WroteParts OfPostings b (g.S.Store.files c.take_postings.new.store) (g.S.Store.files c.end_list.new.store)) c.take_postings.ensures.same.base wrote)
+    let e = c.end_list.ensures in
+    step_then (step_begun g.S.Store.files g.S.Store.reads g.S.Store.faults c.begin.ensures.store c.take_postings.ensures.step) (step_lists can.post can.skip e.told e.others e.reads e.cause.later)
+
+pub returns-in-Err-end_list-clause-step : goal.returns-in-Err-end_list-clause-step
+returns-in-Err-end_list-clause-step g c =
+    let can = c.in_ok-take_postings.ensures.can in
+    let e = c.end_list.ensures in
+    step_then (step_begun g.S.Store.files g.S.Store.reads g.S.Store.faults c.begin.ensures.store c.take_postings.ensures.step) (step_lists can.post can.skip e.told e.others e.reads e.cause.later)

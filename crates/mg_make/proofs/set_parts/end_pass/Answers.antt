@@ -1,10 +1,10 @@
-use Rattle.std.proofs.Common.{arith, ◌≡◌, ◌∙◌, ◌++◌, ◌≤◌, ℕ, List, IsSome, subst, sym}
+use Rattle.std.proofs.Common.{◌≡◌, ◌++◌, ℕ, List, subst, sym}
 use Rattle.mg_defs.specs.Marks.{Mark, marks}
 use Rattle.mg_make.specs.Meeting.{Meeting, marks_of}
 use Rattle.mg_make.specs.Scanning.{HasMet}
 use Rattle.mg_make.specs.Second.{HasWritten}
-use Rattle.mg_make.proofs.Frames.{wrote_both, wrote_for}
 use Rattle.mg_make.proofs.EndSteps.{all_written, end_refused, handed_all, is_whole, last_marks, rose_behind, stops_before}
+use Rattle.mg_make.proofs.StepLaws.{sort_for, sort_more, sort_pass}
 use Rattle.mg_make.proofs.set_parts.end_pass.Goals as goal
 
 pub take-requires : goal.take-requires
@@ -41,8 +41,11 @@ returns-clause-handed g c = λ fed met scanned written few.
     handed_all c.finish-2.result c.args.pass c.take.new.self (g.S.Store.files c.args.store.now) (g.S.Store.files c.take.new.store) (g.S.Store.files c.finish-2.new.store) fed c.in-Ok.ensures.same c.in-Ok.ensures.wrote.told few all
     (c.finish-2.ensures.ends (marks fed) all)
 
-pub returns-clause-wrote : goal.returns-clause-wrote
-returns-clause-wrote g c = wrote_both c.args.pass.base _ _ _ c.in-Ok.ensures.wrote (wrote_for c.args.pass.base c.take.new.self.base _ _ c.in-Ok.ensures.same.base c.finish-2.ensures.wrote)
+pub returns-in-Err-clause-step : goal.returns-in-Err-clause-step
+returns-in-Err-clause-step g c = sort_pass c.in-Err.ensures
+
+pub returns-clause-step : goal.returns-clause-step
+returns-clause-step g c = sort_more (sort_pass c.in-Ok.ensures) (sort_for c.in-Ok.ensures.same.base c.finish-2.ensures.step)
 
 pub returns-clause-refused : goal.returns-clause-refused
 returns-clause-refused g c =

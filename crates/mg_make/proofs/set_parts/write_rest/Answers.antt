@@ -1,4 +1,4 @@
-use Rattle.std.proofs.Common.{arith, ◌≡◌, ◌∙◌, ◌≤◌, ℕ, List, IsSome, ap, length, refl, rules, subst, sym, ◌^◌, ◌<◌}
+use Rattle.std.proofs.Common.{arith, ◌≡◌, ◌∙◌, ◌≤◌, ap, length, refl, rules, ◌^◌}
 use Rattle.std.proofs.lemmas.List.{length-map}
 use Rattle.mg_defs.specs.declared.Stream.TheVariants.{Others, Words}
 use Rattle.mg_defs.specs.CodedText.{text_part}
@@ -13,6 +13,7 @@ use Rattle.mg_defs.specs.Vocabulary.{sorted_pieces}
 use Rattle.mg_make.specs.Plans.{Plan}
 use Rattle.mg_make.proofs.Finishing.{planned_occurrences}
 use Rattle.mg_make.proofs.RestSteps.{few_occurring, few_terms_of, handed_count, handed_docs, handed_high, handed_lists, handed_low, handed_peak, handed_runs, handed_sizes, handed_text, rest_stops, same_heads}
+use Rattle.mg_make.proofs.StepLaws.{sort_merge}
 use Rattle.mg_make.proofs.set_parts.write_rest.Goals as goal
 
 pub write_all-requires-clause-sizes : goal.write_all-requires-clause-sizes
@@ -43,7 +44,7 @@ returns-clause-within g c =
       cap_high = omega (arith, high);
       collection = omega (arith, handed.few, c.requires.handed.3);
       occurrences = omega (arith, count, few_occurring plan fed, c.requires.handed.3);
-      runs = c.runs.ensures ∙ c.in-Ok.ensures.same.runs ∙ handed_runs plan c.args.limit c.args.base.now fed c.requires.handed.1 _ c.args.inverted handed;
+      runs = c.runs.ensures ∙ c.in-Ok.ensures.step.same.runs ∙ handed_runs plan c.args.limit c.args.base.now fed c.requires.handed.1 _ c.args.inverted handed;
       text_bytes = search rules;
       post_bytes = search rules;
       skip_count = omega (arith, c.in-Ok.ensures.few, handed_docs plan c.args.limit c.args.base.now fed c.requires.handed.1 _ c.args.inverted handed);
@@ -60,14 +61,20 @@ returns-clause-head g c = λ fed before handed size told plan_of.
     let end : c.plan.inside.open_end ≡ has_open_end fed = ap (λ (p : Plan). p.open_end) c.plan.view_is ∙ plan_of.open_end in
     let count : c.args.inverted.occurrences ≡ length (occurrences fed) = handed_count plan c.args.limit c.args.base.now fed before _ c.args.inverted handed ∙ ap length (planned_occurrences plan fed plan_of) in
     let runs : c.runs.result ≡ run_count (length (occurrences fed)) (run_cap c.args.limit)
-    = c.runs.ensures ∙ c.in-Ok.ensures.same.runs ∙ handed_runs plan c.args.limit c.args.base.now fed before _ c.args.inverted handed ∙ ap (λ n. run_count n (run_cap c.args.limit)) count in
+    = c.runs.ensures ∙ c.in-Ok.ensures.step.same.runs ∙ handed_runs plan c.args.limit c.args.base.now fed before _ c.args.inverted handed ∙ ap (λ n. run_count n (run_cap c.args.limit)) count in
     let text : c.args.inverted.text_bytes ≡ length (text_part plan.code fed) = handed_text plan c.args.limit c.args.base.now fed before _ c.args.inverted handed c.text_has_its_documents.ensures.text plan_of in
     let post : c.in-Ok.sizes.post_bytes ≡ length (post_part fed) = c.in-Ok.ensures.post_bytes fed lists in
     let skip : c.in-Ok.sizes.skip_count ≡ skip_count fed = c.in-Ok.ensures.skip_count fed lists in
     same_heads _ _ refl documents words others terms refl end size count runs text post skip
 
 pub returns-clause-peak : goal.returns-clause-peak
-returns-clause-peak g c = λ fed before handed plan_of. c.peak.ensures ∙ c.in-Ok.ensures.same.peak ∙ handed_peak c.args.plan.now c.args.limit c.args.base.now fed before _ c.args.inverted handed plan_of
+returns-clause-peak g c = λ fed before handed plan_of. c.peak.ensures ∙ c.in-Ok.ensures.step.same.peak ∙ handed_peak c.args.plan.now c.args.limit c.args.base.now fed before _ c.args.inverted handed plan_of
 
 pub returns-clause-stand : goal.returns-clause-stand
 returns-clause-stand g c = λ fed before handed told plan_of. c.in-Ok.ensures.stand fed (handed_lists c.args.plan.now c.args.limit c.args.base.now fed before _ c.args.inverted handed told plan_of)
+
+pub returns-in-Err-clause-step : goal.returns-in-Err-clause-step
+returns-in-Err-clause-step g c = sort_merge c.in-Err.ensures.step
+
+pub returns-clause-step : goal.returns-clause-step
+returns-clause-step g c = sort_merge c.in-Ok.ensures.step

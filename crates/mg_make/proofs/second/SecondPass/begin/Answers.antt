@@ -1,17 +1,18 @@
-use Rattle.std.proofs.Common.{◌≡◌, ◌≤◌, ◌<◌, length, get_or, sym, ap, ◌∙◌, arith}
+use Rattle.std.proofs.Common.{refl, ◌≡◌, ◌≤◌, ◌<◌, length, get_or, sym, ap, ◌∙◌, arith}
 use Rattle.mg_make.specs.Plans.{Plan}
-use Rattle.mg_make.proofs.Frames.{index_kept, text_wrote}
+use Rattle.mg_make.proofs.Frames.{index_kept}
 use Rattle.mg_make.proofs.MarkFronts.{closed_at_start}
+use Rattle.mg_make.proofs.PassLaws.{pass_refused, text_done, text_refused}
 use Rattle.mg_make.proofs.SecondSteps.{none_open, pairs_room, same_there, wrote_start}
 use Rattle.mg_make.proofs.Stopping.{other_documents}
 use Rattle.mg_make.proofs.second.SecondPass.begin.Goals as goal
 
-pub returns-then-at-len-clause-refused : goal.returns-then-at-len-clause-refused
-returns-then-at-len-clause-refused g c =
+pub returns-then-at-len : goal.returns-then-at-len
+returns-then-at-len g c =
     let same : c.plan.inside.pairs.items ≡ c.self.inside.plan.now.pairs = ap (λ (p : Plan). p.pairs) c.plan.view_is in
     let long = ap length same in
     let all : length c.self.inside.plan.now.pairs ≤ c.self.inside.doc = omega (arith, long, c.len.ensures, c.if-at-len.true) in
-    rw (← c.self.view_is) (record { cause = λ met collection is front. ((λ e. omega (arith, e, long, c.len-then-at-len.ensures, c.from.ensures, is.within)), other_documents _ _ met collection is front all) })
+    rw (← c.self.view_is) (pass_refused (record { cause = λ met collection is front. ((λ e. omega (arith, e, long, c.len-then-at-len.ensures, c.from.ensures, is.within)), other_documents _ _ met collection is front all) }))
 
 pub begin_doc-requires-clause-closed : goal.begin_doc-requires-clause-closed
 begin_doc-requires-clause-closed g c =
@@ -34,18 +35,15 @@ begin_doc-requires-clause-pairs g c =
     let room = pairs_room _ _ n.met n.written low in
     omega (arith, room, here)
 
-pub returns-in-Err-clause-wrote : goal.returns-in-Err-clause-wrote
-returns-in-Err-clause-wrote g c =
+pub returns-in-Err : goal.returns-in-Err
+returns-in-Err g c =
     let n = rw (← c.self.view_is) at c.requires.next in
-    rw (← c.self.view_is) (text_wrote _ _ _ _ n.written.text_base c.begin_doc.ensures.told c.begin_doc.ensures.others)
+    let e = c.in-Err.ensures in
+    rw (← c.self.view_is)
+    (text_refused (record { base = n.written.text_base; told = e.told; others = e.others; reads = e.reads; faults = e.cause.later }) e.cause c.of_store.ensures)
 
-pub returns-clause-wrote : goal.returns-clause-wrote
-returns-clause-wrote g c =
-    let n = rw (← c.self.view_is) at c.requires.next in
-    rw (← c.self.view_is) (text_wrote _ _ _ _ n.written.text_base c.begin_doc.ensures.told c.begin_doc.ensures.others)
-
-pub returns-clause-written : goal.returns-clause-written
-returns-clause-written g c =
+pub returns : goal.returns
+returns g c =
     let n = rw (← c.self.view_is) at c.requires.next in
     let closed = n.written.is_open ∙ closed_at_start n.met n.collection n.front in
     let same : c.plan.inside.pairs.items ≡ c.self.inside.plan.now.pairs = ap (λ (p : Plan). p.pairs) c.plan.view_is in
@@ -53,7 +51,12 @@ returns-clause-written g c =
     let low : c.self.inside.doc < length c.self.inside.plan.now.pairs = omega (arith, long, c.len.ensures, c.if-at-len.false) in
     let within : c.self.inside.doc < length c.plan.inside.pairs.items = omega (arith, long, low) in
     let here : c.index-pairs.result.now ≡ get_or c.self.inside.plan.now.pairs c.self.inside.doc 0 = c.index-pairs.ensures ∙ same_there _ _ _ 0 within ∙ ap (λ ns. get_or ns c.self.inside.doc 0) same in
+    let e = c.in-Ok.ensures in
     rw (c.from-2.ensures, ← c.self.view_is)
+    (text_done (record { base = n.written.text_base; told = e.told; others = e.others; reads = e.reads; faults = e.cause.later })
+    (record { base = refl; plan = refl; limit = refl })
     (record {
-      behind = λ met is. wrote_start _ _ _ _ met c.index-pairs.result.now closed here low c.in-Ok.ensures.took c.in-Ok.ensures.began c.begin_doc.ensures.base (λ terms fed taken. index_kept c.runs_stay.ensures.fed _ _ _ _ terms fed (is.text_base ∙ sym is.runs_base) c.begin_doc.ensures.told c.begin_doc.ensures.others taken) is;
-    })
+      behind = λ met is.
+          wrote_start _ _ _ _ met c.index-pairs.result.now closed here low e.took e.began e.base
+          (λ terms fed taken. index_kept c.runs_stay.ensures.fed _ _ _ _ terms fed (is.text_base ∙ sym is.runs_base) e.told e.others taken) is;
+    }))

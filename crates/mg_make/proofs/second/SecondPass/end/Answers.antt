@@ -1,6 +1,7 @@
-use Rattle.std.proofs.Common.{◌≡◌, sym, ◌∙◌, arith}
+use Rattle.std.proofs.Common.{◌≡◌, refl, sym, ◌∙◌, arith}
 use Rattle.mg_make.proofs.Frames.{index_kept}
 use Rattle.mg_make.proofs.MarkFronts.{open_at_stop}
+use Rattle.mg_make.proofs.PassLaws.{pass_refused, text_done, text_refused}
 use Rattle.mg_make.proofs.SecondSteps.{wrote_stop}
 use Rattle.mg_make.proofs.Stopping.{other_stop, stops_change}
 use Rattle.mg_make.proofs.second.SecondPass.end.Goals as goal
@@ -11,18 +12,30 @@ end_doc-requires-clause-begun g c =
     let n = rw (← c.self.view_is) at c.requires.next in
     n.written.is_open ∙ open_at_stop n.met n.collection n.front
 
-pub returns-then-self-gt0-clause-refused : goal.returns-then-self-gt0-clause-refused
-returns-then-self-gt0-clause-refused g c =
+pub returns-then-self-gt0 : goal.returns-then-self-gt0
+returns-then-self-gt0 g c =
     let n = rw (← c.self.view_is) at c.requires.next in
     let is_open = n.written.is_open ∙ open_at_stop n.met n.collection n.front in
-    rw (← c.self.view_is) (record { cause = λ met collection is front. stops_change _ _ _ c.other_pairs.ensures (other_stop _ _ met collection is front is_open c.if-self-gt0.true) })
+    rw (← c.self.view_is)
+    (pass_refused (record { cause = λ met collection is front. stops_change _ _ _ c.other_pairs.ensures (other_stop _ _ met collection is front is_open c.if-self-gt0.true) }))
 
-pub returns-clause-written : goal.returns-clause-written
-returns-clause-written g c =
+pub returns : goal.returns
+returns g c =
+    let n = rw (← c.self.view_is) at c.requires.next in
+    let e = c.end_doc.ensures in
+    let none : c.self.inside.left ≡ 0 = omega (arith, c.if-self-gt0.false) in
     elim c.match-end_doc.branch [
       | in-Ok w ↦
-          let none : c.self.inside.left ≡ 0 = omega (arith, c.if-self-gt0.false) in
           rw (w.result-is, ← c.self.view_is)
-          (record { behind = λ met is. wrote_stop _ _ _ _ met none w.in-Ok.ensures.took w.in-Ok.ensures.ended c.end_doc.ensures.base (λ terms fed taken. index_kept c.runs_stay.ensures.fed _ _ _ _ terms fed (is.text_base ∙ sym is.runs_base) c.end_doc.ensures.told (λ n a b. c.end_doc.ensures.others n a) taken) is })
-      | in-Err w ↦ rw w.result-is tt
+          (text_done (record { base = n.written.text_base; told = e.told; others = λ m a b. e.others m a; reads = e.reads; faults = e.cause.later })
+          (record { base = refl; plan = refl; limit = refl })
+          (record {
+            behind = λ met is.
+                wrote_stop _ _ _ _ met none w.in-Ok.ensures.took w.in-Ok.ensures.ended e.base
+                (λ terms fed taken. index_kept c.runs_stay.ensures.fed _ _ _ _ terms fed (is.text_base ∙ sym is.runs_base) e.told (λ m a b. e.others m a) taken) is;
+          }))
+      | in-Err w ↦
+          rw (w.result-is, ← c.self.view_is)
+          (text_refused (record { base = n.written.text_base; told = e.told; others = λ m a b. e.others m a; reads = e.reads; faults = e.cause.later })
+          w.in-Err.ensures.cause w.of_store.ensures)
     ]

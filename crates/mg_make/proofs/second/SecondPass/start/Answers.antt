@@ -1,13 +1,27 @@
 use Rattle.std.proofs.Common.{refl, sym}
-use Rattle.mg_make.proofs.Frames.{runs_wrote, text_kept, text_wrote, wrote_both}
+use Rattle.mg_make.proofs.Frames.{runs_wrote, text_kept, text_wrote}
 use Rattle.mg_make.proofs.SecondSteps.{wrote_nothing}
+use Rattle.mg_make.proofs.StepLaws.{put_err, put_more, put_ok}
 use Rattle.mg_make.proofs.second.SecondPass.start.Goals as goal
 
-pub returns-in-Err-start-clause-wrote : goal.returns-in-Err-start-clause-wrote
-returns-in-Err-start-clause-wrote g c = wrote_both _ _ _ _ (text_wrote _ _ _ _ refl c.start.ensures.told c.start.ensures.others) (runs_wrote _ _ _ _ refl c.start-2.ensures.wrote)
+pub returns-in-Err-clause-step : goal.returns-in-Err-clause-step
+returns-in-Err-clause-step g c =
+    let e = c.in-Err.ensures in
+    put_err (record { wrote = text_wrote _ _ _ _ refl e.told e.others; reads = e.reads; cause = e.cause })
 
-pub returns-clause-wrote : goal.returns-clause-wrote
-returns-clause-wrote g c = wrote_both _ _ _ _ (text_wrote _ _ _ _ refl c.start.ensures.told c.start.ensures.others) (runs_wrote _ _ _ _ refl c.start-2.ensures.wrote)
+pub returns-in-Err-start-clause-step : goal.returns-in-Err-start-clause-step
+returns-in-Err-start-clause-step g c =
+    let e = c.in-Ok.ensures in
+    let i = c.in-Err-start.ensures in
+    put_more (record { wrote = text_wrote _ _ _ _ refl e.told e.others; reads = e.reads; cause = e.cause })
+    (put_err (record { wrote = runs_wrote _ _ _ _ refl i.wrote; reads = i.reads; cause = i.cause }))
+
+pub returns-clause-step : goal.returns-clause-step
+returns-clause-step g c =
+    let e = c.in-Ok.ensures in
+    let i = c.in-Ok-start.ensures in
+    put_more (record { wrote = text_wrote _ _ _ _ refl e.told e.others; reads = e.reads; cause = e.cause })
+    (put_ok (record { wrote = runs_wrote _ _ _ _ refl i.wrote; reads = i.reads; cause = i.cause }))
 
 pub returns-clause-written : goal.returns-clause-written
 returns-clause-written g c =

@@ -1,9 +1,9 @@
-use Rattle.std.proofs.Common.{arith, ◌≡◌, ◌∙◌, ◌≤◌, [], ℕ, List, IsSome, Some, length, ap, inl, inr, refl, subst, sym}
+use Rattle.std.proofs.Common.{arith, ◌≡◌, ◌∙◌, IsSome, length, ap, inl, inr, refl, subst, sym}
 use Rattle.mg_dev.specs.Causes.{Rose}
 use Rattle.mg_dev.specs.declared.fault.Fault.{Fault}
 use Rattle.mg_make.specs.Listing.{ListStops}
 use Rattle.mg_make.specs.Plans.{IsPlanOf}
-use Rattle.mg_dev.specs.Files.{GrewInPart, file_at, grown}
+use Rattle.mg_dev.specs.Files.{GrewInPart, grown}
 use Rattle.mg_dev.specs.Names.{full_name}
 use Rattle.mg_dev.specs.declared.part.Part.TheVariants.{Head, Plain}
 use Rattle.mg_defs.specs.Heads as heads
@@ -11,8 +11,8 @@ use Rattle.mg_defs.specs.Heads.{IsWithin}
 use Rattle.mg_defs.specs.Stands.{head_of}
 use Rattle.mg_defs.specs.Summaries.{run_cap}
 use Rattle.mg_layout.specs.HeadAnswers.{fields_of}
-use Rattle.mg_make.specs.Putting.{HasPut, IsReady, OthersSame, Putting}
-use Rattle.mg_make.specs.Summaries.{summary_by, summary_of}
+use Rattle.mg_make.specs.Putting.{IsReady, OthersSame, Putting}
+use Rattle.mg_make.specs.Summaries.{summary_by}
 use Rattle.mg_make.proofs.HeadLaws.{empty_stands_for_none}
 use Rattle.mg_make.proofs.HeadSteps.{append_others, append_stops, grown_whole, left_here, merge_a_here, merge_b_here, stands_here, stands_of}
 use Rattle.mg_make.proofs.SetFrames.{others_both}

@@ -1,4 +1,4 @@
-use Rattle.std.proofs.Common.{◌≡◌, ◌++◌, ◌∷◌, [], ℕ, List, IsSome, Some, subst, sym}
+use Rattle.std.proofs.Common.{◌≡◌, ◌++◌, ◌∷◌, [], ℕ, List, Some, subst, sym}
 use Rattle.mg_dev.specs.Causes.{Rose}
 use Rattle.mg_defs.specs.Marks.{Mark}
 use Rattle.mg_make.specs.Meeting.{Meeting, marks_of}
