@@ -1,12 +1,12 @@
 //! The first pass over the bytes of a collection.
 ghost use Rattle.std.specs.Prelude.{◌<◌, ◌≤◌, ◌-◌, ◌^◌, ◌++◌, ◌∷◌, ℕ, List, [], length, IfErr, IfOk, OnOk};
 ghost use Rattle.mg_defs.specs.Marks.{Mark, marks};
-ghost use Rattle.mg_make.specs.Counting.{AreFew, CountStops, EndStops, HasCounted};
+ghost use Rattle.mg_make.specs.Counting.{AreFew, CountStops, EndStops, HasCounted, IsCountOf};
 ghost use Rattle.mg_make.specs.Plans.{IsPlan, IsPlanOf, IsRoomFor};
 ghost use Rattle.mg_make.specs.Scanning.{HasMet, Scanning};
 
 use crate::counts::Counts;
-use crate::plan::{Plan, Room};
+use crate::plan::{Plan, Room, plan_of};
 use crate::scanner::Scanner;
 use mg_dev::Fault;
 use mg_laws::{few_of_each, marks_add_up, marks_have_all};
@@ -90,6 +90,20 @@ impl Count {
         ensures room { IfOk result (λ r. IsRoomFor r.1 r.0 budget) }
         ensures refused { IfErr result (λ fault. (fed : List ℕ) → HasCounted self fed → EndStops fed fault) }
     {
+        let (counts, open_end) = self.end()?;
+        match plan_of(alloc, counts, open_end, budget) {
+            Ok(made) => Ok(made),
+            Err(_) => Err(Fault::Memory),
+        }
+    }
+
+    /// Takes the end of the collection: what is counted in all of it, and whether its end is open.
+    fn end(self) -> Result<(Counts, bool), Fault>
+        requires given { (fed : List ℕ) × HasCounted self fed × (length fed < 2 ^ 32) }
+        ensures counted { (fed : List ℕ) → HasCounted self fed → length fed < 2 ^ 32 →
+            IfOk result (λ r. IsCountOf r.0 r.1 fed) }
+        ensures refused { IfErr result (λ fault. (fed : List ℕ) → HasCounted self fed → EndStops fed fault) }
+    {
         few_are_met();
         let Count {
             mut scanner,
@@ -98,8 +112,6 @@ impl Count {
         let open_end = scanner.is_open();
         scanner.finish();
         counts.take(scanner.met())?;
-        let plan = Plan::of(alloc, counts, open_end)?;
-        let room = Room::new(alloc, &plan, budget)?;
-        Ok((plan, room))
+        Ok((counts, open_end))
     }
 }

@@ -4,7 +4,7 @@
 //! as they were.
 ghost use Rattle.std.specs.Prelude.{◌≡◌, ◌≤◌, ◌<◌, ◌^◌, ℕ, List, length, replicate, IfOk};
 ghost use Rattle.mg_make.specs.Counting.{IsCountOf};
-ghost use Rattle.mg_make.specs.Plans.{IsPlan, IsPlanOf, IsRoomFor};
+ghost use Rattle.mg_make.specs.Plans.{IsPlan, IsPlanOf, IsRoomFor, plan_by};
 
 use crate::counts::Counts;
 use crate::doc_counts::DocCounts;
@@ -54,6 +54,21 @@ impl Plan {
         terms_are_the_dictionary();
         let (words, others, pairs) = counts.into_parts();
         let model = TextModel::of(alloc, words, others)?;
+        match Plan::by(alloc, model, pairs, open_end) {
+            Ok(plan) => Ok(plan),
+            Err(refusal) => Err(refusal),
+        }
+    }
+
+    // The plan by these models: its terms are those of the words.
+    fn by(
+        alloc: Global,
+        model: TextModel,
+        pairs: Vec<u32>,
+        open_end: bool,
+    ) -> Result<Self, AllocError>
+        ensures { IfOk result (λ plan. plan ≡ plan_by model pairs.items open_end) }
+    {
         let table = TermTable::of(alloc, &model)?;
         Ok(Plan {
             model,
@@ -100,4 +115,23 @@ impl Room {
         let sums = no_sums(alloc, plan.pairs.len())?;
         Ok(Room { pool, counts, sums })
     }
+}
+
+/// The plan of a collection of which these are the counts, and room for what its second pass counts.
+pub(crate) fn plan_of(
+    alloc: Global,
+    counts: Counts,
+    open_end: bool,
+    budget: u64,
+) -> Result<(Plan, Room), AllocError>
+    requires least { 4096 ≤ budget }
+    requires most { budget ≤ 2 ^ 30 }
+    requires counted { (collection : List ℕ) × IsCountOf counts open_end collection }
+    ensures plan { IfOk result (λ r. IsPlan r.0) }
+    ensures of { (collection : List ℕ) → IsCountOf counts open_end collection → IfOk result (λ r. IsPlanOf r.0 collection) }
+    ensures room { IfOk result (λ r. IsRoomFor r.1 r.0 budget) }
+{
+    let plan = Plan::of(alloc, counts, open_end)?;
+    let room = Room::new(alloc, &plan, budget)?;
+    Ok((plan, room))
 }
