@@ -2,12 +2,15 @@
 
 import pathlib
 import re
+import shutil
 import subprocess
 import sys
+import tempfile
 
 ROOT = pathlib.Path(__file__).resolve().parent.parent
 sys.path.append(str(ROOT / "tools"))
 
+from refusals import refused_at
 from wrong_bodies_page import GATE, LEFT_OUT, crates_of, edits_of, faults, named_edits
 
 # The crates that are dearest to prove, of which the gate tries no edit.
@@ -114,4 +117,97 @@ def tool_lists(suite):
     suite.check("a crate without wrong bodies", (run.returncode, run.stderr), (2, told))
 
 
-PARTS = [edits_apply, edits_are_named, faults_are_refused, statuses_have_faults, tool_lists]
+# What the prover told of edits, cut short: the edited file, its output, and the function and the clauses.
+REFUSALS = [
+    ("src/bytes.rt", """\
+./proofs/reader/PieceReader/offer/Answers.antt:7:95: error: `returns-then-is_of_kind-clause-reads`: expected type `c.self.inside.len < 255`
+fn mg_parse::reader::PieceReader::offer: not proved
+fn mg_parse::bytes::piece_len: no proof: expected answers in ./proofs/bytes/piece_len/Answers.antt; `search` did not prove `loop-byte-preserved`, `returns-then-len-eq-PIECE_BYTES-clause-is`
+fn mg_parse::pairs::cut: no proof: it calls `mg_parse::bytes::piece_len`, which is not proved
+""", ("mg_parse::bytes::piece_len", "is")),
+    ("src/splitter.rt", """\
+./proofs/splitter/Splitter/feed/Answers.antt:6:27: error: `returns-then-byte-eq-CLOSE-clause-stands`: expected type `c.args.byte = 2`
+./proofs/splitter/Splitter/feed/Answers.antt:10:25: error: `returns-else-byte-eq-CLOSE-clause-stands`: computed as far as they go
+fn mg_parse::splitter::Splitter::feed: not proved
+""", ("mg_parse::splitter::Splitter::feed", "stands")),
+    ("src/bytes.rt", """\
+./proofs/bytes/is_term/Answers.antt:6:48: error: `returns-then-word-term`: expected type
+fn mg_parse::bytes::is_term: not proved
+""", ("mg_parse::bytes::is_term", "its clause")),
+    ("src/lib.rt", """\
+fn high::second: no proof: expected answers in ./proofs/second/Answers.antt; `search` did not prove `returns`
+note: `returns` of proofs/second/Answers.antt must prove: record {far : c.next.result = c.args.number + 2}
+""", ("high::second", "far")),
+    ("src/writing.rt", """\
+fn high::write_set: no proof: expected answers in ./proofs/write_set/Answers.antt; `search` did not prove `put_documents-requires-clause-head`
+""", ("high::write_set", "head of put_documents")),
+    ("src/lib.rt", "fn high::second: proved\n", ("", "")),
+]
+
+
+def refusals_are_read(suite):
+    """The function and the clauses that the prover's output tells of."""
+    for file, output, wanted in REFUSALS:
+        suite.check(f"the refusal of {wanted[0]}", refused_at(output, [file]), wanted)
+
+
+# A library, and a crate above it: one of its wrong bodies is refused by its clause, the other does the same.
+SMALL = {
+    "HANDLES": "Handles allowed: none.\n",
+    "crates.txt": "low:\nhigh: low\n",
+    "crates/low/src/lib.rt": """//! A number.
+#![tactic(auto)]
+ghost use Rattle.std.specs.Prelude.{◌≡◌, ◌+◌, ◌<◌};
+
+/// The number behind another.
+pub fn next(number: u32) -> u32
+    requires small { number < 100 }
+    ensures more { result ≡ number + 1 }
+{
+    number + 1
+}
+""",
+    "crates/high/src/lib.rt": """//! A number further on.
+#![tactic(auto)]
+ghost use Rattle.std.specs.Prelude.{◌≡◌, ◌+◌, ◌<◌};
+
+use low::next;
+
+/// The second number behind another.
+pub fn second(number: u32) -> u32
+    requires small { number < 9 }
+    ensures far { result ≡ number + 2 }
+{
+    next(next(number))
+}
+""",
+    "crates/high/wrong-bodies/the_first_is_told.edit": "file: src/lib.rt\nold:     next(next(number))\nnew:     next(number)\n",
+    "crates/high/wrong-bodies/the_same_is_told.edit": "file: src/lib.rt\nold:     next(next(number))\nnew:     next(number + 1)\n",
+}
+
+
+def tool_tries(suite):
+    """The tool tells what refuses a wrong body, and ends with 1 where one is not refused."""
+    if shutil.which("rt") is None:
+        print("no rt: tools/wrong_bodies.py was not tried")
+        return
+    with tempfile.TemporaryDirectory() as folder:
+        root = pathlib.Path(folder)
+        for name, text in SMALL.items():
+            (root / name).parent.mkdir(parents=True, exist_ok=True)
+            (root / name).write_text(text)
+        shutil.copytree(ROOT / "tools", root / "tools", ignore=shutil.ignore_patterns("__pycache__"))
+        tool = [sys.executable, str(root / "tools" / "wrong_bodies.py"), "--jobs", "1", "--table", str(root / "table")]
+        run = subprocess.run(tool, capture_output=True, text=True)
+        table = (root / "table").read_text()
+        rows = [[cell.strip() for cell in line.strip("|").split("|")] for line in table.splitlines()[4:]]
+        suite.check("rows of wrong bodies", [row[:4] for row in rows], [
+            ["high", "the_first_is_told", "high::second", "far"],
+            ["high", "the_same_is_told", "", "NOT REFUSED"],
+        ])
+        suite.check("a wrong body that is not refused", (run.returncode, run.stdout.splitlines()[-1]), (1, "1 refused, 1 not refused"))
+        left = sorted(path.name for path in (root / "crates" / "high").iterdir())
+        suite.check("the crate is left as it was", left, ["src", "wrong-bodies"])
+
+
+PARTS = [edits_apply, edits_are_named, faults_are_refused, statuses_have_faults, tool_lists, refusals_are_read, tool_tries]

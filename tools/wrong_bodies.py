@@ -29,6 +29,7 @@ import threading
 import time
 from dataclasses import dataclass
 
+from refusals import refused_at
 from wrong_bodies_page import GATE, LEFT_OUT, PAGE, ROOT, crates_of, edits_of, faults, write_page
 
 MEMORY = 4 << 30
@@ -132,35 +133,19 @@ def take_kept_work(crate):
         shutil.copytree(kept, pathlib.Path(crate.folder) / "out" / "incremental")
 
 
-def refused_at(output):
-    """The first function that the prover's output refuses, and the clause."""
-    functions = re.findall(r"^fn (\S+): (?:not proved|no proof)(.*)$", output, re.M)
-    errors = re.findall(r"^(?:\./)?proofs/(\S+)/\w+\.antt:\d+:\d+: error: (?:`([^`]*)`)?", output, re.M)
-    for function, said in functions:
-        goals = re.findall(r"`([^`]*)`", said)
-        path = "/".join(function.split("::")[1:])
-        goals += [goal for at, goal in errors if at == path and goal]
-        goals = [goal for goal in goals if goal not in ("search",)]
-        if goals:
-            return function, goals[0]
-    if functions:
-        return functions[0][0], ""
-    return ("", errors[0][1]) if errors else ("", "")
-
-
 def watch(rt, watched):
     """Has each check of an edit leave in `watched`, by its crate, what it said and how long it took."""
     checked, must_fail, here = rt.checked, rt.must_fail, threading.local()
 
     def watched_check(crate, texts, flags, kept):
         ran = checked(crate, texts, flags, kept)
-        here.output = ran.stdout
+        here.output, here.edited = ran.stdout, list(texts)
         return ran
 
     def watched_edit(crate, edit, flags, kept=None):
-        here.output, start = "", time.monotonic()
+        here.output, here.edited, start = "", [], time.monotonic()
         is_refused, said = must_fail(crate, edit, flags, kept)
-        function, clause = refused_at(here.output)
+        function, clause = refused_at(here.output, here.edited)
         name = pathlib.Path(edit).stem
         end = Tried(crate.name, name, is_refused, said, function, clause, time.monotonic() - start)
         watched[crate.name].append(end)
