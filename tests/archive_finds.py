@@ -5,6 +5,7 @@ import gzip
 import json
 import lzma
 import os
+import pathlib
 import pty
 import re
 import select
@@ -14,6 +15,7 @@ from queries import phrase_places
 from weights import top
 
 COUNT = 30
+CORPUS = pathlib.Path("/usr/lib/python3.11/test/test_email/data")
 
 
 class Scanned:
@@ -290,4 +292,27 @@ def originals(case):
     case.check("the document stays", case.run("mail", "show", "9")[:2], (0, b"THE CRANE\n"))
 
 
-HERE = [finding, many_words, bold, showing, originals]
+def real_mail(case):
+    """Odd messages of Python's own tests in a Maildir: each comes once, is shown, and is printed from its source."""
+    paths = sorted(path for path in CORPUS.glob("*.txt") if b"\0" not in path.read_bytes()) if CORPUS.is_dir() else []
+    case.check("odd messages are installed (Debian's package libpython3.11-testsuite)", len(paths) > 30, True)
+    texts = [path.read_bytes() for path in paths]
+    (case.folder / "Mail/cur").mkdir(parents=True)
+    for number, text in enumerate(texts):
+        case.file(f"Mail/new/{1700000000 + number}.M1.host", text)
+    status, out, _ = case.add("mail", "maildir", "Mail")
+    counts = dict(line.split() for line in out.decode().splitlines())
+    count = int(counts["added"])
+    case.check("odd messages: added or known", (status, count + int(counts["known"])), (0, len(texts)))
+    table = (case.folder / "mail/1/set.table").read_bytes().splitlines()
+    identities = [line.split(b"\t")[4] for line in table]
+    case.check("odd messages: no Message-ID twice", len(set(filter(None, identities))), len(list(filter(None, identities))))
+    documents = case.decoded("mail")
+    for number in range(1, count + 1, 5):
+        source = int(re.search(rb"/(\d+)\.M1\.host\t", table[number - 1])[1]) - 1700000000
+        case.check(f"odd messages: show {number}", case.run("mail", "show", str(number)), (0, documents[number - 1], b""))
+        shown = case.run("mail", "show", "--original", str(number))
+        case.check(f"odd messages: show --original {number}", shown, (0, texts[source], b""))
+
+
+HERE = [finding, many_words, bold, showing, originals, real_mail]
