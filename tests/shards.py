@@ -134,6 +134,42 @@ def limits(suite):
         suite.check("what is left", (left, folders), (["lock", "plan", "sets"], sorted(row[3].split("/")[0] for row in tool.rows("shards"))))
 
 
+# In place of mg where a set has at most so many bytes as the variable LIMIT tells, in a build and in a merge.
+SMALL = """#!/usr/bin/python3 -I
+import os, sys
+tool, *names = [word for word in sys.argv[1:] if word not in ("--budget", "4096")]
+if tool == "decode":
+    sys.exit(sys.stdout.buffer.write(open(names[0] + ".text", "rb").read()) * 0)
+sources = [names[0]] if tool == "build" else [name + ".text" for name in names[:2]]
+data = b"".join(open(name, "rb").read() for name in sources)
+if len(data) > int(os.environ["LIMIT"]):
+    print("mg: more than 4194304 distinct words", file=sys.stderr)
+    sys.exit(10)
+documents = data.count(2) + (not data.endswith(b"\\x02") and data != b"")
+open(names[-1] + ".text", "wb").write(data)
+open(names[-1] + ".head", "wb").write(b"MGROWv2\\n%b%20b%b%40b" % (documents.to_bytes(4, "big"), b"", len(data).to_bytes(8, "big"), b""))
+"""
+
+
+def halved(suite):
+    """A shard beyond a limit is cut again; what is left does not fit together, and a document beyond the limit is told."""
+    tool = Tool(suite, 100)
+    tool.put_mg(SMALL)
+    draws = Draws(suite.seed)
+    for shards in (1, 3, 4):
+        documents = [b"x" * draws.below(60) + CLOSE for _ in range(25)]
+        suite.file("text", b"".join(documents))
+        name = f"at most 100 bytes, {shards} shards (seed {suite.seed})"
+        suite.check(name, tool.build("text", "shards", "--shards", str(shards))[::2], (0, b""))
+        sizes = [int(row[2]) for row in tool.rows("shards")]
+        suite.check(f"{name}: sizes", (max(sizes) <= 100, [pair for pair in zip(sizes, sizes[1:]) if sum(pair) <= 100]), (True, []))
+        suite.check(f"{name}: decode", tool.run(["decode", "shards"]), (0, b"".join(documents), b""))
+    suite.file("text", b"a\x02" + b"x" * 100 + b"\x02b\x02")
+    got = tool.build("text", "shards", "--shards", "1")
+    told = b"mg-shards: shard 1 of 1: mg: more than 4194304 distinct words\n"
+    suite.check("a document beyond the limit", (got[0], got[2][: len(told)]), (10, told))
+
+
 FAILING = """#!/bin/sh
 echo "$*" >> "$RUNS"
 case "$*" in *"$FAILS"*) echo 'mg: the store failed' >&2; exit 2 ;; esac
@@ -293,4 +329,4 @@ def odd_names(suite):
     suite.check("odd names: decode", tool.run(["decode", name]), (0, K, b""))
 
 
-PARTS = [page, whole, cut, limits, going_on, killed, refusals, changed, parallel, odd_names]
+PARTS = [page, whole, cut, limits, halved, going_on, killed, refusals, changed, parallel, odd_names]
