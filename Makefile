@@ -56,7 +56,7 @@ SHOWN += -e 's/^complete -F _mg mg$$/complete -F _mg $(NAME)/' -e '/^complete\|^
 SHOWN += -e 's/\(^\|[ \t"]\)mg\([ ;]\|$$\)/\1$(NAME)\2/g'
 endif
 
-# The gate proves crates side by side, and keeps what it proved for the next run of make and for make check.
+# The gate proves crates side by side and from nothing, in a copy that has no tests and no edits.
 bin/mg: $(SOURCES)
 	mkdir -p bin
 	set -e; work=$$(mktemp -d); trap 'rm -rf "$$work"' EXIT; \
