@@ -310,6 +310,10 @@ def refusals(case):
     case.refused("nothing was added", 3, b"mail: nothing was added to this archive", "mail", "status")
     case.added("after refusals", "mail", (2, 0, 2), "mbox", "a.mbox")
     case.refused("no document", 3, b"there is no document 3; the last one is 2", "mail", "show", "3")
+    with open("/dev/full", "wb") as full_device:
+        for words in [["find", "NOT", "zebra"], ["show", "1"], ["status"]]:
+            run = subprocess.run([case.program, "mail", *words], cwd=case.folder, stdout=full_device, stderr=subprocess.PIPE)
+            case.check(f"{words} into a full device", (run.returncode, run.stderr), (2, b"mg-archive: No space left on device\n"))
     alone = {"PATH": "/usr/bin:/bin"}
     os.symlink(ROOT / "contrib" / "mg-archive", case.folder / "alone")
     words = [case.folder / "alone", "mail", "find", "--count", "NOT zebra"]

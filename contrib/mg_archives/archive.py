@@ -1,6 +1,7 @@
 """The program mg-archive, of which mg-archive(1) is the manual."""
 
 import argparse
+import contextlib
 import os
 import signal
 import sys
@@ -8,6 +9,7 @@ import sys
 from mg_archives.archive_folder import Archive
 from mg_archives.collect import KINDS, SIGNALS, byte, end_by_signal, folder_name, listed_names
 from mg_archives.refusals import FAILED, LEFT_OUT, USAGE, Refusal, shown
+from mg_archives.streams import write_whole
 
 PROGRAM = "mg-archive"
 MOST_ROWS = 1048576
@@ -78,9 +80,8 @@ def split_words(words):
 
 def tell(lines):
     """Lines on standard error, with bytes of names that are no UTF-8 as they are."""
-    sys.stderr.flush()
-    sys.stderr.buffer.write("".join(f"{PROGRAM}: {line}\n" for line in lines).encode("utf-8", "surrogateescape"))
-    sys.stderr.buffer.flush()
+    with contextlib.suppress(OSError):
+        write_whole(2, "".join(f"{PROGRAM}: {line}\n" for line in lines).encode("utf-8", "surrogateescape"))
 
 
 def start(archive):
@@ -118,8 +119,7 @@ def print_added(choices, added):
     lines = [f"added {tally.documents}", f"known {added.known}", f"documents {added.documents}"]
     lines += [f"{name} {count}" for name, count in counts.items() if count]
     tell([f"left out {shown(name)}: {why}" for name, why in tally.odd])
-    sys.stdout.write("".join(line + "\n" for line in lines))
-    sys.stdout.flush()
+    write_whole(1, "".join(line + "\n" for line in lines).encode())
     return LEFT_OUT if tally.odd and not choices.skip else 0
 
 
@@ -147,13 +147,13 @@ def hint(asked, given):
 
 
 def run_show(archive, words):
-    from mg_archives.archive_find import document, print_document, write
+    from mg_archives.archive_find import document, print_document
 
     given = parser_of("show").parse_args(words)
     if given.original:
         from mg_archives.archive_original import original
 
-        write(original(archive, given.number))
+        write_whole(1, original(archive, given.number))
     else:
         print_document(document(archive, lambda: start(archive), given.number))
     return 0
@@ -163,8 +163,7 @@ def run_status(archive, words):
     from mg_archives.archive_status import status_lines
 
     parser_of("status").parse_args(words)
-    sys.stdout.write("".join(line + "\n" for line in status_lines(archive)))
-    sys.stdout.flush()
+    write_whole(1, "".join(line + "\n" for line in status_lines(archive)).encode("utf-8", "surrogateescape"))
     return 0
 
 

@@ -11,6 +11,7 @@ from mg_archives.archive_origins import finding_line, records_of
 from mg_archives.archive_words import Pattern, read_boolean, read_ranked, read_whole_phrase, refuse
 from mg_archives.progress import columns
 from mg_archives.refusals import FAILED, REFUSED, Refusal
+from mg_archives.streams import write_whole
 
 SHOWN_LINES = 2
 WIDEST = 160
@@ -158,7 +159,7 @@ def print_found(found, records, texts):
         out.append("  ".join([str(number), *(marked(text, found.words, bold) for text in about if text)]))
         out += ["    " + marked(cut(line, found.words, width), found.words, bold) for line in lines_with(texts[number], found.words)]
     out.append(f"= {found.count}")
-    write("".join(line + "\n" for line in out).encode("utf-8", "replace"))
+    write_whole(1, "".join(line + "\n" for line in out).encode("utf-8", "replace"))
 
 
 def print_json(found, records, texts):
@@ -170,17 +171,12 @@ def print_json(found, records, texts):
         lines = [line.strip() for line in lines_with(texts[number], found.words)]
         rows.append({"number": number, "score": score, **{name: readable(text) for name, text in texts_of_row.items()},
                      "path": row.path.decode("utf-8", "surrogateescape"), "lines": [readable(line) for line in lines]})
-    write(json.dumps({"count": found.count, "rows": rows}, indent=1).encode() + b"\n")
+    write_whole(1, json.dumps({"count": found.count, "rows": rows}, indent=1).encode() + b"\n")
 
 
 def readable(text):
     """A text in which bytes that are no UTF-8 are replaced."""
     return text.encode("utf-8", "surrogateescape").decode("utf-8", "replace")
-
-
-def write(data):
-    sys.stdout.buffer.write(data)
-    sys.stdout.buffer.flush()
 
 
 def find_and_print(archive, start, line, options):
@@ -190,7 +186,7 @@ def find_and_print(archive, start, line, options):
         kind = "boolean" if options.boolean else "phrase" if options.phrase else "ranked"
         found = find(program, generation, line, kind, options.rows)
         if options.count:
-            write(b"%d\n" % found.count)
+            write_whole(1, b"%d\n" % found.count)
             return
         records = records_of(generation, [number for number, _ in found.rows])
         texts = texts_of(program, generation, records)
@@ -219,4 +215,4 @@ def print_document(data):
     if sys.stdout.isatty():
         lines = data.decode("utf-8", "surrogateescape").splitlines()
         data = "".join(clean(line.expandtabs()) + "\n" for line in lines).encode("utf-8", "replace")
-    write(data)
+    write_whole(1, data)
