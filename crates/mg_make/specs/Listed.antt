@@ -14,13 +14,12 @@ use Rattle.mg_defs.specs.Split.{documents}
 use Rattle.mg_defs.specs.Squares.{squares_to}
 use Rattle.mg_lex.specs.Terms.{terms_of}
 use Rattle.mg_lex.specs.Writing.{TookTerms}
-use Rattle.mg_model.specs.Terms.{TermNumbers}
 use Rattle.mg_post.specs.Writing.{Listing, Took}
 use Rattle.mg_runs.specs.Left.{IsMerging, Merging}
-use Rattle.mg_make.specs.DocCounting.{DocCounting}
 use Rattle.mg_make.specs.Listing.{AreSquares, CanIndex, HasIndexed, HasLists, IsAtList, IsInList, ListsStand, SquaresFit}
 use Rattle.mg_make.specs.declared.lists.IndexWriter.{IndexWriter}
 use Rattle.mg_make.specs.declared.lists.Sizes.{Sizes}
+use Rattle.mg_make.specs.declared.lists.Terms.{Terms}
 
 -- ---- within a list
 
@@ -78,32 +77,36 @@ BeginsInSkip all result done ps more = IfOk result (λ at. at.1 ≡ length (list
 -- ---- between terms
 
 -- the store tells its files, and lists and lexicon are those of a collection as far as the terms below a number
-abbrev pub IndexedTo : ℕ → TermNumbers → DocCounting → Merging → IndexWriter → Vec ℕ Global → Option Files → List ℕ → Type 0
-IndexedTo number table counts merge writer sums files collection = HasIndexed table.terms counts.docs collection number merge writer.lists writer.lex sums.items files
+abbrev pub IndexedTo : ℕ → Terms → Merging → IndexWriter → Vec ℕ Global → Option Files → List ℕ → Type 0
+IndexedTo number terms merge writer sums files collection = HasIndexed terms.table.now.terms terms.counts.now.docs collection number merge writer.lists writer.lex sums.items files
 
 -- the same, of all terms to be indexed
-abbrev pub ToIndex : TermNumbers → DocCounting → Merging → IndexWriter → Vec ℕ Global → Option Files → List ℕ → Type 0
-ToIndex table counts merge writer sums files collection = IndexedTo 0 table counts merge writer sums files collection
+abbrev pub ToIndex : Terms → Merging → IndexWriter → Vec ℕ Global → Option Files → List ℕ → Type 0
+ToIndex terms merge writer sums files collection = IndexedTo 0 terms merge writer sums files collection
 
 -- what was indexed of a collection as far as the one number is indexed as far as the other
-abbrev pub Indexes : {X T E : Type 0} → ℕ → ℕ → TermNumbers → DocCounting → Merging → Merging → IndexWriter → IndexWriter → Vec ℕ Global → Vec ℕ Global → (X → Option Files) → X → X → Result T E → Type 0
-Indexes from to table counts merge merge_now writer writer_now sums sums_now files store store_now result =
-    (collection : List ℕ) → IndexedTo from table counts merge writer sums (files store) collection
-    → OnOk result (IndexedTo to table counts merge_now writer_now sums_now (files store_now) collection)
+abbrev pub Indexes : {X T E : Type 0} → ℕ → ℕ → Terms → Merging → Merging → IndexWriter → IndexWriter → Vec ℕ Global → Vec ℕ Global → (X → Option Files) → X → X → Result T E → Type 0
+Indexes from to terms merge merge_now writer writer_now sums sums_now files store store_now result =
+    (collection : List ℕ) → IndexedTo from terms merge writer sums (files store) collection
+    → OnOk result (IndexedTo to terms merge_now writer_now sums_now (files store_now) collection)
 
 -- the term of a number is indexed, behind those below it
-abbrev pub IndexesTerm : {X T E : Type 0} → ℕ → TermNumbers → DocCounting → Merging → Merging → IndexWriter → IndexWriter → Vec ℕ Global → Vec ℕ Global → (X → Option Files) → X → X → Result T E → Type 0
-IndexesTerm number table counts merge merge_now writer writer_now sums sums_now files store store_now result =
-    Indexes number (number + 1) table counts merge merge_now writer writer_now sums sums_now files store store_now result
+abbrev pub IndexesTerm : {X T E : Type 0} → ℕ → Terms → Merging → Merging → IndexWriter → IndexWriter → Vec ℕ Global → Vec ℕ Global → (X → Option Files) → X → X → Result T E → Type 0
+IndexesTerm number terms merge merge_now writer writer_now sums sums_now files store store_now result =
+    Indexes number (number + 1) terms merge merge_now writer writer_now sums sums_now files store store_now result
 
 -- all terms are indexed
-abbrev pub IndexesAll : {X T E : Type 0} → TermNumbers → DocCounting → Merging → Merging → IndexWriter → IndexWriter → Vec ℕ Global → Vec ℕ Global → (X → Option Files) → X → X → Result T E → Type 0
-IndexesAll table counts merge merge_now writer writer_now sums sums_now files store store_now result =
-    Indexes 0 (length table.terms) table counts merge merge_now writer writer_now sums sums_now files store store_now result
+abbrev pub IndexesAll : {X T E : Type 0} → Terms → Merging → Merging → IndexWriter → IndexWriter → Vec ℕ Global → Vec ℕ Global → (X → Option Files) → X → X → Result T E → Type 0
+IndexesAll terms merge merge_now writer writer_now sums sums_now files store store_now result =
+    Indexes 0 (length terms.table.now.terms) terms merge merge_now writer writer_now sums sums_now files store store_now result
 
--- over any store: the lists of all terms are done, and the lexicon has them all
-abbrev pub HasAllTerms : TermNumbers → DocCounting → Merging → IndexWriter → Vec ℕ Global → Option Files → Type 0
-HasAllTerms table counts merge writer sums files = CanIndex table.terms counts.docs (length table.terms) merge writer.lists writer.lex sums.items files
+-- over any store: the lists of the terms below a number are done, and the lexicon has so many terms
+abbrev pub CanIndexTo : ℕ → Terms → Merging → IndexWriter → Vec ℕ Global → Option Files → Type 0
+CanIndexTo number terms merge writer sums files = CanIndex terms.table.now.terms terms.counts.now.docs number merge writer.lists writer.lex sums.items files
+
+-- the same of all terms
+abbrev pub HasAllTerms : Terms → Merging → IndexWriter → Vec ℕ Global → Option Files → Type 0
+HasAllTerms terms merge writer sums files = CanIndexTo (length terms.table.now.terms) terms merge writer sums files
 
 -- ---- what is written
 
@@ -112,8 +115,8 @@ abbrev pub NothingLeft : Merging → Option Files → Type 0
 NothingLeft merge files = IsSome files × IsMerging merge files []
 
 -- the store tells its files, what was counted is of a collection, and its postings are left
-abbrev pub ListsAreLeft : TermNumbers → DocCounting → Vec ℕ Global → Merging → Option Files → List ℕ → Type 0
-ListsAreLeft table counts sums merge files collection = HasLists table.terms counts.docs (length sums.items) collection merge files
+abbrev pub ListsAreLeft : Terms → Vec ℕ Global → Merging → Option Files → List ℕ → Type 0
+ListsAreLeft terms sums merge files collection = HasLists terms.table.now.terms terms.counts.now.docs (length sums.items) collection merge files
 
 -- this is so of each collection all of whose lists the writer took
 abbrev pub WhereAllTaken : Listing → Option Files → (List ℕ → Type 0) → Type 0

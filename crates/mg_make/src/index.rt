@@ -14,7 +14,7 @@ ghost use Rattle.mg_make.specs.Steps.{PutStep, MergeStep};
 
 use crate::Plan;
 use crate::doc_counts::DocCounts;
-use crate::lists::{Sizes, write_lists};
+use crate::lists::{Sizes, Terms, write_lists};
 use crate::merge_parts::reset_merge_parts;
 use crate::weights::write_weights;
 use mg_dev::{Fault, PutErr, Store};
@@ -68,7 +68,11 @@ pub(crate) fn write_all<S: Store>(
 {
     postings_are_lists();
     documents_are_counted();
-    let sizes = write_lists(alloc, store, base, merge, &plan.table, counts, sums)?;
+    let terms = Terms {
+        table: &plan.table,
+        counts,
+    };
+    let sizes = write_lists(alloc, store, base, merge, &terms, sums)?;
     squares_weigh();
     lists_are_whole();
     match write_weights_part(alloc, store, base, sums) {

@@ -18,9 +18,9 @@ ghost use Rattle.mg_lex.specs.Writing.{TookTerms};
 ghost use Rattle.mg_post.specs.Writing.{Took};
 ghost use Rattle.mg_runs.specs.Left.{IsMerging};
 ghost use Rattle.mg_make.specs.Each.{RefusedUnless, RefusedIfNone};
-ghost use Rattle.mg_make.specs.Listed.{EndsIndex, HasAllTerms, HasPostBytes, HasSkipCount, IndexedTo, IndexesAll, IndexesTerm, ListsAreLeft};
+ghost use Rattle.mg_make.specs.Listed.{CanIndexTo, EndsIndex, HasAllTerms, HasPostBytes, HasSkipCount, IndexedTo, IndexesAll, IndexesTerm, ListsAreLeft};
 ghost use Rattle.mg_make.specs.Listed.{NothingLeft, SumsAreSquares, ToIndex, WhereAllTaken, WroteLists};
-ghost use Rattle.mg_make.specs.Listing.{AreListSizes, CanIndex};
+ghost use Rattle.mg_make.specs.Listing.{AreListSizes};
 ghost use Rattle.mg_make.specs.Written.{OfLists};
 ghost use Rattle.mg_make.specs.Steps.{PutStep, MergeStep, MergeLook};
 
@@ -47,6 +47,13 @@ pub(crate) struct Sizes {
 struct IndexWriter<'a> {
     lists: ListWriter<'a>,
     lex: LexWriter<'a>,
+}
+
+/// The terms of a set, and how many documents have each.
+#[derive(Drop)]
+pub(crate) struct Terms<'t> {
+    pub(crate) table: &'t TermTable,
+    pub(crate) counts: &'t DocCounts,
 }
 
 /// Writers of lists among so many documents and of their lexicon, whose parts are emptied.
@@ -84,24 +91,22 @@ fn write_term<S: Store>(
     merge: &mut Merge<'_>,
     writer: &mut IndexWriter<'_>,
     sums: &mut Vec<u64>,
-    table: &TermTable,
-    counts: &DocCounts,
+    terms: &Terms<'_>,
     number: u32,
 ) -> Result<(), Fault>
-    requires can { CanIndex table.now.terms counts.now.docs number merge.old writer.old.lists writer.old.lex sums.old.items (S.files store.old) }
-    requires sizes { AreListSizes counts.now.docs (length table.now.terms) writer.old.lists.all }
-    requires number { number < length table.now.terms }
-    requires few { length table.now.terms ≤ 2 ^ 22 }
-    requires rising { IsStrictlySortedBy (slice_cmp nat_cmp) table.now.terms }
-    ensures can { OnOk result
-        (CanIndex table.now.terms counts.now.docs (number + 1) merge.new writer.new.lists writer.new.lex sums.new.items (S.files store.new)) }
-    ensures indexed { IndexesTerm number table.now counts.now merge.old merge.new writer.old writer.new sums.old sums.new S.files store.old store.new result }
-    ensures refused { RefusedIfNone S.faults store.old store.new (IndexedTo number table.now counts.now merge.old writer.old sums.old (S.files store.old)) result }
+    requires can { CanIndexTo number terms.now merge.old writer.old sums.old (S.files store.old) }
+    requires sizes { AreListSizes terms.now.counts.now.docs (length terms.now.table.now.terms) writer.old.lists.all }
+    requires number { number < length terms.now.table.now.terms }
+    requires few { length terms.now.table.now.terms ≤ 2 ^ 22 }
+    requires rising { IsStrictlySortedBy (slice_cmp nat_cmp) terms.now.table.now.terms }
+    ensures can { OnOk result (CanIndexTo (number + 1) terms.now merge.new writer.new sums.new (S.files store.new)) }
+    ensures indexed { IndexesTerm number terms.now merge.old merge.new writer.old writer.new sums.old sums.new S.files store.old store.new result }
+    ensures refused { RefusedIfNone S.faults store.old store.new (IndexedTo number terms.now merge.old writer.old sums.old (S.files store.old)) result }
     ensures all { writer.new.lists.all ≡ writer.old.lists.all }
     ensures step { Between S.files S.reads S.faults store.old store.new
         (MergeStep OfLists merge.old.base merge.old merge.new) }
 {
-    let docs = counts.docs(number);
+    let docs = terms.counts.docs(number);
     let (post_at, skip_at) = write_list(store, merge, &mut writer.lists, sums, number, docs)?;
     let info = TermInfo {
         number,
@@ -112,7 +117,7 @@ fn write_term<S: Store>(
     runs_stay();
     lists_stay();
     terms_stay();
-    match writer.lex.push(store, table.term(number), &info) {
+    match writer.lex.push(store, terms.table.term(number), &info) {
         Ok(()) => Ok(()),
         Err(refusal) => Err(Fault::of_store(refusal)),
     }
@@ -124,20 +129,19 @@ fn write_terms<S: Store>(
     merge: &mut Merge<'_>,
     writer: &mut IndexWriter<'_>,
     sums: &mut Vec<u64>,
-    table: &TermTable,
-    counts: &DocCounts,
+    terms: &Terms<'_>,
 ) -> Result<(), Fault>
-    requires can { CanIndex table.now.terms counts.now.docs 0 merge.old writer.old.lists writer.old.lex sums.old.items (S.files store.old) }
-    requires sizes { AreListSizes counts.now.docs (length table.now.terms) writer.old.lists.all }
-    ensures can { OnOk result (HasAllTerms table.now counts.now merge.new writer.new sums.new (S.files store.new)) }
-    ensures indexed { IndexesAll table.now counts.now merge.old merge.new writer.old writer.new sums.old sums.new S.files store.old store.new result }
-    ensures refused { RefusedIfNone S.faults store.old store.new (ToIndex table.now counts.now merge.old writer.old sums.old (S.files store.old)) result }
+    requires can { CanIndexTo 0 terms.now merge.old writer.old sums.old (S.files store.old) }
+    requires sizes { AreListSizes terms.now.counts.now.docs (length terms.now.table.now.terms) writer.old.lists.all }
+    ensures can { OnOk result (HasAllTerms terms.now merge.new writer.new sums.new (S.files store.new)) }
+    ensures indexed { IndexesAll terms.now merge.old merge.new writer.old writer.new sums.old sums.new S.files store.old store.new result }
+    ensures refused { RefusedIfNone S.faults store.old store.new (ToIndex terms.now merge.old writer.old sums.old (S.files store.old)) result }
     ensures all { writer.new.lists.all ≡ writer.old.lists.all }
     ensures step { Between S.files S.reads S.faults store.old store.new
         (MergeStep OfLists merge.old.base merge.old merge.new) }
 {
-    for number in 0..table.count() {
-        write_term(store, merge, writer, sums, table, counts, number)?;
+    for number in 0..terms.table.count() {
+        write_term(store, merge, writer, sums, terms, number)?;
     }
     Ok(())
 }
@@ -185,22 +189,21 @@ fn write_index<S: Store>(
     merge: &mut Merge<'_>,
     writer: &mut IndexWriter<'_>,
     sums: &mut Vec<u64>,
-    table: &TermTable,
-    counts: &DocCounts,
+    terms: &Terms<'_>,
 ) -> Result<Sizes, Fault>
-    requires can { CanIndex table.now.terms counts.now.docs 0 merge.old writer.old.lists writer.old.lex sums.old.items (S.files store.old) }
-    requires sizes { AreListSizes counts.now.docs (length table.now.terms) writer.old.lists.all }
-    ensures stand { ForEach (ToIndex table.now counts.now merge.old writer.old sums.old (S.files store.old))
+    requires can { CanIndexTo 0 terms.now merge.old writer.old sums.old (S.files store.old) }
+    requires sizes { AreListSizes terms.now.counts.now.docs (length terms.now.table.now.terms) writer.old.lists.all }
+    ensures stand { ForEach (ToIndex terms.now merge.old writer.old sums.old (S.files store.old))
         (WroteLists S.files store.new merge.old.base result) }
-    ensures sums { ForEach (ToIndex table.now counts.now merge.old writer.old sums.old (S.files store.old)) (SumsAreSquares sums.new result) }
-    ensures post_bytes { ForEach (ToIndex table.now counts.now merge.old writer.old sums.old (S.files store.old)) (HasPostBytes result) }
-    ensures skip_count { ForEach (ToIndex table.now counts.now merge.old writer.old sums.old (S.files store.old)) (HasSkipCount result) }
-    ensures few { IfOk result (λ sizes. sizes.skip_count ≤ sum counts.now.docs) }
-    ensures refused { RefusedIfNone S.faults store.old store.new (ToIndex table.now counts.now merge.old writer.old sums.old (S.files store.old)) result }
+    ensures sums { ForEach (ToIndex terms.now merge.old writer.old sums.old (S.files store.old)) (SumsAreSquares sums.new result) }
+    ensures post_bytes { ForEach (ToIndex terms.now merge.old writer.old sums.old (S.files store.old)) (HasPostBytes result) }
+    ensures skip_count { ForEach (ToIndex terms.now merge.old writer.old sums.old (S.files store.old)) (HasSkipCount result) }
+    ensures few { IfOk result (λ sizes. sizes.skip_count ≤ sum terms.now.counts.now.docs) }
+    ensures refused { RefusedIfNone S.faults store.old store.new (ToIndex terms.now merge.old writer.old sums.old (S.files store.old)) result }
     ensures step { Between S.files S.reads S.faults store.old store.new
         (MergeStep OfLists merge.old.base merge.old merge.new) }
 {
-    write_terms(store, merge, writer, sums, table, counts)?;
+    write_terms(store, merge, writer, sums, terms)?;
     expect_end(store, merge)?;
     match finish(store, writer) {
         Ok(sizes) => Ok(sizes),
@@ -215,20 +218,19 @@ pub(crate) fn write_lists<S: Store>(
     store: &mut S,
     base: &str,
     merge: &mut Merge<'_>,
-    table: &TermTable,
-    counts: &DocCounts,
+    terms: &Terms<'_>,
     sums: &mut Vec<u64>,
 ) -> Result<Sizes, Fault>
     requires base { merge.old.base ≡ base.now }
-    requires sizes { AreListSizes counts.now.docs (length table.now.terms) (length sums.old.items) }
+    requires sizes { AreListSizes terms.now.counts.now.docs (length terms.now.table.now.terms) (length sums.old.items) }
     requires left { (left : List TermPosting) × IsMerging merge.old (S.files store.old) left }
     requires zero { sums.old.items ≡ replicate (length sums.old.items) 0 }
-    ensures stand { ForEach (ListsAreLeft table.now counts.now sums.old merge.old (S.files store.old)) (WroteLists S.files store.new base.now result) }
-    ensures sums { ForEach (ListsAreLeft table.now counts.now sums.old merge.old (S.files store.old)) (SumsAreSquares sums.new result) }
-    ensures post_bytes { ForEach (ListsAreLeft table.now counts.now sums.old merge.old (S.files store.old)) (HasPostBytes result) }
-    ensures skip_count { ForEach (ListsAreLeft table.now counts.now sums.old merge.old (S.files store.old)) (HasSkipCount result) }
-    ensures few { IfOk result (λ sizes. sizes.skip_count ≤ sum counts.now.docs) }
-    ensures refused { RefusedIfNone S.faults store.old store.new (ListsAreLeft table.now counts.now sums.old merge.old (S.files store.old)) result }
+    ensures stand { ForEach (ListsAreLeft terms.now sums.old merge.old (S.files store.old)) (WroteLists S.files store.new base.now result) }
+    ensures sums { ForEach (ListsAreLeft terms.now sums.old merge.old (S.files store.old)) (SumsAreSquares sums.new result) }
+    ensures post_bytes { ForEach (ListsAreLeft terms.now sums.old merge.old (S.files store.old)) (HasPostBytes result) }
+    ensures skip_count { ForEach (ListsAreLeft terms.now sums.old merge.old (S.files store.old)) (HasSkipCount result) }
+    ensures few { IfOk result (λ sizes. sizes.skip_count ≤ sum terms.now.counts.now.docs) }
+    ensures refused { RefusedIfNone S.faults store.old store.new (ListsAreLeft terms.now sums.old merge.old (S.files store.old)) result }
     ensures step { Between S.files S.reads S.faults store.old store.new
         (MergeStep OfLists base.now merge.old merge.new) }
 {
@@ -239,5 +241,5 @@ pub(crate) fn write_lists<S: Store>(
     };
     runs_stay();
     squares_fit();
-    write_index(store, merge, &mut writer, sums, table, counts)
+    write_index(store, merge, &mut writer, sums, terms)
 }

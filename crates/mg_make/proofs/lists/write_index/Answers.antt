@@ -18,7 +18,7 @@ returns-in_err-expect_end-clause-refused g c =
     passed_on_all _ c.from_residual-in_err-expect_end.result c.in_err-expect_end.field-0.0 (err_from_is_err_and c.from_residual-in_err-expect_end.result c.from_residual-in_err-expect_end.ensures.1)
     (rose_later _ _ _ c.write_terms.ensures.step.later)
     (λ collection has.
-    let e = ended c.args.table.now.terms c.args.counts.now.docs collection _ _ _ _ _ _ refl (c.in_ok-write_terms.ensures.indexed collection has) in
+    let e = ended c.args.terms.now.table.now.terms c.args.terms.now.counts.now.docs collection _ _ _ _ _ _ refl (c.in_ok-write_terms.ensures.indexed collection has) in
     (e.told, e.merging))
     c.in_err-expect_end.ensures.refused
 
@@ -35,7 +35,7 @@ finish-requires g c =
 pub returns-in-Ok-clause-stand : goal.returns-in-Ok-clause-stand
 returns-in-Ok-clause-stand g c = λ collection has.
     let can = c.in_ok-write_terms.ensures.can in
-    let e = ended c.args.table.now.terms c.args.counts.now.docs collection _ _ _ _ _ _ refl (c.in_ok-write_terms.ensures.indexed collection has) in
+    let e = ended c.args.terms.now.table.now.terms c.args.terms.now.counts.now.docs collection _ _ _ _ _ _ refl (c.in_ok-write_terms.ensures.indexed collection has) in
     let files = c.expect_end.ensures.looked.files in
     subst (λ b. ListsStand (g.S.Store.files c.finish.new.store) b collection) (can.base ∙ c.write_terms.ensures.step.same.base)
     (c.in-Ok.ensures.stand collection (ap is_some files ∙ e.told) e.all (subst (λ x. Took c.write_terms.new.writer.lists x (inverted collection) []) (sym files) e.took)
@@ -43,17 +43,17 @@ returns-in-Ok-clause-stand g c = λ collection has.
 
 pub returns-in-Ok-clause-sums : goal.returns-in-Ok-clause-sums
 returns-in-Ok-clause-sums g c = λ collection has.
-    let e = ended c.args.table.now.terms c.args.counts.now.docs collection _ _ _ _ _ _ refl (c.in_ok-write_terms.ensures.indexed collection has) in
+    let e = ended c.args.terms.now.table.now.terms c.args.terms.now.counts.now.docs collection _ _ _ _ _ _ refl (c.in_ok-write_terms.ensures.indexed collection has) in
     e.sums_are c.in_ok-write_terms.ensures.can.list.each
 
 pub returns-in-Ok-clause-post_bytes : goal.returns-in-Ok-clause-post_bytes
 returns-in-Ok-clause-post_bytes g c = λ collection has.
-    let e = ended c.args.table.now.terms c.args.counts.now.docs collection _ _ _ _ _ _ refl (c.in_ok-write_terms.ensures.indexed collection has) in
+    let e = ended c.args.terms.now.table.now.terms c.args.terms.now.counts.now.docs collection _ _ _ _ _ _ refl (c.in_ok-write_terms.ensures.indexed collection has) in
     c.in-Ok.ensures.post_bytes collection e.all (subst (λ x. Took c.write_terms.new.writer.lists x (inverted collection) []) (sym c.expect_end.ensures.looked.files) e.took)
 
 pub returns-in-Ok-clause-skip_count : goal.returns-in-Ok-clause-skip_count
 returns-in-Ok-clause-skip_count g c = λ collection has.
-    let e = ended c.args.table.now.terms c.args.counts.now.docs collection _ _ _ _ _ _ refl (c.in_ok-write_terms.ensures.indexed collection has) in
+    let e = ended c.args.terms.now.table.now.terms c.args.terms.now.counts.now.docs collection _ _ _ _ _ _ refl (c.in_ok-write_terms.ensures.indexed collection has) in
     c.in-Ok.ensures.skip_count collection e.all (subst (λ x. Took c.write_terms.new.writer.lists x (inverted collection) []) (sym c.expect_end.ensures.looked.files) e.took)
 
 pub returns-in_err-write_terms-clause-step : goal.returns-in_err-write_terms-clause-step

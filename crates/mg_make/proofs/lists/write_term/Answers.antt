@@ -10,7 +10,7 @@ use Rattle.mg_make.proofs.lists.write_term.Goals as goal
 pub returns-in_err-post_at-clause-refused : goal.returns-in_err-post_at-clause-refused
 returns-in_err-post_at-clause-refused g c =
     passed_on_all _ c.from_residual.result c.in_err-post_at.field-0.0 (err_from_is_err_and c.from_residual.result c.from_residual.ensures.1) (λ rose. rose)
-    (λ collection has. has_list c.args.table.now.terms c.args.counts.now.docs collection c.args.number c.docs-docs.result _ _ _ _ _ c.requires.number c.docs-docs.ensures has)
+    (λ collection has. has_list c.args.terms.now.table.now.terms c.args.terms.now.counts.now.docs collection c.args.number c.docs-docs.result _ _ _ _ _ c.requires.number c.docs-docs.ensures has)
     c.in_err-post_at.ensures.refused
 
 pub returns-in_err-post_at-clause-step : goal.returns-in_err-post_at-clause-step
@@ -23,19 +23,19 @@ push-requires-clause-took g c =
 
 pub push-requires-clause-above : goal.push-requires-clause-above
 push-requires-clause-above g c =
-    above c.args.table.now.terms c.args.number c.args.writer.now.lex.front.count c.args.writer.now.lex.front.last c.term.result.now c.requires.rising c.requires.can.count c.requires.can.last c.term.ensures.term
+    above c.args.terms.now.table.now.terms c.args.number c.args.writer.now.lex.front.count c.args.writer.now.lex.front.last c.term.result.now c.requires.rising c.requires.can.count c.requires.can.last c.term.ensures.term
 
 pub returns-in-Ok-clause-can : goal.returns-in-Ok-clause-can
 returns-in-Ok-clause-can g c =
-    let within : c.args.number < length c.args.counts.now.docs = omega (arith, c.requires.number, c.requires.sizes.each) in
-    can_index_more c.runs_stay.ensures.left c.lists_stay.ensures c.terms_stay.ensures c.args.table.now.terms c.args.counts.now.docs c.args.number c.docs-docs.result _ _ _ _ _ _ _ _ _ _ _ _ _ c.requires.can c.in_ok-post_at.ensures.can
+    let within : c.args.number < length c.args.terms.now.counts.now.docs = omega (arith, c.requires.number, c.requires.sizes.each) in
+    can_index_more c.runs_stay.ensures.left c.lists_stay.ensures c.terms_stay.ensures c.args.terms.now.table.now.terms c.args.terms.now.counts.now.docs c.args.number c.docs-docs.result _ _ _ _ _ _ _ _ _ _ _ _ _ c.requires.can c.in_ok-post_at.ensures.can
     c.in_ok-post_at.ensures.listed c.write_list.ensures.step.same c.write_list.ensures.step.wrote within c.docs-docs.ensures c.term.ensures.term c.in-Ok.ensures.took c.in-Ok.ensures.count c.in-Ok.ensures.last c.push.ensures.base
     c.push.ensures.told c.push.ensures.others
 
 pub returns-in-Ok-clause-indexed : goal.returns-in-Ok-clause-indexed
 returns-in-Ok-clause-indexed g c = λ collection has.
-    let terms = c.args.table.now.terms in
-    let docs = c.args.counts.now.docs in
+    let terms = c.args.terms.now.table.now.terms in
+    let docs = c.args.terms.now.counts.now.docs in
     let n = c.args.number in
     let lt = c.requires.number in
     let written = c.in_ok-post_at.ensures in

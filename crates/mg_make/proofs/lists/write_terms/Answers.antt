@@ -6,14 +6,14 @@ use Rattle.mg_make.proofs.StepLaws.{step_then}
 use Rattle.mg_make.proofs.lists.write_terms.Goals as goal
 
 pub write_term-requires-clause-sizes : goal.write_term-requires-clause-sizes
-write_term-requires-clause-sizes g c = subst (λ m. AreListSizes c.args.counts.now.docs (length c.args.table.now.terms) m) (sym c.loop-number.invariant.all) c.requires.sizes
+write_term-requires-clause-sizes g c = subst (λ m. AreListSizes c.args.terms.now.counts.now.docs (length c.args.terms.now.table.now.terms) m) (sym c.loop-number.invariant.all) c.requires.sizes
 
 pub returns-in_err-write_term-clause-refused : goal.returns-in_err-write_term-clause-refused
 returns-in_err-write_term-clause-refused g c =
     let inv = c.loop-number.invariant in
     passed_on_each
-    (λ collection. HasIndexed c.args.table.now.terms c.args.counts.now.docs collection c.loop-number.number c.loop-number.merge c.loop-number.writer.lists c.loop-number.writer.lex c.loop-number.sums.items (g.S.Store.files c.loop-number.store))
-    (λ collection. HasIndexed c.args.table.now.terms c.args.counts.now.docs collection 0 c.args.merge.now c.args.writer.now.lists c.args.writer.now.lex c.args.sums.now.items (g.S.Store.files c.args.store.now))
+    (λ collection. HasIndexed c.args.terms.now.table.now.terms c.args.terms.now.counts.now.docs collection c.loop-number.number c.loop-number.merge c.loop-number.writer.lists c.loop-number.writer.lex c.loop-number.sums.items (g.S.Store.files c.loop-number.store))
+    (λ collection. HasIndexed c.args.terms.now.table.now.terms c.args.terms.now.counts.now.docs collection 0 c.args.merge.now c.args.writer.now.lists c.args.writer.now.lex c.args.sums.now.items (g.S.Store.files c.args.store.now))
     c.from_residual.result c.in_err-write_term.field-0.0 (err_from_is_err_and c.from_residual.result c.from_residual.ensures.1) (rose_later _ _ _ inv.step.later) inv.indexed c.in_err-write_term.ensures.refused
 
 pub returns-in_err-write_term-clause-step : goal.returns-in_err-write_term-clause-step

@@ -1,4 +1,4 @@
-use Rattle.std.proofs.Common.{◌≡◌, ◌++◌, ◌∷◌, ℕ, List, [], arith, length-append, sym, subst}
+use Rattle.std.proofs.Common.{refl, ◌≡◌, ◌++◌, ◌∷◌, ℕ, List, [], arith, length-append, sym, subst}
 use Rattle.std.proofs.lemmas.Result.{on_ok_weaker}
 use Rattle.mg_make.specs.Putting.{HasPut, Putting}
 use Rattle.mg_make.specs.Scanning.{Scanning}
@@ -37,3 +37,15 @@ returns-clause-put g c =
 
 pub returns-clause-plain : goal.returns-clause-plain
 returns-clause-plain g c = omega (arith, c.take_other.ensures.reads Plain)
+
+pub returns-then-goes_on-clause-head : goal.returns-then-goes_on-clause-head
+returns-then-goes_on-clause-head g c = c.requires.put.1.head
+
+pub returns-then-goes_on-clause-others : goal.returns-then-goes_on-clause-others
+returns-then-goes_on-clause-others g c = record { told = refl; others = λ name apart. refl }
+
+pub returns-clause-head : goal.returns-clause-head
+returns-clause-head g c = rw (← c.self.view_is) c.take_other.ensures.head
+
+pub returns-clause-others : goal.returns-clause-others
+returns-clause-others g c = rw (← c.self.view_is) c.take_other.ensures.others
