@@ -1,6 +1,7 @@
 mod DocumentLaws
 mod StopLaws
 mod PassLaws
+mod ReadLaws
 mod PutLaws
 mod NameLaws
 mod BuildLaws

@@ -20,6 +20,7 @@ use Rattle.mg_layout.specs.Stands.{StandsIn}
 use Rattle.mg_make.specs.Putting.{IsApart, OthersSame}
 use Rattle.mg_build.specs.Building.{BuildStops}
 use Rattle.mg_build.specs.Made.{Made}
+use Rattle.mg_build.specs.Sources.{IsReadWhole}
 use Rattle.mg_make.specs.Outcomes.{IsEarly, Left, most_bytes}
 use Rattle.mg_dev.proofs.CallerLemmas.{at_fault, done_or_lacks, stopped_by, stopped_for, when_ok}
 
@@ -31,6 +32,7 @@ module _ {T : Type 0} (name base : List ℕ) (budget : ℕ) (store store_now : S
     (others : OthersSame base store.files store_now.files)
     (left : IsSome store.files → Left base store.files store_now.files (bytes_at store.files name))
     (early : IfErr r (λ fault. IsEarly fault → KeptFiles store store_now))
+    (changed : ¬ KeptFiles store store_now → IsReadWhole (bytes_at store.files name) store.reads store_now.reads)
     (cause : IfErr r (BuildStops (StoreRose store store_now) store.files name base))
     (clash : (p : Part) → p ≢ part.Plain → name ≡ full_name base p → r ≡ Err (NameClash p))
     (missing : IsSome store.files → IsApart base name → file_at store.files name ≡ None → RefusedFor r NoCollection)
@@ -42,6 +44,7 @@ module _ {T : Type 0} (name base : List ℕ) (budget : ℕ) (store store_now : S
   made_by = record {
     done = λ told end. record { stands = when_ok _ r end (stands told); merge_a = when_ok _ r end (merge_a told); merge_b = when_ok _ r end (merge_b told); text = when_ok _ r end (text told) };
     unchanged = λ fault soon end. at_fault (λ (f : Fault). IsEarly f → KeptFiles store store_now) r fault end early soon;
+    changed = changed;
     left = left;
     others = others;
     cause = stopped_by _ r cause;

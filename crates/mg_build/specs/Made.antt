@@ -21,6 +21,7 @@ use Rattle.mg_defs.specs.TextBits.{text_bits}
 use Rattle.mg_layout.specs.Stands.{StandsIn}
 use Rattle.mg_make.specs.Putting.{IsApart, OthersSame}
 use Rattle.mg_build.specs.Building.{BuildStops}
+use Rattle.mg_build.specs.Sources.{IsReadWhole}
 use Rattle.mg_make.specs.Outcomes.{IsEarly, Left, most_bytes}
 
 -- The files of this base are what a build of the collection with this budget makes.
@@ -36,6 +37,8 @@ pub record Made (name base : List ℕ) (budget : ℕ) (store store_now : StoreAt
   pub done : IsSome store.files → status ≡ Done → AreMade store_now.files base (bytes_at store.files name) budget
   -- after the statuses 7 to 10 and 13 no file has changed
   pub unchanged : (fault : Fault) → IsEarly fault → status ≡ Stopped fault → KeptFiles store store_now
+  -- every status: a file changes only behind the first whole reading of the collection
+  pub changed : ¬ KeptFiles store store_now → IsReadWhole (bytes_at store.files name) store.reads store_now.reads
   -- every status: all files are as before, or the set stands for none, or for this collection; no file but the set's changes
   pub left : IsSome store.files → Left base store.files store_now.files (bytes_at store.files name)
   pub others : OthersSame base store.files store_now.files

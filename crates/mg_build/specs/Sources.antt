@@ -1,9 +1,13 @@
 -- A collection's file: what contracts see of a reader of its bytes.
-use Rattle.std.specs.Prelude.{◌≡◌, ◌≢◌, ◌<◌, ℕ, List, length, take, None}
+use Rattle.std.specs.Prelude.{◌≡◌, ◌≢◌, ◌<◌, ◌≤◌, ◌+◌, ◌-◌, ◌*◌, ◌^◌, ℕ, List, length, min, take, None, Some}
 use Rattle.std.specs.Option.{IsSome}
 use Rattle.std.specs.declared.option.Option.{Option}
+use Rattle.mg_bits.specs.Feed.{page_of}
 use Rattle.mg_bits.specs.Pages.{Paging}
-use Rattle.mg_dev.specs.Files.{Files, bytes_at, file_at}
+use Rattle.mg_defs.specs.PagesOf.{pages}
+use Rattle.mg_dev.specs.Causes.{Rose}
+use Rattle.mg_dev.specs.Files.{Files, Reads, bytes_at, file_at}
+use Rattle.mg_dev.specs.declared.part.Part.TheVariants.{Plain}
 use Rattle.mg_dev.specs.declared.fault.Fault.{Fault}
 use Rattle.mg_dev.specs.declared.fault.Fault.TheVariants.{Changed, Memory, NoCollection, StoreFault, TooLarge}
 use Rattle.mg_make.specs.Outcomes.{most_bytes}
@@ -31,3 +35,24 @@ ByteStops store_rose files name size _ = ⊥
 pub record AreRead (files : Option Files) (name : List ℕ) (count : ℕ) (fed : List ℕ) : Type 0 where
   pub size : length fed ≡ count
   pub told : IsSome files → fed ≡ take count (bytes_at files name)
+
+-- ---- how often the file is read
+
+-- the byte at a place was read: its page is held, and where another one was held before, or none, the file was read once more
+pub record TurnsTo (at : ℕ) (old new : Option ℕ) (before now : ℕ) : Type 0 where
+  pub held : new ≡ Some (page_of 4096 (8 * at))
+  pub turned : new ≢ old → Rose before now
+
+-- the reads of a file rose by as many as so many bytes have pages, or stand at their end
+abbrev pub ReadsPages : ℕ → ℕ → ℕ → Type 0
+ReadsPages size before now = min (before + pages 0 (8 * size)) (2 ^ 64 - 1) ≤ now
+
+-- so many bytes were read in order, from a feed on that held no page
+pub record HasReadTo (at : ℕ) (held : Option ℕ) (before now : ℕ) : Type 0 where
+  pub none : at ≡ 0 → held ≡ None
+  pub last : 0 < at → held ≡ Some (page_of 4096 (8 * (at - 1)))
+  pub reads : ReadsPages at before now
+
+-- the collection of these bytes was read to its end, at least once: its part was read as often as it has pages, or its count stands at its end
+abbrev pub IsReadWhole : List ℕ → Reads → Reads → Type 0
+IsReadWhole collection before now = ReadsPages (length collection) (before Plain) (now Plain)

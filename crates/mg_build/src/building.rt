@@ -11,6 +11,7 @@ ghost use Rattle.mg_dev.specs.declared.fault.Fault.TheVariants as fault;
 ghost use Rattle.mg_make.specs.Putting.{IsApart, IsEmptied, OthersSame};
 ghost use Rattle.mg_build.specs.Building.{BuildStops, ForFile, ForFileAndPiece, RefusesNoFile, TextIsShort};
 ghost use Rattle.mg_build.specs.Made.{Made};
+ghost use Rattle.mg_build.specs.Sources.{IsReadWhole};
 ghost use Rattle.mg_make.specs.Outcomes.{BetweenMoments, Completes, HasSummaryOf, IsEarly, Left, MakesSet, RefusesDocuments, RefusesPieces, RefusesSize};
 
 use crate::names::part_named;
@@ -41,6 +42,9 @@ fn build_files<S: Store>(
     ensures others { OthersSame base.now (S.files store.old) (S.files store.new) }
     ensures left { IsSome (S.files store.old) → Left base.now (S.files store.old) (S.files store.new) (bytes_at (S.files store.old) collection.now) }
     ensures early { IfErr result (λ fault. IsEarly fault → S.files store.new ≡ S.files store.old) }
+    // A file changes only behind the first whole reading of the collection.
+    ensures changed { S.files store.new ≢ S.files store.old →
+        IsReadWhole (bytes_at (S.files store.old) collection.now) (S.reads store.old) (S.reads store.new) }
     // The cause of each refusal.
     ensures cause { IfErr result (BuildStops (Rose (S.faults store.old) (S.faults store.new)) (S.files store.old) collection.now base.now) }
     ensures later { S.faults store.old ≤ S.faults store.new }
@@ -69,9 +73,9 @@ fn build_files<S: Store>(
 
 /// Makes the set of a collection under a base, by a pool of so many bytes, from 4,096 to 2^30.
 ///
-/// The first pass counts; nothing is written before it is done. Then the head is emptied, the other
-/// parts are written, and last the head, so that a set without a head is no set: what a build that
-/// stops leaves stands for no collection.
+/// The first pass counts; nothing is written before it has read the whole collection. Then the head is
+/// emptied, the other parts are written, and last the head, so that a set without a head is no set: what
+/// a build that stops leaves stands for no collection.
 pub fn build<S: Store>(
     alloc: Global,
     store: &mut S,

@@ -1,5 +1,5 @@
 //! The two passes over a collection.
-ghost use Rattle.std.specs.Prelude.{◌≡◌, ◌<◌, ◌≤◌, ◌^◌, ℕ, List, [], IfErr, IfOk, OnOk, Some};
+ghost use Rattle.std.specs.Prelude.{◌≡◌, ◌<◌, ◌≤◌, ◌^◌, ℕ, List, [], IfErr, IfOk, OnOk, None, Some};
 ghost use Rattle.std.specs.Option.{IsSome};
 ghost use Rattle.mg_dev.specs.Causes.{Rose};
 ghost use Rattle.mg_dev.specs.Files.{file_at};
@@ -13,7 +13,7 @@ ghost use Rattle.mg_make.specs.Counting.{HasCounted};
 ghost use Rattle.mg_make.specs.Putting.{HasPut};
 ghost use Rattle.mg_make.specs.Outcomes.{Fails, HasSummaryOf, Left, MakesSet};
 ghost use Rattle.mg_build.specs.Building.{HasItsSize, IfPlanned, IsPlanAt, PassStops, WriteStops};
-ghost use Rattle.mg_build.specs.Sources.{AreRead};
+ghost use Rattle.mg_build.specs.Sources.{AreRead, ReadsPages};
 
 use crate::source::Source;
 use mg_dev::{Fault, Store};
@@ -33,6 +33,8 @@ fn count_bytes<S: Store>(
     ensures file { SameFile source.old.feed source.new.feed }
     ensures size { source.new.size ≡ source.old.size }
     ensures small { source.old.size < 2 ^ 32 }
+    ensures whole { source.old.feed.held ≡ None → OnOk result
+        (ReadsPages source.old.size (S.reads store.old part.Plain) (S.reads store.new part.Plain)) }
     ensures refused { IfErr result (PassStops (Rose (S.faults store.old) (S.faults store.new)) (S.files store.old) source.old.feed.name source.old.size) }
     ensures looked { Between S.files S.reads S.faults store.old store.new (Looked part.Plain) }
 {
@@ -66,6 +68,8 @@ pub(crate) fn count_all<S: Store>(
     ensures fits { Fits source.new.feed (S.files store.new) }
     ensures file { SameFile source.old.feed source.new.feed }
     ensures size { source.new.size ≡ source.old.size }
+    ensures whole { source.old.feed.held ≡ None → OnOk result
+        (ReadsPages source.old.size (S.reads store.old part.Plain) (S.reads store.new part.Plain)) }
     ensures refused { IfErr result (PassStops (Rose (S.faults store.old) (S.faults store.new)) (S.files store.old) source.old.feed.name source.old.size) }
     ensures looked { Between S.files S.reads S.faults store.old store.new (Looked part.Plain) }
 {
@@ -95,6 +99,7 @@ fn put_bytes<S: Store>(
     ensures small { source.old.size < 2 ^ 32 }
     ensures head { IsSome (S.files store.old) → file_at (S.files store.new) (full_name writer.old.base part.Head) ≡ Some [] }
     ensures others { OthersSame writer.old.base (S.files store.old) (S.files store.new) }
+    ensures plain { S.reads store.old part.Plain ≤ S.reads store.new part.Plain }
     ensures refused { IfErr result (WriteStops (Fails S.faults store.old store.new) (IsPlanAt writer.old.plan (S.files store.old) source.old)) }
     ensures later { S.faults store.old ≤ S.faults store.new }
 {
@@ -130,6 +135,7 @@ pub(crate) fn write_set<'a, S: Store>(
     ensures merge_b { IfPlanned plan.entry.now (S.files store.old) source.old (λ _. OnOk result (IsEmptied (S.files store.new) base.entry.now part.MergeB)) }
     ensures left { IfPlanned plan.entry.now (S.files store.old) source.old (Left base.entry.now (S.files store.old) (S.files store.new)) }
     ensures others { OthersSame base.entry.now (S.files store.old) (S.files store.new) }
+    ensures plain { S.reads store.old part.Plain ≤ S.reads store.new part.Plain }
     ensures refused { IfErr result (WriteStops (Fails S.faults store.old store.new) (IsPlanAt plan.entry.now (S.files store.old) source.old)) }
     ensures later { S.faults store.old ≤ S.faults store.new }
 {

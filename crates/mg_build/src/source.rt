@@ -2,12 +2,12 @@
 //!
 //! A page is kept, so the store is asked once a page. The size is asked once: where the file ends before
 //! it, the collection changed while it was read.
-ghost use Rattle.std.specs.Prelude.{◌≡◌, ◌-◌, ◌<◌, ◌≤◌, ◌^◌, Some, None, IfOk, IfErr, IsSome, slice_get};
+ghost use Rattle.std.specs.Prelude.{◌≡◌, ◌-◌, ◌<◌, ◌≤◌, ◌^◌, Some, None, IfOk, IfErr, IsSome, OnOk, slice_get};
 ghost use Rattle.mg_dev.specs.Causes.{Rose};
 ghost use Rattle.mg_dev.specs.Files.{HasSize, SameReads, bytes_at};
 ghost use Rattle.mg_dev.specs.declared.part.Part.TheVariants.{Plain};
 ghost use Rattle.mg_bits.specs.Pages.{Fits, Looked, SameFile};
-ghost use Rattle.mg_build.specs.Sources.{ByteStops, OpenStops};
+ghost use Rattle.mg_build.specs.Sources.{ByteStops, OpenStops, TurnsTo};
 
 use mg_bits::PageFeed;
 use mg_dev::{Fault, FileRef, Part, Store, What};
@@ -43,6 +43,7 @@ impl<'a, S: Store> Source<'a, S> {
         ensures name { IfOk result (λ s. s.feed.name ≡ name.entry.now) }
         ensures fits { IfOk result (λ s. Fits s.feed (S.files store.new)) }
         ensures size { IfOk result (λ s. HasSize (S.files store.old) name.entry.now s.size) }
+        ensures held { IfOk result (λ s. s.feed.held ≡ None) }
         ensures refused { IfErr result (OpenStops (Rose (S.faults store.old) (S.faults store.new)) (S.files store.old) name.entry.now) }
         ensures files { S.files store.new ≡ S.files store.old }
         ensures reads { SameReads (S.reads store.old) (S.reads store.new) }
@@ -84,6 +85,8 @@ impl<'a, S: Store> Source<'a, S> {
         ensures size { self.new.size ≡ self.old.size }
         ensures told { IsSome (S.files store.old) → IfOk result (λ byte. slice_get (bytes_at (S.files store.old) self.old.feed.name) at ≡ Some byte) }
         ensures refused { IfErr result (ByteStops (Rose (S.faults store.old) (S.faults store.new)) (S.files store.old) self.old.feed.name self.old.size) }
+        ensures turned { OnOk result (TurnsTo at self.old.feed.held self.new.feed.held
+            (S.reads store.old Plain) (S.reads store.new Plain)) }
         ensures looked { Looked Plain (S.files store.old) (S.files store.new) (S.reads store.old) (S.reads store.new)
             (S.faults store.old) (S.faults store.new) }
     {

@@ -46,6 +46,7 @@ module _ (name base : List ℕ) (budget : ℕ) (run : Run) (f : Fault) (is : run
     silent = refused_silent run f is out;
     unchanged = made.unchanged;
     kept = λ told end. absurd (subst (λ (g : Fault). building.BuildStops (StoreFailed run) run.store.files name base g) (same_fault run.status f WriteFault is end) cause_is);
+    changed = made.changed;
     left = made.left;
     others = made.others;
     cause = refused_cause run f (building.BuildStops (StoreFailed run) run.store.files name base) is (λ never. never) cause_is;
@@ -82,6 +83,7 @@ module _ (name base : List ℕ) (budget : ℕ) (run : Run) (s : Summary) (w : Re
     silent = put_silent run w is lack;
     unchanged = λ g soon end. absurd (never_early w run.status g is soon end);
     kept = λ told end. made.done told refl;
+    changed = made.changed;
     left = made.left;
     others = made.others;
     cause = put_cause run w (building.BuildStops (StoreFailed run) run.store.files name base) is tt put;

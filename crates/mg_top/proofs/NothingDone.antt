@@ -93,6 +93,7 @@ module _ (run : Run) (stops : Stops run Memory) (store : run.store_now ≡ run.s
     silent = caused (SilentOnOutput run) (inl silent);
     unchanged = λ fault early is. files;
     kept = λ told is. absurd (not_write is);
+    changed = λ differ. absurd (differ files);
     left = λ told. inl files;
     others = same_files base;
     cause = caused (BuildStops (StoreFailed run) (OutputFailed run) run.store.files n base) tt;

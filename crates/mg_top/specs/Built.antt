@@ -17,6 +17,7 @@ use Rattle.mg_defs.specs.Summaries.{summary_text}
 use Rattle.mg_make.specs.Putting.{IsApart, OthersSame}
 use Rattle.mg_build.specs.Building as building
 use Rattle.mg_build.specs.Made.{AreMade}
+use Rattle.mg_build.specs.Sources.{IsReadWhole}
 use Rattle.mg_make.specs.Outcomes.{IsEarly, Left, most_bytes}
 use Rattle.mg_top.specs.Ends.{OrOutput, SilentOnOutput}
 use Rattle.mg_dev.specs.Runs.{IfStopped, Run, StoreFailed, OutputFailed, KeepsFiles, Stops, StopsUnless}
@@ -41,6 +42,8 @@ pub record Built (name base : List ℕ) (budget : ℕ) (run : Run) : Type 0 wher
   pub unchanged : (fault : Fault) → IsEarly fault → Stops run fault → KeepsFiles run
   -- where the summary could not be written the files are made
   pub kept : IsSome run.store.files → Stops run WriteFault → AreMade run.store_now.files base (collection_of name run) budget
+  -- every status: a file changes only behind the first whole reading of the collection
+  pub changed : ¬ KeepsFiles run → IsReadWhole (collection_of name run) run.store.reads run.store_now.reads
   -- every status: all files are as before, or the set stands for none, or for this collection; no file but the set's changes
   pub left : IsSome run.store.files → Left base run.store.files run.store_now.files (collection_of name run)
   pub others : OthersSame base run.store.files run.store_now.files

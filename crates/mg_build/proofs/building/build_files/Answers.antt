@@ -13,12 +13,34 @@ use Rattle.mg_make.specs.Summaries.{summary_of}
 use Rattle.mg_make.specs.declared.summary.Summary.{Summary}
 use Rattle.mg_make.specs.Outcomes.{Left}
 use Rattle.mg_build.specs.Building.{IsPlanFor}
+use Rattle.mg_build.specs.Sources.{ReadsPages}
+use Rattle.mg_build.proofs.ReadLaws.{whole_read}
+use Rattle.mg_dev.specs.declared.part.Part.TheVariants.{Plain}
 use Rattle.mg_build.proofs.BuildLaws.{cause_all, done_all, done_or_lacks, early_all, is_told, its_bytes, open_only, opened_or, pass_at, pass_documents, pass_only, pass_pieces, plan_at, size_at, text_all, within_passes}
 use Rattle.mg_build.proofs.PassLaws.{moved, rose_behind}
 use Rattle.mg_build.proofs.building.build_files.Goals as goal
 
 pub returns-in-Some-clause-clash : goal.returns-in-Some-clause-clash
 returns-in-Some-clause-clash g c = λ p plain is. ap (λ q. Err (fault.NameClash q)) (c.in-Some.ensures.one p plain is)
+
+-- ---- no file changes before the collection was read
+
+pub returns-in-Some-clause-changed : goal.returns-in-Some-clause-changed
+returns-in-Some-clause-changed g c = λ differ. absurd (differ refl)
+
+pub returns-in-Err-clause-changed : goal.returns-in-Err-clause-changed
+returns-in-Err-clause-changed g c = λ differ. absurd (differ c.in-Err.ensures.files)
+
+pub returns-in-Err-count_all-clause-changed : goal.returns-in-Err-count_all-clause-changed
+returns-in-Err-count_all-clause-changed g c = λ differ. absurd (differ (c.in-Err-count_all.ensures.looked.files ∙ c.in-Ok.ensures.files))
+
+pub returns-clause-changed : goal.returns-clause-changed
+returns-clause-changed g c = λ differ.
+    let counted = g.S.Store.reads c.count_all.new.store Plain in
+    whole_read (g.S.Store.files c.args.store.now) c.args.collection.now c.in-Ok.source.size _ counted _ c.in-Ok.ensures.size
+    (subst (λ n. ReadsPages c.in-Ok.source.size n counted) (c.in-Ok.ensures.reads Plain) (c.in-Ok-count_all.ensures.whole c.in-Ok.ensures.held)) c.write_set.ensures.plain
+
+-- ---- what each refusal tells
 
 pub returns-in-Err-clause-documents : goal.returns-in-Err-clause-documents
 returns-in-Err-clause-documents g c = λ bytes is apart few first. opened_or _ _ _ (open_only _ _ _ bytes c.in-Err.fault is few c.in-Err.ensures.refused)

@@ -1,7 +1,7 @@
 use Rattle.std.proofs.Common.{arith, ◌≡◌, ◌∙◌, ◌++◌, ◌∷◌, [], sym, ap, subst, slice_get, Some, IsSome}
 use Rattle.mg_dev.specs.Files.{bytes_at, file_at}
 use Rattle.mg_dev.specs.Names.{full_name}
-use Rattle.mg_dev.specs.declared.part.Part.TheVariants.{Head}
+use Rattle.mg_dev.specs.declared.part.Part.TheVariants.{Head, Plain}
 use Rattle.mg_dev.specs.Causes.{Rose}
 use Rattle.mg_bits.proofs.CallerLemmas.{held_page_stays}
 use Rattle.mg_make.specs.Putting.{IsApart, OthersSame}
@@ -49,6 +49,7 @@ loop-at-preserved g c =
       limit = c.in-Ok-take.ensures.limit ∙ so_far.limit;
       head = λ told. subst (λ base. file_at (g.S.Store.files c.take.new.store) (full_name base Head) ≡ Some []) so_far.base (c.in-Ok-take.ensures.head (still_told before (g.S.Store.files c.byte.new.store) read_others.told told));
       others = others_more c.args.writer.now.base before (g.S.Store.files c.byte.new.store) (g.S.Store.files c.take.new.store) read_others put_others;
+      plain = omega (arith, so_far.plain, c.in-Ok.ensures.looked.later Plain, c.in-Ok-take.ensures.plain);
       later = omega (arith, so_far.later, c.in-Ok.ensures.looked.faults, c.in-Ok-take.ensures.later);
       put = (
         so_far.put.0 ++ c.in-Ok.byte ∷ [],
@@ -66,3 +67,9 @@ returns-in-Err-take-clause-others g c =
     let read_others : OthersSame c.args.writer.now.base before (g.S.Store.files c.byte.new.store)
     = subst (λ files. OthersSame c.args.writer.now.base before files) (sym c.in-Ok.ensures.looked.files) so_far.others in
     others_more c.args.writer.now.base before (g.S.Store.files c.byte.new.store) (g.S.Store.files c.take.new.store) read_others put_others
+
+pub returns-in-Err-clause-plain : goal.returns-in-Err-clause-plain
+returns-in-Err-clause-plain g c = omega (arith, c.loop-at.invariant.plain, c.in-Err.ensures.looked.later Plain)
+
+pub returns-in-Err-take-clause-plain : goal.returns-in-Err-take-clause-plain
+returns-in-Err-take-clause-plain g c = omega (arith, c.loop-at.invariant.plain, c.in-Ok.ensures.looked.later Plain, c.in-Err-take.ensures.plain)

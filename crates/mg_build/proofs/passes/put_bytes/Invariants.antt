@@ -1,7 +1,7 @@
 use Rattle.std.proofs.Common.{◌≡◌, ◌≤◌, ℕ, List, [], Some, IsSome}
 use Rattle.mg_dev.specs.Files.{file_at}
 use Rattle.mg_dev.specs.Names.{full_name}
-use Rattle.mg_dev.specs.declared.part.Part.TheVariants.{Head}
+use Rattle.mg_dev.specs.declared.part.Part.TheVariants.{Head, Plain}
 use Rattle.mg_bits.specs.Pages.{Fits, SameFile}
 use Rattle.mg_make.specs.Putting.{OthersSame}
 use Rattle.mg_make.specs.Putting.{HasPut}
@@ -18,6 +18,7 @@ invariant-loop-at g l = record {
   limit : l.writer.limit ≡ l.fn.writer.limit;
   head : IsSome (g.S.Store.files l.fn.store) → file_at (g.S.Store.files l.store) (full_name l.fn.writer.base Head) ≡ Some [];
   others : OthersSame l.fn.writer.base (g.S.Store.files l.fn.store) (g.S.Store.files l.store);
+  plain : g.S.Store.reads l.fn.store Plain ≤ g.S.Store.reads l.store Plain;
   later : g.S.Store.faults l.fn.store ≤ g.S.Store.faults l.store;
   put : (fed : List ℕ) × AreRead (g.S.Store.files l.fn.store) l.fn.source.feed.name l.at fed × HasPut l.writer (g.S.Store.files l.store) fed;
 }
