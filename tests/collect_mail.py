@@ -208,7 +208,7 @@ def attachments(suite, bytes_wanted, most_share):
         case.check("a mailbox with attachments", case.run("mbox", "new", "box"), (0, b"documents %d\n" % count, b""))
         run = subprocess.run([tools(suite) / "mg", "build", "new", "set"], cwd=folder, capture_output=True)
         case.check("is built", (run.returncode, run.stdout.split(b"\n")[0]), (0, b"documents %d" % count))
-        parts = [entry.stat().st_size for entry in os.scandir(folder) if entry.name.startswith("set.") and not entry.name.endswith(".run")]
+        parts = [entry.stat().st_size for entry in os.scandir(folder) if entry.name.startswith("set.")]
         case.check(f"the set of {size} bytes of mail is below {most_share:.0%}", 0 < sum(parts) < most_share * size, True)
         out = subprocess.run([tools(suite) / "mg", "query", "set"], cwd=folder, input=b"number%d\npdf & plan%d" % (count, count), capture_output=True)
         case.check("its last message is found", out.stdout.split(b"\n")[0], b"%d" % count)

@@ -55,8 +55,9 @@ class Reader:
             return self.cleaned(data, [b"\x02"], line)
         try:
             fields, start = messages.fields_of(data)
-            messages.name_row(row, fields)
-            text, whole = messages.text_of(data, fields, start)
+            texts = messages.texts_of(fields)
+            messages.put_texts(row, texts)
+            text, whole = messages.text_of(data, fields, texts, start)
         except MemoryError:
             raise
         except Exception:  # whatever a strange message does to the library, it is taken as it is

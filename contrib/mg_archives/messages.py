@@ -25,9 +25,13 @@ STRUCTURE = [b"content-type", b"content-transfer-encoding", b"content-dispositio
 # An encoded word may be longer than the standard says, but not without end.
 ENCODED_WORD = r"=\?[^?\s]+\?[bBqQ]\?.{0,1000}?\?="
 ENCODED_WORDS = re.compile(rf"{ENCODED_WORD}(?:\s*{ENCODED_WORD})*")
-CONTROLS = re.compile("[\x00-\x20\x7f]+")
+# Blanks and control bytes that become one blank; a single blank is none of them.
+CONTROLS = re.compile(r" *[\x00-\x1f\x7f][\x00-\x20\x7f]*|  +")
 IDENTITY = re.compile(r"<[^<>]*>")
 PARSER = email.parser.BytesParser()
+# Most mail is text as it stands: it goes past the library's parser.
+PLAIN = re.compile(rb"""\s*text/plain\s*(?:;\s*charset\s*=\s*"?([-\w.:]+)"?\s*)?(?:;\s*format\s*=\s*"?flowed"?\s*)?;?\s*""", re.I)
+AS_IT_STANDS = (b"", b"7bit", b"8bit")
 COMPOSED = re.compile(rb"\s*(?:multipart|message)/", re.I)
 
 
@@ -88,9 +92,18 @@ def iso_date(text):
         return ""
 
 
+def texts_of(fields):
+    """The fields that are shown, as lines of text by their names."""
+    return {name: field_text(fields[name]) for name, _ in SHOWN if name in fields}
+
+
 def name_row(row, fields):
-    """Puts what the fields tell into the row of a message."""
-    texts = {name: field_text(fields[name]) for name in (b"from", b"date", b"subject", b"message-id") if name in fields}
+    """Puts what the fields of a message tell into its row."""
+    put_texts(row, texts_of(fields))
+
+
+def put_texts(row, texts):
+    """Puts what the fields tell, as lines of text, into the row of a message."""
     identity = texts.get(b"message-id", "")
     found = IDENTITY.search(identity)
     row.message_id = found[0] if found else identity
@@ -167,9 +180,9 @@ def add_alternative(parts, text):
                 add_attachment(inner, text)
 
 
-def add_fields(fields, text):
+def add_fields(texts, text):
     """The fields that are shown, and an empty line where there are any."""
-    present = [f"{label}: {field_text(fields[name])}\n" for name, label in SHOWN if name in fields]
+    present = [f"{label}: {texts[name]}\n" for name, label in SHOWN if name in texts]
     text.lines += [*present, "\n"] if present else []
 
 
@@ -178,7 +191,7 @@ def add_message(part, text):
     fields = {}
     for name, value in part.raw_items():
         fields.setdefault(name.lower().encode("ascii", "replace"), encoded(value))
-    add_fields(fields, text)
+    add_fields(texts_of(fields), text)
     add_part(part, text)
 
 
@@ -203,13 +216,22 @@ def add_part(part, text):
             add_part(inner, text)
 
 
-def text_of(message, fields, start):
+def plain_charset(fields):
+    """Whether the body is plain text as it stands, and its charset if one is told."""
+    if fields.get(b"content-transfer-encoding", b"").strip().lower() not in AS_IT_STANDS or b"content-disposition" in fields:
+        return False, None
+    kind = PLAIN.fullmatch(fields.get(b"content-type", b"text/plain"))
+    return bool(kind), kind[1].decode() if kind and kind[1] else None
+
+
+def text_of(message, fields, texts, start):
     """A message as text, and whether all of it could be decoded."""
     text = Text([])
-    add_fields(fields, text)
+    add_fields(texts, text)
     body = message[start:]
-    if b"content-type" in fields or b"content-transfer-encoding" in fields:
-        add_part(structure_of(fields, body), text)
+    plain, charset = plain_charset(fields)
+    if plain:
+        text.add(body.replace(b"\r\n", b"\n"), charset)
     else:
-        text.add(body.replace(b"\r\n", b"\n"), None)
+        add_part(structure_of(fields, body), text)
     return encoded(plain_signs("".join(text.lines))), text.whole
