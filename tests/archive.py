@@ -322,6 +322,9 @@ def refusals(case):
         case.check("no mg", (run.returncode, b"mg is neither beside this program nor on PATH" in run.stderr), (2, True))
         run = subprocess.run(words, cwd=case.folder, env={**alone, "MG": str(case.suite.program)}, capture_output=True)
         case.check("mg by the environment", (run.returncode, run.stdout), (0, b"2\n"))
+    run = subprocess.run([case.program, "mail", "find", "zebra"], cwd=case.folder, env={**os.environ, "MG": "nowhere/mg"}, capture_output=True)
+    told = b"mg-archive: the environment variable MG is nowhere/mg, which is no program\n"
+    case.check("the environment goes before what is beside", (run.returncode, run.stderr), (2, told))
     for words in [[], ["mail"], ["mail", "look"], ["", "status"], ["mail", "add", "mbox"], ["mail", "add", "tar", "a"], ["mail", "show"],
                   ["mail", "show", "0"], ["mail", "find", "--rows", "x", "y"], ["mail", "find", "--silt"], ["mail", "status", "now"],
                   ["mail", "find", "--count", "--json", "x"], ["mail", "add", "--text", "mbox", "a.mbox"]]:

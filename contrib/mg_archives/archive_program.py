@@ -3,12 +3,11 @@
 import ctypes
 import os
 import re
-import shutil
 import signal
 import subprocess
-import sys
 import tempfile
 
+from mg_archives.programs import find_mg
 from mg_archives.progress import Progress
 from mg_archives.refusals import FAILED, REFUSED, USAGE, Refusal, shown
 
@@ -25,19 +24,6 @@ END = re.compile(rb"= ([0-9]+)\n")
 
 class BeyondLimit(Exception):
     """A set would have more than one may have; the text says more than what."""
-
-
-def find_program():
-    """The path of mg: beside this program, else on PATH, else as the environment variable MG says."""
-    own = sys.argv[0]
-    for folder in (os.path.dirname(os.path.abspath(own)), os.path.dirname(os.path.realpath(own))):
-        path = os.path.join(folder, "mg")
-        if os.path.isfile(path) and os.access(path, os.X_OK):
-            return path
-    path = shutil.which("mg") or os.environ.get("MG")
-    if not path:
-        raise Refusal(FAILED, "mg is neither beside this program nor on PATH, and the environment variable MG is not set")
-    return os.path.abspath(path)
 
 
 def end_with_parent(parent):
@@ -66,7 +52,7 @@ class Program:
     """mg, run in the folder of an archive, so that the names of sets are short and need no care."""
 
     def __init__(self, root, lock=None):
-        self.path = find_program()
+        self.path = find_mg(FAILED)
         self.root = root
         self.lock = lock
 

@@ -5,11 +5,11 @@ import concurrent.futures
 import os
 import resource
 import shlex
-import shutil
 import signal
 import subprocess
 import sys
 
+from mg_archives.programs import find_mg
 from mg_archives.refusals import USAGE, Refusal
 from mg_archives.shards_archive import DAMAGED, STORE_FAILED, UNBUILT, Archive
 from mg_archives.shards_ask import OUTPUT_FAILED, SESSIONS, UNWRITTEN, ask_all, guarded_output, standard_file
@@ -29,22 +29,12 @@ def say(text):
     sys.stderr.flush()
 
 
-def found_mg():
-    """The program mg beside this one, or on PATH, or as the variable MG has it."""
-    launcher = os.path.abspath(sys.argv[0])
-    beside = [os.path.join(os.path.dirname(path), "mg") for path in (launcher, os.path.realpath(launcher))]
-    for path in [*beside, shutil.which("mg"), os.environ.get("MG")]:
-        if path and os.path.isfile(path) and os.access(path, os.X_OK):
-            return os.path.abspath(path)
-    raise Refusal(ENGINE_FAILED, "mg is neither beside this program nor on PATH, and MG does not name it")
-
-
 def build(given):
     """Cuts the collection, has the steps done that are not done, and lists the sets."""
     plan = made_plan(given.collection, given.shards, given.bytes, given.budget)
     archive = Archive(given.archive)
     archive.refuse_strangers()
-    mg = found_mg()
+    mg = find_mg(ENGINE_FAILED)
     with archive.lock(alone=True) as lock:
         archive.begin(plan)
         if archive.read("sets") is None:
@@ -102,7 +92,7 @@ def do_step(given):
         return 0
     with archive.lock(alone=False):
         try:
-            Maker(archive, plan, found_mg()).do(step)
+            Maker(archive, plan, find_mg(ENGINE_FAILED)).do(step)
         except OSError as error:
             refusal = refusal_of_store(error)
             archive.fail(step, refusal)
@@ -120,7 +110,7 @@ def refusal_of_store(error):
 
 def ask(given):
     """A session; over one set it is mg's own."""
-    archive, mg = Archive(given.archive), found_mg()
+    archive, mg = Archive(given.archive), find_mg(ENGINE_FAILED)
     rows = archive.sets()
     bases = [archive.path(row.base) for row in rows]
     if len(bases) == 1:
@@ -140,7 +130,7 @@ def allow_files(count):
 
 def check(given):
     """Checks each set, some of them side by side, and tells what the whole has."""
-    archive, mg = Archive(given.archive), found_mg()
+    archive, mg = Archive(given.archive), find_mg(ENGINE_FAILED)
     rows = archive.sets()
 
     def checked(row):
@@ -163,7 +153,7 @@ def check(given):
 
 def decode(given):
     """Prints the collection, a set behind the other."""
-    archive, mg = Archive(given.archive), found_mg()
+    archive, mg = Archive(given.archive), find_mg(ENGINE_FAILED)
     for row in archive.sets():
         run = subprocess.run([mg, "decode", archive.path(row.base)], stdin=subprocess.DEVNULL, stderr=subprocess.PIPE)
         if run.returncode:
