@@ -192,12 +192,13 @@ fn a_part_of_another_size_leaves_the_set_that_was_there(rt: HostRuntime) -> Resu
             assert!(rt; migrate(alloc, &mut store, "old", "new") == Ok(1));
             let before = healed(alloc, &store)?;
             let size = cut(alloc, &mut store, name)?;
+            assert!(rt; size > 0, "{name}");
             let bad = Bad {
                 part,
                 at: 0,
                 low: size,
                 high: size,
-                found: size.saturating_sub(1),
+                found: size - 1,
             };
             let told = migrate(alloc, &mut store, "old", "new");
             assert!(rt; told == Err(Fault::Damaged(bad)), "{name}");
