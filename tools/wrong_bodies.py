@@ -11,8 +11,9 @@ with --all those of the gate too. The libraries below are taken along, so that t
 tried side by side, one for each processor and 4 GB of memory.
 
 Each edit gives a row: the crate, the edit, the function that is refused first and its clause, and the seconds that the
-check took; with --table the rows are written to a file too. The exit status is 1 where an edit is not refused. --list
-prints the table of faults of docs/WRONG-BODIES.md and tries nothing; --page writes that page's list of edits anew.
+check took; with --table the rows are written to a file too. Where no clause is told, the prover refused the edit for
+another reason, as a body that it does not cover: such an edit shows nothing. The exit status is 1 where an edit is not
+refused. --list prints the table of faults of docs/WRONG-BODIES.md and tries nothing; --page writes that page's list of edits anew.
 """
 
 import argparse
@@ -52,7 +53,8 @@ class Tried:
 
     def row(self):
         """The edit's row of the table."""
-        clause = self.clause if self.is_refused else "NOT REFUSED"
+        clause = self.clause or "no clause is told"
+        clause = clause if self.is_refused else "NOT REFUSED"
         return ROW.format(self.crate, self.edit, self.function, clause, round(self.seconds))
 
 
