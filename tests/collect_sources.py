@@ -15,6 +15,8 @@ from collect import FIELDS, MBOX, MESSAGES, table
 from collecting import SCRIPT, Collect, row
 from transcripts import fresh_folder
 
+# The signals by which a run is told to end.
+ENDING = [signal.SIGTERM, signal.SIGINT, signal.SIGHUP]
 COMPRESSED = [("gz", gzip.compress), ("bz2", bz2.compress), ("xz", lzma.compress)]
 
 
@@ -177,13 +179,20 @@ def rights(case):
     case.check("the old collection", case.content("out/new"), b"one\n\x02")
 
 
+def heard():
+    """What a child does first: signals that the suite's own caller ignores, as nohup does, end it."""
+    for number in ENDING:
+        signal.signal(number, signal.SIG_DFL)
+
+
 def ended(case):
     """A run that is told to end leaves nothing."""
     reader, writer = os.pipe()
-    for number in [signal.SIGTERM, signal.SIGINT, signal.SIGHUP]:
+    pipes = {"stdin": reader, "stdout": subprocess.PIPE, "stderr": subprocess.PIPE}
+    for number in ENDING:
         case.file("new", b"old")
         before = set(os.listdir(case.folder))
-        process = subprocess.Popen([SCRIPT, "mbox", "new", "-"], cwd=case.folder, stdin=reader, stdout=subprocess.PIPE, stderr=subprocess.PIPE)
+        process = subprocess.Popen([SCRIPT, "mbox", "new", "-"], cwd=case.folder, preexec_fn=heard, **pipes)
         until = time.monotonic() + 60
         while set(os.listdir(case.folder)) == before and time.monotonic() < until:
             time.sleep(0.01)
