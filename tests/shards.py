@@ -251,21 +251,21 @@ def refusals(suite):
     suite.file("text", K)
     folder = str(suite.folder / "shards").encode()
     suite.check("an archive", tool.build("text", "shards", "--shards", "2")[::2], (0, b""))
-    for words in [[], ["index"], ["build", "text", "new"], ["build", "text", "new", "--shards", "0"], ["build", "text", "new", "--shards", "2", "--bytes", "3"],
-                  ["build", "text", "new", "--bytes", "4294967296"], ["build", "text", "new", "--shards", "2", "--engine", "none"], ["query"],
-                  ["build", "text", "new", "--shards", "2", "--sshloginfile", "text"], ["step", "shards", "9"], ["step", "shards", "2-1"]]:
+    for words in [[], ["index"], ["build", "text", "unmade"], ["build", "text", "unmade", "--shards", "0"], ["build", "text", "unmade", "--shards", "2", "--bytes", "3"],
+                  ["build", "text", "unmade", "--bytes", "4294967296"], ["build", "text", "unmade", "--shards", "2", "--engine", "none"], ["query"],
+                  ["build", "text", "unmade", "--shards", "2", "--sshloginfile", "text"], ["step", "shards", "9"], ["step", "shards", "2-1"]]:
         status, out, told = tool.run(words)
         suite.check(f"words {words}", (status, out, told.splitlines()[-1][:9]), (1, b"", b"mg-shards"))
     for name, words, status, told in [
-        ("no collection", ["build", "none", "new", "--shards", "2"], 7, b"none: there is no such collection"),
-        ("a folder", ["build", "shards", "new", "--shards", "2"], 2, b"shards: Is a directory"),
+        ("no collection", ["build", "none", "unmade", "--shards", "2"], 7, b"none: there is no such collection"),
+        ("a folder", ["build", "shards", "unmade", "--shards", "2"], 2, b"shards: Is a directory"),
         ("other words", ["build", "text", "shards", "--shards", "3"], 20, folder + b": it was begun with --shards 2 --budget 4096 of "
          + str(suite.folder / "text").encode() + b", as that was then; use these words, or another folder"),
         ("no archive", ["query", "none"], 5, str(suite.folder / "none").encode() + b": nothing is built under this name, or not all of it"),
         ("no archive to do a step of", ["step", "none", "1"], 5, str(suite.folder / "none").encode() + b": no archive was begun here"),
     ]:
         suite.check(f"refusal: {name}", tool.run(words), (status, b"", b"mg-shards: " + told + b"\n"))
-    suite.check("what was refused is not made", (suite.folder / "new").exists() or (suite.folder / "none").exists(), False)
+    suite.check("what was refused is not made", (suite.folder / "unmade").exists() or (suite.folder / "none").exists(), False)
     (suite.folder / "other").mkdir()
     suite.file("other/notes", b"")
     got = tool.run(["build", "text", "other", "--shards", "2"])
