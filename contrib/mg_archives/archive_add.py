@@ -16,7 +16,7 @@ from mg_archives.documents import Odd, Reader, check_folder, check_given, places
 from mg_archives.messages import fields_of, name_row
 from mg_archives.progress import Progress
 from mg_archives.refusals import FAILED, Refusal
-from mg_archives.sources import STANDARD_INPUT
+from mg_archives.sources import PIPES, STANDARD_INPUT
 from mg_archives.trees import Tree
 from mg_archives.writing import Output, write_documents
 
@@ -144,7 +144,7 @@ def state_of(path):
 
 def whole_name(name):
     """The name of a source as it stays true in other folders."""
-    return name if name == STANDARD_INPUT or name.startswith(b"/dev/") else os.path.abspath(name)
+    return name if name == STANDARD_INPUT or name.startswith(PIPES) else os.path.abspath(name)
 
 
 def add(archive, kind, names, choices, budget=None):

@@ -12,6 +12,7 @@ from mg_archives.choices import Choices, Tally
 from mg_archives.documents import Odd, Reader
 from mg_archives.originals import read_original
 from mg_archives.refusals import REFUSED, Refusal, shown
+from mg_archives.sources import PIPES
 from mg_archives.tables import Row
 
 
@@ -39,7 +40,7 @@ def original(archive, number):
     with archive.reading() as generation:
         row, origin = record_of(generation, number)[number]
     kept = f"show {number} has it as it was added"
-    if row.path.startswith(b"/dev/"):
+    if row.path.startswith(PIPES):
         raise Refusal(REFUSED, f"document {number} came from a pipe, which is gone; {kept}")
     try:
         data = read_original(row)

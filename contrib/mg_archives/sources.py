@@ -9,6 +9,8 @@ import re
 import zlib
 
 STANDARD_INPUT = b"-"
+# What names of open files begin with, which another process doesn't have.
+PIPES = (b"/dev/fd/", b"/dev/stdin", b"/proc/self/fd/")
 BLOCK = 1 << 20
 # How a compressed file begins, how its name ends, and what reads it.
 KINDS = [
