@@ -7,7 +7,7 @@ import signal
 import sys
 
 from mg_archives.archive_folder import Archive
-from mg_archives.collect import KINDS, SIGNALS, byte, end_by_signal, folder_name, listed_names
+from mg_archives.collect import KINDS, SIGNALS, Parser, byte, end_by_signal, folder_name, listed_names
 from mg_archives.refusals import FAILED, LEFT_OUT, USAGE, Refusal, shown
 from mg_archives.streams import write_whole
 
@@ -20,17 +20,6 @@ usage: mg-archive ARCHIVE add [OPTION]... mbox|maildir|folder|files [SOURCE]...
        mg-archive ARCHIVE status
 options of add: --raw, --skip, --replace BYTE, --filter COMMAND, --text, --budget BYTES
 """
-
-
-class Parser(argparse.ArgumentParser):
-    """The library's, with this program's words and status for what is not understood."""
-
-    def error(self, message):
-        sys.stderr.write(f"{PROGRAM}: {message}\n{USAGE_TEXT}")
-        sys.exit(USAGE)
-
-    def format_help(self):
-        return USAGE_TEXT
 
 
 def whole_number(text):
@@ -172,7 +161,7 @@ COMMANDS = {"add": run_add, "find": run_find, "show": run_show, "status": run_st
 
 def run(words):
     """Does what the words say, and answers the status."""
-    parser = Parser(prog=PROGRAM, allow_abbrev=False)
+    parser = Parser(prog=PROGRAM, allow_abbrev=False, usage=USAGE_TEXT)
     if words[:1] in (["-h"], ["--help"]):
         parser.print_help()
         return 0

@@ -25,14 +25,14 @@ options: --raw, --skip, --replace BYTE (-r BYTE), --filter COMMAND, --text, --he
 
 
 class Parser(argparse.ArgumentParser):
-    """The library's, with this program's words and status for what is not understood."""
+    """The library's, with a program's own words and status for what is not understood."""
 
     def error(self, message):
-        sys.stderr.write(f"{PROGRAM}: {message}\n{USAGE_TEXT}")
+        sys.stderr.write(f"{self.prog}: {message}\n{self.usage}")
         sys.exit(USAGE)
 
     def format_help(self):
-        return USAGE_TEXT
+        return self.usage
 
 
 def byte(text):
@@ -45,7 +45,7 @@ def byte(text):
 
 def understood(words):
     """The words of the command line; the program ends where they are not understood."""
-    parser = Parser(prog=PROGRAM, allow_abbrev=False)
+    parser = Parser(prog=PROGRAM, allow_abbrev=False, usage=USAGE_TEXT)
     parser.add_argument("--raw", action="store_true")
     parser.add_argument("--skip", action="store_true")
     parser.add_argument("-r", "--replace", type=byte)
