@@ -238,4 +238,12 @@ def commands(suite):
             suite.check(f"{page}: {command}", is_there(suite, command), True)
 
 
-PARTS = [lengths, crates, imports, names, laws, promises, limits, links, commands]
+def reading_order(suite):
+    """The way through the definitions, contract by contract, is the one that the definitions have."""
+    printed = shell(suite, "python3 tools/reading_order.py", ROOT)
+    page = (ROOT / "docs/DEFINITIONS.md").read_text()
+    for row in printed.splitlines():
+        suite.check(f"docs/DEFINITIONS.md has the row {row.partition(' | ')[0]}", row in page, True)
+
+
+PARTS = [lengths, crates, imports, names, laws, promises, limits, links, commands, reading_order]
