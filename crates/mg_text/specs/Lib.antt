@@ -4,3 +4,4 @@ pub mod Decoding
 pub mod Refusals
 pub mod Places
 pub mod Reading
+pub mod Held

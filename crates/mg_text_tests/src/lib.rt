@@ -5,4 +5,6 @@
 #![tactic(auto)]
 
 #[cfg(test)]
+mod held_tests;
+#[cfg(test)]
 mod reader_tests;

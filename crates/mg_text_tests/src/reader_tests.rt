@@ -250,22 +250,22 @@ fn three_places(alloc: Global) -> Result<Vec<u8>, AllocError> {
     Ok(places)
 }
 
-// A store with three documents of such a text each.
-fn three(alloc: Global) -> Result<MemStore, AllocError> {
+// A store with three documents of such a text each, and their head.
+pub(crate) fn three(alloc: Global) -> Result<(MemStore, Head), AllocError> {
     let mut store = store_of(alloc, &EIGHT)?;
     let text = three_texts(alloc)?;
     store.put_file("set.text", &text)?;
     let places = three_places(alloc)?;
     store.put_file("set.places", &places)?;
-    Ok(store)
+    let mut head = head_of(&EIGHT, 3, 6156);
+    head.version = 2;
+    Ok((store, head))
 }
 
 // What showing these of the three documents takes: the bytes that are shown, the reads of Text and those of Places.
 fn taken(alloc: Global, numbers: &[u32]) -> Result<(usize, u64, u64), ShowErr> {
-    let mut store = three(alloc)?;
+    let (mut store, head) = three(alloc)?;
     let mut out = MemSink::new(alloc);
-    let mut head = head_of(&EIGHT, 3, 6156);
-    head.version = 2;
     match show(alloc, &mut store, &head, numbers, &mut out) {
         Ok(()) => Ok((
             out.bytes().len(),
