@@ -1,8 +1,10 @@
 -- What the words after the program's name ask for.
-use Rattle.std.specs.Prelude.{◌≤◌, ⊤, ℕ, ◌&&◌, if◌then◌else◌, List, [], ◌∷◌, codes, unwrap_or, Option, Some, None, option_map, option_and_then, IfSome}
+use Rattle.std.specs.Prelude.{◌≡◌, ◌≤◌, ⊤, ℕ, ◌&&◌, if◌then◌else◌, List, [], ◌∷◌, codes, unwrap_or, Option, Some, None, option_map, option_and_then, IfSome}
 use Rattle.std.specs.Option.{option_or}
 use Rattle.std.specs.Str.{bytes_eq}
 use Rattle.clap.specs.Words.{App, Row}
+use Rattle.mg_words.specs.declared.name_tool.NameTool.{NameTool}
+use Rattle.mg_words.specs.declared.name_tool.NameTool.TheVariants as named
 use Rattle.mg_words.specs.declared.task.Task.{Task as Request}
 use Rattle.mg_words.specs.declared.task.Task.TheVariants as request
 use Rattle.mg_words.specs.Plain.{Word, is_plain_name, plain_number, default_budget, IsBudget, budget_in_one, budget_in_two}
@@ -72,9 +74,27 @@ merge_in held = option_and_then (λ first. option_and_then (λ second. option_ma
 
 -- ---- all words
 
+-- the id of the one name of a tool
+abbrev pub name_id : NameTool → Word
+name_id named.Scan = codes "collection"
+name_id other = codes "name"
+
+-- the task of such a tool at a name
+abbrev pub task_at : NameTool → Word → Task
+task_at named.Query name = query name
+task_at named.Decode name = decode name
+task_at named.Scan name = scan name
+task_at named.Check name = check name
+task_at named.Wild name = wild name
+task_at named.Phrase name = phrase name
+
 -- the one name of a tool
 abbrev pub name_asked : Word → Word → List Word → Option Word
 name_asked id tool rest = option_or (plain_name rest) (if_taken (name_app tool id) (tool ∷ rest) (name_in id))
+
+-- the task of a tool of one name
+abbrev pub named_asked : NameTool → Word → List Word → Option Task
+named_asked named tool rest = option_map (task_at named) (name_asked (name_id named) tool rest)
 
 -- the task of a tool: by the plain words behind its name, else by what its command takes of all words
 abbrev pub build_asked : List Word → List Word → Option Task
@@ -94,14 +114,14 @@ abbrev pub task_of : List Word → Option Task
 task_of [] = None
 task_of (tool ∷ rest) =
     if bytes_eq tool (codes "build") then build_asked rest (tool ∷ rest)
-    else if bytes_eq tool (codes "query") then option_map query (name_asked (codes "name") tool rest)
-    else if bytes_eq tool (codes "decode") then option_map decode (name_asked (codes "name") tool rest)
-    else if bytes_eq tool (codes "scan") then option_map scan (name_asked (codes "collection") tool rest)
+    else if bytes_eq tool (codes "query") then named_asked named.Query tool rest
+    else if bytes_eq tool (codes "decode") then named_asked named.Decode tool rest
+    else if bytes_eq tool (codes "scan") then named_asked named.Scan tool rest
     else if bytes_eq tool (codes "trial") then trial_asked rest (tool ∷ rest)
     else if bytes_eq tool (codes "migrate") then migrate_asked rest (tool ∷ rest)
-    else if bytes_eq tool (codes "check") then option_map check (name_asked (codes "name") tool rest)
-    else if bytes_eq tool (codes "wild") then option_map wild (name_asked (codes "name") tool rest)
-    else if bytes_eq tool (codes "phrase") then option_map phrase (name_asked (codes "name") tool rest)
+    else if bytes_eq tool (codes "check") then named_asked named.Check tool rest
+    else if bytes_eq tool (codes "wild") then named_asked named.Wild tool rest
+    else if bytes_eq tool (codes "phrase") then named_asked named.Phrase tool rest
     else if bytes_eq tool (codes "merge") then merge_asked rest (tool ∷ rest)
     else None
 
@@ -124,22 +144,41 @@ IsWithin (build collection name budget) = IsBudget budget
 IsWithin (trial seed docs) = (1 ≤ docs) × (docs ≤ 20000)
 IsWithin other = ⊤
 
--- a tool's command, and the ids of its names
-abbrev pub command_of : Word → Option (App × List Word)
-command_of tool =
-    if bytes_eq tool (codes "build") then Some (build_app, build_names)
-    else if bytes_eq tool (codes "query") then Some (name_app tool (codes "name"), codes "name" ∷ [])
-    else if bytes_eq tool (codes "decode") then Some (name_app tool (codes "name"), codes "name" ∷ [])
-    else if bytes_eq tool (codes "scan") then Some (name_app tool (codes "collection"), codes "collection" ∷ [])
-    else if bytes_eq tool (codes "trial") then Some (trial_app, [])
-    else if bytes_eq tool (codes "migrate") then Some (migrate_app, migrate_names)
-    else if bytes_eq tool (codes "check") then Some (name_app tool (codes "name"), codes "name" ∷ [])
-    else if bytes_eq tool (codes "wild") then Some (name_app tool (codes "name"), codes "name" ∷ [])
-    else if bytes_eq tool (codes "phrase") then Some (name_app tool (codes "name"), codes "name" ∷ [])
-    else if bytes_eq tool (codes "merge") then Some (merge_app, merge_names)
+-- ---- words that are refused
+
+-- A tool's words: the ids of its names, what it asks where they are plain, and the command that reads them else.
+pub record ToolWords : Type 0 where
+  pub command : App
+  pub names : List Word
+  pub plain : List Word → Option Task
+
+-- those of a tool of one name
+abbrev pub words_at : NameTool → Word → ToolWords
+words_at named tool = record {
+  command = name_app tool (name_id named);
+  names = name_id named ∷ [];
+  plain = λ rest. option_map (task_at named) (plain_name rest);
+}
+
+abbrev pub tool_words : Word → Option ToolWords
+tool_words tool =
+    if bytes_eq tool (codes "build") then Some (record { command = build_app; names = build_names; plain = plain_build })
+    else if bytes_eq tool (codes "query") then Some (words_at named.Query tool)
+    else if bytes_eq tool (codes "decode") then Some (words_at named.Decode tool)
+    else if bytes_eq tool (codes "scan") then Some (words_at named.Scan tool)
+    else if bytes_eq tool (codes "trial") then Some (record { command = trial_app; names = []; plain = plain_trial })
+    else if bytes_eq tool (codes "migrate") then Some (record { command = migrate_app; names = migrate_names; plain = plain_migrate })
+    else if bytes_eq tool (codes "check") then Some (words_at named.Check tool)
+    else if bytes_eq tool (codes "wild") then Some (words_at named.Wild tool)
+    else if bytes_eq tool (codes "phrase") then Some (words_at named.Phrase tool)
+    else if bytes_eq tool (codes "merge") then Some (record { command = merge_app; names = merge_names; plain = plain_merge })
     else None
 
--- the first word is no tool, or the tool's command refuses the words, or takes them with an empty name
+-- the words are not plain, and the tool's command refuses them, or takes them with an empty name
+abbrev pub AreRefusedBy : List Word → List Word → ToolWords → Type 0
+AreRefusedBy rest words tool = (tool.plain rest ≡ None) × IsRefusedBy tool.command tool.names words
+
+-- the first word is no tool, or the tool refuses the words
 abbrev pub IsRefused : List Word → Type 0
 IsRefused [] = ⊤
-IsRefused (tool ∷ rest) = IfSome (command_of tool) (λ c. IsRefusedBy c.0 c.1 (tool ∷ rest))
+IsRefused (tool ∷ rest) = IfSome (tool_words tool) (AreRefusedBy rest (tool ∷ rest))

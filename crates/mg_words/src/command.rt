@@ -25,7 +25,8 @@ impl From<AllocError> for NotTaken {
 }
 
 fn cause_of(error: Error) -> NotTaken
-    ensures { result ≡ NotTaken.Refused → kind_of error ≢ ErrorKind.OutOfMemory }
+    ensures refused { result ≡ NotTaken.Refused → kind_of error ≢ ErrorKind.OutOfMemory }
+    ensures memory { result ≡ NotTaken.Memory → kind_of error ≡ ErrorKind.OutOfMemory }
 {
     if error.kind() == ErrorKind::OutOfMemory {
         NotTaken::Memory

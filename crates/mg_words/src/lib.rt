@@ -8,11 +8,14 @@
 #![tactic(auto)]
 
 mod command;
+mod laws;
+mod name_tool;
 mod plain;
 mod plain_words;
 mod read;
 mod taken;
 mod task;
 
+pub use laws::refused_words_ask_nothing;
 pub use read::read_words;
 pub use task::Task;

@@ -1,9 +1,10 @@
 //! The words of a command line: plain ones by their rule, others by the tool's command.
-ghost use Rattle.std.specs.Prelude.{◌≡◌, ◌∷◌, [], IfOk, IfSome, None, codes, map, option_map, string_bytes};
+ghost use Rattle.std.specs.Prelude.{◌≡◌, ◌∷◌, [], IfOk, IfSome, None, map, option_map, string_bytes};
 ghost use Rattle.std.specs.Option.{option_copied};
 ghost use Rattle.mg_words.specs.Commands.{name_app, build_app, build_names, trial_app, migrate_app, migrate_names, merge_app, merge_names, IsOwnId, IsRefusedBy};
-ghost use Rattle.mg_words.specs.Tasks.{as_task, task_of, name_asked, build_asked, trial_asked, migrate_asked, merge_asked, IsWithin, IsRefused, query, decode, scan, check, wild, phrase};
+ghost use Rattle.mg_words.specs.Tasks.{as_task, task_of, name_asked, build_asked, trial_asked, migrate_asked, merge_asked, name_id, named_asked, plain_name as plain_name_spec, plain_build as plain_build_spec, plain_trial as plain_trial_spec, plain_migrate as plain_migrate_spec, plain_merge as plain_merge_spec, IsWithin, IsRefused};
 
+use crate::name_tool::NameTool;
 use crate::plain_words::{plain_build, plain_merge, plain_migrate, plain_name, plain_trial};
 use crate::taken::{build_taken, merge_taken, migrate_taken, name_taken, trial_taken};
 use crate::task::Task;
@@ -19,6 +20,7 @@ fn read_name<'a>(
 ) -> Result<Option<&'a str>, AllocError>
     requires own { IsOwnId id.now }
     requires split { map string_bytes words.now ≡ tool.now ∷ map string_bytes rest.now }
+    ensures unplain { result ≡ Ok None → plain_name_spec (map string_bytes rest.entry.now) ≡ None }
     ensures refused { result ≡ Ok None → IsRefusedBy (name_app tool.entry.now id.entry.now) (id.entry.now ∷ []) (map string_bytes words.entry.now) }
     ensures is { IfOk result (λ r. option_copied r ≡ name_asked id.entry.now tool.entry.now (map string_bytes rest.entry.now)) }
 {
@@ -33,6 +35,7 @@ fn read_build<'a>(
     rest: &'a [String],
     words: &'a [String],
 ) -> Result<Option<Task<'a>>, AllocError>
+    ensures unplain { result ≡ Ok None → plain_build_spec (map string_bytes rest.entry.now) ≡ None }
     ensures refused { result ≡ Ok None → IsRefusedBy build_app build_names (map string_bytes words.entry.now) }
     ensures is { IfOk result (λ r. option_map as_task r ≡ build_asked (map string_bytes rest.entry.now) (map string_bytes words.entry.now)) }
     ensures within { IfOk result (λ r. IfSome r (λ q. IsWithin (as_task q))) }
@@ -43,54 +46,23 @@ fn read_build<'a>(
     build_taken(alloc, words)
 }
 
-fn read_query<'a>(
+/// A tool of one name.
+fn read_named<'a>(
     alloc: Global,
+    named: NameTool,
     tool: &'a str,
     rest: &'a [String],
     words: &'a [String],
 ) -> Result<Option<Task<'a>>, AllocError>
     requires { map string_bytes words.now ≡ tool.now ∷ map string_bytes rest.now }
-    ensures refused { result ≡ Ok None → IsRefusedBy (name_app tool.entry.now (codes "name")) (codes "name" ∷ []) (map string_bytes words.entry.now) }
-    ensures is { IfOk result (λ r. option_map as_task r ≡ option_map query (name_asked (codes "name") tool.entry.now (map string_bytes rest.entry.now))) }
-    ensures within { IfOk result (λ r. IfSome r (λ q. IsWithin (as_task q))) }
-{
-    match read_name(alloc, tool, "name", rest, words)? {
-        Some(name) => Ok(Some(Task::Query { name })),
-        None => Ok(None),
-    }
-}
-
-fn read_decode<'a>(
-    alloc: Global,
-    tool: &'a str,
-    rest: &'a [String],
-    words: &'a [String],
-) -> Result<Option<Task<'a>>, AllocError>
-    requires { map string_bytes words.now ≡ tool.now ∷ map string_bytes rest.now }
-    ensures refused { result ≡ Ok None → IsRefusedBy (name_app tool.entry.now (codes "name")) (codes "name" ∷ []) (map string_bytes words.entry.now) }
-    ensures is { IfOk result (λ r. option_map as_task r ≡ option_map decode (name_asked (codes "name") tool.entry.now (map string_bytes rest.entry.now))) }
-    ensures within { IfOk result (λ r. IfSome r (λ q. IsWithin (as_task q))) }
-{
-    match read_name(alloc, tool, "name", rest, words)? {
-        Some(name) => Ok(Some(Task::Decode { name })),
-        None => Ok(None),
-    }
-}
-
-fn read_scan<'a>(
-    alloc: Global,
-    tool: &'a str,
-    rest: &'a [String],
-    words: &'a [String],
-) -> Result<Option<Task<'a>>, AllocError>
-    requires { map string_bytes words.now ≡ tool.now ∷ map string_bytes rest.now }
+    ensures unplain { result ≡ Ok None → plain_name_spec (map string_bytes rest.entry.now) ≡ None }
     ensures refused { result ≡ Ok None →
-        IsRefusedBy (name_app tool.entry.now (codes "collection")) (codes "collection" ∷ []) (map string_bytes words.entry.now) }
-    ensures is { IfOk result (λ r. option_map as_task r ≡ option_map scan (name_asked (codes "collection") tool.entry.now (map string_bytes rest.entry.now))) }
+        IsRefusedBy (name_app tool.entry.now (name_id named)) (name_id named ∷ []) (map string_bytes words.entry.now) }
+    ensures is { IfOk result (λ r. option_map as_task r ≡ named_asked named tool.entry.now (map string_bytes rest.entry.now)) }
     ensures within { IfOk result (λ r. IfSome r (λ q. IsWithin (as_task q))) }
 {
-    match read_name(alloc, tool, "collection", rest, words)? {
-        Some(collection) => Ok(Some(Task::Scan { collection })),
+    match read_name(alloc, tool, named.id(), rest, words)? {
+        Some(name) => Ok(Some(named.task(name))),
         None => Ok(None),
     }
 }
@@ -100,6 +72,7 @@ fn read_trial<'a>(
     rest: &'a [String],
     words: &'a [String],
 ) -> Result<Option<Task<'a>>, AllocError>
+    ensures unplain { result ≡ Ok None → plain_trial_spec (map string_bytes rest.entry.now) ≡ None }
     ensures refused { result ≡ Ok None → IsRefusedBy trial_app [] (map string_bytes words.entry.now) }
     ensures is { IfOk result (λ r. option_map as_task r ≡ trial_asked (map string_bytes rest.entry.now) (map string_bytes words.entry.now)) }
     ensures within { IfOk result (λ r. IfSome r (λ q. IsWithin (as_task q))) }
@@ -115,6 +88,7 @@ fn read_migrate<'a>(
     rest: &'a [String],
     words: &'a [String],
 ) -> Result<Option<Task<'a>>, AllocError>
+    ensures unplain { result ≡ Ok None → plain_migrate_spec (map string_bytes rest.entry.now) ≡ None }
     ensures refused { result ≡ Ok None → IsRefusedBy migrate_app migrate_names (map string_bytes words.entry.now) }
     ensures is { IfOk result (λ r. option_map as_task r ≡ migrate_asked (map string_bytes rest.entry.now) (map string_bytes words.entry.now)) }
     ensures within { IfOk result (λ r. IfSome r (λ q. IsWithin (as_task q))) }
@@ -125,62 +99,12 @@ fn read_migrate<'a>(
     migrate_taken(alloc, words)
 }
 
-fn read_check<'a>(
-    alloc: Global,
-    tool: &'a str,
-    rest: &'a [String],
-    words: &'a [String],
-) -> Result<Option<Task<'a>>, AllocError>
-    requires { map string_bytes words.now ≡ tool.now ∷ map string_bytes rest.now }
-    ensures refused { result ≡ Ok None → IsRefusedBy (name_app tool.entry.now (codes "name")) (codes "name" ∷ []) (map string_bytes words.entry.now) }
-    ensures is { IfOk result (λ r. option_map as_task r ≡ option_map check (name_asked (codes "name") tool.entry.now (map string_bytes rest.entry.now))) }
-    ensures within { IfOk result (λ r. IfSome r (λ q. IsWithin (as_task q))) }
-{
-    match read_name(alloc, tool, "name", rest, words)? {
-        Some(name) => Ok(Some(Task::Check { name })),
-        None => Ok(None),
-    }
-}
-
-fn read_wild<'a>(
-    alloc: Global,
-    tool: &'a str,
-    rest: &'a [String],
-    words: &'a [String],
-) -> Result<Option<Task<'a>>, AllocError>
-    requires { map string_bytes words.now ≡ tool.now ∷ map string_bytes rest.now }
-    ensures refused { result ≡ Ok None → IsRefusedBy (name_app tool.entry.now (codes "name")) (codes "name" ∷ []) (map string_bytes words.entry.now) }
-    ensures is { IfOk result (λ r. option_map as_task r ≡ option_map wild (name_asked (codes "name") tool.entry.now (map string_bytes rest.entry.now))) }
-    ensures within { IfOk result (λ r. IfSome r (λ q. IsWithin (as_task q))) }
-{
-    match read_name(alloc, tool, "name", rest, words)? {
-        Some(name) => Ok(Some(Task::Wild { name })),
-        None => Ok(None),
-    }
-}
-
-fn read_phrase<'a>(
-    alloc: Global,
-    tool: &'a str,
-    rest: &'a [String],
-    words: &'a [String],
-) -> Result<Option<Task<'a>>, AllocError>
-    requires { map string_bytes words.now ≡ tool.now ∷ map string_bytes rest.now }
-    ensures refused { result ≡ Ok None → IsRefusedBy (name_app tool.entry.now (codes "name")) (codes "name" ∷ []) (map string_bytes words.entry.now) }
-    ensures is { IfOk result (λ r. option_map as_task r ≡ option_map phrase (name_asked (codes "name") tool.entry.now (map string_bytes rest.entry.now))) }
-    ensures within { IfOk result (λ r. IfSome r (λ q. IsWithin (as_task q))) }
-{
-    match read_name(alloc, tool, "name", rest, words)? {
-        Some(name) => Ok(Some(Task::Phrase { name })),
-        None => Ok(None),
-    }
-}
-
 fn read_merge<'a>(
     alloc: Global,
     rest: &'a [String],
     words: &'a [String],
 ) -> Result<Option<Task<'a>>, AllocError>
+    ensures unplain { result ≡ Ok None → plain_merge_spec (map string_bytes rest.entry.now) ≡ None }
     ensures refused { result ≡ Ok None → IsRefusedBy merge_app merge_names (map string_bytes words.entry.now) }
     ensures is { IfOk result (λ r. option_map as_task r ≡ merge_asked (map string_bytes rest.entry.now) (map string_bytes words.entry.now)) }
     ensures within { IfOk result (λ r. IfSome r (λ q. IsWithin (as_task q))) }
@@ -220,14 +144,14 @@ pub fn read_words<'a>(alloc: Global, words: &'a [String]) -> Result<Option<Task<
     let tool = tool.as_str();
     match tool {
         "build" => read_build(alloc, rest, words),
-        "query" => read_query(alloc, tool, rest, words),
-        "decode" => read_decode(alloc, tool, rest, words),
-        "scan" => read_scan(alloc, tool, rest, words),
+        "query" => read_named(alloc, NameTool::Query, tool, rest, words),
+        "decode" => read_named(alloc, NameTool::Decode, tool, rest, words),
+        "scan" => read_named(alloc, NameTool::Scan, tool, rest, words),
         "trial" => read_trial(alloc, rest, words),
         "migrate" => read_migrate(alloc, rest, words),
-        "check" => read_check(alloc, tool, rest, words),
-        "wild" => read_wild(alloc, tool, rest, words),
-        "phrase" => read_phrase(alloc, tool, rest, words),
+        "check" => read_named(alloc, NameTool::Check, tool, rest, words),
+        "wild" => read_named(alloc, NameTool::Wild, tool, rest, words),
+        "phrase" => read_named(alloc, NameTool::Phrase, tool, rest, words),
         "merge" => read_merge(alloc, rest, words),
         _ => Ok(None),
     }

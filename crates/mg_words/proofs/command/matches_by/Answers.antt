@@ -9,4 +9,4 @@ pub returns-in-Ok-clause-values : goal.returns-in-Ok-clause-values
 returns-in-Ok-clause-values c = rows_by _ _ _ (c.in-Ok.ensures.matches c.requires.alone).0
 
 pub returns-in-Err-clause-refused : goal.returns-in-Err-clause-refused
-returns-in-Err-clause-refused c = λ is. refused_by _ _ c.in-Err.error (c.in-Err.ensures.kinds c.requires.simple) (c.cause_of.ensures (search (rules, is)))
+returns-in-Err-clause-refused c = λ is. refused_by _ _ c.in-Err.error (c.in-Err.ensures.kinds c.requires.simple) (c.cause_of.ensures.refused (search (rules, is)))
