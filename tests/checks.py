@@ -10,7 +10,7 @@ import sys
 
 sys.path.insert(0, str(pathlib.Path(__file__).parent / "reference"))
 
-from damages import LINES, damaged
+from damages import LINES, Measured, damaged
 from files import BUDGET, K, put_set, remove
 from kinds import Draws, cases
 from parts import ENDINGS, Damaged, all_parts, build, models
@@ -23,6 +23,8 @@ PARTS_OF_A_SET = ENDINGS[:11]
 # Where a head of each version has how many occurrences a run takes at most.
 CAP_AT = {1: 24, 2: 24}
 DAMAGES = 500
+# What a check of a small set takes at most, however large the pool of the build was.
+LEAST_PEAK = 40 << 20
 # Lengths of codewords for the others of K, in the order of their bytes: a tie of Huffman's method, and a good code that costs more.
 OTHER_LENGTHS = {"of the same cost": (2, 1, 4, 4, 3), "of a greater cost": (1, 2, 3, 4, 4)}
 
@@ -126,4 +128,25 @@ def several_blocks(suite):
     remove(suite, "set")
 
 
-PARTS = [rows, each_bit, changed_sets, several_blocks]
+def small_pools(suite):
+    """The pool of a check is no larger than the set, whatever run its head tells of."""
+    measured = Measured(suite)
+    suite.file("text", K)
+    suite.file("asked", b"")
+    suite.run(["build", "text", "set", "--budget", str(1 << 30)])
+    head = (suite.folder / "set.head").read_bytes()
+    most = (1 << 40) - 1
+    for name, content, wanted in [
+        ("the greatest pool", head, 0),
+        ("the greatest pool, and more occurrences", head[:40] + most.to_bytes(8, "big") + head[48:], 6),
+        ("the greatest pool, and as many occurrences as bytes", head[:40] + head[32:40] + head[48:], 6),
+    ]:
+        suite.file("set.head", content)
+        status, line, peak = measured.run(["check", "set"])
+        suite.check(name, (status, re.fullmatch(LINES[wanted], line) is not None), (wanted, True))
+        suite.check(f"{name}: memory", peak <= LEAST_PEAK or peak, True)
+    measured.end()
+    remove(suite, "set")
+
+
+PARTS = [rows, each_bit, changed_sets, several_blocks, small_pools]

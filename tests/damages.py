@@ -3,7 +3,7 @@
 Each random damage is made to one part of a sound set; then `decode`, `query`, `phrase`, `wild`, `check`, `migrate` and
 `merge` are run over it. None may end by a signal, take longer than 20 seconds, or end with another status than
 0, 5 or 6 and the line of that status (a merge also with 8, by what a damaged head tells); none may take
-32 megabytes more than over the sound set, and a merge and a check the pool that the damaged head tells beside it.
+32 megabytes more than over the sound set, and a merge the pool that the damaged head tells beside it.
 The seed is printed, and `--seed N` repeats a run.
 """
 
@@ -82,7 +82,7 @@ def damaged(draws, content):
 
 
 def pool_of(head):
-    """The bytes of the pool in which a merge and a check of a set with this head sort: 12 for each occurrence of a run."""
+    """The bytes of the pool in which a merge of a set with this head sorts: 12 for each occurrence of a run."""
     cap = int.from_bytes(head[24:28], "big")
     return 12 * cap if CAPS[0] <= cap <= CAPS[1] else 0
 
@@ -141,7 +141,7 @@ def random_damages(suite):
             fair = status in lines and re.fullmatch(lines[status], line) is not None
             name = f"damage {number} of seed {suite.seed}: set {chosen}, {ending}: {what}: {words[0]}"
             suite.check(name, fair or (status, line), True)
-            pool = pool_of(content or b"") if ending == "head" and words[0] in ("merge", "check") else 0
+            pool = pool_of(content or b"") if ending == "head" and words[0] == "merge" else 0
             worst = max(worst, peak - peak_before - pool)
             suite.check(f"{name}: memory", peak <= peak_before + pool + MORE or peak, True)
     measured.end()

@@ -1,17 +1,20 @@
 -- Where the text of a set means documents: what the other parts and the head's numbers are to be.
-use Rattle.std.proofs.Common.{arith, ◌≡◌, ◌≤◌, ◌<◌, ◌-◌, ◌*◌, ◌^◌, ◌==◌, ℕ, Bool, true, false, if◌then◌else◌, List, Contains, length, map, IfErr, OnOk, Ok, Err, sym, ap, subst, ◌∙◌}
+use Rattle.std.proofs.Common.{arith, ◌≡◌, ◌≤◌, ◌<◌, ◌-◌, ◌*◌, ◌^◌, ◌==◌, ◌⊎◌, inl, inr, ℕ, Bool, true, false, if◌then◌else◌, List, Contains, length, map, IfErr, OnOk, Ok, Err, sym, ap, subst, ◌∙◌}
 use Rattle.std.specs.List.{AllByRecursion, flat_map}
 use Rattle.std.specs.declared.option.Option.{Option}
 use Rattle.std.specs.declared.result.Result.{Result}
+use Rattle.std.proofs.Math.Nat.{eq-or-lt_of_le}
 use Rattle.mg_dev.specs.Files.{Files, bytes_at}
 use Rattle.mg_defs.specs.declared.Stream.TheVariants.{Words, Others}
-use Rattle.mg_defs.specs.Bits.{bits_of}
+use Rattle.mg_defs.specs.declared.TermPosting.{TermPosting}
+use Rattle.mg_defs.specs.Bits.{as_bytes, bits_of}
 use Rattle.mg_defs.specs.CodedText.{IsTextCode, TextCode, places_part, text_part}
 use Rattle.mg_defs.specs.Heads as defs
 use Rattle.mg_defs.specs.Heads.{run_count}
 use Rattle.mg_defs.specs.WithinLimits.{IsWithinLimits}
 use Rattle.mg_defs.specs.Means.{StandForNone, docs_bytes}
 use Rattle.mg_defs.specs.Occurrences.{occurrences}
+use Rattle.mg_defs.specs.RunBits.{run_part_bits, runs_bits}
 use Rattle.mg_defs.specs.Split.{documents, has_open_end, joined}
 use Rattle.mg_defs.specs.Lists.{inverted, lists_entries}
 use Rattle.mg_defs.specs.Stands.{Parts, Stand, head_of, skip_count}
@@ -39,6 +42,7 @@ use Rattle.mg_check.specs.Listing.{IndexStands, IsIndexOf, Refutes}
 use Rattle.mg_check.specs.Rest.{AreNumbers, HaveSizes, RestStands}
 use Rattle.mg_check.proofs.DocumentLaws.{stands_on, table_terms}
 use Rattle.mg_check.proofs.NextLaws.{head-few}
+use Rattle.mg_check.proofs.RunSteps.{same_runs}
 use Rattle.mg_check.proofs.TextLaws.{all-get, all-others, all-words}
 
 -- ---- the collection that is meant
@@ -154,6 +158,26 @@ numbers-of files base head collection terms occurrences_are sizes index =
       post_bytes = sym sizes.post ∙ ap length index.lists.post;
       skip_count = omega (arith, entries, sizes.skip);
     }
+
+-- ---- runs
+
+runs-same : (size cap : ℕ) (s : List (ℕ × ℕ)) → 1 ≤ size → (size ≡ cap) ⊎ (size < cap) → (size < cap → length s ≤ size) → as_bytes (run_part_bits size s) ≡ as_bytes (run_part_bits cap s)
+runs-same size cap s some (inl same) enough = ap (λ (k : ℕ). as_bytes (run_part_bits k s)) same
+runs-same size cap s some (inr below) enough = ap (λ (rs : List (List TermPosting)). as_bytes (runs_bits rs)) (same_runs size cap s some (enough below) (omega (arith, below)))
+
+-- where a head's occurrences go into runs of another size, which is its own or takes them all, the runs are the same
+pub head-runs : (head : Head) (size : ℕ) (collection : List ℕ) → 341 ≤ size → size ≤ head.cap → (size < head.cap → head.occurrences ≤ size) → head.occurrences ≡ length (occurrences collection)
+    → as_bytes (run_part_bits size (occurrences collection)) ≡ as_bytes (run_part_bits head.cap (occurrences collection))
+head-runs head size collection least most enough count =
+    runs-same size head.cap (occurrences collection) (omega arith) (eq-or-lt_of_le most) (λ below. omega (arith, enough below, count))
+
+pub terms-of-size : (files : Option Files) (base : List ℕ) (head : Head) (size : ℕ) (collection : List ℕ) → as_bytes (run_part_bits size (occurrences collection)) ≡ as_bytes (run_part_bits head.cap (occurrences collection))
+    → TermsStand base files head.cap collection → TermsStand base files size collection
+terms-of-size files base head size collection runs terms = record { weights = terms.weights; run = terms.run ∙ sym runs }
+
+pub terms-of-head : (files : Option Files) (base : List ℕ) (head : Head) (size : ℕ) (collection : List ℕ) → as_bytes (run_part_bits size (occurrences collection)) ≡ as_bytes (run_part_bits head.cap (occurrences collection))
+    → TermsStand base files size collection → TermsStand base files head.cap collection
+terms-of-head files base head size collection runs terms = record { weights = terms.weights; run = terms.run ∙ runs }
 
 -- ---- answers
 

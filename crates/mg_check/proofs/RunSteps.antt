@@ -124,6 +124,18 @@ runs_of_last cap fed some more =
     let all : take cap rest ≡ rest = take_all cap rest (omega (arith, length_rest fed (q * cap))) in
     ap (λ k. first_runs cap k fed) count ∙ runs_split cap q 1 fed ∙ ap (λ t. first_runs cap q fed ++ term_postings t ∷ []) all
 
+-- all occurrences go into one run where it takes so many
+one_run : (cap : ℕ) (s : List (ℕ × ℕ)) → 1 ≤ cap → 1 ≤ length s → length s ≤ cap → runs_of cap s ≡ term_postings s ∷ []
+one_run cap s some more fits =
+    let none : finished cap (length s) ≡ 0 = let h : (length s - 1) / cap < 1 = div_below (length s - 1) cap 1 some (omega arith) in omega arith in
+    let z : 0 * cap ≡ 0 = omega arith in
+    runs_of_last cap s some more ∙ ap (λ q. first_runs cap q s ++ term_postings (drop (q * cap) s) ∷ []) none ∙ ap (λ k. term_postings (drop k s) ∷ []) z
+
+-- so the runs are the same however many more they may take
+pub same_runs : (c d : ℕ) (s : List (ℕ × ℕ)) → 1 ≤ c → length s ≤ c → c ≤ d → runs_of c s ≡ runs_of d s
+same_runs c d [] some fits below = runs_of_none c some ∙ sym (runs_of_none d (omega arith))
+same_runs c d (o ∷ s) some fits below = one_run c (o ∷ s) some (omega arith) fits ∙ sym (one_run d (o ∷ s) (omega arith) (omega arith) (omega arith))
+
 -- ---- what was taken
 
 cap_some : (limit : ℕ) → 4096 ≤ limit → 1 ≤ limit / 12

@@ -1,5 +1,5 @@
 //! A set whose head is known against the one collection that it can stand for.
-ghost use Rattle.std.specs.Prelude.{◌≡◌, ◌<◌, ◌^◌, ℕ, IfErr, IsSome, OnOk};
+ghost use Rattle.std.specs.Prelude.{◌≡◌, ◌<◌, ◌≤◌, ◌^◌, ℕ, max, IfErr, IsSome, OnOk};
 ghost use Rattle.mg_dev.specs.PartCauses.{HasPartCause};
 ghost use Rattle.mg_defs.specs.Heads.{IsWithin};
 ghost use Rattle.mg_defs.specs.Means.{StandForNone};
@@ -17,6 +17,7 @@ use crate::index::check_index;
 use crate::lists::SKIP_ENTRY_BYTES;
 use crate::load::load_text;
 use crate::read_text::read_text;
+use mg_defs::{LEAST_BUDGET, OCCURRENCE_BYTES};
 use mg_dev::{Bad, FileRef, Part, PartErr, Store};
 use mg_layout::{Head, expect_size};
 use mg_model::TermTable;
@@ -84,6 +85,22 @@ fn expect_sizes<S: Store>(store: &mut S, base: &str, head: &Head) -> Result<(), 
     }
 }
 
+// How many occurrences go to a run where they are compared: as many as the head tells, or all of them where they are fewer.
+// The runs are the same, and their pool is no larger than the set, or than the least of a build.
+fn run_size(head: &Head) -> u32
+    requires within { IsWithin (fields_of head.now) }
+    ensures least { 341 ≤ result }
+    ensures most { result ≤ head.now.cap }
+    ensures few { result ≤ max 341 head.now.occurrences }
+    ensures enough { result < head.now.cap → head.now.occurrences ≤ result }
+{
+    if head.occurrences >= u64::from(head.cap) {
+        return head.cap;
+    }
+    let least = (LEAST_BUDGET / OCCURRENCE_BYTES) as u32;
+    least.max(head.occurrences as u32)
+}
+
 // Sees that the numbers of the head that the text does not tell, and the six parts that tell of terms, are those of the
 // collection whose text is read.
 fn check_rest<S: Store>(
@@ -115,7 +132,8 @@ fn check_rest<S: Store>(
         Ok(()) => {}
         Err(refusal) => return Err(refusal),
     }
-    let counts = match check_terms(alloc, store, base, reader, &table, head.cap, documents) {
+    let size = run_size(head);
+    let counts = match check_terms(alloc, store, base, reader, &table, size, documents) {
         Ok(counts) => counts,
         Err(refusal) => return Err(refusal),
     };

@@ -1,7 +1,7 @@
 //! The runs of occurrences, compared with the part that has them.
 //!
-//! The occurrences go into a pool of the size that the set was made with. A full pool is written into a store in memory
-//! as a run, and its bytes are compared with those of the part behind the runs before.
+//! The occurrences go into a pool of as many entries as a run of the set is made of. A full pool is written into a store
+//! in memory as a run, and its bytes are compared with those of the part behind the runs before.
 ghost use Rattle.std.specs.Prelude.{◌≡◌, ◌+◌, ◌-◌, ◌*◌, ◌<◌, ◌≤◌, ◌^◌, ℕ, List, [], length, IfOk, IsSome, Option, OnOk};
 ghost use Rattle.mg_dev.specs.Files.{Files};
 ghost use Rattle.mg_dev.specs.Names.{full_name};
@@ -100,7 +100,7 @@ fn run_in(store: &SureStore) -> &[u8]
 }
 
 impl<'a> RunPart<'a> {
-    /// No occurrence, to be taken in runs of so many.
+    /// No occurrence, to be taken in runs of so many; the pool takes no more.
     pub(crate) fn new(alloc: Global, base: &'a str, cap: u32) -> Result<Self, AllocError>
         requires least { 341 ≤ cap }
         requires most { cap ≤ 89478485 }

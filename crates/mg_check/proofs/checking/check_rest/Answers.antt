@@ -8,7 +8,7 @@ use Rattle.mg_check.specs.Counting.{TermsStand}
 use Rattle.mg_check.specs.Listing.{IndexStands, Refutes}
 use Rattle.mg_check.specs.Rest.{HaveSizes, RestStands}
 use Rattle.mg_check.proofs.DocumentLaws.{caused_more, same_text, stands_on, table_terms}
-use Rattle.mg_check.proofs.RestLaws.{index-of, refutes-so, rest-ok, rest-other, sizes-of}
+use Rattle.mg_check.proofs.RestLaws.{head-runs, index-of, refutes-so, rest-ok, rest-other, sizes-of, terms-of-head, terms-of-size}
 use Rattle.mg_check.proofs.checking.check_rest.Goals as goal
 
 pub returns-in-Err-expect_number-clause-other : goal.returns-in-Err-expect_number-clause-other
@@ -29,9 +29,11 @@ returns-in-Err-expect_sizes-clause-other g c = λ collection stand.
 pub returns-in-Err-check_terms-clause-other : goal.returns-in-Err-check_terms-clause-other
 returns-in-Err-check_terms-clause-other g c = λ collection stand.
     let there = stands_on c.args.reader.now c.args.reader.now (g.S.Store.files c.args.store.now) (g.S.Store.files c.expect_sizes.new.store) collection (same_text c.args.reader.now) c.expect_sizes.ensures.files stand in
-    refutes-so (TermsStand c.args.base.now (g.S.Store.files c.args.store.now) c.args.head.now.cap collection) (RestStands (g.S.Store.files c.args.store.now) c.args.base.now c.args.head.now collection) c.in-Err-check_terms.refusal
-    (λ rest. rest.terms)
-    (subst (λ (f : Option Files). Refutes (TermsStand c.args.base.now f c.args.head.now.cap collection) c.in-Err-check_terms.refusal) c.expect_sizes.ensures.files (c.in-Err-check_terms.ensures.other collection there))
+    let size = c.run_size-size.result in
+    refutes-so (TermsStand c.args.base.now (g.S.Store.files c.args.store.now) size collection) (RestStands (g.S.Store.files c.args.store.now) c.args.base.now c.args.head.now collection) c.in-Err-check_terms.refusal
+    (λ rest. terms-of-size (g.S.Store.files c.args.store.now) c.args.base.now c.args.head.now size collection
+    (head-runs c.args.head.now size collection c.run_size-size.ensures.least c.run_size-size.ensures.most c.run_size-size.ensures.enough rest.numbers.occurrences) rest.terms)
+    (subst (λ (f : Option Files). Refutes (TermsStand c.args.base.now f size collection) c.in-Err-check_terms.refusal) c.expect_sizes.ensures.files (c.in-Err-check_terms.ensures.other collection there))
 
 pub returns-in-Err-expect_number-2-clause-other : goal.returns-in-Err-expect_number-2-clause-other
 returns-in-Err-expect_number-2-clause-other g c = λ collection stand.
@@ -51,8 +53,12 @@ returns-clause-stand g c = λ collection stand.
     let same : g.S.Store.files c.check_terms.new.store ≡ g.S.Store.files c.args.store.now = c.check_terms.ensures.files ∙ c.expect_sizes.ensures.files in
     let index = index-of (g.S.Store.files c.args.store.now) (g.S.Store.files c.check_terms.new.store) c.args.head.now c.args.reader.now c.check_terms.new.reader c.in-Ok.table c.deref.result.now collection same c.check_terms.ensures.same table (c.deref.ensures.value ∙ c.in-Ok-check_terms.ensures.docs collection there) c.requires.documents c.requires.within stand in
     let terms_are : c.args.head.now.terms ≡ length (dictionary collection) = omega (arith, c.from.ensures, c.in-Ok-expect_number.ensures.same, ap length own, c.count.ensures.count, c.from-count.ensures) in
-    let terms = subst (λ (f : Option Files). TermsStand c.args.base.now f c.args.head.now.cap collection) c.expect_sizes.ensures.files (c.in-Ok-check_terms.ensures.stand collection there) in
-    rest-ok (g.S.Store.files c.args.store.now) c.args.base.now c.args.head.now collection c.check_index.result terms_are (c.in-Ok-expect_number-2.ensures.same ∙ c.in-Ok-check_terms.ensures.occurrences collection there) (c.in-Ok-expect_sizes.ensures.sizes stand.told) terms
+    let size = c.run_size-size.result in
+    let count = c.in-Ok-expect_number-2.ensures.same ∙ c.in-Ok-check_terms.ensures.occurrences collection there in
+    let runs = head-runs c.args.head.now size collection c.run_size-size.ensures.least c.run_size-size.ensures.most c.run_size-size.ensures.enough count in
+    let terms = terms-of-head (g.S.Store.files c.args.store.now) c.args.base.now c.args.head.now size collection runs
+    (subst (λ (f : Option Files). TermsStand c.args.base.now f size collection) c.expect_sizes.ensures.files (c.in-Ok-check_terms.ensures.stand collection there)) in
+    rest-ok (g.S.Store.files c.args.store.now) c.args.base.now c.args.head.now collection c.check_index.result terms_are count (c.in-Ok-expect_sizes.ensures.sizes stand.told) terms
     (subst (λ (f : Option Files). OnOk c.check_index.result (IndexStands f c.args.base.now collection)) same (c.check_index.ensures.stand collection index))
 
 pub returns-clause-other : goal.returns-clause-other
