@@ -198,11 +198,13 @@ rest-other files base head collection (Err refusal) other = refutes-so (IndexSta
 
 -- ---- a set whose text was read
 
-pub none-here : (files now : Option Files) (base : List ℕ) (head : Head) (r : TextReading) (refusal : PartErr) → now ≡ files → (IsLoaded now base head r → IfBad refusal (StandForNone (parts_at now base))) → IsLoaded files base head r → IfBad refusal (StandForNone (parts_at files base))
-none-here files now base head r refusal same none = subst (λ (f : Option Files). IsLoaded f base head r → IfBad refusal (StandForNone (parts_at f base))) same none
+pub stands-here : (files now : Option Files) (base : List ℕ) (head : Head) (r : TextReading) (result : Result (Unit {0}) PartErr) → now ≡ files → (IsLoaded now base head r → OnOk result (StandsWith now base head.documents head.collection))
+    → IsLoaded files base head r → OnOk result (StandsWith files base head.documents head.collection)
+stands-here files now base head r result same so = subst (λ (f : Option Files). IsLoaded f base head r → OnOk result (StandsWith f base head.documents head.collection)) same so
 
-pub found-here : (files now : Option Files) (base : List ℕ) (head : Head) (r : TextReading) → now ≡ files → (IsLoaded now base head r → FoundText (parts_at now base) (fields_of head) r.code) → IsLoaded files base head r → FoundText (parts_at files base) (fields_of head) r.code
-found-here files now base head r same found = subst (λ (f : Option Files). IsLoaded f base head r → FoundText (parts_at f base) (fields_of head) r.code) same found
+pub none-here : (files now : Option Files) (base : List ℕ) (head : Head) (r : TextReading) (result : Result (Unit {0}) PartErr) → now ≡ files → (IsLoaded now base head r → OnBad result (StandForNone (parts_at now base)))
+    → IsLoaded files base head r → OnBad result (StandForNone (parts_at files base))
+none-here files now base head r result same none = subst (λ (f : Option Files). IsLoaded f base head r → OnBad result (StandForNone (parts_at f base))) same none
 
 pub set-stands : (files now : Option Files) (base : List ℕ) (head : Head) (r next : TextReading) (result : Result (Unit {0}) PartErr) → now ≡ files → SameText r next → IsLoaded files base head r → FoundText (parts_at files base) (fields_of head) r.code →
     ((collection : List ℕ) → TextStands next now collection → OnOk result (RestStands now base head collection)) → OnOk result (StandsWith files base head.documents head.collection)

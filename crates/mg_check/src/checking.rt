@@ -2,11 +2,11 @@
 ghost use Rattle.std.specs.Prelude.{◌≡◌, ◌<◌, ◌≤◌, ◌^◌, ℕ, max, IfErr, IsSome, OnOk};
 ghost use Rattle.mg_dev.specs.PartCauses.{HasPartCause};
 ghost use Rattle.mg_defs.specs.Heads.{IsWithin};
-ghost use Rattle.mg_defs.specs.Means.{StandForNone};
+ghost use Rattle.mg_defs.specs.Means.{IsModel, StandForNone};
 ghost use Rattle.mg_layout.specs.HeadAnswers.{fields_of};
 ghost use Rattle.mg_layout.specs.Stands.{parts_at};
 ghost use Rattle.mg_text.specs.Reading.{TextFits, WhereTextStands};
-ghost use Rattle.mg_check.specs.Checking.{HasHead, OnBad};
+ghost use Rattle.mg_check.specs.Checking.{HasHead, IsLoaded, OnBad};
 ghost use Rattle.mg_check.specs.Found.{StandsWith};
 ghost use Rattle.mg_check.specs.Listing.{Refutes};
 ghost use Rattle.mg_check.specs.Reads.{reads_outside};
@@ -148,6 +148,33 @@ fn check_rest<S: Store>(
     check_index(alloc, store, base, reader, &table, &counts.docs, documents)
 }
 
+// Checks a set whose text can be read: that its parts are those of a collection.
+fn check_loaded<S: Store>(
+    alloc: Global,
+    store: &mut S,
+    base: &str,
+    head: &Head,
+    reader: &mut TextReader<'_, S>,
+) -> Result<(), PartErr>
+    requires within { IsWithin (fields_of head.now) }
+    requires fits { TextFits reader.old (S.files store.old) }
+    requires documents { reader.old.documents ≡ head.now.documents }
+    requires model { IsModel reader.old.code }
+    ensures stands { IsLoaded (S.files store.old) base.now head.now reader.old →
+        OnOk result (StandsWith (S.files store.old) base.now head.now.documents head.now.collection) }
+    ensures none { IsLoaded (S.files store.old) base.now head.now reader.old →
+        OnBad result (StandForNone (parts_at (S.files store.old) base.now)) }
+    ensures files { S.files store.new ≡ S.files store.old }
+    ensures unread { reads_outside (S.reads store.new) ≡ reads_outside (S.reads store.old) }
+    ensures cause { HasPartCause (S.faults store.old) (S.faults store.new) result }
+{
+    match read_text(alloc, store, base, head, reader) {
+        Ok(()) => {}
+        Err(refusal) => return Err(refusal),
+    }
+    check_rest(alloc, store, base, head, reader)
+}
+
 /// Checks a set with this head: that its parts are those of a collection, which the text tells.
 pub(crate) fn check_set<S: Store>(
     alloc: Global,
@@ -163,13 +190,8 @@ pub(crate) fn check_set<S: Store>(
     ensures unread { reads_outside (S.reads store.new) ≡ reads_outside (S.reads store.old) }
     ensures cause { HasPartCause (S.faults store.old) (S.faults store.new) result }
 {
-    let mut reader = match load_text(alloc, store, base, head) {
-        Ok(reader) => reader,
-        Err(refusal) => return Err(refusal),
-    };
-    match read_text(alloc, store, base, head, &mut reader) {
-        Ok(()) => {}
-        Err(refusal) => return Err(refusal),
+    match load_text(alloc, store, base, head) {
+        Ok(mut reader) => check_loaded(alloc, store, base, head, &mut reader),
+        Err(refusal) => Err(refusal),
     }
-    check_rest(alloc, store, base, head, &mut reader)
 }

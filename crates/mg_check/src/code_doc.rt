@@ -2,7 +2,7 @@
 //!
 //! Nothing is known of what decoding damaged text gives. So a document is kept only once its own code is found in the
 //! text: it is coded by the same model into a store of its own, and the bytes are compared.
-ghost use Rattle.std.specs.Prelude.{◌≡◌, ◌+◌, ◌*◌, ◌<◌, ◌^◌, ◌∷◌, [], ℕ, Contains, IsSome, length};
+ghost use Rattle.std.specs.Prelude.{◌≡◌, ◌+◌, ◌*◌, ◌<◌, ◌^◌, ◌∷◌, [], ℕ, false, Contains, IsSome, length};
 ghost use Rattle.mg_defs.specs.Bits.{Bits};
 ghost use Rattle.mg_defs.specs.Marks.{code_of};
 ghost use Rattle.mg_defs.specs.Means.{HasCodewords, IsCodable, IsModel, IsStreamCode};
@@ -152,6 +152,38 @@ fn count_pairs(doc: &[u8]) -> u32
     Pairs::new(doc).count() as u32
 }
 
+// Codes a document by a writer to which nothing was put.
+fn put_doc<S: Store>(
+    writer: &mut TextWriter<'_>,
+    store: &mut S,
+    model: &TextModel,
+    doc: &[u8],
+    uses: &mut Uses,
+) -> Result<Option<()>, PutErr>
+    requires took { IsOnText writer.old (S.files store.old) [] [] }
+    requires base { writer.old.base ≡ [] }
+    requires docs { writer.old.docs ≡ 0 }
+    requires pairs { writer.old.pairs ≡ 0 }
+    requires closed { writer.old.is_open ≡ false }
+    requires few { length doc.now < 2 ^ 32 }
+    requires model { IsModel model.now }
+    requires words { HasRoom model.now.words uses.old.words.items (length doc.now) }
+    requires others { HasRoom model.now.others uses.old.others.items (length doc.now) }
+    ensures coded { WherePut result (IsSome (S.files store.old) → IsCodedAs model.now doc.now (text_in (S.files store.new)) uses.old uses.new) }
+    ensures unknown { WhereUnknown result (IsCodable model.now doc.now → ⊥) }
+{
+    let count = count_pairs(doc);
+    writer.begin_doc(store, count)?;
+    match put_pairs(writer, store, model, doc, uses) {
+        Ok(Some(())) => {}
+        Ok(None) => return Ok(None),
+        Err(refusal) => return Err(refusal),
+    }
+    writer.end_doc(store)?;
+    writer.finish(store)?;
+    Ok(Some(()))
+}
+
 // Codes a document into an empty store.
 fn code_into<S: Store>(
     alloc: Global,
@@ -167,17 +199,8 @@ fn code_into<S: Store>(
     ensures coded { WherePut result (IsSome (S.files store.old) → IsCodedAs model.now doc.now (text_in (S.files store.new)) uses.old uses.new) }
     ensures unknown { WhereUnknown result (IsCodable model.now doc.now → ⊥) }
 {
-    let count = count_pairs(doc);
     let mut writer = TextWriter::start(alloc, store, BASE)?;
-    writer.begin_doc(store, count)?;
-    match put_pairs(&mut writer, store, model, doc, uses) {
-        Ok(Some(())) => {}
-        Ok(None) => return Ok(None),
-        Err(refusal) => return Err(refusal),
-    }
-    writer.end_doc(store)?;
-    writer.finish(store)?;
-    Ok(Some(()))
+    put_doc(&mut writer, store, model, doc, uses)
 }
 
 /// Codes a document by a model and counts its pieces; None where one of them has no codeword, and then the counts are of
