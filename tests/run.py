@@ -24,6 +24,7 @@ import collect
 import collect_mail
 import collect_odd
 import collect_sources
+import damage_lines
 import damages
 import dialogs
 import docs
@@ -35,6 +36,7 @@ import merges
 import packaging
 import pages
 import patterns
+import peaks
 import phrases
 import pictures
 import shards
@@ -242,7 +244,9 @@ MODULES = (
     shards_asked,
     shards_slurm,
     dialogs,
+    damage_lines,
     damages,
+    peaks,
     manual,
     helped,
     collect,
