@@ -7,7 +7,8 @@
 # make dist       leaves an archive of what is installed as bin/mg-VERSION-linux-x86_64.tar.gz
 # make deb        leaves a binary package for Debian as bin/mg-retrieval_VERSION_amd64.deb
 # make docs       draws docs/layers.svg from crates.txt, by graphviz
-# make bench      measures it beside SQLite's FTS5, Xapian and grep, on the kernel's documentation, and draws what it saw
+# make bench      measures it beside SQLite's FTS5, Xapian, gzip and grep, on the kernel's documentation, beside what it is to
+#                 reach, and draws what it saw
 # make costs CRATE=mg_bool    lists the modules of a crate's proof by their time
 #
 # NAME is the name of the installed program, of its page and of its completion: Debian has an editor of the name mg, and
@@ -129,6 +130,7 @@ bench: bin/mg
 	/usr/bin/python3 -c 'import sqlite3, xapian, matplotlib' || { apt-get update && apt-get install -y python3 python3-xapian python3-matplotlib; }
 	/usr/bin/python3 bench/compare.py bin/mg --figures docs/speeds/figures.json
 	/usr/bin/python3 bench/linear.py bin/mg --figures docs/speeds/figures.json
+	/usr/bin/python3 bench/goals.py bin/mg --figures docs/speeds/figures.json
 	/usr/bin/python3 bench/charts.py docs/speeds/figures.json docs/speeds
 
 costs:
