@@ -1,5 +1,5 @@
 -- What stands where a skip entry is read.
-use Rattle.std.proofs.Common.{arith, ◌≡◌, ◌+◌, ◌-◌, ◌*◌, ◌^◌, ◌%◌, ◌≤◌, ◌<◌, ℕ, List, ◌++◌, length, take, drop, Option, Some, None, Result, Ok, Err, refl, sym, ◌∙◌, ap, subst, length-append, IfOk, ◌⊎◌, inl, inr}
+use Rattle.std.proofs.Common.{arith, ◌≡◌, ◌+◌, ◌-◌, ◌*◌, ◌/◌, ◌^◌, ◌%◌, ◌≤◌, ◌<◌, ℕ, List, ◌++◌, length, take, drop, Option, Some, None, Result, Ok, Err, refl, sym, ◌∙◌, ap, subst, length-append, IfOk, ◌⊎◌, inl, inr}
 use Rattle.std.proofs.lemmas.List.{take-append-drop}
 use Rattle.mg_defs.specs.declared.Posting.{Posting}
 use Rattle.mg_defs.specs.Bits.{Bits, Begins, FromPlace, Shows, digits}
@@ -8,8 +8,8 @@ use Rattle.mg_defs.proofs.PageLaws.{pages_some}
 use Rattle.mg_defs.proofs.BitLaws.{length_digits, digits_same}
 use Rattle.mg_defs.proofs.FrontLaws.{begins_length, shows_left, shows_right}
 use Rattle.mg_defs.proofs.ListLaws.{bits_append, rises_left, last_within}
-use Rattle.mg_bits.specs.Feed.{lacks}
-use Rattle.mg_bits.specs.Reader.{AnswersBits}
+use Rattle.mg_bits.specs.Feed.{Feeding, lacks}
+use Rattle.mg_bits.specs.Reader.{AnswersBits, DeviceCause}
 use Rattle.mg_bits.proofs.CallerLemmas.{lacks_next}
 use Rattle.mg_bits.specs.declared.bit_err.BitErr.{BitErr}
 use Rattle.mg_bits.specs.declared.bit_err.BitErr.TheVariants as bits
@@ -17,7 +17,8 @@ use Rattle.mg_post.specs.declared.refusal.Refusal.{Refusal}
 use Rattle.mg_post.specs.declared.refusal.Refusal.TheVariants.{Device, Damaged}
 use Rattle.mg_post.specs.Stands.{SkipStands}
 use Rattle.mg_post.specs.Finding.{LacksAnEntry, LacksBits, LacksLast, LacksNumber, ReadTo, SkipReads, TellsBefore, TellsBlock, TellsLast, entry_page, entries_pages}
-use Rattle.mg_post.specs.Answers.{IfDamaged, IsNumber, OnDamage, OrDevice, of_bits}
+use Rattle.mg_post.specs.Searching.{HoldsPage}
+use Rattle.mg_post.specs.Answers.{IfDamaged, IsNumber, OnDamage, OrDevice, RefusalCause, of_bits}
 
 number_got : (result : Result ℕ BitErr) (place y : ℕ) (s : Bits) → IfOk result (λ v. v < 2 ^ 64) → y < 2 ^ 64 → Begins (digits 64 y) s → AnswersBits result place 64 s → IsNumber result y
 number_got (Ok v) place y s below small begins answers =
@@ -224,3 +225,34 @@ lacks_bits told (Err refusal) skip_at block place is at ends =
 
 pub lacks_wider : (skip : Option (List ℕ)) (skip_at all low high from to at : ℕ) → from ≤ low → high ≤ to → LacksAnEntry skip skip_at all low high at → LacksAnEntry skip skip_at all from to at
 lacks_wider skip skip_at all low high from to at le most h = (h.0, omega (arith, le, h.1), omega (arith, most, h.2), h.3)
+
+-- ---- the page of a number in an entry
+
+pub page_of_entry : (n place : ℕ) → place ≡ 128 * n → place / 32768 ≡ entry_page n
+page_of_entry n place is = omega (arith, is)
+
+pub page_of_bits : (n place : ℕ) → place ≡ 128 * n + 64 → place / 32768 ≡ entry_page n
+page_of_bits n place is = omega (arith, is)
+
+pub holds_same : {T : Type 0} (p q : ℕ) (r : Result T Refusal) (old new : Feeding) → p ≡ q → HoldsPage p r old new → HoldsPage q r old new
+holds_same p q r old new is h = subst (λ n. HoldsPage n r old new) is h
+
+pub holds_ok : {T V : Type 0} (p q : ℕ) (x : T) (y : V) (old new : Feeding) → p ≡ q → HoldsPage p (Ok x) old new → HoldsPage q (Ok y) old new
+holds_ok p q x y old new is h = record { count = subst (λ n. new.count ≤ old.count + lacks old.held n) is h.count; held = h.held ∙ ap Some is }
+
+pub holds_err : {T V : Type 0} (p q : ℕ) (r : Result T Refusal) (refusal : Refusal) (old new : Feeding) → p ≡ q → HoldsPage p r old new → HoldsPage {T = V} q (Err refusal) old new
+holds_err p q r refusal old new is h = record { count = subst (λ n. new.count ≤ old.count + lacks old.held n) is h.count; held = tt }
+
+-- ---- causes
+
+-- a device's failure in a later call has a cause
+pub any_cause : (T V : Type 0) (refusal : Refusal) (a b c : ℕ) → a ≤ b → RefusalCause {T = T} (Err refusal) b c → RefusalCause {T = V} (Err refusal) a c
+any_cause T V Device a b c le rose = omega (arith, le, rose)
+any_cause T V (Damaged at) a b c le rose = tt
+
+pub bits_cause : (T V : Type 0) (refusal : BitErr) (place before now : ℕ) → DeviceCause {T = T} (Err refusal) before now → RefusalCause {T = V} (Err (of_bits refusal place)) before now
+bits_cause T V bits.Device place before now rose = rose
+bits_cause T V (bits.End at) place before now rose = tt
+
+pub reads_at : (skip_at low blocks : ℕ) (held : Option ℕ) (count : ℕ) → low ≡ blocks → SkipReads skip_at low held count → SkipReads skip_at blocks held count
+reads_at skip_at low blocks held count is reads = subst (λ n. SkipReads skip_at n held count) is reads

@@ -4,9 +4,11 @@ pub mod Stands
 pub mod Missing
 pub mod Reading
 pub mod Finding
+pub mod Searching
 pub mod Cursor
 pub mod Entering
 pub mod Damages
+pub mod CursorSteps
 pub mod Laws
 pub mod TermLists
 pub mod Writing

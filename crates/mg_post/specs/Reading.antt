@@ -1,10 +1,13 @@
 -- What a reader of postings reads from a feed and its device, by the functions that tell what contracts see of both.
 use Rattle.std.specs.Prelude.{◌≡◌, ℕ, ◌+◌, ◌^◌, ◌≤◌, List, length, take, Option, Result, MatchResult}
-use Rattle.mg_bits.specs.Feed.{Feeding, Device, ReadsWithin}
+use Rattle.mg_dev.specs.Files.{Files}
+use Rattle.mg_bits.specs.Feed.{Calm, Feeding, Device, ReadsWithin}
 use Rattle.mg_bits.specs.Reading.{Reading}
 use Rattle.mg_defs.specs.Bits.{Shows}
 use Rattle.mg_defs.specs.declared.Posting.{Posting}
 use Rattle.mg_defs.specs.Lists.{posting_bits, bits_after, Rises, Follows}
+use Rattle.mg_post.specs.Answers.{RefusalCause}
+use Rattle.mg_post.specs.declared.refusal.Refusal.{Refusal}
 
 -- the bytes that a reader reads, where its device tells them
 abbrev pub told_bytes : {Fed Dev : Type 0} → (Fed → Feeding) → (Dev → Device) → Reading Fed → Dev → Option (List ℕ)
@@ -34,3 +37,17 @@ OnlyListPages feeding device old new dev now all parameter before count = ForNex
 -- the place now is so many bits behind that before; where the call is refused it is the same
 abbrev pub GoesBehind : {T E : Type 0} → Result T E → ℕ → ℕ → ℕ → Type 0
 GoesBehind result place place_now bits = MatchResult result (λ _. place_now ≡ place + bits) (λ _. place_now ≡ place)
+
+-- ---- a call that reads from a feed
+
+-- the feed agrees with its device, and has pages of 4,096 bytes
+pub record FeedsPages {Fed Dev : Type 0} (agrees : Fed → Option Files → Type 0) (feeding : Fed → Feeding) (device : Dev → Device) (r : Reading Fed) (d : Dev) : Type 0 where
+  pub fits : agrees r.feed (device d).files
+  pub page : (feeding r.feed).page ≡ 4096
+
+-- a call does this, by the bytes that are told and the feed before and after it; the feed agrees with its device, nothing is read but its own part, and a device's failure has a cause
+pub record ReadsFeed {Fed Dev T : Type 0} (promise : Result T Refusal → Option (List ℕ) → Feeding → Feeding → Type 0) (agrees : Fed → Option Files → Type 0) (feeding : Fed → Feeding) (device : Dev → Device) (old new : Reading Fed) (dev now : Dev) (result : Result T Refusal) : Type 0 where
+  pub does : promise result (told_bytes feeding device old dev) (feeding old.feed) (feeding new.feed)
+  pub fits : agrees new.feed (device now).files
+  pub calm : Calm (feeding old.feed) (feeding new.feed) (device dev) (device now)
+  pub cause : RefusalCause result (device dev).faults (device now).faults

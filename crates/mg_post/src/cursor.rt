@@ -1,6 +1,7 @@
 //! A cursor over a list.
-ghost use Rattle.std.specs.Prelude.{◌≡◌, ◌≢◌, ◌+◌, ◌/◌, ◌<◌, ◌≤◌, ◌^◌, List, [], true, false, Option, Some, None, Ok, Err, IfOk, IfErr, IfSome, OnOk, OnErr};
+ghost use Rattle.std.specs.Prelude.{◌≡◌, ◌≢◌, ◌+◌, ◌/◌, ◌<◌, ◌≤◌, ◌^◌, List, [], true, false, Option, Some, None, Ok, Err, IfOk, IfErr, IfSome, OnOk};
 ghost use Rattle.mg_dev.specs.Files.{Files};
+ghost use Rattle.mg_dev.specs.Moments.{Between};
 ghost use Rattle.mg_dev.specs.PartCauses.{HasPartCause};
 ghost use Rattle.mg_dev.specs.declared.part.Part.TheVariants as part;
 ghost use Rattle.mg_defs.specs.declared.Posting.{Posting};
@@ -8,12 +9,13 @@ ghost use Rattle.mg_defs.specs.Codes.{golomb_parameter};
 ghost use Rattle.mg_defs.specs.Lists.{block_count, from_doc};
 ghost use Rattle.mg_post.specs.Damages.{EntriesStand, HasPostCause, HasSkipCause, NamesPart};
 ghost use Rattle.mg_post.specs.Finding.{entries_pages};
-ghost use Rattle.mg_post.specs.Cursor.{head_of, after, next_doc, post_pages, entered_pages, skip_pages, CursorFits, SameList, SamePlace, StandsAt, IsFrom, NamesItsPart, ReadsTwo, Enters, AnswersRest, ForList};
+ghost use Rattle.mg_post.specs.Cursor.{head_of, after, next_doc, post_pages, entered_pages, skip_pages, CursorFits, SameList, SamePlace, StandsAt, IsFrom, NamesItsPart};
+ghost use Rattle.mg_post.specs.CursorSteps.{CursorStep};
 ghost use Rattle.mg_post.specs.TermLists.{AnswersForTerm, ReadsLists, CursorForInfo, TermPages, IsOverInfo, ForTerm};
 
 use crate::block::Block;
-use crate::enter::enter;
-use crate::find::find_block;
+use crate::enter::{ListPlace, enter};
+use crate::find::{SkipSearch, find_block};
 use crate::refusal::refused_part;
 use crate::writer::parameter_of;
 use mg_bits::{BitReader, PageFeed};
@@ -34,12 +36,14 @@ use std::mem::swap;
 /// entered, and the pages of Skip that were read. Of a block whose reading was refused, the second
 /// number has the pages that were read. After a refusal the cursor stands where it stood.
 ///
-/// A damage is one of Skip or Post, told with the bit where nothing of what is to stand was found. It
-/// is one of Skip only where an entry from there on doesn't stand, and never where the entries are those
-/// of the list; the bit is the first of the number in that entry that doesn't. It is one of Post only
-/// where the entries lead to a block that doesn't stand in Post; the bit is the first of the gap or the
-/// count that is missing behind the postings that stand, or of the block where it ends with another
-/// document than its entry tells.
+/// A damage is told of one part, with the first bit of what is missing. Where the skip entries are those
+/// of the list, none is told of Skip.
+///
+/// | Part | What does not stand | Bit |
+/// |---|---|---|
+/// | Skip | an entry of a block that is searched | the first of the number in it that doesn't stand |
+/// | Post | a posting of the block that the entries lead to | the first of its gap, or of its count where the gap stands |
+/// | Post | a block that ends with the document that its entry tells | the first of the block |
 #[derive(Drop)]
 pub struct Cursor<'a, S: Store> {
     post: BitReader<PageFeed<'a, S>>,
@@ -114,12 +118,14 @@ impl<'a, S: Store> Cursor<'a, S> {
         all: u32,
     ) -> Result<Self, AllocError>
         ensures over { IfOk result (λ c. IsOverInfo c base.entry.now info.entry.now all) }
-        ensures parameter { IfOk result (λ c. 1 ≤ info.entry.now.docs → c.parameter ≡ golomb_parameter all info.entry.now.docs) }
+        ensures parameter { IfOk result (λ c. 1 ≤ info.entry.now.docs →
+            c.parameter ≡ golomb_parameter all info.entry.now.docs) }
         ensures fits { IfOk result (λ c. (files : Option Files) → CursorFits c files) }
         ensures term { IfOk result (CursorForInfo base.entry.now info.entry.now all) }
         ensures at { IfOk result (λ c. (ps : List Posting) → StandsAt c ps ps) }
         ensures before { IfOk result (λ c. c.held ≡ []) }
-        ensures nothing { IfOk result (λ c. (post_pages c ≡ 0) × (entered_pages c ≡ 0) × (skip_pages c ≡ 0)) }
+        ensures nothing { IfOk result
+            (λ c. (post_pages c ≡ 0) × (entered_pages c ≡ 0) × (skip_pages c ≡ 0)) }
     {
         let post_file = FileRef {
             base,
@@ -163,27 +169,14 @@ impl<'a, S: Store> Cursor<'a, S> {
     pub fn advance_to(&mut self, store: &mut S, doc: u32) -> Result<Option<Posting>, PartErr>
         requires fits { CursorFits self.old (S.files store.old) }
         requires some { 1 ≤ doc }
-        ensures fits { OnOk result (CursorFits self.new (S.files store.new)) }
-        ensures same { SameList self.old self.new }
-        ensures answer { ForList self.old (S.files store.old) (λ ps left. AnswersRest result self.new ps (from_doc doc left)) }
-        ensures entered { ForList self.old (S.files store.old) (λ ps left. Enters result ps self.old doc self.new) }
-        ensures first { post_pages self.new ≤ entered_pages self.new }
-        ensures third { skip_pages self.new ≤ entries_pages self.new.skip_at (block_count self.new.docs) }
-        ensures reads { ReadsTwo self.old self.new (S.reads store.old) (S.reads store.new) }
-        ensures ended { self.old.ended ≡ true → (result ≡ Ok None) × (self.new ≡ self.old) × (store.new ≡ store.old) }
-        ensures current { IfOk result (λ found. found ≡ head_of self.new.held) }
-        ensures sound { IfOk result (λ found. IfSome found (IsFrom doc self.old.all)) }
-        ensures stays { (p : Posting) → head_of self.old.held ≡ Some p → doc ≤ p.doc → (result ≡ Ok (Some p)) × SamePlace self.old self.new }
-        ensures forward { self.old.reached ≤ self.new.reached }
-        ensures part { IfErr result NamesItsPart }
-        ensures post { (ps left : List Posting) → EntriesStand self.old (S.files store.old) ps → StandsAt self.old ps left →
-            IfErr result (NamesPart part.Post) }
-        ensures block { IfErr result (HasPostCause self.old (S.files store.old) doc) }
-        ensures entry { IfErr result (HasSkipCause self.old (S.files store.old)) }
-        ensures kept { OnErr result (SamePlace self.old self.new) }
-        ensures files { S.files store.new ≡ S.files store.old }
-        ensures memory { result ≢ Err PartErr.Memory }
-        ensures cause { HasPartCause (S.faults store.old) (S.faults store.new) result }
+        ensures step { Between S.files S.reads S.faults store.old store.new
+            (CursorStep self.old self.new doc doc (from_doc doc) result) }
+        // Nothing is read from then on.
+        ensures ended { self.old.ended ≡ true →
+            (result ≡ Ok None) × (self.new ≡ self.old) × (store.new ≡ store.old) }
+        // It never goes back.
+        ensures stays { (p : Posting) → head_of self.old.held ≡ Some p → doc ≤ p.doc →
+            (result ≡ Ok (Some p)) × SamePlace self.old self.new }
     {
         if self.ended {
             return Ok(None);
@@ -200,40 +193,21 @@ impl<'a, S: Store> Cursor<'a, S> {
     #[inline(never)]
     fn enter_next(&mut self, store: &mut S, doc: u32) -> Result<Option<Posting>, PartErr>
         requires fits { CursorFits self.old (S.files store.old) }
-        requires some { 1 ≤ doc }
         requires on { self.old.ended ≡ false }
         requires beyond { self.old.last < doc }
-        ensures fits { OnOk result (CursorFits self.new (S.files store.new)) }
-        ensures same { SameList self.old self.new }
-        ensures answer { ForList self.old (S.files store.old) (λ ps left. AnswersRest result self.new ps (from_doc doc left)) }
-        ensures entered { ForList self.old (S.files store.old) (λ ps left. Enters result ps self.old doc self.new) }
-        ensures first { post_pages self.new ≤ entered_pages self.new }
-        ensures third { skip_pages self.new ≤ entries_pages self.new.skip_at (block_count self.new.docs) }
-        ensures reads { ReadsTwo self.old self.new (S.reads store.old) (S.reads store.new) }
-        ensures current { IfOk result (λ found. found ≡ head_of self.new.held) }
-        ensures sound { IfOk result (λ found. IfSome found (IsFrom doc self.old.all)) }
-        ensures forward { self.old.reached ≤ self.new.reached }
-        ensures part { IfErr result NamesItsPart }
-        ensures post { (ps left : List Posting) → EntriesStand self.old (S.files store.old) ps → StandsAt self.old ps left →
-            IfErr result (NamesPart part.Post) }
-        ensures block { IfErr result (HasPostCause self.old (S.files store.old) doc) }
-        ensures entry { IfErr result (HasSkipCause self.old (S.files store.old)) }
-        ensures kept { OnErr result (SamePlace self.old self.new) }
-        ensures files { S.files store.new ≡ S.files store.old }
-        ensures memory { result ≢ Err PartErr.Memory }
-        ensures cause { HasPartCause (S.faults store.old) (S.faults store.new) result }
+        ensures { Between S.files S.reads S.faults store.old store.new
+            (CursorStep self.old self.new doc doc (from_doc doc) result) }
     {
         let blocks = count_blocks(self.docs);
-        match find_block(
-            &mut self.skip,
-            store,
-            self.skip_at,
+        let search = SkipSearch {
+            skip_at: self.skip_at,
             blocks,
-            self.reached,
-            self.last,
-            self.all,
+            reached: self.reached,
+            last: self.last,
+            all: self.all,
             doc,
-        ) {
+        };
+        match find_block(&mut self.skip, store, &search) {
             Err(refusal) => Err(refused_part(refusal, Part::Skip)),
             Ok(None) => {
                 self.block.clear();
@@ -243,17 +217,13 @@ impl<'a, S: Store> Cursor<'a, S> {
             }
             Ok(Some(found)) => {
                 let before = self.post.feed().reads();
-                match enter(
-                    &mut self.post,
-                    store,
-                    &mut self.spare,
-                    self.post_at,
-                    self.docs,
-                    self.parameter,
-                    self.all,
-                    found,
-                    doc,
-                ) {
+                let list = ListPlace {
+                    post_at: self.post_at,
+                    docs: self.docs,
+                    parameter: self.parameter,
+                    all: self.all,
+                };
+                match enter(&mut self.post, store, &mut self.spare, &list, found, doc) {
                     Err(refusal) => {
                         let read = self.post.feed().reads() - before;
                         self.entered = self.entered.saturating_add(read);
@@ -276,26 +246,10 @@ impl<'a, S: Store> Cursor<'a, S> {
     #[inline]
     pub fn next(&mut self, store: &mut S) -> Result<Option<Posting>, PartErr>
         requires fits { CursorFits self.old (S.files store.old) }
-        ensures fits { OnOk result (CursorFits self.new (S.files store.new)) }
-        ensures same { SameList self.old self.new }
-        ensures answer { ForList self.old (S.files store.old) (λ ps left. AnswersRest result self.new ps (after self.old.held left)) }
-        ensures entered { ForList self.old (S.files store.old) (λ ps left. Enters result ps self.old (next_doc self.old.held) self.new) }
-        ensures first { post_pages self.new ≤ entered_pages self.new }
-        ensures third { skip_pages self.new ≤ entries_pages self.new.skip_at (block_count self.new.docs) }
-        ensures reads { ReadsTwo self.old self.new (S.reads store.old) (S.reads store.new) }
-        ensures ended { self.old.ended ≡ true → (result ≡ Ok None) × (self.new ≡ self.old) × (store.new ≡ store.old) }
-        ensures current { IfOk result (λ found. found ≡ head_of self.new.held) }
-        ensures sound { IfOk result (λ found. IfSome found (IsFrom (next_doc self.old.held) self.old.all)) }
-        ensures forward { self.old.reached ≤ self.new.reached }
-        ensures part { IfErr result NamesItsPart }
-        ensures post { (ps left : List Posting) → EntriesStand self.old (S.files store.old) ps → StandsAt self.old ps left →
-            IfErr result (NamesPart part.Post) }
-        ensures block { IfErr result (HasPostCause self.old (S.files store.old) (self.old.last + 1)) }
-        ensures entry { IfErr result (HasSkipCause self.old (S.files store.old)) }
-        ensures kept { OnErr result (SamePlace self.old self.new) }
-        ensures files { S.files store.new ≡ S.files store.old }
-        ensures memory { result ≢ Err PartErr.Memory }
-        ensures cause { HasPartCause (S.faults store.old) (S.faults store.new) result }
+        ensures step { Between S.files S.reads S.faults store.old store.new
+            (CursorStep self.old self.new (next_doc self.old.held) (self.old.last + 1) (after self.old.held) result) }
+        ensures ended { self.old.ended ≡ true →
+            (result ≡ Ok None) × (self.new ≡ self.old) × (store.new ≡ store.old) }
     {
         if self.ended {
             return Ok(None);
@@ -324,13 +278,14 @@ impl<'a, S: Store> Cursor<'a, S> {
         ensures fits { OnOk result (CursorFits self.new (S.files store.new)) }
         ensures same { SameList self.old self.new }
         ensures answer { ForTerm doc (S.files store.old) self.old (AnswersForTerm result doc self.new) }
-        ensures pages { ForTerm doc (S.files store.old) self.old (TermPages self.old self.new (S.reads store.old) (S.reads store.new)) }
+        ensures pages { ForTerm doc (S.files store.old) self.old
+            (TermPages self.old self.new (S.reads store.old) (S.reads store.new)) }
         ensures third { skip_pages self.new ≤ entries_pages self.new.skip_at (block_count self.new.docs) }
         ensures reads { ReadsLists (S.reads store.old) (S.reads store.new) }
         ensures sound { IfOk result (λ found. IfSome found (IsFrom doc self.old.all)) }
         ensures part { IfErr result NamesItsPart }
-        ensures post { (ps left : List Posting) → EntriesStand self.old (S.files store.old) ps → StandsAt self.old ps left →
-            IfErr result (NamesPart part.Post) }
+        ensures post { (ps left : List Posting) → EntriesStand self.old (S.files store.old) ps →
+            StandsAt self.old ps left → IfErr result (NamesPart part.Post) }
         ensures block { IfErr result (HasPostCause self.old (S.files store.old) doc) }
         ensures entry { IfErr result (HasSkipCause self.old (S.files store.old)) }
         ensures files { S.files store.new ≡ S.files store.old }

@@ -1,12 +1,9 @@
 //! Entering a block.
-ghost use Rattle.std.specs.Prelude.{◌≡◌, ◌+◌, ◌-◌, ◌*◌, ◌<◌, ◌≤◌, ◌^◌, min, IfOk, OnOk, Some};
-ghost use Rattle.mg_bits.specs.Feed.{Calm};
+ghost use Rattle.std.specs.Prelude.{◌≡◌, ◌+◌, ◌-◌, ◌*◌, ◌<◌, ◌≤◌, ◌^◌, min};
 ghost use Rattle.mg_defs.specs.PagesOf.{pages};
-ghost use Rattle.mg_defs.specs.declared.Posting.{Posting};
-ghost use Rattle.mg_post.specs.Cursor.{head_of, IsFrom, IsPlace, HeldRises};
-ghost use Rattle.mg_post.specs.Answers.{IfDamaged, OrDevice, RefusalCause};
-ghost use Rattle.mg_post.specs.Reading.{told_bytes};
-ghost use Rattle.mg_post.specs.Entering.{EntersFound, LacksFound, WhereBlockStands, ReadsFound};
+ghost use Rattle.mg_post.specs.Cursor.{IsPlace};
+ghost use Rattle.mg_post.specs.Reading.{FeedsPages, ReadsFeed};
+ghost use Rattle.mg_post.specs.Entering.{EntersFound};
 
 use crate::block::Block;
 use crate::find::Found;
@@ -19,6 +16,16 @@ use mg_defs::Posting;
 pub struct Inside {
     pub posting: Posting,
     pub pages: u64,
+}
+
+/// A list in Post: the byte where it begins, how many postings it has, its parameter, and the number
+/// of documents.
+#[derive(Clone, Copy)]
+pub struct ListPlace {
+    pub post_at: u64,
+    pub docs: u32,
+    pub parameter: u64,
+    pub all: u32,
 }
 
 /// How many pages of 4,096 bytes have a bit of a range.
@@ -49,46 +56,33 @@ fn place_or_most(byte: u64, bits: u64) -> u64
     byte.saturating_mul(8).saturating_add(bits)
 }
 
-/// Reads the block that was found of a list which begins at a byte of the part, and goes to its
-/// first posting whose document is at least `doc`. A block that doesn't end with the document that
-/// its skip entry tells is refused, so that documents rise from block to block over any parts.
+/// Reads the block that was found of a list, and goes to its first posting whose document is at least
+/// `doc`. A block that doesn't end with the document that its skip entry tells is refused, so that
+/// documents rise from block to block over any parts.
 pub fn enter<F: Feed>(
     r: &mut BitReader<F>,
     dev: &mut F::Dev,
     block: &mut Block,
-    post_at: u64,
-    docs: u32,
-    parameter: u64,
-    all: u32,
+    list: &ListPlace,
     found: Found,
     doc: u32,
 ) -> Result<Inside, Refusal>
-    requires fits { F.fits r.old.feed (F.device dev.old).files }
-    requires page { (F.feeding r.old.feed).page ≡ 4096 }
-    requires before { found.before ≤ all }
-    requires there { 64 * found.block < docs }
-    requires parameter { 1 ≤ parameter }
-    requires limit { parameter < 2 ^ 48 }
-    ensures fits { F.fits r.new.feed (F.device dev.new).files }
-    ensures calm { Calm (F.feeding r.old.feed) (F.feeding r.new.feed) (F.device dev.old) (F.device dev.new) }
-    ensures sound { OnOk result (HeldRises all found.last block.new) }
-    ensures from { IfOk result (λ i. IsFrom doc all i.posting) }
-    ensures count { IfOk result (λ i. (F.feeding r.new.feed).count ≤ (F.feeding r.old.feed).count + i.pages) }
-    ensures current { IfOk result (λ i. head_of block.new ≡ Some i.posting) }
-    ensures told { EntersFound F.feeding F.device r.old dev.old all parameter post_at docs doc found result block.new }
-    ensures block { WhereBlockStands (told_bytes F.feeding F.device r.old dev.old) all parameter post_at docs doc found (OrDevice result (λ _. Unit {0})) }
-    ensures lacks { IfDamaged result (LacksFound (told_bytes F.feeding F.device r.old dev.old) all parameter post_at docs doc found) }
-    ensures most { ReadsFound F.feeding F.device r.old r.new dev.old all parameter post_at docs doc found }
-    ensures cause { RefusalCause result (F.device dev.old).faults (F.device dev.new).faults }
+    requires feed { FeedsPages F.fits F.feeding F.device r.old dev.old }
+    requires before { found.before ≤ list.now.all }
+    requires there { 64 * found.block < list.now.docs }
+    requires parameter { 1 ≤ list.now.parameter }
+    requires limit { list.now.parameter < 2 ^ 48 }
+    ensures { ReadsFeed (EntersFound list.now found doc block.new) F.fits F.feeding F.device
+        r.old r.new dev.old dev.new result }
 {
-    let Some(place) = place_of(post_at, found.at) else {
+    let Some(place) = place_of(list.post_at, found.at) else {
         return Err(Refusal::Damaged {
-            at: place_or_most(post_at, found.at),
+            at: place_or_most(list.post_at, found.at),
         });
     };
     r.seek(place);
-    let left = (docs - 64 * found.block) as usize;
-    match block.fill(r, dev, parameter, left.min(64), found.before, all) {
+    let left = (list.docs - 64 * found.block) as usize;
+    match block.fill(r, dev, list.parameter, left.min(64), found.before, list.all) {
         Ok(last) => {
             if last != found.last {
                 return Err(Refusal::Damaged { at: place });

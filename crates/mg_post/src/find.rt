@@ -3,14 +3,10 @@
 //! The entries of a list rise, so a page of them is passed by a look at its last one, and within a
 //! page the entry is found by halves. Each page is read at most once, and in rising order: over a
 //! cursor's life the reads of Skip are at most the pages of the list's entries.
-ghost use Rattle.std.specs.Prelude.{◌≡◌, ◌+◌, ◌-◌, ◌*◌, ◌/◌, ◌%◌, ◌<◌, ◌≤◌, ◌^◌, ℕ, Some, IfOk, OnOk, IfSome};
-ghost use Rattle.mg_bits.specs.Feed.{Calm, lacks};
-ghost use Rattle.mg_defs.specs.Bits.{Begins, FromPlace, Shows, digits};
-ghost use Rattle.mg_defs.specs.Lists.{SkipEntry};
-ghost use Rattle.mg_post.specs.Stands.{ShowsEntry};
-ghost use Rattle.mg_post.specs.Finding.{IsSound, LacksAnEntry, LacksBits, LacksLast, LacksNumber, SkipReads, TellsBits, TellsLast, blocks_after, entries_pages, entry_page, TellsFound, FindsBlock, FindsOnPage, TellsOnPage};
-ghost use Rattle.mg_post.specs.Answers.{IfDamaged, RefusalCause, AnswersThis};
-ghost use Rattle.mg_post.specs.Reading.{told_bytes};
+ghost use Rattle.std.specs.Prelude.{◌≡◌, ◌+◌, ◌*◌, ◌%◌, ◌<◌, ◌≤◌, ◌^◌, Some};
+ghost use Rattle.mg_post.specs.Finding.{SkipReads, entry_page};
+ghost use Rattle.mg_post.specs.Reading.{FeedsPages, ReadsFeed};
+ghost use Rattle.mg_post.specs.Searching.{ReadsBits, ReadsLast, ReadsNumber, SearchesBlock, SearchesPage};
 
 use crate::refusal::{Refusal, refused_bits};
 use mg_bits::{BitReader, Feed};
@@ -25,21 +21,35 @@ pub struct Found {
     pub at: u64,
 }
 
+/// The search for the block of a document: the number of the list's first skip entry, how many
+/// blocks the list has, those from `reached` on that are searched, the last document before these,
+/// and the number of documents.
+#[derive(Clone, Copy)]
+pub struct SkipSearch {
+    pub skip_at: u32,
+    pub blocks: u32,
+    pub reached: u32,
+    pub last: u32,
+    pub all: u32,
+    pub doc: u32,
+}
+
+/// The blocks from `low` to `high`, whose entries lie on one page, with the last document before
+/// them and their own last document.
+#[derive(Clone, Copy)]
+pub struct PageBlocks {
+    pub low: u32,
+    pub high: u32,
+    pub before: u32,
+    pub last: u32,
+}
+
 /// The number of 8 bytes at a place.
 fn number_at<F: Feed>(r: &mut BitReader<F>, dev: &mut F::Dev, place: u64) -> Result<u64, Refusal>
-    requires fits { F.fits r.old.feed (F.device dev.old).files }
-    requires page { (F.feeding r.old.feed).page ≡ 4096 }
+    requires feed { FeedsPages F.fits F.feeding F.device r.old dev.old }
     requires place { place < 2 ^ 42 }
     requires whole { place % 64 ≡ 0 }
-    ensures fits { F.fits r.new.feed (F.device dev.new).files }
-    ensures calm { Calm (F.feeding r.old.feed) (F.feeding r.new.feed) (F.device dev.old) (F.device dev.new) }
-    ensures count { (F.feeding r.new.feed).count ≤ (F.feeding r.old.feed).count + lacks (F.feeding r.old.feed).held (place / 32768) }
-    ensures held { OnOk result ((F.feeding r.new.feed).held ≡ Some (place / 32768)) }
-    ensures shows { IfOk result (λ x. FromPlace (told_bytes F.feeding F.device r.old dev.old) place (Begins (digits 64 x))) }
-    ensures ends { IfDamaged result (λ _. LacksNumber (told_bytes F.feeding F.device r.old dev.old) place) }
-    ensures at { IfDamaged result (λ at. at ≡ place) }
-    ensures told { (y : ℕ) → y < 2 ^ 64 → Shows (told_bytes F.feeding F.device r.old dev.old) place (digits 64 y) → AnswersThis result y }
-    ensures cause { RefusalCause result (F.device dev.old).faults (F.device dev.new).faults }
+    ensures { ReadsFeed (ReadsNumber place) F.fits F.feeding F.device r.old r.new dev.old dev.new result }
 {
     r.seek(place);
     match r.bits(dev, 64) {
@@ -63,17 +73,9 @@ fn last_of<F: Feed>(
     block: u32,
     all: u32,
 ) -> Result<u32, Refusal>
-    requires fits { F.fits r.old.feed (F.device dev.old).files }
-    requires page { (F.feeding r.old.feed).page ≡ 4096 }
-    ensures fits { F.fits r.new.feed (F.device dev.new).files }
-    ensures calm { Calm (F.feeding r.old.feed) (F.feeding r.new.feed) (F.device dev.old) (F.device dev.new) }
-    ensures count { (F.feeding r.new.feed).count ≤ (F.feeding r.old.feed).count + lacks (F.feeding r.old.feed).held (entry_page (skip_at + block)) }
-    ensures held { OnOk result ((F.feeding r.new.feed).held ≡ Some (entry_page (skip_at + block))) }
-    ensures within { IfOk result (λ last. last ≤ all) }
-    ensures tells { IfOk result (TellsLast (told_bytes F.feeding F.device r.old dev.old) skip_at block) }
-    ensures lacks { IfDamaged result (LacksLast (told_bytes F.feeding F.device r.old dev.old) skip_at all block) }
-    ensures told { (e : SkipEntry) → e.last ≤ all → ShowsEntry (told_bytes F.feeding F.device r.old dev.old) skip_at block e → AnswersThis result e.last }
-    ensures cause { RefusalCause result (F.device dev.old).faults (F.device dev.new).faults }
+    requires { FeedsPages F.fits F.feeding F.device r.old dev.old }
+    ensures { ReadsFeed (ReadsLast skip_at all block) F.fits F.feeding F.device
+        r.old r.new dev.old dev.new result }
 {
     let place = entry_place(skip_at, block);
     match number_at(r, dev, place) {
@@ -94,16 +96,9 @@ fn bits_of<F: Feed>(
     skip_at: u32,
     block: u32,
 ) -> Result<u64, Refusal>
-    requires fits { F.fits r.old.feed (F.device dev.old).files }
-    requires page { (F.feeding r.old.feed).page ≡ 4096 }
-    ensures fits { F.fits r.new.feed (F.device dev.new).files }
-    ensures calm { Calm (F.feeding r.old.feed) (F.feeding r.new.feed) (F.device dev.old) (F.device dev.new) }
-    ensures count { (F.feeding r.new.feed).count ≤ (F.feeding r.old.feed).count + lacks (F.feeding r.old.feed).held (entry_page (skip_at + block)) }
-    ensures held { OnOk result ((F.feeding r.new.feed).held ≡ Some (entry_page (skip_at + block))) }
-    ensures tells { IfOk result (TellsBits (told_bytes F.feeding F.device r.old dev.old) skip_at block) }
-    ensures lacks { IfDamaged result (LacksBits (told_bytes F.feeding F.device r.old dev.old) skip_at block) }
-    ensures told { (e : SkipEntry) → e.bits < 2 ^ 64 → ShowsEntry (told_bytes F.feeding F.device r.old dev.old) skip_at block e → AnswersThis result e.bits }
-    ensures cause { RefusalCause result (F.device dev.old).faults (F.device dev.new).faults }
+    requires { FeedsPages F.fits F.feeding F.device r.old dev.old }
+    ensures { ReadsFeed (ReadsBits skip_at block) F.fits F.feeding F.device
+        r.old r.new dev.old dev.new result }
 {
     let place = entry_place(skip_at, block) + 64;
     number_at(r, dev, place)
@@ -122,48 +117,34 @@ fn page_end(skip_at: u32, block: u32, blocks: u32) -> u32
     if end < most { end as u32 } else { blocks - 1 }
 }
 
-/// The first of the blocks from `low` to `high` whose last document is at least `doc`. Their
-/// entries lie on the page that is held; the last document of `high` is known, and that before
-/// `low`.
+/// The first of the blocks of a page whose last document is at least that which is searched. The
+/// page with their entries is held.
 fn search_page<F: Feed>(
     r: &mut BitReader<F>,
     dev: &mut F::Dev,
-    skip_at: u32,
-    low: u32,
-    high: u32,
-    before: u32,
-    last: u32,
-    all: u32,
-    doc: u32,
+    search: &SkipSearch,
+    page: PageBlocks,
 ) -> Result<Found, Refusal>
-    requires fits { F.fits r.old.feed (F.device dev.old).files }
-    requires page { (F.feeding r.old.feed).page ≡ 4096 }
-    requires order { low ≤ high }
-    requires one_page { entry_page (skip_at + low) ≡ entry_page (skip_at + high) }
-    requires held { (F.feeding r.old.feed).held ≡ Some (entry_page (skip_at + high)) }
-    requires known { before ≤ all }
-    requires below { before < doc }
-    requires within { doc ≤ last }
-    requires most { last ≤ all }
-    ensures fits { F.fits r.new.feed (F.device dev.new).files }
-    ensures calm { Calm (F.feeding r.old.feed) (F.feeding r.new.feed) (F.device dev.old) (F.device dev.new) }
-    ensures count { (F.feeding r.new.feed).count ≤ (F.feeding r.old.feed).count }
-    ensures held { OnOk result ((F.feeding r.new.feed).held ≡ Some (entry_page (skip_at + high))) }
-    ensures found { IfOk result (IsSound low (high + 1) all doc) }
-    ensures tells { TellsOnPage (told_bytes F.feeding F.device r.old dev.old) skip_at low high before last result }
-    ensures lacks { IfDamaged result (LacksAnEntry (told_bytes F.feeding F.device r.old dev.old) skip_at all low (high + 1)) }
-    ensures told { FindsOnPage (told_bytes F.feeding F.device r.old dev.old) skip_at all low high before last doc result }
-    ensures cause { RefusalCause result (F.device dev.old).faults (F.device dev.new).faults }
+    requires feed { FeedsPages F.fits F.feeding F.device r.old dev.old }
+    requires order { page.low ≤ page.high }
+    requires one_page { entry_page (search.now.skip_at + page.low) ≡ entry_page (search.now.skip_at + page.high) }
+    requires held { (F.feeding r.old.feed).held ≡ Some (entry_page (search.now.skip_at + page.high)) }
+    requires known { page.before ≤ search.now.all }
+    requires below { page.before < search.now.doc }
+    requires within { search.now.doc ≤ page.last }
+    requires most { page.last ≤ search.now.all }
+    ensures { ReadsFeed (SearchesPage search.now page) F.fits F.feeding F.device
+        r.old r.new dev.old dev.new result }
 {
-    let mut from = low;
-    let mut to = high;
-    let mut passed = before;
-    let mut end = last;
-    let mut middle = low;
+    let mut from = page.low;
+    let mut to = page.high;
+    let mut passed = page.before;
+    let mut end = page.last;
+    let mut middle = page.low;
     while from < to {
-        match last_of(r, dev, skip_at, middle, all) {
+        match last_of(r, dev, search.skip_at, middle, search.all) {
             Ok(here) => {
-                if doc <= here {
+                if search.doc <= here {
                     to = middle;
                     end = here;
                 } else {
@@ -175,7 +156,7 @@ fn search_page<F: Feed>(
         }
         middle = from + (to - from) / 2;
     }
-    match bits_of(r, dev, skip_at, to) {
+    match bits_of(r, dev, search.skip_at, to) {
         Ok(at) => Ok(Found {
             block: to,
             before: passed,
@@ -186,48 +167,41 @@ fn search_page<F: Feed>(
     }
 }
 
-/// The block whose range holds a document, of those from `reached` on; None where all end before
-/// it. The last document before `reached` is known.
+/// The block whose range holds the document that is searched; None where all blocks end before it.
 pub fn find_block<F: Feed>(
     r: &mut BitReader<F>,
     dev: &mut F::Dev,
-    skip_at: u32,
-    blocks: u32,
-    reached: u32,
-    last: u32,
-    all: u32,
-    doc: u32,
+    search: &SkipSearch,
 ) -> Result<Option<Found>, Refusal>
-    requires fits { F.fits r.old.feed (F.device dev.old).files }
-    requires page { (F.feeding r.old.feed).page ≡ 4096 }
-    requires reached { reached ≤ blocks }
-    requires known { last ≤ all }
-    requires below { last < doc }
-    requires reads { SkipReads skip_at reached (F.feeding r.old.feed).held (F.feeding r.old.feed).count }
-    ensures fits { F.fits r.new.feed (F.device dev.new).files }
-    ensures calm { Calm (F.feeding r.old.feed) (F.feeding r.new.feed) (F.device dev.old) (F.device dev.new) }
-    ensures reads { IfOk result (λ found. SkipReads skip_at (blocks_after blocks found) (F.feeding r.new.feed).held (F.feeding r.new.feed).count) }
-    ensures most { (F.feeding r.new.feed).count ≤ entries_pages skip_at blocks }
-    ensures found { IfOk result (λ found. IfSome found (IsSound reached blocks all doc)) }
-    ensures tells { IfOk result (λ found. IfSome found (TellsFound (told_bytes F.feeding F.device r.old dev.old) skip_at reached last)) }
-    ensures lacks { IfDamaged result (LacksAnEntry (told_bytes F.feeding F.device r.old dev.old) skip_at all reached blocks) }
-    ensures told { FindsBlock (told_bytes F.feeding F.device r.old dev.old) skip_at all blocks reached last doc result }
-    ensures cause { RefusalCause result (F.device dev.old).faults (F.device dev.new).faults }
+    requires feed { FeedsPages F.fits F.feeding F.device r.old dev.old }
+    requires reached { search.now.reached ≤ search.now.blocks }
+    requires known { search.now.last ≤ search.now.all }
+    requires below { search.now.last < search.now.doc }
+    requires reads { SkipReads search.now.skip_at search.now.reached
+        (F.feeding r.old.feed).held (F.feeding r.old.feed).count }
+    ensures { ReadsFeed (SearchesBlock search.now) F.fits F.feeding F.device
+        r.old r.new dev.old dev.new result }
 {
-    let mut low = reached;
-    let mut before = last;
-    while low < blocks {
-        let high = page_end(skip_at, low, blocks);
-        match last_of(r, dev, skip_at, high, all) {
-            Ok(end) => {
-                if doc <= end {
-                    return match search_page(r, dev, skip_at, low, high, before, end, all, doc) {
+    let mut low = search.reached;
+    let mut before = search.last;
+    while low < search.blocks {
+        let high = page_end(search.skip_at, low, search.blocks);
+        match last_of(r, dev, search.skip_at, high, search.all) {
+            Ok(last) => {
+                if search.doc <= last {
+                    let page = PageBlocks {
+                        low,
+                        high,
+                        before,
+                        last,
+                    };
+                    return match search_page(r, dev, search, page) {
                         Ok(found) => Ok(Some(found)),
                         Err(refusal) => Err(refusal),
                     };
                 }
                 low = high + 1;
-                before = end;
+                before = last;
             }
             Err(refusal) => return Err(refusal),
         }

@@ -1,94 +1,149 @@
-use Rattle.std.proofs.Common.{arith, ◌≡◌, ◌+◌, ◌*◌, ◌≤◌, sym, ◌∙◌, subst, inl, Ok, Err}
+use Rattle.std.proofs.Common.{arith, ◌≡◌, ◌+◌, ◌*◌, ◌≤◌, ℕ, Option, sym, ap, ◌∙◌, subst, inl, Ok, Err}
 use Rattle.mg_bits.proofs.CallerLemmas.{calm_more, same_told}
 use Rattle.mg_defs.specs.Lists.{doc_before}
 use Rattle.mg_post.specs.Stands.{SkipStands}
 use Rattle.mg_post.specs.Finding.{LacksAnEntry, LacksLast, TellsBlock, TellsLast}
+use Rattle.mg_post.specs.declared.find.Found.{Found}
 use Rattle.mg_post.proofs.ReadLaws.{any_refused}
-use Rattle.mg_post.proofs.FindLaws.{damaged_weaker, lacks_wider, last_answer, page_between, reads_now, reads_to, reads_same, tells_next, tells_on, within_entries, reads_within}
+use Rattle.mg_post.proofs.FindLaws.{any_cause, damaged_weaker, lacks_wider, last_answer, page_between, reads_now, reads_to, reads_same, tells_next, tells_on, within_entries, reads_at, reads_within}
 use Rattle.mg_post.proofs.find.find_block.Goals as goal
 
-pub returns-in-Err-clause-told : goal.returns-in-Err-clause-told
-returns-in-Err-clause-told g c = λ ps b stands last.
-    any_refused c.in-Err.refusal _ _
-    (last_answer c.args.all b _ _ c.args.skip_at c.args.blocks c.page_end-high.result ps (Err c.in-Err.refusal) (same_told _ _ _ _ c.loop-low.invariant.calm) stands c.page_end-high.ensures.there c.in-Err.ensures.told)
-
 pub loop-low-preserved : goal.loop-low-preserved
-loop-low-preserved g c = record {
-  fits = c.in-Ok.ensures.fits;
-  calm = calm_more _ _ _ _ _ _ c.loop-low.invariant.calm c.in-Ok.ensures.calm;
-  reads = reads_now c.args.skip_at c.loop-low.low c.page_end-high.result _ _ _ _ c.loop-low.invariant.reads c.page_end-high.ensures.from c.in-Ok.ensures.count c.in-Ok.ensures.held;
-  from = omega (arith, c.loop-low.invariant.from, c.page_end-high.ensures.from);
-  there = omega (arith, c.page_end-high.ensures.there);
-  known = c.in-Ok.ensures.within;
-  below = omega (arith, c.if-doc-end.false);
-  before_is = tells_next _ c.args.skip_at c.args.reached c.args.last c.page_end-high.result c.in-Ok.end (omega (arith, c.loop-low.invariant.from, c.page_end-high.ensures.from)) (rw (same_told _ _ _ _ c.loop-low.invariant.calm) at c.in-Ok.ensures.tells);
-  told = λ ps b stands last.
-      last_answer c.args.all b _ _ c.args.skip_at c.args.blocks c.page_end-high.result ps (Ok c.in-Ok.end) (same_told _ _ _ _ c.loop-low.invariant.calm) stands c.page_end-high.ensures.there c.in-Ok.ensures.told;
-}
+loop-low-preserved g c =
+    let e = c.in-Ok.ensures in
+    let i = c.loop-low.invariant in
+    let s = c.args.search.now in
+    record {
+      fits = e.fits;
+      calm = calm_more _ _ _ _ _ _ i.calm e.calm;
+      reads = reads_now s.skip_at c.loop-low.low c.page_end-high.result _ _ _ _ i.reads c.page_end-high.ensures.from e.does.page.count e.does.page.held;
+      from = omega (arith, i.from, c.page_end-high.ensures.from);
+      there = omega (arith, c.page_end-high.ensures.there);
+      known = e.does.within;
+      below = omega (arith, c.if-search-last.false);
+      before_is = tells_next _ s.skip_at s.reached s.last c.page_end-high.result c.in-Ok.last (omega (arith, i.from, c.page_end-high.ensures.from)) (rw (same_told _ _ _ _ i.calm) at e.does.tells);
+      told = λ ps b stands last.
+          last_answer s.all b _ _ s.skip_at s.blocks c.page_end-high.result ps (Ok c.in-Ok.last) (same_told _ _ _ _ i.calm) stands c.page_end-high.ensures.there e.does.told;
+    }
 
-pub returns-in-Ok-search_page-clause-told : goal.returns-in-Ok-search_page-clause-told
-returns-in-Ok-search_page-clause-told g c = λ ps b stands last.
-    let calm = calm_more _ _ _ _ _ _ c.loop-low.invariant.calm c.in-Ok.ensures.calm in
-    let end : c.in-Ok.end ≡ doc_before (64 * (c.page_end-high.result + 1)) ps =
-    last_answer c.args.all b _ _ c.args.skip_at c.args.blocks c.page_end-high.result ps (Ok c.in-Ok.end) (same_told _ _ _ _ c.loop-low.invariant.calm) stands c.page_end-high.ensures.there c.in-Ok.ensures.told in
-    c.in-Ok-search_page.ensures.told ps b c.args.blocks (subst (λ t. SkipStands c.args.all b t c.args.skip_at c.args.blocks ps) (sym (same_told _ _ _ _ calm)) stands) c.page_end-high.ensures.there (c.loop-low.invariant.told ps b stands last) end
+pub returns-in-Err : goal.returns-in-Err
+returns-in-Err g c =
+    let e = c.in-Err.ensures in
+    let i = c.loop-low.invariant in
+    let s = c.args.search.now in
+    let low : s.reached ≤ c.page_end-high.result = omega (arith, i.from, c.page_end-high.ensures.from) in
+    record {
+      does = record {
+        reads = tt;
+        most = within_entries s.skip_at c.page_end-high.result s.blocks _ c.page_end-high.ensures.there (reads_to s.skip_at c.loop-low.low c.page_end-high.result _ _ _ i.reads c.page_end-high.ensures.from e.does.page.count);
+        found = tt;
+        tells = tt;
+        lacks = damaged_weaker c.in-Err.refusal (LacksLast ((g.F.Feed.feeding c.args.r.now.feed).source (g.F.Feed.device c.args.dev.now).files) s.skip_at s.all c.page_end-high.result) _
+            (λ at lacks. (c.page_end-high.result, low, c.page_end-high.ensures.there, inl lacks)) (rw (same_told _ _ _ _ i.calm) at e.does.lacks);
+        told = λ ps b stands last.
+            any_refused c.in-Err.refusal _ _
+            (last_answer s.all b _ _ s.skip_at s.blocks c.page_end-high.result ps (Err c.in-Err.refusal) (same_told _ _ _ _ i.calm) stands c.page_end-high.ensures.there e.does.told);
+      };
+      fits = e.fits;
+      calm = calm_more _ _ _ _ _ _ i.calm e.calm;
+      cause = any_cause ℕ (Option Found) c.in-Err.refusal _ _ _ i.calm.faults e.cause;
+    }
 
-pub returns-in-Err-search_page-clause-told : goal.returns-in-Err-search_page-clause-told
-returns-in-Err-search_page-clause-told g c = λ ps b stands last.
-    let calm = calm_more _ _ _ _ _ _ c.loop-low.invariant.calm c.in-Ok.ensures.calm in
-    let end : c.in-Ok.end ≡ doc_before (64 * (c.page_end-high.result + 1)) ps =
-    last_answer c.args.all b _ _ c.args.skip_at c.args.blocks c.page_end-high.result ps (Ok c.in-Ok.end) (same_told _ _ _ _ c.loop-low.invariant.calm) stands c.page_end-high.ensures.there c.in-Ok.ensures.told in
-    any_refused c.in-Err-search_page.refusal _ _
-    (c.in-Err-search_page.ensures.told ps b c.args.blocks (subst (λ t. SkipStands c.args.all b t c.args.skip_at c.args.blocks ps) (sym (same_told _ _ _ _ calm)) stands) c.page_end-high.ensures.there (c.loop-low.invariant.told ps b stands last) end)
+pub returns-in-Ok-search_page : goal.returns-in-Ok-search_page
+returns-in-Ok-search_page g c =
+    let e = c.in-Ok-search_page.ensures in
+    let i = c.loop-low.invariant in
+    let s = c.args.search.now in
+    let high = c.page_end-high.result in
+    let calm = calm_more _ _ _ _ _ _ i.calm c.in-Ok.ensures.calm in
+    let now = reads_now s.skip_at c.loop-low.low high _ _ _ _ i.reads c.page_end-high.ensures.from c.in-Ok.ensures.does.page.count c.in-Ok.ensures.does.page.held in
+    let page = page_between s.skip_at c.loop-low.low c.in-Ok-search_page.found.block high (sym c.page_end-high.ensures.page) e.does.found.from (omega (arith, e.does.found.there)) in
+    let end : TellsLast ((g.F.Feed.feeding c.args.r.now.feed).source (g.F.Feed.device c.args.dev.now).files) s.skip_at high c.in-Ok.last = rw (same_told _ _ _ _ i.calm) at c.in-Ok.ensures.does.tells in
+    let found : TellsBlock ((g.F.Feed.feeding c.args.r.now.feed).source (g.F.Feed.device c.args.dev.now).files) s.skip_at c.loop-low.low c.loop-low.before c.in-Ok-search_page.found.block c.in-Ok-search_page.found.before c.in-Ok-search_page.found.last c.in-Ok-search_page.found.at =
+    (rw (same_told _ _ _ _ calm) at e.does.tells) end in
+    record {
+      does = record {
+        reads = reads_same s.skip_at high c.in-Ok-search_page.found.block _ _ _ _ now c.in-Ok.ensures.does.page.held (e.does.held ∙ sym c.in-Ok.ensures.does.page.held) e.does.count (sym page);
+        most = omega (
+          arith,
+          e.does.count,
+          within_entries s.skip_at high s.blocks _ c.page_end-high.ensures.there (reads_to s.skip_at c.loop-low.low high _ _ _ i.reads c.page_end-high.ensures.from c.in-Ok.ensures.does.page.count),
+        );
+        found = record {
+          from = omega (arith, i.from, e.does.found.from);
+          there = omega (arith, e.does.found.there, c.page_end-high.ensures.there);
+          known = e.does.found.known;
+          below = e.does.found.below;
+          within = e.does.found.within;
+          most = e.does.found.most;
+        };
+        tells = tells_on _ s.skip_at s.reached c.loop-low.low s.last c.loop-low.before _ _ _ _ i.from e.does.found.from i.before_is found;
+        lacks = tt;
+        told = λ ps b stands last.
+            let end : c.in-Ok.last ≡ doc_before (64 * (high + 1)) ps =
+            last_answer s.all b _ _ s.skip_at s.blocks high ps (Ok c.in-Ok.last) (same_told _ _ _ _ i.calm) stands c.page_end-high.ensures.there c.in-Ok.ensures.does.told in
+            e.does.told ps b s.blocks (subst (λ t. SkipStands s.all b t s.skip_at s.blocks ps) (sym (same_told _ _ _ _ calm)) stands) c.page_end-high.ensures.there (i.told ps b stands last) end;
+      };
+      fits = e.fits;
+      calm = calm_more _ _ _ _ _ _ calm e.calm;
+      cause = tt;
+    }
 
-pub returns-in-Ok-search_page-clause-reads : goal.returns-in-Ok-search_page-clause-reads
-returns-in-Ok-search_page-clause-reads g c =
-    let now = reads_now c.args.skip_at c.loop-low.low c.page_end-high.result _ _ _ _ c.loop-low.invariant.reads c.page_end-high.ensures.from c.in-Ok.ensures.count c.in-Ok.ensures.held in
-    let page = page_between c.args.skip_at c.loop-low.low c.in-Ok-search_page.found.block c.page_end-high.result (sym c.page_end-high.ensures.page) c.in-Ok-search_page.ensures.found.from (omega (arith, c.in-Ok-search_page.ensures.found.there)) in
-    reads_same c.args.skip_at c.page_end-high.result c.in-Ok-search_page.found.block _ _ _ _ now c.in-Ok.ensures.held (c.in-Ok-search_page.ensures.held ∙ sym c.in-Ok.ensures.held) c.in-Ok-search_page.ensures.count (sym page)
+pub returns-in-Err-search_page : goal.returns-in-Err-search_page
+returns-in-Err-search_page g c =
+    let e = c.in-Err-search_page.ensures in
+    let i = c.loop-low.invariant in
+    let s = c.args.search.now in
+    let high = c.page_end-high.result in
+    let calm = calm_more _ _ _ _ _ _ i.calm c.in-Ok.ensures.calm in
+    record {
+      does = record {
+        reads = tt;
+        most = omega (
+          arith,
+          e.does.count,
+          within_entries s.skip_at high s.blocks _ c.page_end-high.ensures.there (reads_to s.skip_at c.loop-low.low high _ _ _ i.reads c.page_end-high.ensures.from c.in-Ok.ensures.does.page.count),
+        );
+        found = tt;
+        tells = tt;
+        lacks = damaged_weaker c.in-Err-search_page.refusal (LacksAnEntry ((g.F.Feed.feeding c.args.r.now.feed).source (g.F.Feed.device c.args.dev.now).files) s.skip_at s.all c.loop-low.low (high + 1)) _
+            (λ at. lacks_wider _ s.skip_at s.all c.loop-low.low (high + 1) s.reached s.blocks at i.from (omega (arith, c.page_end-high.ensures.there)))
+            (rw (same_told _ _ _ _ calm) at e.does.lacks);
+        told = λ ps b stands last.
+            let end : c.in-Ok.last ≡ doc_before (64 * (high + 1)) ps =
+            last_answer s.all b _ _ s.skip_at s.blocks high ps (Ok c.in-Ok.last) (same_told _ _ _ _ i.calm) stands c.page_end-high.ensures.there c.in-Ok.ensures.does.told in
+            any_refused c.in-Err-search_page.refusal _ _
+            (e.does.told ps b s.blocks (subst (λ t. SkipStands s.all b t s.skip_at s.blocks ps) (sym (same_told _ _ _ _ calm)) stands) c.page_end-high.ensures.there (i.told ps b stands last) end);
+      };
+      fits = e.fits;
+      calm = calm_more _ _ _ _ _ _ calm e.calm;
+      cause = any_cause Found (Option Found) c.in-Err-search_page.refusal _ _ _ calm.faults e.cause;
+    }
 
-pub returns-in-Ok-search_page-clause-most : goal.returns-in-Ok-search_page-clause-most
-returns-in-Ok-search_page-clause-most g c =
-    omega (
-      arith,
-      c.in-Ok-search_page.ensures.count,
-      within_entries c.args.skip_at c.page_end-high.result c.args.blocks _ c.page_end-high.ensures.there
-          (reads_to c.args.skip_at c.loop-low.low c.page_end-high.result _ _ _ c.loop-low.invariant.reads c.page_end-high.ensures.from c.in-Ok.ensures.count),
-    )
+pub returns : goal.returns
+returns g c =
+    let i = c.loop-low.invariant in
+    let s = c.args.search.now in
+    let all : c.loop-low.low ≡ s.blocks = omega (arith, i.there, c.loop-low-test.false) in
+    record {
+      does = record {
+        reads = reads_at _ _ _ _ _ all i.reads;
+        most = reads_within s.skip_at c.loop-low.low s.blocks _ _ i.reads i.there;
+        found = tt;
+        tells = tt;
+        lacks = tt;
+        told = λ ps b stands last. omega (arith, i.below, i.told ps b stands last, ap (λ n. doc_before (64 * n) ps) all);
+      };
+      fits = i.fits;
+      calm = i.calm;
+      cause = tt;
+    }
 
-pub returns-in-Err-search_page-clause-most : goal.returns-in-Err-search_page-clause-most
-returns-in-Err-search_page-clause-most g c =
-    omega (
-      arith,
-      c.in-Err-search_page.ensures.count,
-      within_entries c.args.skip_at c.page_end-high.result c.args.blocks _ c.page_end-high.ensures.there
-          (reads_to c.args.skip_at c.loop-low.low c.page_end-high.result _ _ _ c.loop-low.invariant.reads c.page_end-high.ensures.from c.in-Ok.ensures.count),
-    )
+pub last_of-requires : goal.last_of-requires
+last_of-requires g c = record { fits = c.loop-low.invariant.fits; page = c.loop-low.invariant.calm.page ∙ c.requires.feed.page }
 
-pub returns-in-Err-clause-most : goal.returns-in-Err-clause-most
-returns-in-Err-clause-most g c =
-    within_entries c.args.skip_at c.page_end-high.result c.args.blocks _ c.page_end-high.ensures.there
-    (reads_to c.args.skip_at c.loop-low.low c.page_end-high.result _ _ _ c.loop-low.invariant.reads c.page_end-high.ensures.from c.in-Err.ensures.count)
+pub search_page-requires-clause-feed : goal.search_page-requires-clause-feed
+search_page-requires-clause-feed g c = record { fits = c.in-Ok.ensures.fits; page = c.in-Ok.ensures.calm.page ∙ c.loop-low.invariant.calm.page ∙ c.requires.feed.page }
 
-pub returns-clause-most : goal.returns-clause-most
-returns-clause-most g c = reads_within c.args.skip_at c.loop-low.low c.args.blocks _ _ c.loop-low.invariant.reads c.loop-low.invariant.there
-
-pub returns-in-Ok-search_page-clause-tells : goal.returns-in-Ok-search_page-clause-tells
-returns-in-Ok-search_page-clause-tells g c =
-    let calm = calm_more _ _ _ _ _ _ c.loop-low.invariant.calm c.in-Ok.ensures.calm in
-    let end : TellsLast ((g.F.Feed.feeding c.args.r.now.feed).source (g.F.Feed.device c.args.dev.now).files) c.args.skip_at c.page_end-high.result c.in-Ok.end = rw (same_told _ _ _ _ c.loop-low.invariant.calm) at c.in-Ok.ensures.tells in
-    let found : TellsBlock ((g.F.Feed.feeding c.args.r.now.feed).source (g.F.Feed.device c.args.dev.now).files) c.args.skip_at c.loop-low.low c.loop-low.before c.in-Ok-search_page.found.block c.in-Ok-search_page.found.before c.in-Ok-search_page.found.last c.in-Ok-search_page.found.at =
-    (rw (same_told _ _ _ _ calm) at c.in-Ok-search_page.ensures.tells) end in
-    tells_on _ c.args.skip_at c.args.reached c.loop-low.low c.args.last c.loop-low.before _ _ _ _ c.loop-low.invariant.from c.in-Ok-search_page.ensures.found.from c.loop-low.invariant.before_is found
-
-pub returns-in-Err-clause-lacks : goal.returns-in-Err-clause-lacks
-returns-in-Err-clause-lacks g c =
-    let low : c.args.reached ≤ c.page_end-high.result = omega (arith, c.loop-low.invariant.from, c.page_end-high.ensures.from) in
-    damaged_weaker c.in-Err.refusal (LacksLast ((g.F.Feed.feeding c.args.r.now.feed).source (g.F.Feed.device c.args.dev.now).files) c.args.skip_at c.args.all c.page_end-high.result) _ (λ at lacks. (c.page_end-high.result, low, c.page_end-high.ensures.there, inl lacks)) (rw (same_told _ _ _ _ c.loop-low.invariant.calm) at c.in-Err.ensures.lacks)
-
-pub returns-in-Err-search_page-clause-lacks : goal.returns-in-Err-search_page-clause-lacks
-returns-in-Err-search_page-clause-lacks g c =
-    let calm = calm_more _ _ _ _ _ _ c.loop-low.invariant.calm c.in-Ok.ensures.calm in
-    damaged_weaker c.in-Err-search_page.refusal (LacksAnEntry ((g.F.Feed.feeding c.args.r.now.feed).source (g.F.Feed.device c.args.dev.now).files) c.args.skip_at c.args.all c.loop-low.low (c.page_end-high.result + 1)) _
-    (λ at. lacks_wider _ c.args.skip_at c.args.all c.loop-low.low (c.page_end-high.result + 1) c.args.reached c.args.blocks at c.loop-low.invariant.from (omega (arith, c.page_end-high.ensures.there)))
-    (rw (same_told _ _ _ _ calm) at c.in-Err-search_page.ensures.lacks)
+pub search_page-requires-clause-held : goal.search_page-requires-clause-held
+search_page-requires-clause-held g c = c.in-Ok.ensures.does.page.held

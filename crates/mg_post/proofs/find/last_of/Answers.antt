@@ -1,29 +1,55 @@
-use Rattle.std.proofs.Common.{arith, ◌≡◌, inr}
-use Rattle.mg_post.proofs.FindLaws.{lacks_last, last_shown}
+use Rattle.std.proofs.Common.{arith, inr}
+use Rattle.mg_post.proofs.FindLaws.{holds_err, holds_ok, lacks_last, last_shown, page_of_entry}
 use Rattle.mg_post.proofs.ReadLaws.{any_refused}
 use Rattle.mg_post.proofs.find.last_of.Goals as goal
 
-pub returns-then-last-from-clause-told : goal.returns-then-last-from-clause-told
-returns-then-last-from-clause-told g c = λ e most shows.
-    let got : c.in-Ok.last ≡ e.last = c.in-Ok.ensures.told e.last (omega arith) (last_shown _ _ _ e c.entry_place-place.ensures.value shows) in
-    omega arith
+pub returns-then-last-from : goal.returns-then-last-from
+returns-then-last-from g c =
+    let e = c.in-Ok.ensures in
+    let place = c.entry_place-place.ensures.value in
+    record {
+      does = record {
+        page = holds_err _ _ _ _ _ _ (page_of_entry _ _ place) e.does.page;
+        within = tt;
+        tells = tt;
+        lacks = record { at_is = place; missing = inr (c.in-Ok.last, omega (arith, c.if-last-from.true, c.from.ensures), rw place at e.does.shows) };
+        told = λ w most shows. absurd (omega (arith, e.does.told w.last (omega (arith, most)) (last_shown _ _ _ w place shows), c.if-last-from.true, c.from.ensures, most));
+      };
+      fits = e.fits;
+      calm = e.calm;
+      cause = tt;
+    }
 
-pub returns-else-last-from-clause-told : goal.returns-else-last-from-clause-told
-returns-else-last-from-clause-told g c = λ e most shows.
-    c.in-Ok.ensures.told e.last (omega arith) (last_shown _ _ _ e c.entry_place-place.ensures.value shows)
+pub returns-else-last-from : goal.returns-else-last-from
+returns-else-last-from g c =
+    let e = c.in-Ok.ensures in
+    let place = c.entry_place-place.ensures.value in
+    record {
+      does = record {
+        page = holds_ok _ _ c.in-Ok.last c.in-Ok.last _ _ (page_of_entry _ _ place) e.does.page;
+        within = omega (arith, c.if-last-from.false, c.from.ensures);
+        tells = rw place at e.does.shows;
+        lacks = tt;
+        told = λ w most shows. e.does.told w.last (omega (arith, most)) (last_shown _ _ _ w place shows);
+      };
+      fits = e.fits;
+      calm = e.calm;
+      cause = tt;
+    }
 
-pub returns-in-Err-clause-told : goal.returns-in-Err-clause-told
-returns-in-Err-clause-told g c = λ e most shows.
-    any_refused c.in-Err.refusal _ _ (c.in-Err.ensures.told e.last (omega arith) (last_shown _ _ _ e c.entry_place-place.ensures.value shows))
-
-pub returns-else-last-from-clause-tells : goal.returns-else-last-from-clause-tells
-returns-else-last-from-clause-tells g c = rw c.entry_place-place.ensures.value at c.in-Ok.ensures.shows
-
-pub returns-then-last-from-clause-lacks : goal.returns-then-last-from-clause-lacks
-returns-then-last-from-clause-lacks g c = record {
-  at_is = c.entry_place-place.ensures.value;
-  missing = inr (c.in-Ok.last, omega (arith, c.if-last-from.true, c.from.ensures), rw c.entry_place-place.ensures.value at c.in-Ok.ensures.shows);
-}
-
-pub returns-in-Err-clause-lacks : goal.returns-in-Err-clause-lacks
-returns-in-Err-clause-lacks g c = lacks_last _ c.in-Err.refusal c.args.skip_at c.args.all c.args.block c.entry_place-place.result c.entry_place-place.ensures.value c.in-Err.ensures.at c.in-Err.ensures.ends
+pub returns-in-Err : goal.returns-in-Err
+returns-in-Err g c =
+    let e = c.in-Err.ensures in
+    let place = c.entry_place-place.ensures.value in
+    record {
+      does = record {
+        page = holds_err _ _ _ _ _ _ (page_of_entry _ _ place) e.does.page;
+        within = tt;
+        tells = tt;
+        lacks = lacks_last _ c.in-Err.refusal c.args.skip_at c.args.all c.args.block c.entry_place-place.result place e.does.at e.does.ends;
+        told = λ w most shows. any_refused c.in-Err.refusal _ _ (e.does.told w.last (omega (arith, most)) (last_shown _ _ _ w place shows));
+      };
+      fits = e.fits;
+      calm = e.calm;
+      cause = e.cause;
+    }

@@ -1,22 +1,23 @@
 use Rattle.std.proofs.Common.{arith, refl, sym, ◌∙◌, ap, Ok}
-use Rattle.mg_post.proofs.CursorLaws.{ended_stays, in_block}
+use Rattle.mg_defs.specs.Lists.{from_doc}
 use Rattle.std.proofs.lemmas.Bool.{false≢true}
-use Rattle.mg_post.proofs.SoundLaws.{current_low, forward_held, in_held, stays_here}
+use Rattle.mg_post.proofs.ForwardLaws.{from_nothing}
+use Rattle.mg_post.proofs.SoundLaws.{current_low, forward_held, stays_here}
+use Rattle.mg_post.proofs.StepLaws.{step_ended, step_within}
 use Rattle.mg_post.proofs.cursor.Cursor.advance_to.Goals as goal
 
-pub returns-then-self-clause-answer : goal.returns-then-self-clause-answer
-returns-then-self-clause-answer g c =
-    rw (← c.self.view_is)
-    (λ ps left stands at.
-    let r = ended_stays c.self.inside.ended c.args.doc ps c.self.inside.reached c.self.inside.last c.self.inside.block left c.if-self.true at.on in
-    (r.0, record { on = r.1 }))
+pub returns-then-self-clause-step : goal.returns-then-self-clause-step
+returns-then-self-clause-step g c =
+    let i = c.self.invariant in
+    let fits = rw (← c.self.view_is) at c.requires.fits in
+    rw (← c.self.view_is) (step_ended _ c.args.doc c.args.doc (from_doc c.args.doc) _ _ _ fits i.9 i.3 c.if-self.true (i.7 c.if-self.true) (from_nothing c.args.doc))
 
-pub returns-then-doc-self-clause-answer : goal.returns-then-doc-self-clause-answer
-returns-then-doc-self-clause-answer g c =
+pub returns-then-doc-self-clause-step : goal.returns-then-doc-self-clause-step
+returns-then-doc-self-clause-step g c =
+    let i = c.self.invariant in
+    let fits = rw (← c.self.view_is) at c.requires.fits in
     rw (← c.self.view_is)
-    (λ ps left stands at.
-    let r = in_block c.self.inside.ended c.self.inside.all c.args.doc ps c.self.inside.reached c.self.inside.last c.self.inside.block left c.forward.new.self c.current.result c.if-self.false stands.list.entries.rises c.requires.some c.if-doc-self.true at.on c.forward.ensures c.current.ensures in
-    (r.0, record { on = r.1 }))
+    (step_within _ c.forward.new.self c.args.doc c.current.result _ _ _ fits i.9 i.3 i.8 c.if-self.false c.requires.some c.if-doc-self.true c.forward.ensures c.current.ensures)
 
 pub invariant_of-self : goal.invariant_of-self
 invariant_of-self g c =
@@ -32,10 +33,6 @@ invariant_of-self g c =
       forward_held c.self.inside.all c.self.inside.last c.args.doc c.self.inside.block c.forward.new.self i.8 c.forward.ensures,
       i.9,
     )
-
-pub returns-then-doc-self-clause-sound : goal.returns-then-doc-self-clause-sound
-returns-then-doc-self-clause-sound g c =
-    rw (← c.self.view_is) (in_held c.self.inside.all c.self.inside.last c.args.doc c.self.inside.block c.forward.new.self c.current.result c.self.invariant.8 c.forward.ensures c.current.ensures)
 
 pub returns-then-doc-self-clause-stays : goal.returns-then-doc-self-clause-stays
 returns-then-doc-self-clause-stays g c =

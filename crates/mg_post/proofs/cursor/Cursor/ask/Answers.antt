@@ -3,12 +3,46 @@ use Rattle.mg_post.proofs.cursor.Cursor.ask.Goals as goal
 
 pub returns-clause-answer : goal.returns-clause-answer
 returns-clause-answer g c = λ base collection asked t may.
-    let e = c.advance_to.ensures in
+    let e = c.advance_to.ensures.step in
     asked_answer base collection asked t c.args.doc _ _ _ _ may e.same e.forward e.first e.answer e.entered
 
 pub returns-clause-pages : goal.returns-clause-pages
 returns-clause-pages g c = λ base collection asked t may.
-    asked_pages base collection asked t c.args.doc _ _ _ _ _ _ may c.advance_to.ensures.reads c.advance_to.ensures.entered
+    let e = c.advance_to.ensures.step in
+    asked_pages base collection asked t c.args.doc _ _ _ _ _ _ may e.reads e.entered
 
 pub returns-clause-reads : goal.returns-clause-reads
-returns-clause-reads g c = let two = c.advance_to.ensures.reads in record { later = two.later; others = two.others }
+returns-clause-reads g c = let two = c.advance_to.ensures.step.reads in record { later = two.later; others = two.others }
+
+pub returns-clause-fits : goal.returns-clause-fits
+returns-clause-fits g c = c.advance_to.ensures.step.fits
+
+pub returns-clause-same : goal.returns-clause-same
+returns-clause-same g c = c.advance_to.ensures.step.same
+
+pub returns-clause-third : goal.returns-clause-third
+returns-clause-third g c = c.advance_to.ensures.step.third
+
+pub returns-clause-sound : goal.returns-clause-sound
+returns-clause-sound g c = c.advance_to.ensures.step.sound
+
+pub returns-clause-part : goal.returns-clause-part
+returns-clause-part g c = c.advance_to.ensures.step.part
+
+pub returns-clause-post : goal.returns-clause-post
+returns-clause-post g c = c.advance_to.ensures.step.post
+
+pub returns-clause-block : goal.returns-clause-block
+returns-clause-block g c = c.advance_to.ensures.step.block
+
+pub returns-clause-entry : goal.returns-clause-entry
+returns-clause-entry g c = c.advance_to.ensures.step.entry
+
+pub returns-clause-files : goal.returns-clause-files
+returns-clause-files g c = c.advance_to.ensures.step.files
+
+pub returns-clause-memory : goal.returns-clause-memory
+returns-clause-memory g c = c.advance_to.ensures.step.memory
+
+pub returns-clause-cause : goal.returns-clause-cause
+returns-clause-cause g c = c.advance_to.ensures.step.cause

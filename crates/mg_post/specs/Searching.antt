@@ -1,0 +1,58 @@
+-- What the calls promise that read skip entries: by the bytes of Skip that are told, and the feed before and after.
+use Rattle.std.specs.Prelude.{◌≡◌, ℕ, ◌+◌, ◌/◌, ◌^◌, ◌<◌, ◌≤◌, List, Option, Some, Result, IfOk, IfSome, OnOk}
+use Rattle.mg_bits.specs.Feed.{Feeding, lacks}
+use Rattle.mg_defs.specs.Bits.{Begins, FromPlace, Shows, digits}
+use Rattle.mg_defs.specs.Lists.{SkipEntry}
+use Rattle.mg_post.specs.Answers.{AnswersThis, IfDamaged}
+use Rattle.mg_post.specs.Finding.{FindsBlock, FindsOnPage, IsSound, LacksAnEntry, LacksBits, LacksLast, LacksNumber, SkipReads, TellsBits, TellsFound, TellsLast, TellsOnPage, blocks_after, entries_pages, entry_page}
+use Rattle.mg_post.specs.Stands.{ShowsEntry}
+use Rattle.mg_post.specs.declared.find.Found.{Found}
+use Rattle.mg_post.specs.declared.find.PageBlocks.{PageBlocks}
+use Rattle.mg_post.specs.declared.find.SkipSearch.{SkipSearch}
+use Rattle.mg_post.specs.declared.refusal.Refusal.{Refusal}
+
+-- no page but this one is read, and it only where it is not held; where it was not refused, it is held
+pub record HoldsPage {T : Type 0} (page : ℕ) (result : Result T Refusal) (old new : Feeding) : Type 0 where
+  pub count : new.count ≤ old.count + lacks old.held page
+  pub held : OnOk result (new.held ≡ Some page)
+
+-- the number of 8 bytes at a place of Skip is read
+pub record ReadsNumber (place : ℕ) (result : Result ℕ Refusal) (skip : Option (List ℕ)) (old new : Feeding) : Type 0 where
+  pub page : HoldsPage (place / 32768) result old new
+  pub shows : IfOk result (λ x. FromPlace skip place (Begins (digits 64 x)))
+  pub ends : IfDamaged result (λ _. LacksNumber skip place)
+  pub at : IfDamaged result (λ at. at ≡ place)
+  pub told : (y : ℕ) → y < 2 ^ 64 → Shows skip place (digits 64 y) → AnswersThis result y
+
+-- the last document of a block is read from its entry
+pub record ReadsLast (skip_at all block : ℕ) (result : Result ℕ Refusal) (skip : Option (List ℕ)) (old new : Feeding) : Type 0 where
+  pub page : HoldsPage (entry_page (skip_at + block)) result old new
+  pub within : IfOk result (λ last. last ≤ all)
+  pub tells : IfOk result (TellsLast skip skip_at block)
+  pub lacks : IfDamaged result (LacksLast skip skip_at all block)
+  pub told : (e : SkipEntry) → e.last ≤ all → ShowsEntry skip skip_at block e → AnswersThis result e.last
+
+-- the bits of a list before a block are read from its entry
+pub record ReadsBits (skip_at block : ℕ) (result : Result ℕ Refusal) (skip : Option (List ℕ)) (old new : Feeding) : Type 0 where
+  pub page : HoldsPage (entry_page (skip_at + block)) result old new
+  pub tells : IfOk result (TellsBits skip skip_at block)
+  pub lacks : IfDamaged result (LacksBits skip skip_at block)
+  pub told : (e : SkipEntry) → e.bits < 2 ^ 64 → ShowsEntry skip skip_at block e → AnswersThis result e.bits
+
+-- the block of a document is searched among those whose entries lie on the page that is held: no page is read
+pub record SearchesPage (s : SkipSearch) (p : PageBlocks) (result : Result Found Refusal) (skip : Option (List ℕ)) (old new : Feeding) : Type 0 where
+  pub count : new.count ≤ old.count
+  pub held : OnOk result (new.held ≡ Some (entry_page (s.skip_at + p.high)))
+  pub found : IfOk result (IsSound p.low (p.high + 1) s.all s.doc)
+  pub tells : TellsOnPage skip s.skip_at p.low p.high p.before p.last result
+  pub lacks : IfDamaged result (LacksAnEntry skip s.skip_at s.all p.low (p.high + 1))
+  pub told : FindsOnPage skip s.skip_at s.all p.low p.high p.before p.last s.doc result
+
+-- the block of a document is searched: the pages of the entries are read in rising order, each once
+pub record SearchesBlock (s : SkipSearch) (result : Result (Option Found) Refusal) (skip : Option (List ℕ)) (old new : Feeding) : Type 0 where
+  pub reads : IfOk result (λ found. SkipReads s.skip_at (blocks_after s.blocks found) new.held new.count)
+  pub most : new.count ≤ entries_pages s.skip_at s.blocks
+  pub found : IfOk result (λ found. IfSome found (IsSound s.reached s.blocks s.all s.doc))
+  pub tells : IfOk result (λ found. IfSome found (TellsFound skip s.skip_at s.reached s.last))
+  pub lacks : IfDamaged result (LacksAnEntry skip s.skip_at s.all s.reached s.blocks)
+  pub told : FindsBlock skip s.skip_at s.all s.blocks s.reached s.last s.doc result
