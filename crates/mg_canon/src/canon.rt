@@ -1,13 +1,14 @@
 //! A canonical code: the codewords of given lengths, both ways.
-ghost use Rattle.std.specs.Prelude.{◌≡◌, ℕ, ◌+◌, ◌-◌, ◌/◌, ◌^◌, ◌<◌, ◌≤◌, ◌↔◌, ◌⊎◌, length, slice_index, Err, IfOk, IfSome, OnOk, OnErr, MatchResult};
+ghost use Rattle.std.specs.Prelude.{◌≡◌, ℕ, ◌+◌, ◌-◌, ◌*◌, ◌/◌, ◌^◌, ◌<◌, ◌≤◌, ◌↔◌, ◌⊎◌, Option, length, slice_index, Ok, Err, IfOk, IfSome, IfNone, IsSome, OnOk, OnErr, MatchOption, MatchResult};
 ghost use Rattle.std.specs.Bool.{OnTrue, OnFalse};
 ghost use Rattle.mg_defs.specs.Answers.{Below};
 ghost use Rattle.mg_defs.specs.Bits.{digits};
 ghost use Rattle.mg_defs.specs.Canon.{AreGood, codeword};
 ghost use Rattle.mg_dev.specs.Causes.{HasPutCause};
+ghost use Rattle.mg_dev.specs.Files.{Files};
 ghost use Rattle.mg_bits.specs.BitWriting.{Holds, WroteBits};
 ghost use Rattle.mg_bits.specs.CodeAnswers.{AnswersCode, CodeCause, OnlyCodePages};
-ghost use Rattle.mg_bits.specs.Feed.{Calm};
+ghost use Rattle.mg_bits.specs.Feed.{Calm, Device, HasBits, ToldBits};
 ghost use Rattle.mg_bits.specs.NextBits.{FromNext, ReadNext};
 ghost use Rattle.mg_bits.specs.Writer.{WroteTo};
 ghost use Rattle.mg_canon.specs.Tables.{IsBeginning};
@@ -130,13 +131,42 @@ impl Canon {
         ensures over { (at limit : ℕ) → result ≡ Err (CodeErr.Over at limit) → length self.now ≡ 1 }
         ensures cause { CodeCause result (F.device dev.old).faults (F.device dev.new).faults }
     {
-        if let Some(next) = reader.peek() {
-            if let Some(found) = self.first_of(next) {
-                reader.seek(reader.place() + u64::from(found.size));
-                return Ok(found.symbol);
-            }
+        match self.get_held(reader) {
+            Some(symbol) => Ok(symbol),
+            None => self.get_by_bits(reader, dev),
         }
-        self.get_by_bits(reader, dev)
+    }
+
+    /// Reads a symbol where the reader holds the bits of its codeword: what `get` does at `Ok`, on
+    /// whatever device the reader agrees with, for none is asked. It answers wherever the page that is
+    /// held has the eight bytes from the place's byte on, unless there is a single symbol. At `None`
+    /// the place is the one before. The code has a symbol.
+    #[inline]
+    pub fn get_held<F: Feed>(&self, reader: &mut BitReader<F>) -> Option<u32>
+        requires some { 0 < length self.now }
+        requires place { reader.old.place ≤ 2 ^ 63 }
+        ensures feed { reader.new.feed ≡ reader.old.feed }
+        ensures read { IfSome result (λ s. (dev : Device) →
+            ReadNext F.feeding (λ d. d) reader.old reader.new dev dev (length (codeword self.now s))) }
+        ensures place { MatchOption result (reader.new.place ≡ reader.old.place) (λ s. reader.new.place
+            ≡ reader.old.place + length (codeword self.now s)) }
+        ensures told { ToldBits (F.feeding reader.old.feed) (F.fits reader.old.feed) reader.old.place result
+            (λ s. AnswersCode (Ok s) (Below (length self.now)) (codeword self.now) 1 reader.old.place) }
+        ensures symbol { IfSome result (λ s. s < length self.now) }
+        ensures some { (files : Option Files) → F.fits reader.old.feed files → 2 ≤ length self.now →
+            HasBits (F.feeding reader.old.feed) files (8 * (reader.old.place / 8)) 64 → IsSome result }
+    {
+        let next = match reader.peek() {
+            Some(next) => next,
+            None => return None,
+        };
+        match self.first_of(next) {
+            Some(found) => {
+                reader.seek(reader.place() + u64::from(found.size));
+                Some(found.symbol)
+            }
+            None => None,
+        }
     }
 
     /// The symbol whose codeword 57 bits begin with: none is longer than 48. There is one but for a
@@ -149,6 +179,7 @@ impl Canon {
         ensures code { IfSome result (λ found. codeword self.now found.symbol ≡ digits found.size (next / 2 ^ (57 - found.size))) }
         ensures some { IfSome result (λ found. 1 ≤ found.size) }
         ensures small { IfSome result (λ found. found.size ≤ 48) }
+        ensures none { IfNone result (length self.now ≡ 1) }
     {
         let first_ten = (next >> 47) as usize;
         if first_ten < self.beginnings.len() {
@@ -168,6 +199,7 @@ impl Canon {
         ensures code { IfSome result (λ found. codeword self.now found.symbol ≡ digits found.size (next / 2 ^ (57 - found.size))) }
         ensures some { IfSome result (λ found. 1 ≤ found.size) }
         ensures small { IfSome result (λ found. found.size ≤ 48) }
+        ensures none { IfNone result (length self.now ≡ 1) }
     {
         let firsts = &self.firsts;
         let from = start_of(firsts, next, self.hint(next));

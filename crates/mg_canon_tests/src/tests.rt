@@ -152,6 +152,27 @@ fn a_codeword_cut_at_any_bit_ends(rt: HostRuntime) -> Result<(), Fail> {
     Ok(())
 }
 
+/// What is read of held bits from a place of nine bytes on, and the place afterwards.
+fn held(code: &Canon, bytes: &[u8; 9], place: u64) -> (Option<u32>, u64)
+    requires { 0 < length code.now }
+{
+    let mut reader = BitReader::new(SliceFeed::new(bytes), place.min(72));
+    let answer = code.get_held(&mut reader);
+    (answer, reader.place())
+}
+
+#[test]
+fn a_held_codeword_is_read_where_eight_bytes_are_there(rt: HostRuntime) -> Result<(), Fail> {
+    let code = Canon::new(rt.alloc(), &[3, 2, 2, 3, 2])?;
+    // 000 01 10 001 11, and zero-bits behind
+    let bytes = [0x0c, 0x70, 0, 0, 0, 0, 0, 0, 0];
+    for (place, symbol, end) in [(0, 0, 3), (3, 1, 5), (5, 2, 7), (7, 3, 10), (10, 4, 12)] {
+        assert!(rt; held(&code, &bytes, place) == (Some(symbol), end), "at {place}");
+    }
+    assert!(rt; held(&code, &bytes, 16) == (None, 16));
+    Ok(())
+}
+
 #[test]
 fn a_single_symbol_is_a_zero_bit(rt: HostRuntime) -> Result<(), Fail> {
     let code = Canon::new(rt.alloc(), &[1])?;

@@ -11,7 +11,7 @@ use Rattle.mg_dev.specs.declared.part_err.PartErr.{PartErr}
 use Rattle.mg_dev.specs.declared.part_err.PartErr.TheVariants as part
 use Rattle.mg_dev.specs.declared.show_err.ShowErr.TheVariants as show
 use Rattle.mg_bits.specs.Feed.{Feeding, Device as Seen, Read, ReadsWithin, Calm}
-use Rattle.mg_bits.proofs.CallerLemmas.{read_none, same_told}
+use Rattle.mg_bits.proofs.CallerLemmas.{read_more, read_none, same_told}
 use Rattle.mg_defs.specs.Bits.{Bits, Shows}
 use Rattle.mg_defs.specs.Codes.{gamma}
 use Rattle.mg_defs.specs.CodedText.{StreamCode, TextCode, coded_doc, coded_pair}
@@ -20,7 +20,7 @@ use Rattle.mg_defs.specs.Sorted.{number_of}
 use Rattle.mg_defs.proofs.FrontLaws.{shows_left, shows_right}
 use Rattle.mg_defs.proofs.ParseLaws.{parse-is}
 use Rattle.mg_text.specs.Decoding.{Decoded, Ends, IsIn, PairIn, PairsIn, Shown, Stopped, Takes, coded_pairs}
-use Rattle.mg_text.proofs.Shows.{shown_prefix}
+use Rattle.mg_text.proofs.Shows.{shown_held, shown_prefix}
 use Rattle.mg_text.proofs.Steps.{decoded_more, stopped_more, stopped_wider}
 
 -- ---- a piece
@@ -69,6 +69,30 @@ pub first_stopped : (f0 f1 : Feeding) (d0 d1 : Seen) (a : ℕ) (x y : Bits) (w0 
 first_stopped f0 f1 d0 d1 a x y w0 w1 bytes one two some stopped =
     subst (Stopped f0 f1 d0 d1 a (a + length (x ++ y)) w0 w1) (append_assoc bytes one two)
     (stopped_wider f0 f1 d0 d1 a (a + length x) (a + length (x ++ y)) w0 w1 (bytes ++ one) two some (omega arith) (omega (arith, length-append x y)) stopped)
+
+-- both pieces of a pair were read and are held
+pub held_decoded : (f0 f1 f2 : Feeding) (d : Seen) (a p q : ℕ) (x y : Bits) (before sink : Option (List ℕ)) (held bytes found1 found2 one two : List ℕ) → 0 < f0.page →
+    p ≡ a + length x → Read f0 f1 d d a (a + length x) → q ≡ p + length y → Read f1 f2 d d p (p + length y) → found1 ≡ one → found2 ≡ two → Shown before sink held bytes →
+    Decoded f0 f2 d d a (a + length (x ++ y)) q before sink (held ++ (found1 ++ found2)) (bytes ++ (one ++ two))
+held_decoded f0 f1 f2 d a p q x y before sink held bytes found1 found2 one two some at1 read1 at2 read2 is1 is2 shown =
+    let to : p + length y ≡ a + length (x ++ y) = omega (arith, at1, length-append x y) in
+    let moved : Read f1 f2 d d (a + length x) (a + length (x ++ y)) = subst (λ n. Read f1 f2 d d n (a + length (x ++ y))) at1 (subst (λ n. Read f1 f2 d d p n) to read2) in
+    record {
+      at_end = omega (arith, at1, at2, length-append x y);
+      read = read_more f0 f1 f2 d d d a (a + length x) (a + length (x ++ y)) some (omega arith) (omega (arith, length-append x y)) read1 moved;
+      shown = rw (is1, is2) (shown_held before sink held bytes (one ++ two) shown);
+    }
+
+-- the same where the reader and what is held are as before
+pub decoded_same : (f0 f1 g1 : Feeding) (d0 d1 : Seen) (a to p q : ℕ) (w0 w1 : Option (List ℕ)) (held kept bytes : List ℕ) → g1 ≡ f1 → q ≡ p → kept ≡ held →
+    Decoded f0 f1 d0 d1 a to p w0 w1 held bytes → Decoded f0 g1 d0 d1 a to q w0 w1 kept bytes
+decoded_same f0 f1 g1 d0 d1 a to p q w0 w1 held kept bytes feed place same decoded =
+    subst (λ f. Decoded f0 f d0 d1 a to q w0 w1 kept bytes) (sym feed)
+    (subst (λ n. Decoded f0 f1 d0 d1 a to n w0 w1 kept bytes) (sym place)
+    (subst (λ h. Decoded f0 f1 d0 d1 a to p w0 w1 h bytes) (sym same) decoded))
+
+pub calm_same : (f0 f1 g1 : Feeding) (d0 d1 : Seen) → g1 ≡ f1 → Calm f0 f1 d0 d1 → Calm f0 g1 d0 d1
+calm_same f0 f1 g1 d0 d1 feed calm = subst (λ f. Calm f0 f d0 d1) (sym feed) calm
 
 -- ---- pairs in a list
 

@@ -1,5 +1,6 @@
 -- Steps of decoding, one after the other.
-use Rattle.std.proofs.Common.{arith, ◌+◌, ◌≤◌, ◌<◌, ℕ, List, ◌++◌, Option, Result, Ok, Err, MatchResult}
+use Rattle.std.proofs.Common.{arith, ◌≤◌, ◌<◌, ℕ, Bool, true, false, List, ◌++◌, Option, Result, Ok, Err, MatchResult}
+use Rattle.std.specs.Bool.{OnTrue}
 use Rattle.mg_dev.specs.Causes.{Rose}
 use Rattle.mg_dev.specs.StreamLaws.{grew_first}
 use Rattle.mg_dev.specs.declared.part_err.PartErr.{PartErr}
@@ -61,6 +62,11 @@ ends_more show.Memory a b p q f h = f h
 pub ends_map : (r : Result (Unit {0}) ShowErr) (a b p q : Type 0) → (a → b) → (p → q) → Ends r a p → Ends r b q
 ends_map (Ok done) a b p q f g h = f h
 ends_map (Err refusal) a b p q f g h = ends_more refusal a b p q g h
+
+-- a fact of a true answer
+pub on_true : (answer : Bool) (p q : Type 0) → (p → q) → OnTrue answer p → OnTrue answer q
+on_true true p q f h = f h
+on_true false p q f h = h
 
 -- what an answer says
 

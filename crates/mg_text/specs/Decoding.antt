@@ -5,6 +5,7 @@ use Rattle.std.specs.declared.option.Option.{Option}
 use Rattle.std.specs.declared.result.Result.{Result}
 use Rattle.std.specs.Prelude.{slice_get}
 use Rattle.mg_dev.specs.Causes.{Rose}
+use Rattle.mg_dev.specs.Files.{Files}
 use Rattle.mg_dev.specs.Streams.{appended, GrewByPrefix}
 use Rattle.mg_dev.specs.declared.part_err.PartErr.{PartErr}
 use Rattle.mg_dev.specs.declared.part_err.PartErr.TheVariants.{Device, Memory, Bad}
@@ -90,13 +91,17 @@ Ends (Err (show.Part (Bad bad))) whole part = ⊥
 Ends (Err show.Write) whole part = part
 Ends (Err show.Memory) whole part = part
 
--- where a number's code stands at a reader's place: the number is read, and the reader stands behind the code
-abbrev pub ReadsCode : {Fed Dev : Type 0} → (Fed → Feeding) → (Dev → Seen) → Reading Fed → Reading Fed → Dev → Dev → Bits → ℕ → Result ℕ PartErr → Type 0
-ReadsCode feeding device r r_now d d_now bits number result =
+-- where a value's code stands at a reader's place: the value is read, and the reader stands behind the code
+abbrev pub ReadsCode : {Fed Dev T : Type 0} → (Fed → Feeding) → (Dev → Seen) → Reading Fed → Reading Fed → Dev → Dev → Bits → T → Result T PartErr → Type 0
+ReadsCode feeding device r r_now d d_now bits value result =
     r.place + length bits ≤ 2 ^ 63 → Shows ((feeding r.feed).source (device d).files) r.place bits →
     Takes result
-    (λ n. (n ≡ number) × (r_now.place ≡ r.place + length bits) × Read (feeding r.feed) (feeding r_now.feed) (device d) (device d_now) r.place (r.place + length bits))
+    (λ found. (found ≡ value) × (r_now.place ≡ r.place + length bits) × Read (feeding r.feed) (feeding r_now.feed) (device d) (device d_now) r.place (r.place + length bits))
     (ReadsWithin (feeding r.feed) (feeding r_now.feed) (device d) (device d_now) r.place (r.place + length bits))
+
+-- the same where the reader holds the bits: whatever device it agrees with, none is asked
+abbrev pub ReadsHeld : {Fed T : Type 0} → (Fed → Feeding) → (Option Files → Type 0) → Reading Fed → Reading Fed → Bits → T → T → Type 0
+ReadsHeld feeding fits r r_now bits value found = (d : Seen) → fits d.files → ReadsCode feeding (λ (seen : Seen). seen) r r_now d d bits value (Ok found)
 
 -- where bits stand at a reader's place and bytes were shown or are held: then those of the bits are so too and the reader stands behind them, or it stopped within them
 abbrev pub Decodes : {Fed Dev : Type 0} → (Fed → Feeding) → (Dev → Seen) → Reading Fed → Reading Fed → Dev → Dev → Bits → Option (List ℕ) → Option (List ℕ) → Option (List ℕ) → List ℕ → List ℕ → List ℕ → List ℕ → Result (Unit {0}) ShowErr → Type 0
@@ -117,6 +122,11 @@ ShowsPiece feeding device written r r_now d d_now out out_now held held_now code
 abbrev pub ShowsPair : {Fed Dev Out : Type 0} → (Fed → Feeding) → (Dev → Seen) → (Out → Option (List ℕ)) → Reading Fed → Reading Fed → Dev → Dev → Out → Out → List ℕ → List ℕ → TextCode → Result (Unit {0}) ShowErr → Type 0
 ShowsPair feeding device written r r_now d d_now out out_now held held_now code result = (before : Option (List ℕ)) (bytes : List ℕ) (p : Pair) → PairIn code p →
     Decodes feeding device r r_now d d_now (coded_pair code p) before (written out) (written out_now) held held_now bytes (bytes ++ (p.word ++ p.other)) result
+
+-- the same where the reader holds the bits: whatever device it agrees with and whatever sink there is, none is asked
+abbrev pub ShowsHeld : {Fed : Type 0} → (Fed → Feeding) → (Option Files → Type 0) → Reading Fed → Reading Fed → List ℕ → List ℕ → TextCode → Type 0
+ShowsHeld feeding fits r r_now held held_now code = (d : Seen) (sink : Option (List ℕ)) → fits d.files →
+    ShowsPair feeding (λ (seen : Seen). seen) (λ (told : Option (List ℕ)). told) r r_now d d sink sink held held_now code (Ok tt)
 
 -- the pairs, so many, whose codewords stand there
 abbrev pub ShowsPairs : {Fed Dev Out : Type 0} → (Fed → Feeding) → (Dev → Seen) → (Out → Option (List ℕ)) → Reading Fed → Reading Fed → Dev → Dev → Out → Out → List ℕ → List ℕ → TextCode → ℕ → Result (Unit {0}) ShowErr → Type 0

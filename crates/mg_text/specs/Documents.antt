@@ -1,5 +1,5 @@
 -- The documents of a collection as the bits that a writer is handed, and their parts.
-use Rattle.std.specs.Prelude.{◌≡◌, ℕ, List, [], ◌∷◌, ◌++◌, ◌+◌, ◌/◌, length, map}
+use Rattle.std.specs.Prelude.{◌≡◌, ℕ, List, [], ◌∷◌, ◌++◌, length, map}
 use Rattle.std.specs.declared.option.Option.{Option}
 use Rattle.mg_dev.specs.Files.{Files, bytes_at}
 use Rattle.mg_dev.specs.Names.{full_name}

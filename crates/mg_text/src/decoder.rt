@@ -1,11 +1,14 @@
 //! The bytes of a document, decoded piece by piece.
-ghost use Rattle.std.specs.Prelude.{◌≡◌, ◌<◌, []};
+ghost use Rattle.std.specs.Prelude.{◌≡◌, ◌≤◌, ◌<◌, ℕ, List, [], IfSome, slice_index};
+ghost use Rattle.std.specs.Bool.{OnTrue, OnFalse};
 ghost use Rattle.mg_bits.specs.Feed.{Calm};
+ghost use Rattle.mg_defs.specs.CodedText.{codeword_of};
 ghost use Rattle.mg_defs.specs.Marks.{code_of};
-ghost use Rattle.mg_text.specs.Decoding.{Added, ShowsPiece, ShowsPairs, ShowsWhole, ShowCaused, ShowsPair, ShowsDoc};
+ghost use Rattle.mg_model.specs.Blocks.{short_piece};
+ghost use Rattle.mg_text.specs.Decoding.{Added, IsIn, ReadsHeld, ShowsPiece, ShowsHeld, ShowsPairs, ShowsWhole, ShowCaused, ShowsPair, ShowsDoc};
 
 use crate::show_buffer::ShowBuffer;
-use crate::symbols::{get_count, get_symbol};
+use crate::symbols::{get_count, get_symbol, held_symbol};
 use mg_bits::{BitReader, Feed};
 use mg_dev::{ShowErr, Sink, refused_put};
 use mg_model::{Stream, TextModel};
@@ -42,7 +45,9 @@ fn show_piece<F: Feed, O: Sink>(
     }
 }
 
-/// Shows the word and the other of a pair.
+/// Shows the word and the other of a pair. It stands apart so that `show_pairs` is short where
+/// `show_held` shows them.
+#[inline(never)]
 fn show_pair<F: Feed, O: Sink>(
     model: &TextModel,
     r: &mut BitReader<F>,
@@ -67,6 +72,67 @@ fn show_pair<F: Feed, O: Sink>(
     }
 }
 
+/// The entry of the piece of the stream whose codeword stands at the place, where the reader holds
+/// the codeword's bits and the model has an entry of the piece. At `None` the place may be another one.
+#[inline]
+fn held_entry<'a, F: Feed>(
+    model: &'a TextModel,
+    stream: Stream,
+    r: &mut BitReader<F>,
+) -> Option<&'a [u8; 16]>
+    ensures feed { r.new.feed ≡ r.old.feed }
+    ensures short { IfSome result (λ entry. slice_index entry.now 0 ≤ 15) }
+    ensures told { IfSome result (λ entry. (piece : List ℕ) → IsIn (code_of stream model.now) piece →
+        ReadsHeld F.feeding (F.fits r.old.feed) r.old r.new (codeword_of (code_of stream model.now) piece) piece (short_piece entry.now)) }
+{
+    let symbol = match held_symbol(model.canon(stream), r) {
+        Some(symbol) => symbol,
+        None => return None,
+    };
+    match model.short_piece(stream, symbol) {
+        Some(entry) => Some(entry),
+        None => None,
+    }
+}
+
+/// Holds the word and the other of a pair, where the reader holds the bits of both codewords, the
+/// model has entries of both pieces and the buffer has room for them. Where it answers false, the
+/// place may be another one, and the buffer is as before.
+#[inline]
+fn hold_next<F: Feed>(model: &TextModel, r: &mut BitReader<F>, buffer: &mut ShowBuffer) -> bool
+    ensures feed { r.new.feed ≡ r.old.feed }
+    ensures told { OnTrue result (ShowsHeld F.feeding (F.fits r.old.feed) r.old r.new buffer.old buffer.new model.now) }
+    ensures kept { OnFalse result (buffer.new ≡ buffer.old) }
+{
+    let word = match held_entry(model, Stream::Words, r) {
+        Some(entry) => entry,
+        None => return false,
+    };
+    let other = match held_entry(model, Stream::Others, r) {
+        Some(entry) => entry,
+        None => return false,
+    };
+    buffer.hold_pair(word, other)
+}
+
+/// Shows a pair where neither the device nor the sink has to be asked, which is so of most: `true`
+/// stands for what `show_pair` does at `Ok`. It has no refusal, so that its answer fits a register.
+/// At `false` nothing changed.
+#[inline]
+fn show_held<F: Feed>(model: &TextModel, r: &mut BitReader<F>, buffer: &mut ShowBuffer) -> bool
+    ensures feed { r.new.feed ≡ r.old.feed }
+    ensures told { OnTrue result (ShowsHeld F.feeding (F.fits r.old.feed) r.old r.new buffer.old buffer.new model.now) }
+    ensures place { OnFalse result (r.new.place ≡ r.old.place) }
+    ensures kept { OnFalse result (buffer.new ≡ buffer.old) }
+{
+    let start = r.place();
+    if hold_next(model, r, buffer) {
+        return true;
+    }
+    r.seek(start);
+    false
+}
+
 /// Shows so many pairs.
 fn show_pairs<F: Feed, O: Sink>(
     model: &TextModel,
@@ -84,6 +150,9 @@ fn show_pairs<F: Feed, O: Sink>(
     ensures cause { ShowCaused O.faults O.lacks out.old out.new (F.device dev.old).faults (F.device dev.new).faults result }
 {
     for _i in 0..count {
+        if show_held(model, r, buffer) {
+            continue;
+        }
         match show_pair(model, r, dev, buffer, out) {
             Ok(()) => {}
             Err(refusal) => return Err(refusal),

@@ -1,5 +1,6 @@
 //! Bytes on their way to a sink.
 ghost use Rattle.std.specs.Prelude.{◌≡◌, ◌≤◌, ◌+◌, ◌++◌, ℕ, List, [], IfOk, OnOk, length, slice_index};
+ghost use Rattle.std.specs.Bool.{OnTrue, OnFalse};
 ghost use Rattle.mg_dev.specs.Causes.{HasLack, HasPutCause};
 ghost use Rattle.mg_dev.specs.Streams.{AfterPut};
 ghost use Rattle.mg_model.specs.Blocks.{short_piece};
@@ -108,6 +109,23 @@ impl ShowBuffer {
             Ok(()) => Ok(()),
             Err(refusal) => Err(refusal),
         }
+    }
+
+    /// Holds the pieces of two entries, one behind the other. False, and nothing changed, where there
+    /// is no room for thirty bytes.
+    #[inline]
+    pub(crate) fn hold_pair(&mut self, first: &[u8; 16], second: &[u8; 16]) -> bool
+        requires first { slice_index first.now 0 ≤ 15 }
+        requires second { slice_index second.now 0 ≤ 15 }
+        ensures held { OnTrue result (self.new ≡ self.old ++ (short_piece first.now ++ short_piece second.now)) }
+        ensures kept { OnFalse result (self.new ≡ self.old) }
+    {
+        if 2 * MOST > SIZE - self.used {
+            return false;
+        }
+        self.keep_short(first);
+        self.keep_short(second);
+        true
     }
 
     /// Holds the piece of an entry, where there is room for fifteen bytes.

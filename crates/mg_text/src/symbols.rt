@@ -1,9 +1,9 @@
 //! The numbers that are read of a document: how many pairs it has, and the symbols of its pieces.
-ghost use Rattle.std.specs.Prelude.{◌+◌, ◌<◌, ◌^◌, ℕ, IfOk, length};
+ghost use Rattle.std.specs.Prelude.{◌≡◌, ◌+◌, ◌<◌, ◌^◌, ℕ, IfOk, IfSome, length};
 ghost use Rattle.mg_bits.specs.Feed.{Calm};
 ghost use Rattle.mg_defs.specs.Canon.{codeword};
 ghost use Rattle.mg_defs.specs.Codes.{gamma};
-ghost use Rattle.mg_text.specs.Decoding.{IsReadCaused, ReadsCode};
+ghost use Rattle.mg_text.specs.Decoding.{IsReadCaused, ReadsCode, ReadsHeld};
 ghost use Rattle.mg_text.specs.Refusals.{IsRefused, IsDamaged};
 
 use mg_bits::{BitReader, CodeErr, Feed};
@@ -63,6 +63,24 @@ pub fn get_symbol<F: Feed>(
     match canon.get(r, dev) {
         Ok(symbol) => Ok(symbol),
         Err(refusal) => Err(refused(refusal)),
+    }
+}
+
+/// The symbol whose codeword stands at the place, where the reader holds the codeword's bits: what
+/// `get_symbol` answers at `Ok`, with no device asked. At `None` the place may be another one.
+#[inline]
+pub fn held_symbol<F: Feed>(canon: &Canon, r: &mut BitReader<F>) -> Option<u32>
+    ensures feed { r.new.feed ≡ r.old.feed }
+    ensures symbol { IfSome result (λ found. found < length canon.now) }
+    ensures told { IfSome result (λ found. (s : ℕ) → s < length canon.now →
+        ReadsHeld F.feeding (F.fits r.old.feed) r.old r.new (codeword canon.now s) s found) }
+{
+    if r.place() > LAST || canon.count() == 0 {
+        return None;
+    }
+    match canon.get_held(r) {
+        Some(symbol) => Some(symbol),
+        None => None,
     }
 }
 

@@ -1,26 +1,7 @@
-use Rattle.std.proofs.Common.{arith, ◌≡◌, ◌-◌, ◌+◌, ap, length, refl, ◌∙◌}
-use Rattle.mg_defs.specs.Answers.{Below}
-use Rattle.mg_defs.specs.Canon.{codeword}
-use Rattle.mg_defs.proofs.BitLaws.{length_digits}
-use Rattle.mg_bits.proofs.CallerLemmas.{holds_inside, read_held, told_first}
-use Rattle.mg_canon.proofs.Walks.{told_value}
 use Rattle.mg_canon.proofs.canon.Canon.get.Goals as goal
 
-pub returns-in-Some-first_of-clause-read : goal.returns-in-Some-first_of-clause-read
-returns-in-Some-first_of-clause-read g c =
-    let size : length (codeword c.args.self.now c.in-Some-first_of.found.symbol) ≡ c.in-Some-first_of.found.size = ap length c.in-Some-first_of.ensures.code ∙ length_digits c.in-Some-first_of.found.size _ in
-    rw (size, c.seek.ensures.feed)
-    (read_held (g.F.Feed.feeding c.args.reader.now.feed) (g.F.Feed.device c.args.dev.now) c.args.reader.now.place c.in-Some-first_of.found.size c.in-Some-first_of.ensures.some
-    (holds_inside (g.F.Feed.feeding c.args.reader.now.feed) c.args.reader.now.place c.args.reader.now.place 57 c.in-Some-first_of.found.size
-    (g.met.F.Feed.whole_pages c.args.reader.now.feed).some (omega arith) c.in-Some-first_of.ensures.some (omega (arith, c.in-Some-first_of.ensures.small)) c.in-Some.ensures.held))
+pub returns-in-Some-clause-read : goal.returns-in-Some-clause-read
+returns-in-Some-clause-read g c = c.in-Some.ensures.read (g.F.Feed.device c.args.dev.now)
 
-pub returns-in-Some-first_of-clause-place : goal.returns-in-Some-first_of-clause-place
-returns-in-Some-first_of-clause-place g c =
-    let size : length (codeword c.args.self.now c.in-Some-first_of.found.symbol) ≡ c.in-Some-first_of.found.size = ap length c.in-Some-first_of.ensures.code ∙ length_digits c.in-Some-first_of.found.size _ in
-    omega (arith, size, c.seek.ensures.place, c.place.ensures, c.from.ensures)
-
-pub returns-in-Some-first_of-clause-told : goal.returns-in-Some-first_of-clause-told
-returns-in-Some-first_of-clause-told g c =
-    told_value _ c.args.reader.now.place 1 c.in-Some-first_of.found.symbol (Below (length c.args.self.now)) (codeword c.args.self.now) _ c.in-Some-first_of.ensures.symbol c.in-Some-first_of.ensures.code
-    (told_first ((g.F.Feed.feeding c.args.reader.now.feed).source (g.F.Feed.device c.args.dev.now).files) c.args.reader.now.place 57 c.in-Some-first_of.found.size (57 - c.in-Some-first_of.found.size) c.in-Some.next
-    (omega (arith, c.in-Some-first_of.ensures.small)) (c.in-Some.ensures.told _ c.requires.fits))
+pub returns-in-Some-clause-told : goal.returns-in-Some-clause-told
+returns-in-Some-clause-told g c = c.in-Some.ensures.told (g.F.Feed.device c.args.dev.now).files c.requires.fits
