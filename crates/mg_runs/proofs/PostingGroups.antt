@@ -1,7 +1,7 @@
 -- The postings of a list in order, one group of like entries after the other.
-use Rattle.std.proofs.Common.{◌≡◌, ℕ, zero, suc, ◌+◌, ◌<◌, false, List, [], ◌∷◌, length, refl, sym, ap, ◌∙◌, subst, arith, get_or, map}
+use Rattle.std.proofs.Common.{◌≡◌, ℕ, zero, suc, ◌+◌, ◌*◌, ◌^◌, ◌<◌, ◌≤◌, false, List, [], ◌∷◌, length, refl, sym, ap, ◌∙◌, subst, arith, get_or, map}
 use Rattle.std.specs.List.{AllByRecursion}
-use Rattle.std.specs.Ordering.{is_lt, nat_cmp, ordering_then}
+use Rattle.std.specs.Ordering.{is_lt, nat_cmp}
 use Rattle.std.proofs.lemmas.Bool.Decides.{nat_tests}
 use Rattle.mg_defs.specs.declared.TermPosting.{TermPosting}
 use Rattle.mg_defs.specs.Postings.{IsBefore, AllAfter, with_count, added, gathered}
@@ -24,9 +24,15 @@ not_falling {X} f (x ∷ y ∷ xs) h =
     let first : NoLater (f x) (f y) = h 0 x (omega arith) in
     ((first, NoLater-all (f x) (f y) first (map f xs) rest.0), rest)
 
--- the test of a sort by term and document
-pub no_later-from_test : (a b c d : ℕ) (x y : TermPosting) → x.term ≡ a → x.doc ≡ b → y.term ≡ c → y.doc ≡ d → is_lt (ordering_then (nat_cmp c a) (nat_cmp d b)) ≡ false → NoLater x y
-no_later-from_test a b c d x y p q r s h = record { term = grind (arith, nat_tests); doc = λ e. grind (arith, nat_tests) }
+-- the test of a sort by a number
+le_from_test : (m n : ℕ) → is_lt (nat_cmp n m) ≡ false → m ≤ n
+le_from_test m n h = grind (arith, nat_tests)
+
+-- a key of term and document orders as these do, since a document is below the weight of a term
+pub no_later-from_key : (x y : TermPosting) → x.doc < 2 ^ 32 → y.doc < 2 ^ 32 → is_lt (nat_cmp (y.term * 2 ^ 32 + y.doc) (x.term * 2 ^ 32 + x.doc)) ≡ false → NoLater x y
+no_later-from_key x y small next h =
+    let le : x.term * 2 ^ 32 + x.doc ≤ y.term * 2 ^ 32 + y.doc = le_from_test _ _ h in
+    record { term = omega arith; doc = λ e. omega arith }
 
 -- what follows one that is later
 pub AllAfter-no_later : (x y : TermPosting) → IsBefore x y → (xs : List TermPosting) → AllByRecursion (λ z. NoLater y z) xs → AllAfter x xs

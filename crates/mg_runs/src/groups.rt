@@ -1,5 +1,5 @@
 //! The postings of entries, sorted in their place.
-ghost use Rattle.std.specs.Prelude.{◌≡◌, ◌≤◌, ◌<◌, ◌+◌, ◌-◌, length, map};
+ghost use Rattle.std.specs.Prelude.{◌≡◌, ◌≤◌, ◌<◌, ◌+◌, ◌-◌, ◌*◌, ◌^◌, length, map};
 ghost use Rattle.std.specs.List.{All};
 ghost use Rattle.std.specs.List.Sorted.{IsPermutation};
 ghost use Rattle.mg_runs.specs.PostingOrder.{NotFalling};
@@ -7,15 +7,19 @@ ghost use Rattle.mg_runs.specs.Bytes.{entry_in, number_in};
 ghost use Rattle.mg_runs.specs.Groups.{IsGroup};
 
 use crate::entry::number_at;
+use mg_fields::eight_at;
 
-fn key_of(entry: &[u8; 12]) -> (u32, u32)
-    ensures { result ≡ (number_in 0 entry.now, number_in 4 entry.now) }
+/// The term and the document of an entry as one number. By it entries are in order of their terms,
+/// and those of a term in order of their documents.
+fn key_of(entry: &[u8; 12]) -> u64
+    ensures { result ≡ number_in 0 entry.now * 2 ^ 32 + number_in 4 entry.now }
 {
-    (number_at(entry, 0), number_at(entry, 4))
+    eight_at(entry, 0)
 }
 
 /// Sorts entries by term and document.
 pub fn sort_entries(entries: &mut [[u8; 12]])
+    requires docs { All (λ e. number_in 4 e < 2 ^ 32) entries.old }
     ensures same { IsPermutation entries.old entries.new }
     ensures order { NotFalling (map entry_in entries.new) }
 {

@@ -1,5 +1,5 @@
 //! The entries of a pool as a run.
-ghost use Rattle.std.specs.Prelude.{◌≡◌, ◌+◌, ◌*◌, ◌%◌, ◌≤◌, ◌<◌, ◌^◌, OnOk, length, map};
+ghost use Rattle.std.specs.Prelude.{◌≡◌, ◌+◌, ◌*◌, ◌%◌, ◌≤◌, ◌<◌, ◌^◌, ℕ, OnOk, length, map, slice_index};
 ghost use Rattle.std.specs.List.{All};
 ghost use Rattle.mg_dev.specs.Causes.{HasPutCause};
 ghost use Rattle.mg_defs.specs.Bits.{filled};
@@ -16,6 +16,11 @@ use crate::posting::{put_number, put_posting};
 use mg_bits::BitWriter;
 use mg_defs::TermPosting;
 use mg_dev::{PutErr, Store};
+
+/// A law: each number of a slice of bytes is one.
+fn bytes_fit(bytes: &[u8])
+    ensures { (i : ℕ) → slice_index bytes.now i < 2 ^ 8 }
+{}
 
 /// How many postings sorted entries have.
 fn distinct(entries: &[[u8; 12]]) -> u32
@@ -98,6 +103,7 @@ pub fn write_entries<S: Store>(
     ensures wrote { WroteTo w.old.name (S.files store.old) (S.files store.new) (S.reads store.old) (S.reads store.new) }
     ensures cause { HasPutCause (S.faults store.old) (S.faults store.new) result }
 {
+    bytes_fit(bytes);
     let front = &mut bytes[..12 * count];
     let (entries, _) = front.as_chunks_mut::<12>();
     sort_entries(entries);

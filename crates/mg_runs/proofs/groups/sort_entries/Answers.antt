@@ -1,12 +1,14 @@
-use Rattle.std.proofs.Common.{rules, ◌+◌, ℕ, List, refl, arith, get_or}
-use Rattle.std.proofs.lemmas.List.Sorted.{answers_always}
+use Rattle.std.proofs.Common.{rules, ◌*◌, ◌^◌, ◌+◌, ◌<◌, ℕ, List, arith, get_or}
+use Rattle.std.proofs.lemmas.List.Sorted.{answers_always, All-permutation}
 use Rattle.mg_runs.specs.Bytes.{entry_in, number_in}
-use Rattle.mg_runs.proofs.PostingGroups.{not_falling, no_later-from_test}
+use Rattle.mg_runs.proofs.PostingGroups.{not_falling, no_later-from_key}
 use Rattle.mg_runs.proofs.groups.sort_entries.Goals as goal
 
 pub returns-clause-order : goal.returns-clause-order
 returns-clause-order c =
     let xs : List (List ℕ) = c.sort_unstable_by_key.new.self in
-    let key : List ℕ → ℕ × ℕ = λ e. (number_in 0 e, number_in 4 e) in
+    let key : List ℕ → ℕ = λ e. number_in 0 e * 2 ^ 32 + number_in 4 e in
     let s = c.sort_unstable_by_key.ensures.sorted key (answers_always _ _ _ (λ f a r g h. search rules)) in
-    not_falling entry_in xs (λ k d h. no_later-from_test (number_in 0 (get_or xs k d)) (number_in 4 (get_or xs k d)) (number_in 0 (get_or xs (k + 1) d)) (number_in 4 (get_or xs (k + 1) d)) (entry_in (get_or xs k d)) (entry_in (get_or xs (k + 1) d)) refl refl refl refl (s k d (omega arith) h))
+    let small = All-permutation (λ e. number_in 4 e < 2 ^ 32) c.args.entries.now xs c.sort_unstable_by_key.ensures.permutation c.requires.docs in
+    not_falling entry_in xs (λ k d h.
+    no_later-from_key (entry_in (get_or xs k d)) (entry_in (get_or xs (k + 1) d)) (small k d (omega arith)) (small (k + 1) d h) (s k d (omega arith) h))

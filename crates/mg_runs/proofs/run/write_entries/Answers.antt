@@ -1,4 +1,5 @@
-use Rattle.std.proofs.Common.{◌≡◌, ◌*◌, length, take, ◌/◌, ◌-◌, ◌+◌, ◌%◌, ◌<◌, ◌≤◌, Bool, IsPermutation, List, ℕ, arith, ap, ◌∙◌, subst, refl}
+use Rattle.std.proofs.Common.{◌≡◌, ◌*◌, ◌^◌, length, take, ◌/◌, ◌-◌, ◌+◌, ◌%◌, ◌<◌, ◌≤◌, Bool, IsPermutation, List, ℕ, arith, ap, ◌∙◌, subst, refl, sym}
+use Rattle.std.specs.List.{All}
 use Rattle.std.specs.Simd.{first_chunks}
 use Rattle.std.proofs.lemmas.List.Sorted.{length_permutation}
 use Rattle.mg_runs.proofs.Chunks.{length-chunks}
@@ -7,8 +8,8 @@ use Rattle.mg_defs.specs.RunBits.{run_bits}
 use Rattle.mg_bits.proofs.CallerLemmas.{bits_more}
 use Rattle.mg_defs.proofs.BitLaws.{length_digits}
 use Rattle.mg_defs.specs.Postings.{gathered}
-use Rattle.mg_runs.specs.Bytes.{entries_in}
-use Rattle.mg_runs.proofs.Sorting.{front_chunks, are_sorted}
+use Rattle.mg_runs.specs.Bytes.{entries_in, number_in}
+use Rattle.mg_runs.proofs.Sorting.{front_chunks, numbers_small, are_sorted}
 use Rattle.mg_runs.proofs.run.write_entries.Goals as goal
 
 to_byte_same : (p n : ℕ) → p % 8 ≡ 0 → to_byte (p + n) ≡ to_byte n
@@ -24,6 +25,11 @@ chunks_are c_old new count bytes h e p = subst (λ t. IsPermutation t new) (e �
 
 sorted_length : (count : ℕ) (bytes : List ℕ) (new : List (List ℕ)) → IsPermutation (first_chunks 12 count bytes) new → length new ≡ count
 sorted_length count bytes new p = length_permutation (first_chunks 12 count bytes) new p ∙ length-chunks 12 count bytes
+
+pub sort_entries-requires : goal.sort_entries-requires
+sort_entries-requires g c =
+    let e = c.as_chunks_mut-entries.ensures.front ∙ front_chunks c.args.count c.args.bytes.now (take (12 * c.args.count) c.args.bytes.now) c.requires.room refl in
+    record { docs = subst (λ (chunks : List (List ℕ)). All (λ e. number_in 4 e < 2 ^ 32) chunks) (sym e) (numbers_small 4 c.args.count c.args.bytes.now c.bytes_fit.ensures) }
 
 pub put_list-requires-clause-ones : goal.put_list-requires-clause-ones
 put_list-requires-clause-ones g c =
