@@ -14,7 +14,7 @@ use Rattle.mg_defs.specs.Postings.{once, gathered, term_postings}
 use Rattle.mg_defs.specs.Runs.{first_runs, runs_of}
 use Rattle.mg_runs.specs.FinishedRuns.{finished}
 use Rattle.mg_defs.specs.RunBits.{run_part_bits, runs_bits}
-use Rattle.mg_runs.proofs.Segments.{finished-room, finished-full, finished-low, first_runs-more, first_runs-full}
+use Rattle.mg_runs.proofs.CallerLemmas.{finished-room, finished-full, finished-low, first_runs-more, first_runs-full}
 use Rattle.mg_runs.specs.Bytes.{AreEntries}
 use Rattle.mg_runs.specs.Fed.{IsOccurrence, AreOccurrences, cap_of}
 use Rattle.mg_runs.specs.Pooled.{Pooled, used}

@@ -1,11 +1,12 @@
 -- Bytes in chunks of 12.
 use Rattle.std.proofs.Common.{◌≡◌, ℕ, zero, suc, ◌+◌, ◌-◌, ◌*◌, ◌<◌, ◌≤◌, ◌^◌, List, [], ◌∷◌, ◌++◌, length, refl, sym, ap, ◌∙◌, arith, take, drop, map}
 use Rattle.std.proofs.lemmas.Grind.{common_steps}
-use Rattle.std.proofs.lemmas.List.{drop-take, drop-drop}
+use Rattle.std.proofs.lemmas.List.{drop-take, drop-drop, length-map}
 use Rattle.std.proofs.lemmas.Nat.{from_be_bytes-to_be_bytes_4}
 use Rattle.std.specs.Simd.{first_chunks}
 use borrow.Rule.Slice.PartMut.{put_mid}
 use Rattle.mg_defs.specs.declared.TermPosting.{TermPosting}
+use Rattle.mg_runs.proofs.Segments.{map_end}
 use Rattle.mg_runs.specs.Bytes.{number_in, entry_in, bytes_of, entries_in}
 
 pub entry-of-bytes : (t d n : ℕ) → t < 2 ^ 32 → d < 2 ^ 32 → n < 2 ^ 32 → entry_in (bytes_of t d n) ≡ record { term = t; doc = d; count = n }
@@ -56,10 +57,6 @@ chunks-same (suc k) xs ys e =
     let r = chunks-same k (drop 12 xs) (drop 12 ys) g in
     cc
 
-map-end : {X Y : Type 0} (f : X → Y) (xs : List X) (y : X) → map f (xs ++ y ∷ []) ≡ map f xs ++ f y ∷ []
-map-end f [] y = refl
-map-end f (x ∷ xs) y = ap (λ t. f x ∷ t) (map-end f xs y)
-
 pub entries-put : (count : ℕ) (xs made : List ℕ) → 12 * count + 12 ≤ length xs → length made ≡ 12 → entries_in (count + 1) (put_mid (12 * count) (12 * count + 12 - 12 * count) xs made) ≡ entries_in count xs ++ entry_in made ∷ []
 entries-put count xs made room whole =
     let ys : List ℕ = put_mid (12 * count) (12 * count + 12 - 12 * count) xs made in
@@ -68,11 +65,7 @@ entries-put count xs made room whole =
     let front : take (count * 12) ys ≡ take (count * 12) xs = ap (λ t. take (count * 12) t) (sym put) ∙ front-put (12 * count) (count * 12) 12 xs made (omega arith) room whole in
     let here : take 12 (drop (count * 12) ys) ≡ made = ap (λ t. take 12 (drop (count * 12) t)) (sym put) ∙ here-put (12 * count) (count * 12) 12 xs made (omega arith) room whole in
     let one : count + 1 ≡ suc count = omega arith in
-    ap (λ n. entries_in n ys) one ∙ ap (λ t. map entry_in t) (chunks-more count ys ∙ ap (λ t. t ++ take 12 (drop (count * 12) ys) ∷ []) (chunks-same count ys xs front) ∙ ap (λ t. first_chunks 12 count xs ++ t ∷ []) here) ∙ map-end entry_in (first_chunks 12 count xs) made
-
-length-map : {X Y : Type 0} (f : X → Y) (xs : List X) → length (map f xs) ≡ length xs
-length-map f [] = refl
-length-map f (x ∷ xs) = ap (λ n. suc n) (length-map f xs)
+    ap (λ n. entries_in n ys) one ∙ ap (λ t. map entry_in t) (chunks-more count ys ∙ ap (λ t. t ++ take 12 (drop (count * 12) ys) ∷ []) (chunks-same count ys xs front) ∙ ap (λ t. first_chunks 12 count xs ++ t ∷ []) here) ∙ map_end entry_in (first_chunks 12 count xs) made
 
 pub length-chunks : (n k : ℕ) (xs : List ℕ) → length (first_chunks n k xs) ≡ k
 length-chunks n zero xs = refl
@@ -83,7 +76,7 @@ pub no_chunks : (k : ℕ) (xs : List ℕ) → first_chunks 64 k xs ≡ [] → k 
 no_chunks k xs e = sym (length-chunks 64 k xs) ∙ ap (λ t. length t) e
 
 pub length_entries : (count : ℕ) (bytes : List ℕ) → length (entries_in count bytes) ≡ count
-length_entries count bytes = length-map entry_in (first_chunks 12 count bytes) ∙ length-chunks 12 count bytes
+length_entries count bytes = length-map (first_chunks 12 count bytes) entry_in ∙ length-chunks 12 count bytes
 
 pub length-entry_put : (count : ℕ) (xs made : List ℕ) → 12 * count + 12 ≤ length xs → length made ≡ 12 → length (put_mid (12 * count) (12 * count + 12 - 12 * count) xs made) ≡ length xs
 length-entry_put count xs made room whole =

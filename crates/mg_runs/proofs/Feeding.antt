@@ -1,8 +1,7 @@
 -- Occurrences taken one after the other.
-use Rattle.std.proofs.Common.{◌≡◌, ℕ, zero, suc, ◌+◌, ◌-◌, ◌*◌, ◌/◌, ◌%◌, ◌<◌, ◌≤◌, ◌^◌, min, max, List, [], ◌∷◌, ◌++◌, length, refl, sym, ap, ◌∙◌, subst, arith, drop, map, IsSome, is_some, length-append, append-nil}
+use Rattle.std.proofs.Common.{◌≡◌, ℕ, zero, suc, ◌+◌, ◌-◌, ◌*◌, ◌/◌, ◌%◌, ◌<◌, ◌≤◌, ◌^◌, min, max, List, [], ◌∷◌, ◌++◌, length, sym, ap, ◌∙◌, subst, arith, drop, map, IsSome, is_some, length-append, append-nil}
 use Rattle.std.specs.declared.option.Option.{Option}
-use Rattle.std.proofs.lemmas.Grind.{common_steps}
-use Rattle.std.proofs.lemmas.Nat.{div_below}
+use Rattle.std.proofs.lemmas.List.{length-map}
 use Rattle.std.proofs.lemmas.List.Concat.{flat_map-append}
 use Rattle.mg_dev.specs.Files.{Files}
 use Rattle.mg_dev.specs.Names.{full_name}
@@ -13,14 +12,12 @@ use Rattle.mg_defs.specs.Postings.{once, gathered, term_postings}
 use Rattle.mg_defs.specs.Runs.{first_runs}
 use Rattle.mg_runs.specs.FinishedRuns.{finished}
 use Rattle.mg_defs.specs.RunBits.{run_bits, runs_bits}
-use Rattle.mg_runs.proofs.Segments.{finished-room, finished-full, finished-low, first_runs-more, first_runs-full, map-end}
+use Rattle.mg_runs.proofs.Occurrences.{occurrences_drop, occurrences_end, entries_of, length_end, length_rest, drop_end, drop_all}
+use Rattle.mg_runs.proofs.Segments.{finished-room, finished-full, finished-low, none_finished, first_runs-more, first_runs-full, map_end}
 use Rattle.mg_bits.specs.BitWriting.{Holds, WroteBits, bits_put}
 use Rattle.mg_runs.specs.Bytes.{AreEntries}
-use Rattle.mg_runs.specs.Fed.{Inverting, IsFed, IsOccurrence, AreOccurrences, cap_of, starts}
+use Rattle.mg_runs.specs.Fed.{Inverting, IsFed, IsOccurrence, cap_of, starts}
 use Rattle.mg_runs.proofs.RoundsBits.{starts_more}
-
-finished-none : (cap : ℕ) → 1 ≤ cap → finished cap 0 ≡ 0
-finished-none cap some = let h : 0 / cap < 1 = div_below 0 cap 1 some (omega arith) in omega arith
 
 some_cap : (limit : ℕ) → 4096 ≤ limit → 1 ≤ limit / 12
 some_cap limit h = omega arith
@@ -28,7 +25,7 @@ some_cap limit h = omega arith
 -- nothing was taken
 pub fed_start : (runs : Inverting) (files : Option Files) → 4096 ≤ runs.pool.limit → runs.pool.limit ≤ 2 ^ 30 → runs.pool.entries ≡ [] → runs.pool.slots ≡ [] → runs.pool.peak ≡ 0 → runs.writer.name ≡ full_name runs.base Run → Holds runs.writer files → (IsSome files → bits_put runs.writer files ≡ []) → runs.writer.place ≡ 0 → runs.places ≡ [] → IsFed runs files []
 fed_start runs files least most entries slots peak name holds empty place places =
-    let none : finished (cap_of runs.pool) 0 ≡ 0 = finished-none (cap_of runs.pool) (some_cap runs.pool.limit least) in
+    let none : finished (cap_of runs.pool) 0 ≡ 0 = none_finished (cap_of runs.pool) (some_cap runs.pool.limit least) in
     let rs : first_runs (cap_of runs.pool) (finished (cap_of runs.pool) 0) [] ≡ [] = ap (λ k. first_runs (cap_of runs.pool) k []) none in
     let z : 0 * cap_of runs.pool ≡ 0 = omega arith in
     record {
@@ -50,42 +47,13 @@ fed_start runs files least most entries slots peak name holds empty place places
 
 -- ---- one occurrence more
 
-length-map : {X Y : Type 0} (f : X → Y) (xs : List X) → length (map f xs) ≡ length xs
-length-map f [] = refl
-length-map f (x ∷ xs) = ap (λ n. suc n) (length-map f xs)
-
-length-end : (s : List (ℕ × ℕ)) (o : ℕ × ℕ) → length (s ++ o ∷ []) ≡ length s + 1
-length-end s o = grind (arith, common_steps)
-
-length-rest : (s : List (ℕ × ℕ)) (k : ℕ) → length (drop k s) ≡ length s - k
-length-rest s k = grind (arith, common_steps)
-
-drop-end : (s : List (ℕ × ℕ)) (k : ℕ) (o : ℕ × ℕ) → k ≤ length s → drop k (s ++ o ∷ []) ≡ drop k s ++ o ∷ []
-drop-end s k o h = grind (arith, common_steps)
-
-drop-all : (s : List (ℕ × ℕ)) (k : ℕ) → length s ≤ k → drop k s ≡ []
-drop-all s k h = grind (arith, common_steps)
-
-docs-end : (s : List (ℕ × ℕ)) (o : ℕ × ℕ) → AreOccurrences s → IsOccurrence o → AreOccurrences (s ++ o ∷ [])
-docs-end [] o all h = (h, tt)
-docs-end (x ∷ s) o all h = (all.0, docs-end s o all.1 h)
-
-docs-drop : (k : ℕ) (s : List (ℕ × ℕ)) → AreOccurrences s → AreOccurrences (drop k s)
-docs-drop zero s all = all
-docs-drop (suc k) [] all = tt
-docs-drop (suc k) (x ∷ s) all = docs-drop k s all.1
-
-entries_of : (s : List (ℕ × ℕ)) → AreOccurrences s → AreEntries (map once s)
-entries_of [] all = tt
-entries_of (o ∷ s) all = ((refl, all.0.some), entries_of s all.1)
-
 pub fed_entries : (runs : Inverting) (files : Option Files) (fed : List (ℕ × ℕ)) → IsFed runs files fed → AreEntries runs.pool.entries
 fed_entries runs files fed is =
-    subst (λ xs. AreEntries xs) (sym is.entries) (entries_of _ (docs-drop (finished (cap_of runs.pool) (length fed) * cap_of runs.pool) fed is.occurrences))
+    subst (λ xs. AreEntries xs) (sym is.entries) (entries_of _ (occurrences_drop (finished (cap_of runs.pool) (length fed) * cap_of runs.pool) fed is.occurrences))
 
 pub fed_length : (runs : Inverting) (files : Option Files) (fed : List (ℕ × ℕ)) → IsFed runs files fed → length runs.pool.entries ≡ length fed - finished (cap_of runs.pool) (length fed) * cap_of runs.pool
 fed_length runs files fed is =
-    ap (λ xs. length xs) is.entries ∙ length-map once (drop (finished (cap_of runs.pool) (length fed) * cap_of runs.pool) fed) ∙ length-rest fed (finished (cap_of runs.pool) (length fed) * cap_of runs.pool)
+    ap (λ xs. length xs) is.entries ∙ length-map (drop (finished (cap_of runs.pool) (length fed) * cap_of runs.pool) fed) once ∙ length_rest fed (finished (cap_of runs.pool) (length fed) * cap_of runs.pool)
 
 finished-high : (cap n : ℕ) → 1 ≤ cap → n - 1 < suc (finished cap n) * cap
 finished-high cap n some = grind arith
@@ -120,7 +88,7 @@ fed_room r0 r1 f fed o is room doc room_left entries slots peak limit writer pla
     let len : length r0.pool.entries ≡ n - q * cap = fed_length r0 f fed is in
     let low : q * cap ≤ n - 1 = finished-low cap n some in
     let e0 : cap_of r1.pool ≡ cap = ap (λ l. l / 12) limit in
-    let e1 : length (fed ++ o ∷ []) ≡ n + 1 = length-end fed o in
+    let e1 : length (fed ++ o ∷ []) ≡ n + 1 = length_end fed o in
     let e2 : finished cap (length (fed ++ o ∷ [])) ≡ q = ap (λ k. finished cap k) e1 ∙ finished-room cap n some (omega arith) in
     let e3 : finished (cap_of r1.pool) (length (fed ++ o ∷ [])) ≡ q = ap (λ k. finished k (length (fed ++ o ∷ []))) e0 ∙ e2 in
     let runs : first_runs (cap_of r1.pool) (finished (cap_of r1.pool) (length (fed ++ o ∷ []))) (fed ++ o ∷ []) ≡ first_runs cap q fed = ap (λ k. first_runs k (finished k (length (fed ++ o ∷ []))) (fed ++ o ∷ [])) e0 ∙ ap (λ k. first_runs cap k (fed ++ o ∷ [])) e2 ∙ first_runs-more cap q fed o (omega arith) in
@@ -132,7 +100,7 @@ fed_room r0 r1 f fed o is room doc room_left entries slots peak limit writer pla
       least = let l = is.least in omega arith;
       most = let l = is.most in omega arith;
       slots = slots;
-      entries = entries ∙ ap (λ xs. xs ++ once o ∷ []) is.entries ∙ sym (map-end once (drop (q * cap) fed) o) ∙ ap (λ xs. map once xs) (sym (drop-end fed (q * cap) o (omega arith)) ∙ ap (λ k. drop k (fed ++ o ∷ [])) (sym at));
+      entries = entries ∙ ap (λ xs. xs ++ once o ∷ []) is.entries ∙ sym (map_end once (drop (q * cap) fed) o) ∙ ap (λ xs. map once xs) (sym (drop_end fed (q * cap) o (omega arith)) ∙ ap (λ k. drop k (fed ++ o ∷ [])) (sym at));
       peak = top ∙ ap (λ k. 12 * min k cap) (sym e1) ∙ ap (λ k. 12 * min (length (fed ++ o ∷ [])) k) (sym e0);
       name = ap (λ w. w.name) writer ∙ is.name ∙ ap (λ b. full_name b Run) (sym base);
       holds = subst (λ w. Holds w f) (sym writer) is.holds;
@@ -141,7 +109,7 @@ fed_room r0 r1 f fed o is room doc room_left entries slots peak limit writer pla
       whole = ap (λ w. w.place % 8) writer ∙ is.whole;
       below = subst (λ k. r1.writer.place ≤ 512 * k) (sym at) (subst (λ w. w.place ≤ 512 * (q * cap)) (sym writer) is.below);
       places = places ∙ is.places ∙ ap (λ rs. starts 0 rs) (sym runs);
-      occurrences = docs-end fed o is.occurrences doc;
+      occurrences = occurrences_end fed o is.occurrences doc;
       few = omega (arith, e1, room_left);
     }
 
@@ -162,7 +130,7 @@ fed_full r0 r1 f0 f1 fed o is full doc room_left told wrote holds whole below en
     let whole_n : n ≡ suc q * cap = omega arith in
     let fits : suc q * cap ≤ n = omega arith in
     let e0 : cap_of r1.pool ≡ cap = ap (λ l. l / 12) limit in
-    let e1 : length (fed ++ o ∷ []) ≡ n + 1 = length-end fed o in
+    let e1 : length (fed ++ o ∷ []) ≡ n + 1 = length_end fed o in
     let e2 : finished cap (length (fed ++ o ∷ [])) ≡ suc q = ap (λ k. finished cap k) e1 ∙ finished-full cap n some (sym len ∙ full) in
     let e3 : finished (cap_of r1.pool) (length (fed ++ o ∷ [])) ≡ suc q = ap (λ k. finished k (length (fed ++ o ∷ []))) e0 ∙ e2 in
     let at : finished (cap_of r1.pool) (length (fed ++ o ∷ [])) * cap_of r1.pool ≡ suc q * cap = ap (λ k. k * cap_of r1.pool) e3 ∙ ap (λ k. suc q * k) e0 in
@@ -171,7 +139,7 @@ fed_full r0 r1 f0 f1 fed o is full doc room_left told wrote holds whole below en
     let runs : first_runs (cap_of r1.pool) (finished (cap_of r1.pool) (length (fed ++ o ∷ []))) (fed ++ o ∷ []) ≡ first_runs cap q fed ++ run ∷ [] = ap (λ k. first_runs k (finished k (length (fed ++ o ∷ []))) (fed ++ o ∷ [])) e0 ∙ ap (λ k. first_runs cap k (fed ++ o ∷ [])) e2 ∙ first_runs-more cap (suc q) fed o fits ∙ first_runs-full cap q fed whole_n in
     let bits : runs_bits (first_runs cap q fed ++ run ∷ []) ≡ runs_bits (first_runs cap q fed) ++ filled (run_bits (gathered r0.pool.entries)) =
     flat_map-append (λ r. filled (run_bits r)) (first_runs cap q fed) (run ∷ []) ∙ ap (λ t. runs_bits (first_runs cap q fed) ++ t) (append-nil (filled (run_bits run)) ∙ ap (λ xs. filled (run_bits xs)) (sym run_is)) in
-    let none : drop (suc q * cap) fed ≡ [] = drop-all fed (suc q * cap) (omega arith) in
+    let none : drop (suc q * cap) fed ≡ [] = drop_all fed (suc q * cap) (omega arith) in
     let len1 : length r1.pool.entries ≡ 1 = ap (λ l. length l) entries in
     let no_slots : length r1.pool.slots ≡ 0 = ap (λ l. length l) slots in
     let old_peak = is.peak in
@@ -180,7 +148,7 @@ fed_full r0 r1 f0 f1 fed o is full doc room_left told wrote holds whole below en
       least = let l = is.least in omega arith;
       most = let l = is.most in omega arith;
       slots = slots;
-      entries = entries ∙ ap (λ xs. map once (xs ++ o ∷ [])) (sym none) ∙ ap (λ xs. map once xs) (sym (drop-end fed (suc q * cap) o fits) ∙ ap (λ k. drop k (fed ++ o ∷ [])) (sym at));
+      entries = entries ∙ ap (λ xs. map once (xs ++ o ∷ [])) (sym none) ∙ ap (λ xs. map once xs) (sym (drop_end fed (suc q * cap) o fits) ∙ ap (λ k. drop k (fed ++ o ∷ [])) (sym at));
       peak = top ∙ ap (λ k. 12 * min k cap) (sym e1) ∙ ap (λ k. 12 * min (length (fed ++ o ∷ [])) k) (sym e0);
       name = wrote.name ∙ is.name ∙ ap (λ b. full_name b Run) (sym base);
       holds = holds;
@@ -189,6 +157,6 @@ fed_full r0 r1 f0 f1 fed o is full doc room_left told wrote holds whole below en
       whole = whole;
       below = place-step q cap r0.writer.place r1.writer.place _ at some is.below (subst (λ k. r1.writer.place ≤ r0.writer.place + 128 + 256 * k) full below);
       places = places ∙ ap (λ l. l ++ r0.writer.place ∷ []) is.places ∙ ap (λ k. starts 0 (first_runs cap q fed) ++ k ∷ []) is.place ∙ sym (starts_more (first_runs cap q fed) run) ∙ ap (λ rs. starts 0 rs) (sym runs);
-      occurrences = docs-end fed o is.occurrences doc;
+      occurrences = occurrences_end fed o is.occurrences doc;
       few = omega (arith, e1, room_left);
     }

@@ -24,4 +24,6 @@ mod Working
 mod LastRun
 mod Kept
 mod PostingGroups
-pub mod Segments
+mod Segments
+mod Occurrences
+pub mod CallerLemmas

@@ -13,7 +13,7 @@ use Rattle.std.proofs.lemmas.List.Sums.{sum_by-cons, sum_by-take-drop, sum_by-ta
 use Rattle.mg_defs.specs.declared.TermPosting.{TermPosting}
 use Rattle.mg_defs.specs.Postings.{AllCount, part_at, times, added, merged_two, merged}
 use Rattle.mg_defs.proofs.Gathering.{added-cases, only_one}
-use Rattle.mg_runs.proofs.Segments.{map-end}
+use Rattle.mg_runs.proofs.Segments.{map_end}
 use Rattle.mg_runs.specs.Decoding.{IsSmall}
 use Rattle.mg_runs.specs.Cursors.{IsRun}
 use Rattle.mg_runs.specs.Merging.{AreRuns, times_all}
@@ -35,7 +35,7 @@ groups_more w k runs = chunks_more w k runs
 -- one more group joined
 pub joined_more : (w k : ℕ) (runs : List (List TermPosting)) → first_joined w (suc k) runs ≡ first_joined w k runs ++ merged (take w (drop (k * w) runs)) ∷ []
 joined_more w k runs =
-    ap (λ t. map (λ group. merged group) t) (groups_more w k runs) ∙ map-end (λ group. merged group) (first_chunks w k runs) (take w (drop (k * w) runs))
+    ap (λ t. map (λ group. merged group) t) (groups_more w k runs) ∙ map_end (λ group. merged group) (first_chunks w k runs) (take w (drop (k * w) runs))
 
 pub joined_next : (w k : ℕ) (runs : List (List TermPosting)) → first_joined w (k + 1) runs ≡ first_joined w k runs ++ merged (take w (drop (k * w) runs)) ∷ []
 joined_next w k runs =

@@ -16,7 +16,8 @@ use Rattle.mg_defs.specs.Runs.{first_runs, runs_of}
 use Rattle.mg_runs.specs.FinishedRuns.{finished}
 use Rattle.mg_defs.proofs.Gathering.{Rising-gathered, AllCount-gathered, times-gathered}
 use Rattle.mg_defs.proofs.Joining.{AllCount-once, merged-all}
-use Rattle.mg_runs.proofs.Segments.{map-end}
+use Rattle.mg_runs.proofs.Occurrences.{occurrences_drop, occurrences_take}
+use Rattle.mg_runs.proofs.Segments.{map_end, rest_fits}
 use Rattle.mg_runs.specs.Cursors.{IsRun}
 use Rattle.mg_runs.specs.Fed.{IsOccurrence, AreOccurrences, starts}
 use Rattle.mg_runs.specs.Merging.{AreRuns}
@@ -26,16 +27,6 @@ use Rattle.mg_runs.proofs.Rounds.{IsPlaced, placed_added, small_of, length_added
 use Rattle.mg_runs.proofs.RoundsBits.{runs_bits_more, starts_more}
 
 -- ---- one run
-
-occurrences_drop : (k : ℕ) (s : List (ℕ × ℕ)) → AreOccurrences s → AreOccurrences (drop k s)
-occurrences_drop zero s all = all
-occurrences_drop (suc k) [] all = tt
-occurrences_drop (suc k) (o ∷ s) all = occurrences_drop k s all.1
-
-occurrences_take : (k : ℕ) (s : List (ℕ × ℕ)) → AreOccurrences s → AreOccurrences (take k s)
-occurrences_take zero s all = tt
-occurrences_take (suc k) [] all = tt
-occurrences_take (suc k) (o ∷ s) all = (all.0, occurrences_take k s all.1)
 
 placed_postings : (s : List (ℕ × ℕ)) → AreOccurrences s → AllByRecursion (λ x. IsPlaced x) (term_postings s)
 placed_postings [] all = tt
@@ -147,9 +138,6 @@ runs_of_none cap some =
     let z : 0 * cap ≡ 0 = omega arith in
     ap (λ k. first_runs cap k []) (ceil_is 0 cap 0 some (omega arith) (omega arith))
 
-rest_fits : (cap n : ℕ) → 1 ≤ cap → n - finished cap n * cap ≤ cap
-rest_fits cap n some = grind arith
-
 pub runs_of_last : (cap : ℕ) (fed : List (ℕ × ℕ)) → 1 ≤ cap → 1 ≤ length fed → runs_of cap fed ≡ first_runs cap (finished cap (length fed)) fed ++ term_postings (drop (finished cap (length fed) * cap) fed) ∷ []
 runs_of_last cap fed some more =
     let q : ℕ = finished cap (length fed) in
@@ -158,7 +146,7 @@ runs_of_last cap fed some more =
     let all : take cap rest ≡ rest = take_all cap rest (omega (arith, length-drop (q * cap) fed, rest_fits cap (length fed) some)) in
     ap (λ k. first_runs cap k fed) (runs_count cap (length fed) some more ∙ one)
     ∙ ap (λ t. map (λ s. term_postings s) t) (chunks_more cap q fed)
-    ∙ map-end (λ s. term_postings s) (first_chunks cap q fed) (take cap rest)
+    ∙ map_end (λ s. term_postings s) (first_chunks cap q fed) (take cap rest)
     ∙ ap (λ t. first_runs cap q fed ++ term_postings t ∷ []) all
 
 -- the bits and the places, where the last run is put behind those that are finished

@@ -31,9 +31,9 @@ chunks-same n (suc k) xs ys e =
     let r = chunks-same n k (drop n xs) (drop n ys) g in
     cc
 
-pub map-end : {X Y : Type 0} (f : X → Y) (xs : List X) (y : X) → map f (xs ++ y ∷ []) ≡ map f xs ++ f y ∷ []
-map-end f [] y = refl
-map-end f (x ∷ xs) y = ap (λ t. f x ∷ t) (map-end f xs y)
+pub map_end : {X Y : Type 0} (f : X → Y) (xs : List X) (y : X) → map f (xs ++ y ∷ []) ≡ map f xs ++ f y ∷ []
+map_end f [] y = refl
+map_end f (x ∷ xs) y = ap (λ t. f x ∷ t) (map_end f xs y)
 
 div_is : (a q cap : ℕ) → 1 ≤ cap → q * cap ≤ a → a < suc q * cap → a / cap ≡ q
 div_is a q cap some low high =
@@ -43,6 +43,13 @@ div_is a q cap some low high =
 
 pub finished-low : (cap n : ℕ) → 1 ≤ cap → finished cap n * cap ≤ n - 1
 finished-low cap n some = grind arith
+
+pub none_finished : (cap : ℕ) → 1 ≤ cap → finished cap 0 ≡ 0
+none_finished cap some = let h : 0 / cap < 1 = div_below 0 cap 1 some (omega arith) in omega arith
+
+-- what is not in a finished run fits in the pool
+pub rest_fits : (cap n : ℕ) → 1 ≤ cap → n - finished cap n * cap ≤ cap
+rest_fits cap n some = grind arith
 
 -- how many are finished while the pool has room, and where it is full
 pub finished-room : (cap n : ℕ) → 1 ≤ cap → n - finished cap n * cap < cap → finished cap (n + 1) ≡ finished cap n
@@ -69,7 +76,7 @@ first_runs-more cap count s o h =
 pub first_runs-full : (cap count : ℕ) (s : List (ℕ × ℕ)) → length s ≡ suc count * cap → first_runs cap (suc count) s ≡ first_runs cap count s ++ term_postings (drop (count * cap) s) ∷ []
 first_runs-full cap count s h =
     let whole : take cap (drop (count * cap) s) ≡ drop (count * cap) s = all_of cap (drop (count * cap) s) (grind (arith, common_steps)) in
-    ap (λ t. map (λ x. term_postings x) t) (chunks-more cap count s) ∙ map-end (λ x. term_postings x) (first_chunks cap count s) (take cap (drop (count * cap) s)) ∙ ap (λ t. first_runs cap count s ++ term_postings t ∷ []) whole
+    ap (λ t. map (λ x. term_postings x) t) (chunks-more cap count s) ∙ map_end (λ x. term_postings x) (first_chunks cap count s) (take cap (drop (count * cap) s)) ∙ ap (λ t. first_runs cap count s ++ term_postings t ∷ []) whole
   where
     all_of : (n : ℕ) (xs : List (ℕ × ℕ)) → length xs ≤ n → take n xs ≡ xs
     all_of n xs h = grind (arith, common_steps)
