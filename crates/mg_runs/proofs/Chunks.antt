@@ -57,7 +57,8 @@ chunks-same (suc k) xs ys e =
     let r = chunks-same k (drop 12 xs) (drop 12 ys) g in
     cc
 
-pub entries-put : (count : ℕ) (xs made : List ℕ) → 12 * count + 12 ≤ length xs → length made ≡ 12 → entries_in (count + 1) (put_mid (12 * count) (12 * count + 12 - 12 * count) xs made) ≡ entries_in count xs ++ entry_in made ∷ []
+pub entries-put : (count : ℕ) (xs made : List ℕ) → 12 * count + 12 ≤ length xs → length made ≡ 12 →
+    entries_in (count + 1) (put_mid (12 * count) (12 * count + 12 - 12 * count) xs made) ≡ entries_in count xs ++ entry_in made ∷ []
 entries-put count xs made room whole =
     let ys : List ℕ = put_mid (12 * count) (12 * count + 12 - 12 * count) xs made in
     let size : 12 * count + 12 - 12 * count ≡ 12 = omega arith in
@@ -65,7 +66,9 @@ entries-put count xs made room whole =
     let front : take (count * 12) ys ≡ take (count * 12) xs = ap (λ t. take (count * 12) t) (sym put) ∙ front-put (12 * count) (count * 12) 12 xs made (omega arith) room whole in
     let here : take 12 (drop (count * 12) ys) ≡ made = ap (λ t. take 12 (drop (count * 12) t)) (sym put) ∙ here-put (12 * count) (count * 12) 12 xs made (omega arith) room whole in
     let one : count + 1 ≡ suc count = omega arith in
-    ap (λ n. entries_in n ys) one ∙ ap (λ t. map entry_in t) (chunks-more count ys ∙ ap (λ t. t ++ take 12 (drop (count * 12) ys) ∷ []) (chunks-same count ys xs front) ∙ ap (λ t. first_chunks 12 count xs ++ t ∷ []) here) ∙ map_end entry_in (first_chunks 12 count xs) made
+    ap (λ n. entries_in n ys) one
+    ∙ ap (λ t. map entry_in t) (chunks-more count ys ∙ ap (λ t. t ++ take 12 (drop (count * 12) ys) ∷ []) (chunks-same count ys xs front) ∙ ap (λ t. first_chunks 12 count xs ++ t ∷ []) here)
+    ∙ map_end entry_in (first_chunks 12 count xs) made
 
 pub length-chunks : (n k : ℕ) (xs : List ℕ) → length (first_chunks n k xs) ≡ k
 length-chunks n zero xs = refl

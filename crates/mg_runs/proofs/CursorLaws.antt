@@ -41,7 +41,9 @@ drop_of_take : (m k : ℕ) (bs : Bits) → drop m (take (m + k) bs) ≡ take k (
 drop_of_take m k bs = drop-take m k bs
 
 -- what stands at a place of the file stands in the slot too, as far as the slot goes
-pub in_slot : (n start place offset room : ℕ) (slot file : List ℕ) (code rest : Bits) → slot ≡ take n (drop start file) → place ≡ 8 * start + offset → offset + room ≡ 8 * n → length code ≤ room → drop place (bits_of file) ≡ code ++ rest → drop offset (bits_of slot) ≡ code ++ take (room - length code) rest
+pub in_slot : (n start place offset room : ℕ) (slot file : List ℕ) (code rest : Bits) → slot ≡ take n (drop start file) → place ≡ 8 * start + offset →
+    offset + room ≡ 8 * n → length code ≤ room → drop place (bits_of file) ≡ code ++ rest →
+    drop offset (bits_of slot) ≡ code ++ take (room - length code) rest
 in_slot n start place offset room slot file code rest is at size fits e =
     let r : length code + (room - length code) ≡ room = omega arith in
     ap (λ l. drop offset (bits_of l)) is
@@ -60,7 +62,8 @@ posting_short last x before small =
     let d : Bits = gamma (doc_gap last x) in
     let n : Bits = gamma x.count in
     let p : Plan (run_posting_bits last x ++ []) 0 last x [] = plan (run_posting_bits last x ++ []) 0 last x [] before small refl in
-    omega (arith, length-append g (d ++ n), length-append d n, gamma_short (x.term - last.term + 1) p.gap.0 (omega (arith, p.gap.1)), gamma_short (doc_gap last x) p.doc.0 (omega (arith, p.doc.1)), gamma_short x.count p.count.0 (omega (arith, p.count.1)))
+    omega
+    (arith, length-append g (d ++ n), length-append d n, gamma_short (x.term - last.term + 1) p.gap.0 (omega (arith, p.gap.1)), gamma_short (doc_gap last x) p.doc.0 (omega (arith, p.doc.1)), gamma_short x.count p.count.0 (omega (arith, p.count.1)))
 
 -- behind a code that stands whole, the place is still in the file
 pub place_below : (place : ℕ) (bits code rest : Bits) → place ≤ length bits → drop place bits ≡ code ++ rest → place + length code ≤ length bits
@@ -78,7 +81,9 @@ take_min : (n : ℕ) (xs : List ℕ) → take (min n (length xs)) xs ≡ take n 
 take_min n xs = grind (arith, common_steps)
 
 -- the next posting stands first in the slot, behind the offset
-pub stands : (cursor : Cursor) (slot file bytes : List ℕ) (x y : TermPosting) (ys : List TermPosting) (offset : ℕ) → IsAtPosting cursor slot file x (y ∷ ys) → IsNear cursor → bytes ≡ take (min cursor.count (length slot)) slot → offset ≡ cursor.place - 8 * cursor.start → (more : Bits) × (drop offset (bits_of bytes) ≡ run_posting_bits x y ++ more)
+pub stands : (cursor : Cursor) (slot file bytes : List ℕ) (x y : TermPosting) (ys : List TermPosting) (offset : ℕ) →
+    IsAtPosting cursor slot file x (y ∷ ys) → IsNear cursor → bytes ≡ take (min cursor.count (length slot)) slot →
+    offset ≡ cursor.place - 8 * cursor.start → (more : Bits) × (drop offset (bits_of bytes) ≡ run_posting_bits x y ++ more)
 stands cursor slot file bytes x y ys offset at near is off =
     let short : length (run_posting_bits x y) ≤ 198 = posting_short x y at.after.0 at.run.small.0 in
     let low = at.near in
@@ -89,7 +94,9 @@ stands cursor slot file bytes x y ys offset at near is off =
     (take (room - length (run_posting_bits x y)) rest, in_slot 64 cursor.start cursor.place offset room bytes file (run_posting_bits x y) rest (is ∙ take_min cursor.count slot ∙ at.window) (omega arith) (omega arith) (omega arith) e)
 
 -- behind it the cursor is at that posting
-pub moved : (cursor : Cursor) (slot file : List ℕ) (x y : TermPosting) (ys : List TermPosting) (offset : ℕ) (found : Decoded) → IsAtPosting cursor slot file x (y ∷ ys) → found.posting ≡ y → found.next ≡ offset + length (run_posting_bits x y) → IsAtPosting (record { posting = found.posting; left = cursor.left - 1; place = cursor.place + (found.next - offset); start = cursor.start; count = cursor.count }) slot file y ys
+pub moved : (cursor : Cursor) (slot file : List ℕ) (x y : TermPosting) (ys : List TermPosting) (offset : ℕ) (found : Decoded) →
+    IsAtPosting cursor slot file x (y ∷ ys) → found.posting ≡ y → found.next ≡ offset + length (run_posting_bits x y) →
+    IsAtPosting (record { posting = found.posting; left = cursor.left - 1; place = cursor.place + (found.next - offset); start = cursor.start; count = cursor.count }) slot file y ys
 moved cursor slot file x y ys offset found at posting next =
     let rest : Bits = postings_bits y ys ++ at.more in
     let e : drop cursor.place (bits_of file) ≡ run_posting_bits x y ++ rest = at.bits ∙ append_assoc (run_posting_bits x y) (postings_bits y ys) at.more in
@@ -115,7 +122,9 @@ ok_undamaged P (Ok value) h = tt
 ok_undamaged P (Err e) h = absurd h
 
 -- where more than one posting is left, another one follows
-pub more_left : (cursor near : Cursor) (slot now file : List ℕ) (x : TermPosting) (xs : List TermPosting) (r : Result Cursor PartErr) → IsAtPosting cursor slot file x xs → (cursor.left ≡ 1 → ⊥) → IsAtPosting near now file x xs → ((y : TermPosting) (ys : List TermPosting) → IsAtPosting near now file x (y ∷ ys) → NoDamage r) → NoDamage r
+pub more_left : (cursor near : Cursor) (slot now file : List ℕ) (x : TermPosting) (xs : List TermPosting) (r : Result Cursor PartErr) →
+    IsAtPosting cursor slot file x xs → (cursor.left ≡ 1 → ⊥) → IsAtPosting near now file x xs →
+    ((y : TermPosting) (ys : List TermPosting) → IsAtPosting near now file x (y ∷ ys) → NoDamage r) → NoDamage r
 more_left cursor near slot now file x [] r at more is next = let l = at.left in absurd (more (omega arith))
 more_left cursor near slot now file x (y ∷ ys) r at more is next = next y ys is
 
@@ -129,7 +138,9 @@ after_start (x ∷ xs) all =
     (record { term = omega arith; doc = λ q. omega arith }, after_start xs all.1)
 
 -- how many postings there are stands first in the slot
-pub header_stands : (slot file bytes : List ℕ) (place count : ℕ) (xs : List TermPosting) → IsRunAt file place xs → take count slot ≡ take 64 (drop (place / 8) file) → bytes ≡ take (min count (length slot)) slot → (more : Bits) × (drop (place % 8) (bits_of bytes) ≡ gamma (length xs) ++ more)
+pub header_stands : (slot file bytes : List ℕ) (place count : ℕ) (xs : List TermPosting) → IsRunAt file place xs →
+    take count slot ≡ take 64 (drop (place / 8) file) → bytes ≡ take (min count (length slot)) slot →
+    (more : Bits) × (drop (place % 8) (bits_of bytes) ≡ gamma (length xs) ++ more)
 unfolding run_bits
 header_stands slot file bytes place count xs at window is =
     let few = at.few in
@@ -140,7 +151,9 @@ header_stands slot file bytes place count xs at window is =
     let e : drop place (bits_of file) ≡ gamma (length xs) ++ rest = at.bits ∙ append_assoc (gamma (length xs)) (postings_bits before_first xs) at.more in
     (take (room - length (gamma (length xs))) rest, in_slot 64 (place / 8) place (place % 8) room bytes file (gamma (length xs)) rest (is ∙ take_min count slot ∙ window) (omega arith) (omega arith) (omega arith) e)
 
-pub header_read : (slot file : List ℕ) (place count : ℕ) (xs : List TermPosting) (value next : ℕ) → IsRunAt file place xs → count ≤ 64 → take count slot ≡ take 64 (drop (place / 8) file) → value ≡ length xs → next ≡ place % 8 + length (gamma (length xs)) → IsAtPosting (record { posting = before_first; left = value + 1; place = place + (next - place % 8); start = place / 8; count = count }) slot file before_first xs
+pub header_read : (slot file : List ℕ) (place count : ℕ) (xs : List TermPosting) (value next : ℕ) → IsRunAt file place xs → count ≤ 64 →
+    take count slot ≡ take 64 (drop (place / 8) file) → value ≡ length xs → next ≡ place % 8 + length (gamma (length xs)) →
+    IsAtPosting (record { posting = before_first; left = value + 1; place = place + (next - place % 8); start = place / 8; count = count }) slot file before_first xs
 unfolding run_bits
 header_read slot file place count xs value next at within window is behind =
     let rest : Bits = postings_bits before_first xs ++ at.more in

@@ -26,7 +26,8 @@ number_is law limit x v place bits more small taken e answers =
     let same : value v ≡ value x = law limit x more (value v) (omega arith) taken a in
     cc
 
-pub not_refused : GammaLaw → (e : CodeErr) (limit x place : ℕ) (bits more : Bits) → limit ≤ 2 ^ 32 → UpTo limit x → bits ≡ gamma x ++ more → AnswersCode (Err e) (UpTo limit) gamma limit place bits → CodeCause {T = ℕ} (Err e) 0 0 → ⊥
+pub not_refused : GammaLaw → (e : CodeErr) (limit x place : ℕ) (bits more : Bits) → limit ≤ 2 ^ 32 → UpTo limit x → bits ≡ gamma x ++ more →
+    AnswersCode (Err e) (UpTo limit) gamma limit place bits → CodeCause {T = ℕ} (Err e) 0 0 → ⊥
 not_refused law Device limit x place bits more small taken e answers cause = absurd (omega (arith, cause))
 not_refused law (End at) limit x place bits more small taken e answers cause =
     let a : Answers (UpTo limit) gamma (gamma x ++ more) end = subst (λ b. Answers (UpTo limit) gamma b end) e answers.1 in

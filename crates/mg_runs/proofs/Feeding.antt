@@ -23,7 +23,9 @@ some_cap : (limit : ℕ) → 4096 ≤ limit → 1 ≤ limit / 12
 some_cap limit h = omega arith
 
 -- nothing was taken
-pub fed_start : (runs : Inverting) (files : Option Files) → 4096 ≤ runs.pool.limit → runs.pool.limit ≤ 2 ^ 30 → runs.pool.entries ≡ [] → runs.pool.slots ≡ [] → runs.pool.peak ≡ 0 → runs.writer.name ≡ full_name runs.base Run → Holds runs.writer files → (IsSome files → bits_put runs.writer files ≡ []) → runs.writer.place ≡ 0 → runs.places ≡ [] → IsFed runs files []
+pub fed_start : (runs : Inverting) (files : Option Files) → 4096 ≤ runs.pool.limit → runs.pool.limit ≤ 2 ^ 30 → runs.pool.entries ≡ [] →
+    runs.pool.slots ≡ [] → runs.pool.peak ≡ 0 → runs.writer.name ≡ full_name runs.base Run → Holds runs.writer files →
+    (IsSome files → bits_put runs.writer files ≡ []) → runs.writer.place ≡ 0 → runs.places ≡ [] → IsFed runs files []
 fed_start runs files least most entries slots peak name holds empty place places =
     let none : finished (cap_of runs.pool) 0 ≡ 0 = none_finished (cap_of runs.pool) (some_cap runs.pool.limit least) in
     let rs : first_runs (cap_of runs.pool) (finished (cap_of runs.pool) 0) [] ≡ [] = ap (λ k. first_runs (cap_of runs.pool) k []) none in
@@ -51,9 +53,11 @@ pub fed_entries : (runs : Inverting) (files : Option Files) (fed : List (ℕ × 
 fed_entries runs files fed is =
     subst (λ xs. AreEntries xs) (sym is.entries) (entries_of _ (occurrences_drop (finished (cap_of runs.pool) (length fed) * cap_of runs.pool) fed is.occurrences))
 
-pub fed_length : (runs : Inverting) (files : Option Files) (fed : List (ℕ × ℕ)) → IsFed runs files fed → length runs.pool.entries ≡ length fed - finished (cap_of runs.pool) (length fed) * cap_of runs.pool
+pub fed_length : (runs : Inverting) (files : Option Files) (fed : List (ℕ × ℕ)) → IsFed runs files fed →
+    length runs.pool.entries ≡ length fed - finished (cap_of runs.pool) (length fed) * cap_of runs.pool
 fed_length runs files fed is =
-    ap (λ xs. length xs) is.entries ∙ length-map (drop (finished (cap_of runs.pool) (length fed) * cap_of runs.pool) fed) once ∙ length_rest fed (finished (cap_of runs.pool) (length fed) * cap_of runs.pool)
+    ap (λ xs. length xs) is.entries ∙ length-map (drop (finished (cap_of runs.pool) (length fed) * cap_of runs.pool) fed) once
+    ∙ length_rest fed (finished (cap_of runs.pool) (length fed) * cap_of runs.pool)
 
 finished-high : (cap n : ℕ) → 1 ≤ cap → n - 1 < suc (finished cap n) * cap
 finished-high cap n some = grind arith
@@ -79,7 +83,10 @@ peak_room : (n q cap len p0 p1 : ℕ) → len ≡ n - q * cap → len < cap → 
 peak_room n zero cap len p0 p1 is room low old new = let z : zero * cap ≡ 0 = omega arith in omega arith
 peak_room n (suc q) cap len p0 p1 is room low old new = let z : suc q * cap ≡ cap + q * cap = omega arith in omega arith
 
-pub fed_room : (r0 r1 : Inverting) (f : Option Files) (fed : List (ℕ × ℕ)) (o : ℕ × ℕ) → IsFed r0 f fed → length r0.pool.entries < cap_of r0.pool → IsOccurrence o → length fed < 2 ^ 32 - 1 → r1.pool.entries ≡ r0.pool.entries ++ once o ∷ [] → r1.pool.slots ≡ [] → r1.pool.peak ≡ max r0.pool.peak (12 * length r1.pool.entries + 64 * length r1.pool.slots) → r1.pool.limit ≡ r0.pool.limit → r1.writer ≡ r0.writer → r1.places ≡ r0.places → r1.base ≡ r0.base → IsFed r1 f (fed ++ o ∷ [])
+pub fed_room : (r0 r1 : Inverting) (f : Option Files) (fed : List (ℕ × ℕ)) (o : ℕ × ℕ) → IsFed r0 f fed → length r0.pool.entries < cap_of r0.pool →
+    IsOccurrence o → length fed < 2 ^ 32 - 1 → r1.pool.entries ≡ r0.pool.entries ++ once o ∷ [] → r1.pool.slots ≡ [] →
+    r1.pool.peak ≡ max r0.pool.peak (12 * length r1.pool.entries + 64 * length r1.pool.slots) → r1.pool.limit ≡ r0.pool.limit → r1.writer ≡ r0.writer →
+    r1.places ≡ r0.places → r1.base ≡ r0.base → IsFed r1 f (fed ++ o ∷ [])
 fed_room r0 r1 f fed o is room doc room_left entries slots peak limit writer places base =
     let n : ℕ = length fed in
     let cap : ℕ = cap_of r0.pool in
@@ -91,7 +98,9 @@ fed_room r0 r1 f fed o is room doc room_left entries slots peak limit writer pla
     let e1 : length (fed ++ o ∷ []) ≡ n + 1 = length_end fed o in
     let e2 : finished cap (length (fed ++ o ∷ [])) ≡ q = ap (λ k. finished cap k) e1 ∙ finished-room cap n some (omega arith) in
     let e3 : finished (cap_of r1.pool) (length (fed ++ o ∷ [])) ≡ q = ap (λ k. finished k (length (fed ++ o ∷ []))) e0 ∙ e2 in
-    let runs : first_runs (cap_of r1.pool) (finished (cap_of r1.pool) (length (fed ++ o ∷ []))) (fed ++ o ∷ []) ≡ first_runs cap q fed = ap (λ k. first_runs k (finished k (length (fed ++ o ∷ []))) (fed ++ o ∷ [])) e0 ∙ ap (λ k. first_runs cap k (fed ++ o ∷ [])) e2 ∙ first_runs-more cap q fed o (omega arith) in
+    let runs : first_runs (cap_of r1.pool) (finished (cap_of r1.pool) (length (fed ++ o ∷ []))) (fed ++ o ∷ []) ≡ first_runs cap q fed
+    = ap (λ k. first_runs k (finished k (length (fed ++ o ∷ []))) (fed ++ o ∷ [])) e0 ∙ ap (λ k. first_runs cap k (fed ++ o ∷ [])) e2
+    ∙ first_runs-more cap q fed o (omega arith) in
     let at : finished (cap_of r1.pool) (length (fed ++ o ∷ [])) * cap_of r1.pool ≡ q * cap = ap (λ k. k * cap_of r1.pool) e3 ∙ ap (λ k. q * k) e0 in
     let len1 : length r1.pool.entries ≡ length r0.pool.entries + 1 = ap (λ l. length l) entries ∙ length-append r0.pool.entries (once o ∷ []) in
     let none : length r1.pool.slots ≡ 0 = ap (λ l. length l) slots in
@@ -100,7 +109,8 @@ fed_room r0 r1 f fed o is room doc room_left entries slots peak limit writer pla
       least = let l = is.least in omega arith;
       most = let l = is.most in omega arith;
       slots = slots;
-      entries = entries ∙ ap (λ xs. xs ++ once o ∷ []) is.entries ∙ sym (map_end once (drop (q * cap) fed) o) ∙ ap (λ xs. map once xs) (sym (drop_end fed (q * cap) o (omega arith)) ∙ ap (λ k. drop k (fed ++ o ∷ [])) (sym at));
+      entries = entries ∙ ap (λ xs. xs ++ once o ∷ []) is.entries ∙ sym (map_end once (drop (q * cap) fed) o)
+          ∙ ap (λ xs. map once xs) (sym (drop_end fed (q * cap) o (omega arith)) ∙ ap (λ k. drop k (fed ++ o ∷ [])) (sym at));
       peak = top ∙ ap (λ k. 12 * min k cap) (sym e1) ∙ ap (λ k. 12 * min (length (fed ++ o ∷ [])) k) (sym e0);
       name = ap (λ w. w.name) writer ∙ is.name ∙ ap (λ b. full_name b Run) (sym base);
       holds = subst (λ w. Holds w f) (sym writer) is.holds;
@@ -118,7 +128,12 @@ place-step q cap p0 p1 at e some a b =
     let f : suc q * cap ≡ cap + q * cap = omega arith in
     omega arith
 
-pub fed_full : (r0 r1 : Inverting) (f0 f1 : Option Files) (fed : List (ℕ × ℕ)) (o : ℕ × ℕ) → IsFed r0 f0 fed → length r0.pool.entries ≡ cap_of r0.pool → IsOccurrence o → length fed < 2 ^ 32 - 1 → is_some f1 ≡ is_some f0 → WroteBits r0.writer r1.writer f0 f1 (filled (run_bits (gathered r0.pool.entries))) → Holds r1.writer f1 → r1.writer.place % 8 ≡ 0 → r1.writer.place ≤ r0.writer.place + 128 + 256 * length r0.pool.entries → r1.pool.entries ≡ once o ∷ [] → r1.pool.slots ≡ [] → r1.pool.peak ≡ max r0.pool.peak (12 * length r1.pool.entries + 64 * length r1.pool.slots) → r1.pool.limit ≡ r0.pool.limit → r1.places ≡ r0.places ++ r0.writer.place ∷ [] → r1.base ≡ r0.base → IsFed r1 f1 (fed ++ o ∷ [])
+pub fed_full : (r0 r1 : Inverting) (f0 f1 : Option Files) (fed : List (ℕ × ℕ)) (o : ℕ × ℕ) → IsFed r0 f0 fed → length r0.pool.entries ≡ cap_of r0.pool →
+    IsOccurrence o → length fed < 2 ^ 32 - 1 → is_some f1 ≡ is_some f0 →
+    WroteBits r0.writer r1.writer f0 f1 (filled (run_bits (gathered r0.pool.entries))) → Holds r1.writer f1 → r1.writer.place % 8 ≡ 0 →
+    r1.writer.place ≤ r0.writer.place + 128 + 256 * length r0.pool.entries → r1.pool.entries ≡ once o ∷ [] → r1.pool.slots ≡ [] →
+    r1.pool.peak ≡ max r0.pool.peak (12 * length r1.pool.entries + 64 * length r1.pool.slots) → r1.pool.limit ≡ r0.pool.limit →
+    r1.places ≡ r0.places ++ r0.writer.place ∷ [] → r1.base ≡ r0.base → IsFed r1 f1 (fed ++ o ∷ [])
 fed_full r0 r1 f0 f1 fed o is full doc room_left told wrote holds whole below entries slots peak limit places base =
     let n : ℕ = length fed in
     let cap : ℕ = cap_of r0.pool in
@@ -136,9 +151,12 @@ fed_full r0 r1 f0 f1 fed o is full doc room_left told wrote holds whole below en
     let at : finished (cap_of r1.pool) (length (fed ++ o ∷ [])) * cap_of r1.pool ≡ suc q * cap = ap (λ k. k * cap_of r1.pool) e3 ∙ ap (λ k. suc q * k) e0 in
     let run : List TermPosting = term_postings (drop (q * cap) fed) in
     let run_is : gathered r0.pool.entries ≡ run = ap (λ xs. gathered xs) is.entries in
-    let runs : first_runs (cap_of r1.pool) (finished (cap_of r1.pool) (length (fed ++ o ∷ []))) (fed ++ o ∷ []) ≡ first_runs cap q fed ++ run ∷ [] = ap (λ k. first_runs k (finished k (length (fed ++ o ∷ []))) (fed ++ o ∷ [])) e0 ∙ ap (λ k. first_runs cap k (fed ++ o ∷ [])) e2 ∙ first_runs-more cap (suc q) fed o fits ∙ first_runs-full cap q fed whole_n in
+    let runs : first_runs (cap_of r1.pool) (finished (cap_of r1.pool) (length (fed ++ o ∷ []))) (fed ++ o ∷ []) ≡ first_runs cap q fed ++ run ∷ []
+    = ap (λ k. first_runs k (finished k (length (fed ++ o ∷ []))) (fed ++ o ∷ [])) e0 ∙ ap (λ k. first_runs cap k (fed ++ o ∷ [])) e2
+    ∙ first_runs-more cap (suc q) fed o fits ∙ first_runs-full cap q fed whole_n in
     let bits : runs_bits (first_runs cap q fed ++ run ∷ []) ≡ runs_bits (first_runs cap q fed) ++ filled (run_bits (gathered r0.pool.entries)) =
-    flat_map-append (λ r. filled (run_bits r)) (first_runs cap q fed) (run ∷ []) ∙ ap (λ t. runs_bits (first_runs cap q fed) ++ t) (append-nil (filled (run_bits run)) ∙ ap (λ xs. filled (run_bits xs)) (sym run_is)) in
+    flat_map-append (λ r. filled (run_bits r)) (first_runs cap q fed) (run ∷ [])
+    ∙ ap (λ t. runs_bits (first_runs cap q fed) ++ t) (append-nil (filled (run_bits run)) ∙ ap (λ xs. filled (run_bits xs)) (sym run_is)) in
     let none : drop (suc q * cap) fed ≡ [] = drop_all fed (suc q * cap) (omega arith) in
     let len1 : length r1.pool.entries ≡ 1 = ap (λ l. length l) entries in
     let no_slots : length r1.pool.slots ≡ 0 = ap (λ l. length l) slots in
@@ -153,10 +171,13 @@ fed_full r0 r1 f0 f1 fed o is full doc room_left told wrote holds whole below en
       name = wrote.name ∙ is.name ∙ ap (λ b. full_name b Run) (sym base);
       holds = holds;
       written = λ t. wrote.told (sym told ∙ t) ∙ ap (λ l. l ++ filled (run_bits (gathered r0.pool.entries))) (is.written (sym told ∙ t)) ∙ sym bits ∙ ap (λ rs. runs_bits rs) (sym runs);
-      place = wrote.place ∙ ap (λ k. k + length (filled (run_bits (gathered r0.pool.entries)))) is.place ∙ sym (length-append (runs_bits (first_runs cap q fed)) (filled (run_bits (gathered r0.pool.entries)))) ∙ ap (λ l. length l) (sym bits) ∙ ap (λ rs. length (runs_bits rs)) (sym runs);
+      place = wrote.place ∙ ap (λ k. k + length (filled (run_bits (gathered r0.pool.entries)))) is.place
+          ∙ sym (length-append (runs_bits (first_runs cap q fed)) (filled (run_bits (gathered r0.pool.entries)))) ∙ ap (λ l. length l) (sym bits)
+          ∙ ap (λ rs. length (runs_bits rs)) (sym runs);
       whole = whole;
       below = place-step q cap r0.writer.place r1.writer.place _ at some is.below (subst (λ k. r1.writer.place ≤ r0.writer.place + 128 + 256 * k) full below);
-      places = places ∙ ap (λ l. l ++ r0.writer.place ∷ []) is.places ∙ ap (λ k. starts 0 (first_runs cap q fed) ++ k ∷ []) is.place ∙ sym (starts_more (first_runs cap q fed) run) ∙ ap (λ rs. starts 0 rs) (sym runs);
+      places = places ∙ ap (λ l. l ++ r0.writer.place ∷ []) is.places ∙ ap (λ k. starts 0 (first_runs cap q fed) ++ k ∷ []) is.place
+          ∙ sym (starts_more (first_runs cap q fed) run) ∙ ap (λ rs. starts 0 rs) (sym runs);
       occurrences = occurrences_end fed o is.occurrences doc;
       few = omega (arith, e1, room_left);
     }

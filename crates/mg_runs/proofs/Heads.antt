@@ -47,7 +47,10 @@ from_key p c slot file (x ∷ xs) small at run le =
     let h : NoLater p x = later_by_key p x small run.small.0 (omega arith) in
     (h, after_first p x h xs at.after)
 
-pub head_told : (slots : List (List ℕ)) (cursors : List Cursor) (keys file : List ℕ) (lefts : List (List TermPosting)) (w : ℕ) (c : Cursor) → IsShaped slots cursors keys → StandFor slots cursors file lefts → w < length cursors → c ≡ get_or cursors w no_cursor → (c.left ≡ 0 → ⊥) → ((k : ℕ) → k < length keys → get_or keys w 0 ≤ get_or keys k 0) → (first (get_or lefts w []) ≡ Some c.posting) × ((k : ℕ) → AllFrom c.posting (get_or lefts k []))
+pub head_told : (slots : List (List ℕ)) (cursors : List Cursor) (keys file : List ℕ) (lefts : List (List TermPosting)) (w : ℕ) (c : Cursor) →
+    IsShaped slots cursors keys → StandFor slots cursors file lefts → w < length cursors → c ≡ get_or cursors w no_cursor → (c.left ≡ 0 → ⊥) →
+    ((k : ℕ) → k < length keys → get_or keys w 0 ≤ get_or keys k 0) →
+    (first (get_or lefts w []) ≡ Some c.posting) × ((k : ℕ) → AllFrom c.posting (get_or lefts k []))
 head_told slots cursors keys file lefts w c shape stand h is more least =
     let size = stand.size in
     let keys_size = shape.key_count in

@@ -22,11 +22,15 @@ pub joining_none : (width : ℕ) (runs : List (List TermPosting)) (f : Option Fi
 joining_none width runs f w some = record { bits = []; joined = joined_none width runs some; wrote = bits_none f w }
 
 -- the place is the number of the bits so far
-joining_place : (width : ℕ) (runs : List (List TermPosting)) (at : ℕ) (made : List ℕ) (f0 f1 : Option Files) (w0 w1 : BitWriting) (is : IsJoining width runs at made f0 f1 w0 w1) → w0.place ≡ 0 → w1.place ≡ length is.bits
+joining_place : (width : ℕ) (runs : List (List TermPosting)) (at : ℕ) (made : List ℕ) (f0 f1 : Option Files) (w0 w1 : BitWriting) (is : IsJoining width runs at made f0 f1 w0 w1) →
+    w0.place ≡ 0 → w1.place ≡ length is.bits
 joining_place width runs at made f0 f1 w0 w1 is zero = let p = is.wrote.place in omega arith
 
 -- the next group may be joined
-pub joining_next : (file places : List ℕ) (whole : List TermPosting) (width at end : ℕ) (made : List ℕ) (f0 f1 : Option Files) (w0 w1 : BitWriting) (is : AreStored file places whole) → IsJoining width is.runs at made f0 f1 w0 w1 → w0.place ≡ 0 → 1 ≤ width → width < length places → at < length places → end ≡ at + min width (length places - at) → AreRunsAt file (take (end - at) (drop at places)) (take width (drop at is.runs)) × IsGroupAt (take width (drop at is.runs)) w1.place
+pub joining_next : (file places : List ℕ) (whole : List TermPosting) (width at end : ℕ) (made : List ℕ) (f0 f1 : Option Files) (w0 w1 : BitWriting) (is : AreStored file places whole) →
+    IsJoining width is.runs at made f0 f1 w0 w1 → w0.place ≡ 0 → 1 ≤ width → width < length places → at < length places →
+    end ≡ at + min width (length places - at) →
+    AreRunsAt file (take (end - at) (drop at places)) (take width (drop at is.runs)) × IsGroupAt (take width (drop at is.runs)) w1.place
 joining_next file places whole width at end made f0 f1 w0 w1 is joining zero some more less e =
     let size : length is.runs ≡ length places = stored_count file places whole is in
     let place : w1.place ≡ length joining.bits = joining_place width is.runs at made f0 f1 w0 w1 joining zero in (
@@ -34,18 +38,23 @@ joining_next file places whole width at end made f0 f1 w0 w1 is joining zero som
       subst (λ p. IsGroupAt (take width (drop at is.runs)) p) (sym place) (group_at width at is.runs joining.bits made joining.joined some (omega arith) (omega arith) is.written),
     )
 
-pub joining_more : (file places : List ℕ) (whole : List TermPosting) (width at end : ℕ) (made now : List ℕ) (f0 f1 f2 : Option Files) (w0 w1 w2 : BitWriting) (is : AreStored file places whole) → IsJoining width is.runs at made f0 f1 w0 w1 → w0.place ≡ 0 → at < length places → end ≡ at + min width (length places - at) → is_some f1 ≡ is_some f0 → WroteBits w1 w2 f1 f2 (filled (run_bits (merged (take width (drop at is.runs))))) → now ≡ made ++ w1.place ∷ [] → IsJoining width is.runs end now f0 f2 w0 w2
+pub joining_more : (file places : List ℕ) (whole : List TermPosting) (width at end : ℕ) (made now : List ℕ) (f0 f1 f2 : Option Files) (w0 w1 w2 : BitWriting) (is : AreStored file places whole) →
+    IsJoining width is.runs at made f0 f1 w0 w1 → w0.place ≡ 0 → at < length places → end ≡ at + min width (length places - at) →
+    is_some f1 ≡ is_some f0 → WroteBits w1 w2 f1 f2 (filled (run_bits (merged (take width (drop at is.runs))))) → now ≡ made ++ w1.place ∷ [] →
+    IsJoining width is.runs end now f0 f2 w0 w2
 joining_more file places whole width at end made now f0 f1 f2 w0 w1 w2 is joining zero less e told wrote push =
     let size : length is.runs ≡ length places = stored_count file places whole is in
     let place : w1.place ≡ length joining.bits = joining_place width is.runs at made f0 f1 w0 w1 joining zero in
     let group : List Bool = filled (run_bits (merged (take width (drop at is.runs)))) in
     record {
       bits = joining.bits ++ group;
-      joined = subst (λ p. AreJoined width is.runs end (joining.bits ++ group) p) (sym (push ∙ ap (λ p. made ++ p ∷ []) place)) (joined_group width at end is.runs joining.bits made joining.joined (omega arith) (omega arith));
+      joined = subst (λ p. AreJoined width is.runs end (joining.bits ++ group) p) (sym (push ∙ ap (λ p. made ++ p ∷ []) place))
+          (joined_group width at end is.runs joining.bits made joining.joined (omega arith) (omega arith));
       wrote = bits_more f0 f1 f2 w0 w1 w2 joining.bits group told joining.wrote wrote;
     }
 
-pub joining_end : (file places : List ℕ) (whole : List TermPosting) (width at : ℕ) (made : List ℕ) (f0 f1 : Option Files) (w0 w1 : BitWriting) (is : AreStored file places whole) → IsJoining width is.runs at made f0 f1 w0 w1 → 1 ≤ width → length places ≤ at → IsJoined width is.runs made f0 f1 w0 w1
+pub joining_end : (file places : List ℕ) (whole : List TermPosting) (width at : ℕ) (made : List ℕ) (f0 f1 : Option Files) (w0 w1 : BitWriting) (is : AreStored file places whole) →
+    IsJoining width is.runs at made f0 f1 w0 w1 → 1 ≤ width → length places ≤ at → IsJoined width is.runs made f0 f1 w0 w1
 joining_end file places whole width at made f0 f1 w0 w1 is joining some all =
     let size : length is.runs ≡ length places = stored_count file places whole is in
     record {
@@ -61,7 +70,9 @@ other_apart base MergeB is = apart base MergeB MergeA (λ e. omega arith)
 other_apart base part is = absurd (omega (arith, is.low, is.high))
 
 -- the runs that a round leaves
-pub round_stored : (file places : List ℕ) (whole : List TermPosting) (width : ℕ) (next made : List ℕ) (f0 f1 : Option Files) (w0 w1 : BitWriting) (is : AreStored file places whole) → IsJoined width is.runs made f0 f1 w0 w1 → IsSome f0 → bits_put w0 f0 ≡ [] → w1.place % 8 ≡ 0 → bits_of next ≡ bits_put w1 f1 ++ digits (to_byte w1.place) 0 → 1 ≤ width → width < length places → AreStored next made whole
+pub round_stored : (file places : List ℕ) (whole : List TermPosting) (width : ℕ) (next made : List ℕ) (f0 f1 : Option Files) (w0 w1 : BitWriting) (is : AreStored file places whole) →
+    IsJoined width is.runs made f0 f1 w0 w1 → IsSome f0 → bits_put w0 f0 ≡ [] → w1.place % 8 ≡ 0 →
+    bits_of next ≡ bits_put w1 f1 ++ digits (to_byte w1.place) 0 → 1 ≤ width → width < length places → AreStored next made whole
 round_stored file places whole width next made f0 f1 w0 w1 is joined told empty aligned bits some more =
     let put : bits_put w1 f1 ≡ runs_bits (joined_runs width is.runs) = joined.wrote.told told ∙ ap (λ b. b ++ runs_bits (joined_runs width is.runs)) empty in
     stored_next file places next made whole width is some more (bits ∙ finished_bits w1.place (bits_put w1 f1) aligned ∙ put) joined.stand

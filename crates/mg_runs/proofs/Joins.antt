@@ -39,7 +39,9 @@ none_left [] (suc n) within e = absurd (omega arith)
 none_left (x ∷ xs) zero within e = absurd cc
 none_left (x ∷ xs) (suc n) within e = let h = none_left xs n (omega arith) e in omega arith
 
-pub counting_more : (slots : List (List ℕ)) (cursors : List Cursor) (file : List ℕ) (left : List TermPosting) (count : ℕ) (p : TermPosting) → count ≤ length left → Some p ≡ first (drop count left) → AreLeft slots cursors file (drop 1 (drop count left)) → IsCounting slots cursors file left (count + 1)
+pub counting_more : (slots : List (List ℕ)) (cursors : List Cursor) (file : List ℕ) (left : List TermPosting) (count : ℕ) (p : TermPosting) →
+    count ≤ length left → Some p ≡ first (drop count left) → AreLeft slots cursors file (drop 1 (drop count left)) →
+    IsCounting slots cursors file left (count + 1)
 counting_more slots cursors file left count p within e has =
     let n : 1 + count ≡ count + 1 = omega arith in
     record {
@@ -47,15 +49,18 @@ counting_more slots cursors file left count p within e has =
       within = some_left left count p within e;
     }
 
-pub counting_end : (slots : List (List ℕ)) (cursors : List Cursor) (file : List ℕ) (left : List TermPosting) (count : ℕ) → IsCounting slots cursors file left count → None ≡ first (drop count left) → count ≡ length left
+pub counting_end : (slots : List (List ℕ)) (cursors : List Cursor) (file : List ℕ) (left : List TermPosting) (count : ℕ) →
+    IsCounting slots cursors file left count → None ≡ first (drop count left) → count ≡ length left
 counting_end slots cursors file left count is e = none_left left count is.within e
 
 first_size : (left : List TermPosting) (p : TermPosting) (ps : List TermPosting) → left ≡ p ∷ ps → length left ≡ 1 + length ps
 first_size left p ps e = let one : suc (length ps) ≡ 1 + length ps = omega arith in ap (λ xs. length xs) e ∙ one
 
 -- the posting that comes first of those that are left
-pub putting_first : (slots : List (List ℕ)) (cursors : List Cursor) (file : List ℕ) (f0 f1 : Option Files) (w0 w1 : BitWriting) (last : TermPosting) (bits : Bits) (is : IsPutting slots cursors file f0 f1 w0 w1 last bits) (p : TermPosting) → Some p ≡ first is.left → IsBefore last p × (1 ≤ p.doc) × (1 ≤ p.count) × (w1.place + 256 ≤ 2 ^ 61)
-putting_first slots cursors file f0 f1 w0 w1 last bits is p e =
+pub putting_first : {slots : List (List ℕ)} {cursors : List Cursor} {file : List ℕ} {f0 f1 : Option Files} {w0 w1 : BitWriting} {last : TermPosting}
+    {bits : Bits} (is : IsPutting slots cursors file f0 f1 w0 w1 last bits) (p : TermPosting) →
+    Some p ≡ first is.left → IsBefore last p × (1 ≤ p.doc) × (1 ≤ p.count) × (w1.place + 256 ≤ 2 ^ 61)
+putting_first {last = last} is p e =
     let s = split_first is.left p (sym e) in
     let before = subst (λ xs. AllAfter last xs) s.1 is.before in
     let run = subst (λ xs. IsRun xs) s.1 is.run in
@@ -71,8 +76,11 @@ bits_behind f0 f1 f2 w0 w1 w2 a b told one two = record {
   told = λ t. two.told told ∙ ap (λ l. l ++ b) (one.told t) ∙ append_assoc (bits_put w0 f0) a b;
 }
 
-pub put_more : (slots news : List (List ℕ)) (cursors nexts : List Cursor) (file : List ℕ) (f0 f1 f2 : Option Files) (w0 w1 w2 : BitWriting) (last : TermPosting) (bits : Bits) (is : IsPutting slots cursors file f0 f1 w0 w1 last bits) (p : TermPosting) → Some p ≡ first is.left → AreLeft news nexts file (drop 1 is.left) → IsSome f1 → WroteBits w1 w2 f1 f2 (run_posting_bits last p) → w2.place ≤ w1.place + 256 → IsPutting news nexts file f0 f2 w0 w2 p bits
-put_more slots news cursors nexts file f0 f1 f2 w0 w1 w2 last bits is p e has told wrote place =
+pub put_more : {slots news : List (List ℕ)} {cursors nexts : List Cursor} {file : List ℕ} {f0 f1 f2 : Option Files} {w0 w1 w2 : BitWriting} {last : TermPosting}
+    {bits : Bits} (is : IsPutting slots cursors file f0 f1 w0 w1 last bits) (p : TermPosting) →
+    Some p ≡ first is.left → AreLeft news nexts file (drop 1 is.left) → IsSome f1 → WroteBits w1 w2 f1 f2 (run_posting_bits last p) →
+    w2.place ≤ w1.place + 256 → IsPutting news nexts file f0 f2 w0 w2 p bits
+put_more {news = news} {nexts = nexts} {file = file} {f0 = f0} {f1 = f1} {f2 = f2} {w0 = w0} {w1 = w1} {w2 = w2} {last = last} is p e has told wrote place =
     let s = split_first is.left p (sym e) in
     let run = subst (λ xs. IsRun xs) s.1 is.run in
     let size : length is.left ≡ 1 + length s.0 = first_size is.left p s.0 s.1 in
@@ -92,13 +100,17 @@ no_first : (left : List TermPosting) → None ≡ first left → left ≡ []
 no_first [] e = refl
 no_first (x ∷ xs) e = absurd cc
 
-pub put_end : (slots : List (List ℕ)) (cursors : List Cursor) (file : List ℕ) (f0 f1 : Option Files) (w0 w1 : BitWriting) (last : TermPosting) (bits : Bits) (is : IsPutting slots cursors file f0 f1 w0 w1 last bits) → None ≡ first is.left → WroteBits w0 w1 f0 f1 bits
-put_end slots cursors file f0 f1 w0 w1 last bits is e =
+pub put_end : {slots : List (List ℕ)} {cursors : List Cursor} {file : List ℕ} {f0 f1 : Option Files} {w0 w1 : BitWriting} {last : TermPosting} {bits : Bits}
+    (is : IsPutting slots cursors file f0 f1 w0 w1 last bits) →
+    None ≡ first is.left → WroteBits w0 w1 f0 f1 bits
+put_end {f0 = f0} {f1 = f1} {w0 = w0} {w1 = w1} {last = last} {bits = bits} is e =
     let none = no_first is.left e in
     let whole : is.done ++ [] ≡ bits = ap (λ xs. is.done ++ postings_bits last xs) (sym none) ∙ is.rest in
     subst (λ b. WroteBits w0 w1 f0 f1 b) (sym (append-nil is.done) ∙ whole) is.wrote
 
-pub put_start : (slots : List (List ℕ)) (cursors : List Cursor) (file : List ℕ) (f : Option Files) (w : BitWriting) (left : List TermPosting) → AreLeft slots cursors file left → IsRun left → w.place + 256 * length left ≤ 2 ^ 61 → IsPutting slots cursors file f f w w before_first (postings_bits before_first left)
+pub put_start : (slots : List (List ℕ)) (cursors : List Cursor) (file : List ℕ) (f : Option Files) (w : BitWriting) (left : List TermPosting) →
+    AreLeft slots cursors file left → IsRun left → w.place + 256 * length left ≤ 2 ^ 61 →
+    IsPutting slots cursors file f f w w before_first (postings_bits before_first left)
 put_start slots cursors file f w left has run room = record {
   left = left;
   has = has;
@@ -120,8 +132,8 @@ put_cause T f g h e le cause = let later = cause.later in record { later = omega
 pub passed_none : (part : Part) (name : List ℕ) (f : Option Files) (r : Reads) (n : ℕ) → Passed part name f f r r n n
 passed_none part name f r n = record { told = refl; others = λ m apart. refl; later = λ p. omega arith; reads = λ p apart. refl; faults = omega arith }
 
-pub passed_more : (part : Part) (name : List ℕ) (f g h : Option Files) (r s t : Reads) (l m n : ℕ) → Passed part name f g r s l m → Passed part name g h s t m n → Passed part name f h r t l n
-passed_more part name f g h r s t l m n one two = record {
+pub passed_more : {part : Part} {name : List ℕ} {f g h : Option Files} {r s t : Reads} {l m n : ℕ} → Passed part name f g r s l m → Passed part name g h s t m n → Passed part name f h r t l n
+passed_more one two = record {
   told = two.told ∙ one.told;
   others = λ k apart. two.others k apart ∙ one.others k apart;
   later = λ p. let a = one.later p in let b = two.later p in omega arith;
@@ -129,8 +141,8 @@ passed_more part name f g h r s t l m n one two = record {
   faults = let a = one.faults in let b = two.faults in omega arith;
 }
 
-pub passed_looked : (part : Part) (name : List ℕ) (f g : Option Files) (r s : Reads) (m n : ℕ) → Looked part f g r s m n → Passed part name f g r s m n
-passed_looked part name f g r s m n looked = record {
+pub passed_looked : {part : Part} {name : List ℕ} {f g : Option Files} {r s : Reads} {m n : ℕ} → Looked part f g r s m n → Passed part name f g r s m n
+passed_looked looked = record {
   told = ap (λ x. is_some x) looked.files;
   others = λ k apart. ap (λ x. file_at x k) looked.files;
   later = looked.later;
@@ -138,8 +150,8 @@ passed_looked part name f g r s m n looked = record {
   faults = looked.faults;
 }
 
-pub passed_wrote : (part : Part) (name : List ℕ) (f g : Option Files) (r s : Reads) (m n : ℕ) → WroteTo name f g r s → m ≤ n → Passed part name f g r s m n
-passed_wrote part name f g r s m n wrote le = record {
+pub passed_wrote : {part : Part} {name : List ℕ} {f g : Option Files} {r s : Reads} {m n : ℕ} → WroteTo name f g r s → m ≤ n → Passed part name f g r s m n
+passed_wrote wrote le = record {
   told = wrote.told;
   others = wrote.others;
   later = λ p. let e = wrote.reads p in omega arith;
@@ -148,8 +160,8 @@ passed_wrote part name f g r s m n wrote le = record {
 }
 
 -- the bytes of a file that is not written to
-pub passed_bytes : (part : Part) (name other : List ℕ) (f g : Option Files) (r s : Reads) (m n : ℕ) → Passed part name f g r s m n → other ≢ name → bytes_at g other ≡ bytes_at f other
-passed_bytes part name other f g r s m n passed apart = ap (λ b. unwrap_or b []) (passed.others other apart)
+pub passed_bytes : {part : Part} {name other : List ℕ} {f g : Option Files} {r s : Reads} {m n : ℕ} → Passed part name f g r s m n → other ≢ name → bytes_at g other ≡ bytes_at f other
+passed_bytes {other = other} passed apart = ap (λ b. unwrap_or b []) (passed.others other apart)
 
 to_byte_same : (p n : ℕ) → p % 8 ≡ 0 → to_byte (p + n) ≡ to_byte n
 to_byte_same p n h =
@@ -160,9 +172,11 @@ to_byte_below : (n : ℕ) → to_byte n < 8
 to_byte_below n = omega arith
 
 -- the number of postings, the postings and zero-bits to a byte are a run
-pub run_written : (f0 f1 f2 f3 : Option Files) (w0 w1 w2 w3 : BitWriting) (n : ℕ) (xs : List TermPosting) → w0.place % 8 ≡ 0 → n ≡ length xs → is_some f1 ≡ is_some f0 → is_some f2 ≡ is_some f1 → WroteBits w0 w1 f0 f1 (gamma n) → WroteBits w1 w2 f1 f2 (postings_bits before_first xs) → WroteBits w2 w3 f2 f3 (digits (to_byte w2.place) 0) → WroteBits w0 w3 f0 f3 (filled (run_bits xs))
+pub run_written : {f0 f1 f2 f3 : Option Files} {w0 w1 w2 w3 : BitWriting} {n : ℕ} (xs : List TermPosting) → w0.place % 8 ≡ 0 → n ≡ length xs →
+    is_some f1 ≡ is_some f0 → is_some f2 ≡ is_some f1 → WroteBits w0 w1 f0 f1 (gamma n) → WroteBits w1 w2 f1 f2 (postings_bits before_first xs) →
+    WroteBits w2 w3 f2 f3 (digits (to_byte w2.place) 0) → WroteBits w0 w3 f0 f3 (filled (run_bits xs))
 unfolding filled run_bits
-run_written f0 f1 f2 f3 w0 w1 w2 w3 n xs whole e t1 t2 a b d =
+run_written {f0 = f0} {f1 = f1} {f2 = f2} {f3 = f3} {w0 = w0} {w1 = w1} {w2 = w2} {w3 = w3} {n = n} xs whole e t1 t2 a b d =
     let count : gamma n ≡ gamma (length xs) = ap (λ k. gamma k) e in
     let run : WroteBits w0 w2 f0 f2 (run_bits xs) = bits_more f0 f1 f2 w0 w1 w2 (gamma (length xs)) (postings_bits before_first xs) t1 (subst (λ c. WroteBits w0 w1 f0 f1 c) count a) b in
     let p : w2.place ≡ w0.place + length (run_bits xs) = run.place in

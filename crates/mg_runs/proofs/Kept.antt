@@ -13,11 +13,14 @@ use Rattle.mg_runs.specs.Fed.{Inverting, IsFed}
 use Rattle.mg_runs.specs.Left.{Merging, IsLeftIn, IsMerging}
 use Rattle.mg_runs.specs.declared.group.Group.{Group}
 
-left_kept : (group : Option Group) (base : List ℕ) (f g : Option Files) (left : List TermPosting) → is_some g ≡ is_some f → ((part : Part) → IsRunPart part → file_at g (full_name base part) ≡ file_at f (full_name base part)) → IsLeftIn group f base left → IsLeftIn group g base left
+left_kept : (group : Option Group) (base : List ℕ) (f g : Option Files) (left : List TermPosting) → is_some g ≡ is_some f →
+    ((part : Part) → IsRunPart part → file_at g (full_name base part) ≡ file_at f (full_name base part)) → IsLeftIn group f base left →
+    IsLeftIn group g base left
 left_kept None base f g left told same is = λ t. is (sym told ∙ t)
 left_kept (Some group) base f g left told same is =
     let name : full_name group.file.base.now group.file.part ≡ full_name base group.file.part = ap (λ b. full_name b group.file.part) is.same_base in
-    let here : file_at g (full_name group.file.base.now group.file.part) ≡ file_at f (full_name group.file.base.now group.file.part) = ap (λ n. file_at g n) name ∙ same group.file.part is.part ∙ ap (λ n. file_at f n) (sym name) in
+    let here : file_at g (full_name group.file.base.now group.file.part) ≡ file_at f (full_name group.file.base.now group.file.part)
+    = ap (λ n. file_at g n) name ∙ same group.file.part is.part ∙ ap (λ n. file_at f n) (sym name) in
     let bytes : bytes_at g (full_name group.file.base.now group.file.part) ≡ bytes_at f (full_name group.file.base.now group.file.part) = ap (λ b. unwrap_or b []) here in
     record {
       shape = is.shape;
@@ -26,10 +29,13 @@ left_kept (Some group) base f g left told same is =
       told = λ t. subst (λ b. AreLeft group.pool.slots group.cursors.items b left) (sym bytes) (is.told (sym told ∙ t));
     }
 
-pub merging_kept : (merge : Merging) (f g : Option Files) (left : List TermPosting) → is_some g ≡ is_some f → ((part : Part) → IsRunPart part → file_at g (full_name merge.base part) ≡ file_at f (full_name merge.base part)) → IsMerging merge f left → IsMerging merge g left
+pub merging_kept : (merge : Merging) (f g : Option Files) (left : List TermPosting) → is_some g ≡ is_some f →
+    ((part : Part) → IsRunPart part → file_at g (full_name merge.base part) ≡ file_at f (full_name merge.base part)) → IsMerging merge f left →
+    IsMerging merge g left
 merging_kept merge f g left told same is = record { has = left_kept merge.group merge.base f g left told same is.has }
 
-pub fed_kept : (runs : Inverting) (f g : Option Files) (fed : List (ℕ × ℕ)) → is_some g ≡ is_some f → file_at g (full_name runs.base Run) ≡ file_at f (full_name runs.base Run) → IsFed runs f fed → IsFed runs g fed
+pub fed_kept : (runs : Inverting) (f g : Option Files) (fed : List (ℕ × ℕ)) → is_some g ≡ is_some f →
+    file_at g (full_name runs.base Run) ≡ file_at f (full_name runs.base Run) → IsFed runs f fed → IsFed runs g fed
 fed_kept runs f g fed told same is =
     let here : file_at g runs.writer.name ≡ file_at f runs.writer.name = ap (λ n. file_at g n) is.name ∙ same ∙ ap (λ n. file_at f n) (sym is.name) in
     record {

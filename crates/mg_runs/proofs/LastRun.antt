@@ -23,11 +23,14 @@ some_entries pool u e none more = let z : length pool.slots ≡ 0 = ap (λ l. le
 pub no_entries_used : (pool : Pooled) (u : ℕ) → u ≡ used pool → u ≤ 0 → length pool.entries ≡ 0
 no_entries_used pool u e none = omega arith
 
-pub last_bits : (runs : Inverting) (f f1 : Option Files) (fed : List (ℕ × ℕ)) (w1 : BitWriting) (bits : Bits) → IsFed runs f fed → 1 ≤ length runs.pool.entries → IsSome f → WroteBits runs.writer w1 f f1 (filled (run_bits (gathered runs.pool.entries))) → w1.place % 8 ≡ 0 → bits ≡ bits_put w1 f1 ++ digits (to_byte w1.place) 0 → bits ≡ run_part_bits (cap_of runs.pool) fed
+pub last_bits : (runs : Inverting) (f f1 : Option Files) (fed : List (ℕ × ℕ)) (w1 : BitWriting) (bits : Bits) → IsFed runs f fed →
+    1 ≤ length runs.pool.entries → IsSome f → WroteBits runs.writer w1 f f1 (filled (run_bits (gathered runs.pool.entries))) → w1.place % 8 ≡ 0 →
+    bits ≡ bits_put w1 f1 ++ digits (to_byte w1.place) 0 → bits ≡ run_part_bits (cap_of runs.pool) fed
 last_bits runs f f1 fed w1 bits is some told wrote whole e =
     e ∙ finished_bits w1.place (bits_put w1 f1) whole ∙ wrote.told told ∙ fed_bits runs f fed is some told
 
-pub no_last_bits : (runs : Inverting) (f : Option Files) (fed : List (ℕ × ℕ)) (bits : Bits) → IsFed runs f fed → length runs.pool.entries ≡ 0 → IsSome f → bits ≡ bits_put runs.writer f ++ digits (to_byte runs.writer.place) 0 → bits ≡ run_part_bits (cap_of runs.pool) fed
+pub no_last_bits : (runs : Inverting) (f : Option Files) (fed : List (ℕ × ℕ)) (bits : Bits) → IsFed runs f fed → length runs.pool.entries ≡ 0 →
+    IsSome f → bits ≡ bits_put runs.writer f ++ digits (to_byte runs.writer.place) 0 → bits ≡ run_part_bits (cap_of runs.pool) fed
 no_last_bits runs f fed bits is none told e =
     e ∙ finished_bits runs.writer.place (bits_put runs.writer f) is.whole ∙ fed_bits_none runs f fed is none told
 
@@ -49,7 +52,9 @@ runs_fit n cap some few =
     omega (arith, below, groups_are_runs n cap some)
 
 -- the greatest use of the pool over all rounds
-pub peak_all : (n cap width first last p0 p1 : ℕ) → p0 ≡ 12 * min n cap → first ≡ run_count n cap → max p1 (64 * min last width) ≡ max p0 (64 * min first width) → last ≤ width → max p1 (64 * last) ≡ max (12 * min n cap) (64 * min (run_count n cap) width)
+pub peak_all : (n cap width first last p0 p1 : ℕ) → p0 ≡ 12 * min n cap → first ≡ run_count n cap →
+    max p1 (64 * min last width) ≡ max p0 (64 * min first width) → last ≤ width →
+    max p1 (64 * last) ≡ max (12 * min n cap) (64 * min (run_count n cap) width)
 peak_all n cap width first last p0 p1 start count rounds few =
     let one : min last width ≡ last = omega arith in
     ap (λ k. max p1 (64 * k)) (sym one) ∙ rounds ∙ ap (λ k. max k (64 * min first width)) start ∙ ap (λ k. max (12 * min n cap) (64 * min k width)) count

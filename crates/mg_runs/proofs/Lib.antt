@@ -12,6 +12,7 @@ mod CursorLaws
 mod Merges
 mod Heads
 mod Steps
+mod StepLaws
 mod Naming
 mod Joins
 mod Rounds

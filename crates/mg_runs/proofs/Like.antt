@@ -18,11 +18,14 @@ same_entry e t d p q r =
     let mk : ℕ → ℕ → ℕ → TermPosting = λ a b c. record { term = a; doc = b; count = c } in
     ap (λ a. mk a (number_in 4 e) (number_in 8 e)) p ∙ ap (λ b. mk t b (number_in 8 e)) q ∙ ap (λ c. mk t d c) r
 
-step : (entries : List (List ℕ)) (i t d : ℕ) → i < length entries → number_in 0 (get_or entries i []) ≡ t → number_in 4 (get_or entries i []) ≡ d → number_in 8 (get_or entries i []) ≡ 1 → gathered (map entry_in (drop i entries)) ≡ added (one_of t d) (gathered (map entry_in (drop (i + 1) entries)))
+step : (entries : List (List ℕ)) (i t d : ℕ) → i < length entries → number_in 0 (get_or entries i []) ≡ t → number_in 4 (get_or entries i []) ≡ d →
+    number_in 8 (get_or entries i []) ≡ 1 →
+    gathered (map entry_in (drop i entries)) ≡ added (one_of t d) (gathered (map entry_in (drop (i + 1) entries)))
 step entries i t d h p q r =
     ap (λ xs. gathered (map entry_in xs)) (drop_more entries i [] h) ∙ ap (λ e. added e (gathered (map entry_in (drop (i + 1) entries)))) (same_entry (get_or entries i []) t d p q r)
 
-pub like-first : (entries : List (List ℕ)) (from t d : ℕ) → from < length entries → number_in 0 (get_or entries from []) ≡ t → number_in 4 (get_or entries from []) ≡ d → number_in 8 (get_or entries from []) ≡ 1 → IsLike entries from (from + 1) t d
+pub like-first : (entries : List (List ℕ)) (from t d : ℕ) → from < length entries → number_in 0 (get_or entries from []) ≡ t →
+    number_in 4 (get_or entries from []) ≡ d → number_in 8 (get_or entries from []) ≡ 1 → IsLike entries from (from + 1) t d
 like-first entries from t d h p q r =
     let one : from + 1 - from ≡ suc zero = omega arith in
     record {
@@ -31,14 +34,17 @@ like-first entries from t d h p q r =
       within = omega arith;
     }
 
-pub like-more : (entries : List (List ℕ)) (from next t d : ℕ) → IsLike entries from next t d → next < length entries → number_in 0 (get_or entries next []) ≡ t → number_in 4 (get_or entries next []) ≡ d → number_in 8 (get_or entries next []) ≡ 1 → IsLike entries from (next + 1) t d
+pub like-more : (entries : List (List ℕ)) (from next t d : ℕ) → IsLike entries from next t d → next < length entries →
+    number_in 0 (get_or entries next []) ≡ t → number_in 4 (get_or entries next []) ≡ d → number_in 8 (get_or entries next []) ≡ 1 →
+    IsLike entries from (next + 1) t d
 like-more entries from next t d l h p q r =
     let rest : List TermPosting = gathered (map entry_in (drop (next + 1) entries)) in
     let after : from < next = l.after in
     let one : suc (next - from) ≡ next + 1 - from = omega arith in
     record {
       after = omega arith;
-      added = l.added ∙ ap (λ xs. added_times (next - from) (one_of t d) xs) (step entries next t d h p q r) ∙ added_times-end (next - from) (one_of t d) rest ∙ ap (λ n. added_times n (one_of t d) rest) one;
+      added = l.added ∙ ap (λ xs. added_times (next - from) (one_of t d) xs) (step entries next t d h p q r) ∙ added_times-end (next - from) (one_of t d) rest
+          ∙ ap (λ n. added_times n (one_of t d) rest) one;
       within = omega arith;
     }
 
@@ -60,7 +66,10 @@ rest_in_order [] (suc j) up = tt
 rest_in_order (x ∷ xs) (suc j) up = rest_in_order xs j up.1
 
 -- all from the next one on come after the first, where the next one is not like it
-after-rest : (entries : List (List ℕ)) (from next t d : ℕ) → from < next → NotFalling (map entry_in entries) → number_in 0 (get_or entries from []) ≡ t → number_in 4 (get_or entries from []) ≡ d → (length entries ≤ next) ⊎ ((next < length entries) × ((number_in 0 (get_or entries next []) ≡ t → number_in 4 (get_or entries next []) ≡ d → ⊥))) → AllAfter (one_of t d) (map entry_in (drop next entries))
+after-rest : (entries : List (List ℕ)) (from next t d : ℕ) → from < next → NotFalling (map entry_in entries) →
+    number_in 0 (get_or entries from []) ≡ t → number_in 4 (get_or entries from []) ≡ d →
+    (length entries ≤ next) ⊎ ((next < length entries) × ((number_in 0 (get_or entries next []) ≡ t → number_in 4 (get_or entries next []) ≡ d → ⊥))) →
+    AllAfter (one_of t d) (map entry_in (drop next entries))
 after-rest entries from next t d h up p q (inl over) =
     let none : drop next entries ≡ [] = grind (arith, common_steps) in
     subst (λ xs. AllAfter (one_of t d) (map entry_in xs)) (sym none) tt
@@ -80,7 +89,10 @@ after-rest entries from next t d h up p q (inr other) =
     lt_or : (m n : ℕ) → m ≤ n → (m ≡ n → ⊥) → m < n
     lt_or m n h k = omega arith
 
-pub like-end : (entries : List (List ℕ)) (from next t d : ℕ) → IsLike entries from next t d → NotFalling (map entry_in entries) → number_in 0 (get_or entries from []) ≡ t → number_in 4 (get_or entries from []) ≡ d → (length entries ≤ next) ⊎ ((next < length entries) × ((number_in 0 (get_or entries next []) ≡ t → number_in 4 (get_or entries next []) ≡ d → ⊥))) → IsGroup entries from next
+pub like-end : (entries : List (List ℕ)) (from next t d : ℕ) → IsLike entries from next t d → NotFalling (map entry_in entries) →
+    number_in 0 (get_or entries from []) ≡ t → number_in 4 (get_or entries from []) ≡ d →
+    (length entries ≤ next) ⊎ ((next < length entries) × ((number_in 0 (get_or entries next []) ≡ t → number_in 4 (get_or entries next []) ≡ d → ⊥))) →
+    IsGroup entries from next
 like-end entries from next t d l up p q end =
     let after : from < next = l.after in
     let one : next - from ≡ suc (next - from - 1) = omega arith in
@@ -90,5 +102,7 @@ like-end entries from next t d l up p q end =
       head = one_of t d;
       term = sym p;
       doc = sym q;
-      one = l.added ∙ ap (λ n. added_times n (one_of t d) rest) one ∙ group-count (next - from - 1) (one_of t d) rest refl (AllAfter-gathered (one_of t d) (map entry_in (drop next entries)) all) ∙ ap (λ n. with_count (one_of t d) n ∷ rest) (sym one);
+      one = l.added ∙ ap (λ n. added_times n (one_of t d) rest) one
+          ∙ group-count (next - from - 1) (one_of t d) rest refl (AllAfter-gathered (one_of t d) (map entry_in (drop next entries)) all)
+          ∙ ap (λ n. with_count (one_of t d) n ∷ rest) (sym one);
     }

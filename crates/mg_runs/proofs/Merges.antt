@@ -85,7 +85,8 @@ tail_run : (y : TermPosting) (ys : List TermPosting) → IsRun (y ∷ ys) → Is
 tail_run y ys run = record { rising = run.rising.1; small = run.small.1 }
 
 -- times where one run lost its first posting
-times_less : (lefts : List (List TermPosting)) (w : ℕ) (y : TermPosting) (ys : List TermPosting) (t d : ℕ) → get_or lefts w [] ≡ y ∷ ys → times_all t d (set lefts w ys) + part_at t d y ≡ times_all t d lefts
+times_less : (lefts : List (List TermPosting)) (w : ℕ) (y : TermPosting) (ys : List TermPosting) (t d : ℕ) → get_or lefts w [] ≡ y ∷ ys →
+    times_all t d (set lefts w ys) + part_at t d y ≡ times_all t d lefts
 times_less lefts w y ys t d e =
     let f : List TermPosting → ℕ = λ left. times t d left in
     let s = sum_by-set f lefts w ys [] (within lefts w y ys e) in
@@ -93,7 +94,8 @@ times_less lefts w y ys t d e =
     omega arith
 
 -- the first posting of all is taken from its run
-pub taking_first : (base : List (List TermPosting)) (w : ℕ) (p : TermPosting) (ps : List TermPosting) → All (λ l. IsRun l) base → get_or base w [] ≡ p ∷ ps → ((k : ℕ) → AllFrom p (get_or base k [])) → IsTaking p base (set base w ps) p.count
+pub taking_first : (base : List (List TermPosting)) (w : ℕ) (p : TermPosting) (ps : List TermPosting) → All (λ l. IsRun l) base →
+    get_or base w [] ≡ p ∷ ps → ((k : ℕ) → AllFrom p (get_or base k [])) → IsTaking p base (set base w ps) p.count
 taking_first base w p ps runs e from =
     let run : IsRun (p ∷ ps) = run_at base w p ps runs e in
     record {
@@ -106,7 +108,8 @@ taking_first base w p ps runs e from =
     }
 
 -- one more with the same term and document
-pub taking_more : (p : TermPosting) (base now : List (List TermPosting)) (count w : ℕ) (y : TermPosting) (ys : List TermPosting) → IsTaking p base now count → get_or now w [] ≡ y ∷ ys → y.term ≡ p.term → y.doc ≡ p.doc → IsTaking p base (set now w ys) (count + y.count)
+pub taking_more : (p : TermPosting) (base now : List (List TermPosting)) (count w : ℕ) (y : TermPosting) (ys : List TermPosting) →
+    IsTaking p base now count → get_or now w [] ≡ y ∷ ys → y.term ≡ p.term → y.doc ≡ p.doc → IsTaking p base (set now w ys) (count + y.count)
 taking_more p base now count w y ys t e a b =
     let run : IsRun (y ∷ ys) = run_at now w y ys t.runs e in
     record {
@@ -124,11 +127,13 @@ count_fits p base now count t are =
     omega (arith, t.counted p.term p.doc, are.fits p.term p.doc, part-own p count)
 
 -- where nothing of its term and document is left, the posting with its whole count comes first
-pub taking_end : (p : TermPosting) (base now : List (List TermPosting)) (count : ℕ) → IsTaking p base now count → AreRuns base → 1 ≤ count → ((k : ℕ) → AllAfter p (get_or now k [])) → (merged base ≡ with_count p count ∷ merged now) × AreRuns now
+pub taking_end : (p : TermPosting) (base now : List (List TermPosting)) (count : ℕ) → IsTaking p base now count → AreRuns base → 1 ≤ count →
+    ((k : ℕ) → AllAfter p (get_or now k [])) → (merged base ≡ with_count p count ∷ merged now) × AreRuns now
 taking_end p base now count t are some all =
     let after : AllAfter p (merged now) = AllAfter-merged p now (λ k h. all k) in
     let q : TermPosting = with_count p count in (
-      only_one (merged base) (q ∷ merged now) (Rising-merged base are.runs) (AllAfter-count p count (merged now) after, Rising-merged now t.runs) (AllCount-merged base are.runs) (some, AllCount-merged now t.runs)
+      only_one (merged base) (q ∷ merged now) (Rising-merged base are.runs) (AllAfter-count p count (merged now) after, Rising-merged now t.runs)
+          (AllCount-merged base are.runs) (some, AllCount-merged now t.runs)
           (λ u d. omega (arith, times-merged u d base, times-merged u d now, t.counted u d)),
       record { runs = t.runs; fits = λ u d. omega (arith, are.fits u d, t.counted u d) },
     )
@@ -164,7 +169,9 @@ strictly_from p h le other (x ∷ xs) all =
     lt_or : (a c b : ℕ) → a ≤ b → b ≤ c → (b ≡ a → ⊥) → a < c
     lt_or a c b u v other = omega arith
 
-pub all_after_other : (p h : TermPosting) (lefts : List (List TermPosting)) (w : ℕ) → ((k : ℕ) → AllFrom p (get_or lefts k [])) → first (get_or lefts w []) ≡ Some h → ((k : ℕ) → AllFrom h (get_or lefts k [])) → (h.term ≡ p.term → h.doc ≡ p.doc → ⊥) → (k : ℕ) → AllAfter p (get_or lefts k [])
+pub all_after_other : (p h : TermPosting) (lefts : List (List TermPosting)) (w : ℕ) → ((k : ℕ) → AllFrom p (get_or lefts k [])) →
+    first (get_or lefts w []) ≡ Some h → ((k : ℕ) → AllFrom h (get_or lefts k [])) → (h.term ≡ p.term → h.doc ≡ p.doc → ⊥) → (k : ℕ) →
+    AllAfter p (get_or lefts k [])
 all_after_other p h lefts w from is least other k =
     strictly_from p h (head_from p h (get_or lefts w []) is (from w)) other (get_or lefts k []) (least k)
   where
@@ -173,12 +180,15 @@ all_after_other p h lefts w from is least other k =
     head_from p h (x ∷ xs) e all = let same : x ≡ h = cc in subst (λ z. NoLater p z) same all.0
 
 -- what is left, by the postings merged
-pub left_none : (slots : List (List ℕ)) (cursors : List Cursor) (file : List ℕ) (left : List TermPosting) (lefts : List (List TermPosting)) → StandFor slots cursors file lefts → AreRuns lefts → merged lefts ≡ [] → merged lefts ≡ left → (None ≡ first left) × AreLeft slots cursors file (drop 1 left)
+pub left_none : (slots : List (List ℕ)) (cursors : List Cursor) (file : List ℕ) (left : List TermPosting) (lefts : List (List TermPosting)) →
+    StandFor slots cursors file lefts → AreRuns lefts → merged lefts ≡ [] → merged lefts ≡ left →
+    (None ≡ first left) × AreLeft slots cursors file (drop 1 left)
 left_none slots cursors file left lefts stand are none same =
     let e : [] ≡ left = sym none ∙ same in
     subst (λ l. (None ≡ first l) × AreLeft slots cursors file (drop 1 l)) e (refl, record { lefts = lefts; stand = stand; are = are; same = none })
 
-pub left_some : (slots : List (List ℕ)) (cursors : List Cursor) (file : List ℕ) (left : List TermPosting) (base : List (List TermPosting)) (p : TermPosting) → IsMerged slots cursors file base p → merged base ≡ left → (Some p ≡ first left) × AreLeft slots cursors file (drop 1 left)
+pub left_some : (slots : List (List ℕ)) (cursors : List Cursor) (file : List ℕ) (left : List TermPosting) (base : List (List TermPosting)) (p : TermPosting) →
+    IsMerged slots cursors file base p → merged base ≡ left → (Some p ≡ first left) × AreLeft slots cursors file (drop 1 left)
 left_some slots cursors file left base p m same =
     let e : p ∷ merged m.lefts ≡ left = sym m.same ∙ same in
     subst (λ l. (Some p ≡ first l) × AreLeft slots cursors file (drop 1 l)) e (refl, record { lefts = m.lefts; stand = m.stand; are = m.are; same = refl })

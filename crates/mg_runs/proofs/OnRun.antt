@@ -23,7 +23,9 @@ after_start (e ∷ es) all =
     let d : 1 ≤ number_in 4 e = all 0 e (omega arith) in
     (record { term = omega arith; doc = λ q. omega arith }, after_start es (λ k d h. all (suc k) d (omega arith)))
 
-pub on_run_start : (f0 f1 : Option Files) (r0 r1 : Reads) (w0 w1 : BitWriting) (entries : List (List ℕ)) (count : ℕ) → count ≡ length (gathered (map entry_in entries)) → All (λ e. 1 ≤ number_in 4 e) entries → WroteBits w0 w1 f0 f1 (gamma count) → Holds w1 f1 → w1.place ≤ w0.place + 66 → WroteTo w0.name f0 f1 r0 r1 → IsOnRun f0 f1 r0 r1 w0 w1 entries 0 before_first
+pub on_run_start : (f0 f1 : Option Files) (r0 r1 : Reads) (w0 w1 : BitWriting) (entries : List (List ℕ)) (count : ℕ) →
+    count ≡ length (gathered (map entry_in entries)) → All (λ e. 1 ≤ number_in 4 e) entries → WroteBits w0 w1 f0 f1 (gamma count) → Holds w1 f1 →
+    w1.place ≤ w0.place + 66 → WroteTo w0.name f0 f1 r0 r1 → IsOnRun f0 f1 r0 r1 w0 w1 entries 0 before_first
 unfolding run_bits
 on_run_start f0 f1 r0 r1 w0 w1 entries count e docs bits holds place wrote = record {
   within = omega arith;
@@ -42,15 +44,22 @@ same_posting x y p q r =
     ap (λ t. mk t x.doc x.count) p ∙ ap (λ d. mk y.term d x.count) q ∙ ap (λ n. mk y.term y.doc n) r
 
 -- the posting of a group comes first of what is left
-pub group_first : (entries : List (List ℕ)) (from next : ℕ) (p : TermPosting) → IsGroup entries from next → p.term ≡ number_in 0 (get_or entries from []) → p.doc ≡ number_in 4 (get_or entries from []) → p.count ≡ next - from → gathered (map entry_in (drop from entries)) ≡ p ∷ gathered (map entry_in (drop next entries))
+pub group_first : (entries : List (List ℕ)) (from next : ℕ) (p : TermPosting) → IsGroup entries from next →
+    p.term ≡ number_in 0 (get_or entries from []) → p.doc ≡ number_in 4 (get_or entries from []) → p.count ≡ next - from →
+    gathered (map entry_in (drop from entries)) ≡ p ∷ gathered (map entry_in (drop next entries))
 group_first entries from next p group a b d =
     let e : with_count group.head (next - from) ≡ p = same_posting (with_count group.head (next - from)) p (group.term ∙ sym a) (group.doc ∙ sym b) (sym d) in
     group.one ∙ ap (λ x. x ∷ gathered (map entry_in (drop next entries))) e
 
-pub on_run_before : (f0 f1 : Option Files) (r0 r1 : Reads) (w0 w1 : BitWriting) (entries : List (List ℕ)) (from next : ℕ) (last p : TermPosting) → IsOnRun f0 f1 r0 r1 w0 w1 entries from last → gathered (map entry_in (drop from entries)) ≡ p ∷ gathered (map entry_in (drop next entries)) → IsBefore last p
+pub on_run_before : (f0 f1 : Option Files) (r0 r1 : Reads) (w0 w1 : BitWriting) (entries : List (List ℕ)) (from next : ℕ) (last p : TermPosting) →
+    IsOnRun f0 f1 r0 r1 w0 w1 entries from last → gathered (map entry_in (drop from entries)) ≡ p ∷ gathered (map entry_in (drop next entries)) →
+    IsBefore last p
 on_run_before f0 f1 r0 r1 w0 w1 entries from next last p run e = (subst (λ xs. AllAfter last xs) e run.before).0
 
-pub on_run_step : (f0 f1 f2 : Option Files) (r0 r1 r2 : Reads) (w0 w1 w2 : BitWriting) (entries : List (List ℕ)) (from next : ℕ) (last p : TermPosting) → IsOnRun f0 f1 r0 r1 w0 w1 entries from last → gathered (map entry_in (drop from entries)) ≡ p ∷ gathered (map entry_in (drop next entries)) → from < next → next ≤ length entries → WroteBits w1 w2 f1 f2 (run_posting_bits last p) → Holds w2 f2 → w2.place ≤ w1.place + 256 → WroteTo w1.name f1 f2 r1 r2 → IsOnRun f0 f2 r0 r2 w0 w2 entries next p
+pub on_run_step : (f0 f1 f2 : Option Files) (r0 r1 r2 : Reads) (w0 w1 w2 : BitWriting) (entries : List (List ℕ)) (from next : ℕ) (last p : TermPosting) →
+    IsOnRun f0 f1 r0 r1 w0 w1 entries from last → gathered (map entry_in (drop from entries)) ≡ p ∷ gathered (map entry_in (drop next entries)) →
+    from < next → next ≤ length entries → WroteBits w1 w2 f1 f2 (run_posting_bits last p) → Holds w2 f2 → w2.place ≤ w1.place + 256 →
+    WroteTo w1.name f1 f2 r1 r2 → IsOnRun f0 f2 r0 r2 w0 w2 entries next p
 on_run_step f0 f1 f2 r0 r1 r2 w0 w1 w2 entries from next last p run e after within bits holds place wrote =
     let left : List TermPosting = gathered (map entry_in (drop next entries)) in
     let old : w1.place ≤ w0.place + 66 + 256 * from = run.place in
@@ -65,7 +74,8 @@ on_run_step f0 f1 f2 r0 r1 r2 w0 w1 w2 entries from next last p run e after with
       wrote = to_more w0.name f0 f1 f2 r0 r1 r2 run.wrote (subst (λ n. WroteTo n f1 f2 r1 r2) run.bits.name wrote);
     }
 
-pub on_run_end : (f0 f1 : Option Files) (r0 r1 : Reads) (w0 w1 : BitWriting) (entries : List (List ℕ)) (from : ℕ) (last : TermPosting) → IsOnRun f0 f1 r0 r1 w0 w1 entries from last → length entries ≤ from → WroteBits w0 w1 f0 f1 (run_bits (gathered (map entry_in entries)))
+pub on_run_end : (f0 f1 : Option Files) (r0 r1 : Reads) (w0 w1 : BitWriting) (entries : List (List ℕ)) (from : ℕ) (last : TermPosting) →
+    IsOnRun f0 f1 r0 r1 w0 w1 entries from last → length entries ≤ from → WroteBits w0 w1 f0 f1 (run_bits (gathered (map entry_in entries)))
 on_run_end f0 f1 r0 r1 w0 w1 entries from last run h =
     let none : drop from entries ≡ [] = grind (arith, common_steps) in
     let e : run.done ++ [] ≡ run_bits (gathered (map entry_in entries)) = ap (λ es. run.done ++ postings_bits last (gathered (map entry_in es))) (sym none) ∙ run.rest in

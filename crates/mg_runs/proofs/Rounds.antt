@@ -192,7 +192,8 @@ runs_slice n k runs are = record {
 pub all_groups : (P : List TermPosting → Type 0) (w k : ℕ) (runs : List (List TermPosting)) → ((i : ℕ) → i < k → P (merged (take w (drop (i * w) runs)))) → All P (first_joined w k runs)
 all_groups P w zero runs h = All-nil P
 all_groups P w (suc k) runs h =
-    subst (λ t. All P t) (sym (joined_more w k runs)) (All-push P (first_joined w k runs) (merged (take w (drop (k * w) runs))) (all_groups P w k runs (λ i less. h i (omega arith))) (h k (omega arith)))
+    subst (λ t. All P t) (sym (joined_more w k runs))
+    (All-push P (first_joined w k runs) (merged (take w (drop (k * w) runs))) (all_groups P w k runs (λ i less. h i (omega arith))) (h k (omega arith)))
 
 pub first_joined_run : (w k : ℕ) (runs : List (List TermPosting)) → AreRuns runs → All (λ l. IsRun l) (first_joined w k runs)
 first_joined_run w k runs are = all_groups (λ l. IsRun l) w k runs (λ i less. run_merged (take w (drop (i * w) runs)) (runs_slice w (i * w) runs are))
@@ -216,7 +217,8 @@ runs_joined w runs some are = record {
 pub merged_joined : (w : ℕ) (runs : List (List TermPosting)) → 1 ≤ w → AreRuns runs → merged (joined_runs w runs) ≡ merged runs
 merged_joined w runs some are =
     let new : AreRuns (joined_runs w runs) = runs_joined w runs some are in
-    only_one (merged (joined_runs w runs)) (merged runs) (Rising-merged (joined_runs w runs) new.runs) (Rising-merged runs are.runs) (AllCount-merged (joined_runs w runs) new.runs) (AllCount-merged runs are.runs)
+    only_one (merged (joined_runs w runs)) (merged runs) (Rising-merged (joined_runs w runs) new.runs) (Rising-merged runs are.runs)
+    (AllCount-merged (joined_runs w runs) new.runs) (AllCount-merged runs are.runs)
     (λ t d. times-merged t d (joined_runs w runs) ∙ times_joined t d w ((length runs + w - 1) / w) runs (ceil_high (length runs) w some) ∙ sym (times-merged t d runs))
 
 -- ---- how many postings

@@ -53,7 +53,8 @@ run_short run is some few =
     let size = length_filled (gamma (length run) ++ bits) in
     omega (arith, head, rest, all, pad, size)
 
-pub runs_short_by : (runs : List (List TermPosting)) → All (λ run. IsRun run) runs → All (λ run. 1 ≤ length run) runs → All (λ run. 1 + length run < 2 ^ 32) runs → length (runs_bits runs) ≤ 512 * all_postings runs
+pub runs_short_by : (runs : List (List TermPosting)) → All (λ run. IsRun run) runs → All (λ run. 1 ≤ length run) runs →
+    All (λ run. 1 + length run < 2 ^ 32) runs → length (runs_bits runs) ≤ 512 * all_postings runs
 runs_short_by [] is some few = omega arith
 runs_short_by (run ∷ runs) is some few =
     let more : 1 ≤ length run = some 0 run (omega arith) in
@@ -66,7 +67,8 @@ pub runs_short : (runs : List (List TermPosting)) → AreWritten runs → length
 runs_short runs is = runs_short_by runs is.are.runs is.some is.short
 
 -- so are those that a round has written so far
-pub first_joined_short : (w k : ℕ) (runs : List (List TermPosting)) → 1 ≤ w → w < length runs → k ≤ (length runs + w - 1) / w → AreWritten runs → length (runs_bits (first_joined w k runs)) ≤ 512 * all_postings runs
+pub first_joined_short : (w k : ℕ) (runs : List (List TermPosting)) → 1 ≤ w → w < length runs → k ≤ (length runs + w - 1) / w → AreWritten runs →
+    length (runs_bits (first_joined w k runs)) ≤ 512 * all_postings runs
 first_joined_short w k runs some more within is =
     let bound = runs_short_by (first_joined w k runs) (first_joined_run w k runs is.are)
     (all_groups (λ l. 1 ≤ length l) w k runs (λ i less. (group_is w i runs some more (some_group w i (length runs) some (omega arith)) is).1))
@@ -99,7 +101,8 @@ starts_more runs run =
     let z : 0 + length (runs_bits runs) ≡ length (runs_bits runs) = omega arith in
     starts_append 0 runs (run ∷ []) ∙ ap (λ n. starts 0 runs ++ n ∷ []) z
 
-cons_at : (file : List ℕ) (place : ℕ) (places : List ℕ) (run : List TermPosting) (runs : List (List TermPosting)) → IsRunAt file place run → AreRunsAt file places runs → AreRunsAt file (place ∷ places) (run ∷ runs)
+cons_at : (file : List ℕ) (place : ℕ) (places : List ℕ) (run : List TermPosting) (runs : List (List TermPosting)) → IsRunAt file place run →
+    AreRunsAt file places runs → AreRunsAt file (place ∷ places) (run ∷ runs)
 cons_at file place places run runs one rest = record {
   size = ap (λ n. suc n) rest.size;
   at = here;
@@ -109,7 +112,9 @@ cons_at file place places run runs one rest = record {
     here zero h = one
     here (suc k) h = rest.at k (omega arith)
 
-first_run_at : (file : List ℕ) (place : ℕ) (run : List TermPosting) (rest : Bits) → IsRun run → 1 ≤ length run → 1 + length run < 2 ^ 32 → drop place (bits_of file) ≡ filled (run_bits run) ++ rest → place ≤ length (bits_of file) → length (bits_of file) ≤ 2 ^ 61 → IsRunAt file place run
+first_run_at : (file : List ℕ) (place : ℕ) (run : List TermPosting) (rest : Bits) → IsRun run → 1 ≤ length run → 1 + length run < 2 ^ 32 →
+    drop place (bits_of file) ≡ filled (run_bits run) ++ rest → place ≤ length (bits_of file) → length (bits_of file) ≤ 2 ^ 61 →
+    IsRunAt file place run
 unfolding filled
 first_run_at file place run rest is some few e below short = record {
   some = some;
@@ -121,7 +126,9 @@ first_run_at file place run rest is some few e below short = record {
   short = short;
 }
 
-runs_from : (file : List ℕ) (at : ℕ) (runs : List (List TermPosting)) (more : Bits) → drop at (bits_of file) ≡ runs_bits runs ++ more → at ≤ length (bits_of file) → length (bits_of file) ≤ 2 ^ 61 → All (λ run. IsRun run) runs → All (λ run. 1 ≤ length run) runs → All (λ run. 1 + length run < 2 ^ 32) runs → AreRunsAt file (starts at runs) runs
+runs_from : (file : List ℕ) (at : ℕ) (runs : List (List TermPosting)) (more : Bits) → drop at (bits_of file) ≡ runs_bits runs ++ more →
+    at ≤ length (bits_of file) → length (bits_of file) ≤ 2 ^ 61 → All (λ run. IsRun run) runs → All (λ run. 1 ≤ length run) runs →
+    All (λ run. 1 + length run < 2 ^ 32) runs → AreRunsAt file (starts at runs) runs
 runs_from file at [] more e below short is some few = record { size = refl; at = λ k h. absurd (omega arith) }
 runs_from file at (run ∷ runs) more e below short is some few =
     let code : Bits = filled (run_bits run) in
@@ -131,7 +138,8 @@ runs_from file at (run ∷ runs) more e below short is some few =
     (first_run_at file at run rest (is 0 run (omega arith)) (some 0 run (omega arith)) (few 0 run (omega arith)) split below short)
     (runs_from file (at + length code) runs more (behind_code at (bits_of file) code rest split) (place_below at (bits_of file) code rest below split) short (All-tail (λ l. IsRun l) run runs is) (All-tail (λ l. 1 ≤ length l) run runs some) (All-tail (λ l. 1 + length l < 2 ^ 32) run runs few))
 
-pub runs_at : (file : List ℕ) (runs : List (List TermPosting)) (more : Bits) → bits_of file ≡ runs_bits runs ++ more → length (bits_of file) ≤ 2 ^ 61 → AreWritten runs → AreRunsAt file (starts 0 runs) runs
+pub runs_at : (file : List ℕ) (runs : List (List TermPosting)) (more : Bits) → bits_of file ≡ runs_bits runs ++ more → length (bits_of file) ≤ 2 ^ 61 →
+    AreWritten runs → AreRunsAt file (starts 0 runs) runs
 runs_at file runs more e short is = runs_from file 0 runs more e (omega arith) short is.are.runs is.some is.short
 
 -- where a file is the runs' bits, these stand at their places

@@ -102,7 +102,8 @@ runs_short cap (suc count) s small =
 pub all_first_runs : (cap count : ℕ) (s : List (ℕ × ℕ)) → all_postings (first_runs cap count s) ≤ length s
 all_first_runs cap zero s = omega arith
 all_first_runs cap (suc count) s =
-    omega (arith, sum_by-cons (λ (l : List TermPosting). length l) (term_postings (take cap s)) (first_runs cap count (drop cap s)), length_postings (take cap s), all_first_runs cap count (drop cap s), length-take cap s, length-drop cap s)
+    omega
+    (arith, sum_by-cons (λ (l : List TermPosting). length l) (term_postings (take cap s)) (first_runs cap count (drop cap s)), length_postings (take cap s), all_first_runs cap count (drop cap s), length-take cap s, length-drop cap s)
 
 pub fed_all : (cap : ℕ) (fed : List (ℕ × ℕ)) → all_postings (runs_of cap fed) ≤ length fed
 fed_all cap fed = all_first_runs cap ((length fed + cap - 1) / cap) fed
@@ -138,7 +139,8 @@ runs_of_none cap some =
     let z : 0 * cap ≡ 0 = omega arith in
     ap (λ k. first_runs cap k []) (ceil_is 0 cap 0 some (omega arith) (omega arith))
 
-pub runs_of_last : (cap : ℕ) (fed : List (ℕ × ℕ)) → 1 ≤ cap → 1 ≤ length fed → runs_of cap fed ≡ first_runs cap (finished cap (length fed)) fed ++ term_postings (drop (finished cap (length fed) * cap) fed) ∷ []
+pub runs_of_last : (cap : ℕ) (fed : List (ℕ × ℕ)) → 1 ≤ cap → 1 ≤ length fed →
+    runs_of cap fed ≡ first_runs cap (finished cap (length fed)) fed ++ term_postings (drop (finished cap (length fed) * cap) fed) ∷ []
 runs_of_last cap fed some more =
     let q : ℕ = finished cap (length fed) in
     let rest : List (ℕ × ℕ) = drop (q * cap) fed in
@@ -150,12 +152,14 @@ runs_of_last cap fed some more =
     ∙ ap (λ t. first_runs cap q fed ++ term_postings t ∷ []) all
 
 -- the bits and the places, where the last run is put behind those that are finished
-pub bits_of_last : (cap : ℕ) (fed : List (ℕ × ℕ)) → 1 ≤ cap → 1 ≤ length fed → runs_bits (runs_of cap fed) ≡ runs_bits (first_runs cap (finished cap (length fed)) fed) ++ filled (run_bits (term_postings (drop (finished cap (length fed) * cap) fed)))
+pub bits_of_last : (cap : ℕ) (fed : List (ℕ × ℕ)) → 1 ≤ cap → 1 ≤ length fed →
+    runs_bits (runs_of cap fed) ≡ runs_bits (first_runs cap (finished cap (length fed)) fed) ++ filled (run_bits (term_postings (drop (finished cap (length fed) * cap) fed)))
 bits_of_last cap fed some more =
     let q : ℕ = finished cap (length fed) in
     ap (λ rs. runs_bits rs) (runs_of_last cap fed some more) ∙ runs_bits_more (first_runs cap q fed) (term_postings (drop (q * cap) fed))
 
-pub starts_of_last : (cap : ℕ) (fed : List (ℕ × ℕ)) → 1 ≤ cap → 1 ≤ length fed → starts 0 (runs_of cap fed) ≡ starts 0 (first_runs cap (finished cap (length fed)) fed) ++ length (runs_bits (first_runs cap (finished cap (length fed)) fed)) ∷ []
+pub starts_of_last : (cap : ℕ) (fed : List (ℕ × ℕ)) → 1 ≤ cap → 1 ≤ length fed →
+    starts 0 (runs_of cap fed) ≡ starts 0 (first_runs cap (finished cap (length fed)) fed) ++ length (runs_bits (first_runs cap (finished cap (length fed)) fed)) ∷ []
 starts_of_last cap fed some more =
     let q : ℕ = finished cap (length fed) in
     ap (λ rs. starts 0 rs) (runs_of_last cap fed some more) ∙ starts_more (first_runs cap q fed) (term_postings (drop (q * cap) fed))

@@ -38,11 +38,13 @@ fed_none runs files (o ∷ fed) is none =
 pub fed_some : (runs : Inverting) (files : Option Files) (fed : List (ℕ × ℕ)) → IsFed runs files fed → 1 ≤ length runs.pool.entries → 1 ≤ length fed
 fed_some runs files fed is some = let size = fed_length runs files fed is in omega arith
 
-rest_is : (runs : Inverting) (files : Option Files) (fed : List (ℕ × ℕ)) → IsFed runs files fed → gathered runs.pool.entries ≡ term_postings (drop (finished (cap_of runs.pool) (length fed) * cap_of runs.pool) fed)
+rest_is : (runs : Inverting) (files : Option Files) (fed : List (ℕ × ℕ)) → IsFed runs files fed →
+    gathered runs.pool.entries ≡ term_postings (drop (finished (cap_of runs.pool) (length fed) * cap_of runs.pool) fed)
 rest_is runs files fed is = ap (λ xs. gathered xs) is.entries
 
 -- with the pool's entries behind the finished runs, all runs are written
-pub fed_bits : (runs : Inverting) (files : Option Files) (fed : List (ℕ × ℕ)) → IsFed runs files fed → 1 ≤ length runs.pool.entries → IsSome files → bits_put runs.writer files ++ filled (run_bits (gathered runs.pool.entries)) ≡ run_part_bits (cap_of runs.pool) fed
+pub fed_bits : (runs : Inverting) (files : Option Files) (fed : List (ℕ × ℕ)) → IsFed runs files fed → 1 ≤ length runs.pool.entries → IsSome files →
+    bits_put runs.writer files ++ filled (run_bits (gathered runs.pool.entries)) ≡ run_part_bits (cap_of runs.pool) fed
 fed_bits runs files fed is some told =
     let cap : ℕ = cap_of runs.pool in
     let first : Bits = runs_bits (first_runs cap (finished cap (length fed)) fed) in
@@ -50,14 +52,16 @@ fed_bits runs files fed is some told =
     ∙ ap (λ xs. first ++ filled (run_bits xs)) (rest_is runs files fed is)
     ∙ sym (bits_of_last cap fed (fed_cap runs files fed is).0 (fed_some runs files fed is some))
 
-pub fed_places : (runs : Inverting) (files : Option Files) (fed : List (ℕ × ℕ)) → IsFed runs files fed → 1 ≤ length runs.pool.entries → runs.places ++ runs.writer.place ∷ [] ≡ starts 0 (runs_of (cap_of runs.pool) fed)
+pub fed_places : (runs : Inverting) (files : Option Files) (fed : List (ℕ × ℕ)) → IsFed runs files fed → 1 ≤ length runs.pool.entries →
+    runs.places ++ runs.writer.place ∷ [] ≡ starts 0 (runs_of (cap_of runs.pool) fed)
 fed_places runs files fed is some =
     let cap : ℕ = cap_of runs.pool in
     let first : List (List TermPosting) = first_runs cap (finished cap (length fed)) fed in
     ap (λ p. p ++ runs.writer.place ∷ []) is.places ∙ ap (λ n. starts 0 first ++ n ∷ []) is.place ∙ sym (starts_of_last cap fed (fed_cap runs files fed is).0 (fed_some runs files fed is some))
 
 -- where nothing was taken there are no runs
-no_runs : (runs : Inverting) (files : Option Files) (fed : List (ℕ × ℕ)) → IsFed runs files fed → length runs.pool.entries ≡ 0 → (first_runs (cap_of runs.pool) (finished (cap_of runs.pool) (length fed)) fed ≡ []) × (runs_of (cap_of runs.pool) fed ≡ [])
+no_runs : (runs : Inverting) (files : Option Files) (fed : List (ℕ × ℕ)) → IsFed runs files fed → length runs.pool.entries ≡ 0 →
+    (first_runs (cap_of runs.pool) (finished (cap_of runs.pool) (length fed)) fed ≡ []) × (runs_of (cap_of runs.pool) fed ≡ [])
 no_runs runs files fed is none =
     let cap : ℕ = cap_of runs.pool in
     let some = (fed_cap runs files fed is).0 in
@@ -70,7 +74,8 @@ no_runs runs files fed is none =
     div_is_none : (cap : ℕ) → 1 ≤ cap → finished cap 0 ≡ 0
     div_is_none cap some = let h : 0 / cap < 1 = div_below 0 cap 1 some (omega arith) in omega arith
 
-pub fed_bits_none : (runs : Inverting) (files : Option Files) (fed : List (ℕ × ℕ)) → IsFed runs files fed → length runs.pool.entries ≡ 0 → IsSome files → bits_put runs.writer files ≡ run_part_bits (cap_of runs.pool) fed
+pub fed_bits_none : (runs : Inverting) (files : Option Files) (fed : List (ℕ × ℕ)) → IsFed runs files fed → length runs.pool.entries ≡ 0 →
+    IsSome files → bits_put runs.writer files ≡ run_part_bits (cap_of runs.pool) fed
 fed_bits_none runs files fed is none told =
     let empty = no_runs runs files fed is none in
     is.written told ∙ ap (λ rs. runs_bits rs) (empty.0 ∙ sym empty.1)
@@ -88,13 +93,16 @@ finished_bits place bits whole =
     ap (λ n. bits ++ digits n 0) none ∙ append-nil bits
 
 -- the runs as the rounds take them
-pub fed_stored : (runs : Inverting) (files : Option Files) (fed : List (ℕ × ℕ)) (file places : List ℕ) → IsFed runs files fed → bits_of file ≡ run_part_bits (cap_of runs.pool) fed → places ≡ starts 0 (runs_of (cap_of runs.pool) fed) → AreStored file places (term_postings fed)
+pub fed_stored : (runs : Inverting) (files : Option Files) (fed : List (ℕ × ℕ)) (file places : List ℕ) → IsFed runs files fed →
+    bits_of file ≡ run_part_bits (cap_of runs.pool) fed → places ≡ starts 0 (runs_of (cap_of runs.pool) fed) →
+    AreStored file places (term_postings fed)
 fed_stored runs files fed file places is bits at =
     let cap = fed_cap runs files fed is in
     stored_fed file places (cap_of runs.pool) fed bits at cap.0 cap.1 is.occurrences is.few
 
 -- opened runs leave all postings
-pub stored_left : (slots : List (List ℕ)) (cursors : List Cursor) (file places : List ℕ) (whole : List TermPosting) (is : AreStored file places whole) → StandFor slots cursors file is.runs → AreLeft slots cursors file whole
+pub stored_left : (slots : List (List ℕ)) (cursors : List Cursor) (file places : List ℕ) (whole : List TermPosting) (is : AreStored file places whole) →
+    StandFor slots cursors file is.runs → AreLeft slots cursors file whole
 stored_left slots cursors file places whole is stand = record { lefts = is.runs; stand = stand; are = is.written.are; same = is.same }
 
 -- where there are no runs there is no posting

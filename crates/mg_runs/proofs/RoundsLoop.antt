@@ -32,7 +32,9 @@ group_slice w at end xs e less =
 pub length_group : {X : Type 0} (w at end : ℕ) (xs : List X) → end ≡ min (at + w) (length xs) → at < length xs → length (take w (drop at xs)) ≡ end - at
 length_group w at end xs e less = omega (arith, e, less, length-take w (drop at xs), length-drop at xs)
 
-pub joined_group : (w at end : ℕ) (runs : List (List TermPosting)) (bits : Bits) (places : List ℕ) → AreJoined w runs at bits places → at < length runs → end ≡ min (at + w) (length runs) → AreJoined w runs end (bits ++ filled (run_bits (merged (take w (drop at runs))))) (places ++ length bits ∷ [])
+pub joined_group : (w at end : ℕ) (runs : List (List TermPosting)) (bits : Bits) (places : List ℕ) → AreJoined w runs at bits places →
+    at < length runs → end ≡ min (at + w) (length runs) →
+    AreJoined w runs end (bits ++ filled (run_bits (merged (take w (drop at runs))))) (places ++ length bits ∷ [])
 joined_group w at end runs bits places is less e =
     let k : ℕ = is.count in
     let group : List TermPosting = merged (take w (drop at runs)) in
@@ -63,7 +65,8 @@ joined_places w at runs bits places is some all =
     is.stand ∙ ap (λ n. starts 0 (first_joined w n runs)) (joined_count w at runs bits places is some all)
 
 -- the group at hand may be joined
-pub group_at : (w at : ℕ) (runs : List (List TermPosting)) (bits : Bits) (places : List ℕ) → AreJoined w runs at bits places → 1 ≤ w → w < length runs → at < length runs → AreWritten runs → IsGroupAt (take w (drop at runs)) (length bits)
+pub group_at : (w at : ℕ) (runs : List (List TermPosting)) (bits : Bits) (places : List ℕ) → AreJoined w runs at bits places → 1 ≤ w → w < length runs →
+    at < length runs → AreWritten runs → IsGroupAt (take w (drop at runs)) (length bits)
 group_at w at runs bits places is some more less written =
     let k : ℕ = is.count in
     let here = is.next in
@@ -127,12 +130,14 @@ pub stored_count : (file places : List ℕ) (whole : List TermPosting) (is : Are
 stored_count file places whole is = sym (ap (λ p. length p) is.stand ∙ length_starts 0 is.runs)
 
 -- a group's runs stand at its places, a slice of all places
-pub stored_group : (file places : List ℕ) (whole : List TermPosting) (w at end : ℕ) (is : AreStored file places whole) → end ≡ min (at + w) (length places) → at < length places → AreRunsAt file (take (end - at) (drop at places)) (take w (drop at is.runs))
+pub stored_group : (file places : List ℕ) (whole : List TermPosting) (w at end : ℕ) (is : AreStored file places whole) →
+    end ≡ min (at + w) (length places) → at < length places → AreRunsAt file (take (end - at) (drop at places)) (take w (drop at is.runs))
 stored_group file places whole w at end is e less =
     subst (λ p. AreRunsAt file p (take w (drop at is.runs))) (sym (group_slice w at end places e less)) (runs_at_slice file places is.runs w at (stored_at file places whole is))
 
 -- a round leaves the same postings, in fewer runs
-pub stored_next : (file places next nexts : List ℕ) (whole : List TermPosting) (w : ℕ) (is : AreStored file places whole) → 1 ≤ w → w < length places → bits_of next ≡ runs_bits (joined_runs w is.runs) → nexts ≡ starts 0 (joined_runs w is.runs) → AreStored next nexts whole
+pub stored_next : (file places next nexts : List ℕ) (whole : List TermPosting) (w : ℕ) (is : AreStored file places whole) → 1 ≤ w → w < length places →
+    bits_of next ≡ runs_bits (joined_runs w is.runs) → nexts ≡ starts 0 (joined_runs w is.runs) → AreStored next nexts whole
 stored_next file places next nexts whole w is some more bits at =
     let size = stored_count file places whole is in
     record {
@@ -143,7 +148,8 @@ stored_next file places next nexts whole w is some more bits at =
       same = merged_joined w is.runs some is.written.are ∙ is.same;
     }
 
-pub stored_fewer : (file places nexts : List ℕ) (whole : List TermPosting) (w : ℕ) (is : AreStored file places whole) → 2 ≤ w → w < length places → nexts ≡ starts 0 (joined_runs w is.runs) → length nexts < length places
+pub stored_fewer : (file places nexts : List ℕ) (whole : List TermPosting) (w : ℕ) (is : AreStored file places whole) → 2 ≤ w → w < length places →
+    nexts ≡ starts 0 (joined_runs w is.runs) → length nexts < length places
 stored_fewer file places nexts whole w is some more at =
     let size = stored_count file places whole is in
     let new : length nexts ≡ length (joined_runs w is.runs) = ap (λ p. length p) at ∙ length_starts 0 (joined_runs w is.runs) in
@@ -151,7 +157,8 @@ stored_fewer file places nexts whole w is some more at =
     omega arith
 
 -- the runs of occurrences
-pub stored_fed : (file places : List ℕ) (cap : ℕ) (fed : List (ℕ × ℕ)) → bits_of file ≡ run_part_bits cap fed → places ≡ starts 0 (runs_of cap fed) → 1 ≤ cap → cap < 2 ^ 31 → AreOccurrences fed → length fed < 2 ^ 32 → AreStored file places (term_postings fed)
+pub stored_fed : (file places : List ℕ) (cap : ℕ) (fed : List (ℕ × ℕ)) → bits_of file ≡ run_part_bits cap fed → places ≡ starts 0 (runs_of cap fed) →
+    1 ≤ cap → cap < 2 ^ 31 → AreOccurrences fed → length fed < 2 ^ 32 → AreStored file places (term_postings fed)
 stored_fed file places cap fed bits at some small all few = record {
   runs = runs_of cap fed;
   written = fed_written cap fed some small all few;
@@ -170,12 +177,14 @@ fed_count places cap fed some at = ap (λ p. length p) at ∙ length_starts 0 (r
 -- ---- the peak: 64 bytes a run in use
 
 -- within a round of more runs than the width: after the groups up to `at`
-pub peak_group : (w count n at end old now next : ℕ) → at ≡ min (count * w) n → at < n → end ≡ min (at + w) n → now ≡ max old (64 * min at w) → next ≡ max now (64 * (end - at)) → next ≡ max old (64 * min end w)
+pub peak_group : (w count n at end old now next : ℕ) → at ≡ min (count * w) n → at < n → end ≡ min (at + w) n → now ≡ max old (64 * min at w) →
+    next ≡ max now (64 * (end - at)) → next ≡ max old (64 * min end w)
 peak_group w zero n at end old now next here less e is more = let z : zero * w ≡ 0 = omega arith in omega arith
 peak_group w (suc count) n at end old now next here less e is more = let z : suc count * w ≡ w + count * w = omega arith in omega arith
 
 -- from round to round: `first` runs at first, `many` now, `few` after the round
-pub peak_round : (w first many few start now next : ℕ) → max now (64 * min many w) ≡ max start (64 * min first w) → w < many → next ≡ max now (64 * w) → max next (64 * min few w) ≡ max start (64 * min first w)
+pub peak_round : (w first many few start now next : ℕ) → max now (64 * min many w) ≡ max start (64 * min first w) → w < many → next ≡ max now (64 * w) →
+    max next (64 * min few w) ≡ max start (64 * min first w)
 peak_round w first many few start now next is more e = omega arith
 
 -- where the last runs are opened

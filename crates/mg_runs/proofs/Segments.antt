@@ -76,7 +76,9 @@ first_runs-more cap count s o h =
 pub first_runs-full : (cap count : ℕ) (s : List (ℕ × ℕ)) → length s ≡ suc count * cap → first_runs cap (suc count) s ≡ first_runs cap count s ++ term_postings (drop (count * cap) s) ∷ []
 first_runs-full cap count s h =
     let whole : take cap (drop (count * cap) s) ≡ drop (count * cap) s = all_of cap (drop (count * cap) s) (grind (arith, common_steps)) in
-    ap (λ t. map (λ x. term_postings x) t) (chunks-more cap count s) ∙ map_end (λ x. term_postings x) (first_chunks cap count s) (take cap (drop (count * cap) s)) ∙ ap (λ t. first_runs cap count s ++ term_postings t ∷ []) whole
+    ap (λ t. map (λ x. term_postings x) t) (chunks-more cap count s)
+    ∙ map_end (λ x. term_postings x) (first_chunks cap count s) (take cap (drop (count * cap) s))
+    ∙ ap (λ t. first_runs cap count s ++ term_postings t ∷ []) whole
   where
     all_of : (n : ℕ) (xs : List (ℕ × ℕ)) → length xs ≤ n → take n xs ≡ xs
     all_of n xs h = grind (arith, common_steps)

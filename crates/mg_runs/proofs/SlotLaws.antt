@@ -34,7 +34,9 @@ chunk_at n (suc count) (suc k) xs h =
     chunk_at n count k (drop n xs) (omega arith) ∙ ap (λ t. take n t) (drop-drop (k * n) n xs ∙ ap (λ m. drop m xs) e)
 
 -- lists of chunks that differ in one place
-chunks_put : (n count k : ℕ) (xs ys : List ℕ) → k < count → ((j : ℕ) → j < count → (j ≡ k → ⊥) → get_or (first_chunks n count ys) j [] ≡ get_or (first_chunks n count xs) j []) → first_chunks n count ys ≡ set (first_chunks n count xs) k (get_or (first_chunks n count ys) k [])
+chunks_put : (n count k : ℕ) (xs ys : List ℕ) → k < count →
+    ((j : ℕ) → j < count → (j ≡ k → ⊥) → get_or (first_chunks n count ys) j [] ≡ get_or (first_chunks n count xs) j []) →
+    first_chunks n count ys ≡ set (first_chunks n count xs) k (get_or (first_chunks n count ys) k [])
 chunks_put n count k xs ys h same = by_places (first_chunks n count xs) (first_chunks n count ys) k count (length-chunks n count xs) (length-chunks n count ys) same
   where
     all_same : (us vs : List (List ℕ)) (count : ℕ) → length us ≡ count → length vs ≡ count → ((j : ℕ) → j < count → get_or vs j [] ≡ get_or us j []) → vs ≡ us
@@ -83,10 +85,12 @@ chunk_other n a k j xs ys at room whole other = elim (cases_lt j k) [
     after : (j k : ℕ) → k ≤ j → (j ≡ k → ⊥) → suc k ≤ j
     after j k h e = omega arith
 
-pub slots_put : (n a size count k : ℕ) (xs ys : List ℕ) → a ≡ n * k → size ≡ n → a + n ≤ length xs → length ys ≡ n → k < count → first_chunks n count (put_mid a size xs ys) ≡ set (first_chunks n count xs) k (get_or (first_chunks n count (put_mid a size xs ys)) k [])
+pub slots_put : (n a size count k : ℕ) (xs ys : List ℕ) → a ≡ n * k → size ≡ n → a + n ≤ length xs → length ys ≡ n → k < count →
+    first_chunks n count (put_mid a size xs ys) ≡ set (first_chunks n count xs) k (get_or (first_chunks n count (put_mid a size xs ys)) k [])
 slots_put n a size count k xs ys at is room whole h =
     let swap : a ≡ k * n = omega arith in
-    chunks_put n count k xs (put_mid a size xs ys) h (λ j low other. chunk_at n count j (put_mid a size xs ys) low ∙ ap (λ z. take n (drop (j * n) (put_mid a z xs ys))) is ∙ chunk_other n a k j xs ys swap room whole other ∙ sym (chunk_at n count j xs low))
+    chunks_put n count k xs (put_mid a size xs ys) h
+    (λ j low other. chunk_at n count j (put_mid a size xs ys) low ∙ ap (λ z. take n (drop (j * n) (put_mid a z xs ys))) is ∙ chunk_other n a k j xs ys swap room whole other ∙ sym (chunk_at n count j xs low))
 
 pub slot_put : (n a size count k : ℕ) (xs ys : List ℕ) → a ≡ n * k → size ≡ n → a + n ≤ length xs → length ys ≡ n → k < count → get_or (first_chunks n count (put_mid a size xs ys)) k [] ≡ ys
 slot_put n a size count k xs ys at is room whole h =

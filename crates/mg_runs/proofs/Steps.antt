@@ -13,8 +13,8 @@ use Rattle.mg_runs.specs.Pooled.{Pooled, SamePool}
 use Rattle.mg_runs.specs.Cursors.{NoDamage, NoMemory}
 use Rattle.mg_runs.specs.Merging.{first}
 
-pub looked_more : (part : Part) (f g h : Option Files) (r s t : Reads) (l m n : ℕ) → Looked part f g r s l m → Looked part g h s t m n → Looked part f h r t l n
-looked_more part f g h r s t l m n one two = record {
+pub looked_more : {part : Part} {f g h : Option Files} {r s t : Reads} {l m n : ℕ} → Looked part f g r s l m → Looked part g h s t m n → Looked part f h r t l n
+looked_more one two = record {
   files = two.files ∙ one.files;
   faults = let a = one.faults in let b = two.faults in omega arith;
   later = λ p. let a = one.later p in let b = two.later p in omega arith;
@@ -24,8 +24,8 @@ looked_more part f g h r s t l m n one two = record {
 pub looked_none : (part : Part) (f : Option Files) (r : Reads) (m : ℕ) → Looked part f f r r m m
 looked_none part f r m = record { files = refl; faults = omega arith; later = λ p. omega arith; others = λ p apart. refl }
 
-pub pool_more : (a b c : Pooled) → SamePool a b → SamePool b c → SamePool a c
-pool_more a b c one two = record {
+pub pool_more : {a b c : Pooled} → SamePool a b → SamePool b c → SamePool a c
+pool_more one two = record {
   entries = λ e. two.entries (one.entries e);
   peak = two.peak ∙ one.peak;
   limit = two.limit ∙ one.limit;

@@ -32,7 +32,9 @@ drop-set (suc n) i (suc j) (x ∷ xs) v e = drop-set n i j xs v (omega arith)
 -- ---- nodes
 
 -- a node stays such where its own key and those below it stay
-kept : (ks ws ls xs : List ℕ) (i : ℕ) → IsNode ks ws i → get_or ls i 0 ≡ get_or ks i 0 → get_or ls (2 * i) 0 ≡ get_or ks (2 * i) 0 → get_or ls (2 * i + 1) 0 ≡ get_or ks (2 * i + 1) 0 → get_or xs i 0 ≡ get_or ws i 0 → get_or xs (2 * i) 0 ≡ get_or ws (2 * i) 0 → get_or xs (2 * i + 1) 0 ≡ get_or ws (2 * i + 1) 0 → IsNode ls xs i
+kept : (ks ws ls xs : List ℕ) (i : ℕ) → IsNode ks ws i → get_or ls i 0 ≡ get_or ks i 0 → get_or ls (2 * i) 0 ≡ get_or ks (2 * i) 0 →
+    get_or ls (2 * i + 1) 0 ≡ get_or ks (2 * i + 1) 0 → get_or xs i 0 ≡ get_or ws i 0 → get_or xs (2 * i) 0 ≡ get_or ws (2 * i) 0 →
+    get_or xs (2 * i + 1) 0 ≡ get_or ws (2 * i + 1) 0 → IsNode ls xs i
 kept ks ws ls xs i node a b c d e f = record {
   left = let h = node.left in omega arith;
   right = let h = node.right in omega arith;
@@ -43,7 +45,9 @@ kept ks ws ls xs i node a b c d e f = record {
 }
 
 -- a node was played: its parent may be off now
-pub played : (i count : ℕ) (ks ws ls xs : List ℕ) → IsPlayedBut i count ks ws → 1 ≤ i → i < count → IsNode ls xs i → ((k : ℕ) → (k ≡ i → ⊥) → get_or ls k 0 ≡ get_or ks k 0) → ((k : ℕ) → (k ≡ i → ⊥) → get_or xs k 0 ≡ get_or ws k 0) → length ls ≡ length ks → length xs ≡ length ws → IsPlayedBut (i / 2) count ls xs
+pub played : (i count : ℕ) (ks ws ls xs : List ℕ) → IsPlayedBut i count ks ws → 1 ≤ i → i < count → IsNode ls xs i →
+    ((k : ℕ) → (k ≡ i → ⊥) → get_or ls k 0 ≡ get_or ks k 0) → ((k : ℕ) → (k ≡ i → ⊥) → get_or xs k 0 ≡ get_or ws k 0) → length ls ≡ length ks →
+    length xs ≡ length ws → IsPlayedBut (i / 2) count ls xs
 played i count ks ws ls xs t low high node keys winners a b = record {
   keys_length = a ∙ t.keys_length;
   winners_length = b ∙ t.winners_length;
@@ -67,16 +71,20 @@ changed count leaf key ks ws t high = record {
       let own : j ≢ leaf = λ e. omega arith in
       let left : 2 * j ≢ leaf = λ e. other (omega arith) in
       let right : 2 * j + 1 ≢ leaf = λ e. other (omega arith) in
-      kept ks ws (set ks leaf key) ws j (t.nodes j l h (λ e. omega arith)) (get_or-set_other ks leaf j key 0 own) (get_or-set_other ks leaf (2 * j) key 0 left) (get_or-set_other ks leaf (2 * j + 1) key 0 right) refl refl refl;
+      kept ks ws (set ks leaf key) ws j (t.nodes j l h (λ e. omega arith)) (get_or-set_other ks leaf j key 0 own) (get_or-set_other ks leaf (2 * j) key 0 left)
+      (get_or-set_other ks leaf (2 * j + 1) key 0 right) refl refl refl;
 }
 
 -- the keys of the contestants, once one has changed
-pub key_set : (count contestant key : ℕ) (ks ls : List ℕ) → length ls ≡ length ks → ((k : ℕ) → count ≤ k → get_or ls k 0 ≡ get_or (set ks (count + contestant) key) k 0) → drop count ls ≡ set (drop count ks) contestant key
+pub key_set : (count contestant key : ℕ) (ks ls : List ℕ) → length ls ≡ length ks →
+    ((k : ℕ) → count ≤ k → get_or ls k 0 ≡ get_or (set ks (count + contestant) key) k 0) → drop count ls ≡ set (drop count ks) contestant key
 key_set count contestant key ks ls len same =
     drop_same count ls (set ks (count + contestant) key) (len ∙ sym (length-set ks (count + contestant) key)) same ∙ drop-set count contestant (count + contestant) ks key refl
 
 -- a node was played on the way down
-pub played_down : (i from count : ℕ) (ks ws ls xs : List ℕ) → IsPlayedFrom from count ks ws → from ≡ i + 1 → 1 ≤ i → i < count → IsNode ls xs i → ((k : ℕ) → (k ≡ i → ⊥) → get_or ls k 0 ≡ get_or ks k 0) → ((k : ℕ) → (k ≡ i → ⊥) → get_or xs k 0 ≡ get_or ws k 0) → length ls ≡ length ks → length xs ≡ length ws → IsPlayedFrom i count ls xs
+pub played_down : (i from count : ℕ) (ks ws ls xs : List ℕ) → IsPlayedFrom from count ks ws → from ≡ i + 1 → 1 ≤ i → i < count → IsNode ls xs i →
+    ((k : ℕ) → (k ≡ i → ⊥) → get_or ls k 0 ≡ get_or ks k 0) → ((k : ℕ) → (k ≡ i → ⊥) → get_or xs k 0 ≡ get_or ws k 0) → length ls ≡ length ks →
+    length xs ≡ length ws → IsPlayedFrom i count ls xs
 played_down i from count ks ws ls xs t next low high node keys winners a b = record {
   keys_length = a ∙ t.keys_length;
   winners_length = b ∙ t.winners_length;

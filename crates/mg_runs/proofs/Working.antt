@@ -30,11 +30,12 @@ same_of p MergeB is r a b = b
 same_of p part is r a b = absurd (omega (arith, is.low, is.high))
 
 -- a round leaves Run as it was
-pub passed_run : (base : List ℕ) (part : Part) (f g : Option Files) (r s : Reads) (m n : ℕ) → Passed part (full_name base (other part)) f g r s m n → file_at g (full_name base Run) ≡ file_at f (full_name base Run)
-passed_run base part f g r s m n passed = passed.others (full_name base Run) (run_other base part)
+pub passed_run : (base : List ℕ) (part : Part) {f g : Option Files} {r s : Reads} {m n : ℕ} → Passed part (full_name base (other part)) f g r s m n →
+    file_at g (full_name base Run) ≡ file_at f (full_name base Run)
+passed_run base part passed = passed.others (full_name base Run) (run_other base part)
 
-pub worked_passed : (base : List ℕ) (part : Part) (f g : Option Files) (r s : Reads) (m n : ℕ) → IsRunPart part → Passed part (full_name base (other part)) f g r s m n → Worked base f g r s m n
-worked_passed base part f g r s m n is passed = record {
+pub worked_passed : {base : List ℕ} (part : Part) {f g : Option Files} {r s : Reads} {m n : ℕ} → IsRunPart part → Passed part (full_name base (other part)) f g r s m n → Worked base f g r s m n
+worked_passed {base = base} part is passed = record {
   told = passed.told;
   others = λ k not_run not_a not_b. passed.others k (away_other base k part not_a not_b);
   later = passed.later;
@@ -42,8 +43,8 @@ worked_passed base part f g r s m n is passed = record {
   faults = passed.faults;
 }
 
-pub worked_looked : (base : List ℕ) (part : Part) (f g : Option Files) (r s : Reads) (m n : ℕ) → IsRunPart part → Looked part f g r s m n → Worked base f g r s m n
-worked_looked base part f g r s m n is looked = record {
+pub worked_looked : {base : List ℕ} {part : Part} {f g : Option Files} {r s : Reads} {m n : ℕ} → IsRunPart part → Looked part f g r s m n → Worked base f g r s m n
+worked_looked {part = part} is looked = record {
   told = ap (λ x. is_some x) looked.files;
   others = λ k not_run not_a not_b. ap (λ x. file_at x k) looked.files;
   later = looked.later;
@@ -51,8 +52,8 @@ worked_looked base part f g r s m n is looked = record {
   faults = looked.faults;
 }
 
-pub worked_wrote : (base : List ℕ) (f g : Option Files) (r s : Reads) (m n : ℕ) → WroteTo (full_name base Run) f g r s → m ≤ n → Worked base f g r s m n
-worked_wrote base f g r s m n wrote le = record {
+pub worked_wrote : {base : List ℕ} {f g : Option Files} {r s : Reads} {m n : ℕ} → WroteTo (full_name base Run) f g r s → m ≤ n → Worked base f g r s m n
+worked_wrote wrote le = record {
   told = wrote.told;
   others = λ k not_run not_a not_b. wrote.others k not_run;
   later = λ p. let e = wrote.reads p in omega arith;
@@ -63,8 +64,8 @@ worked_wrote base f g r s m n wrote le = record {
 pub worked_none : (base : List ℕ) (f : Option Files) (r : Reads) (n : ℕ) → Worked base f f r r n n
 worked_none base f r n = record { told = refl; others = λ k not_run not_a not_b. refl; later = λ p. omega arith; reads = λ p not_run not_a not_b. refl; faults = omega arith }
 
-pub worked_more : (base : List ℕ) (f g h : Option Files) (r s t : Reads) (l m n : ℕ) → Worked base f g r s l m → Worked base g h s t m n → Worked base f h r t l n
-worked_more base f g h r s t l m n one two = record {
+pub worked_more : {base : List ℕ} {f g h : Option Files} {r s t : Reads} {l m n : ℕ} → Worked base f g r s l m → Worked base g h s t m n → Worked base f h r t l n
+worked_more one two = record {
   told = two.told ∙ one.told;
   others = λ k not_run not_a not_b. two.others k not_run not_a not_b ∙ one.others k not_run not_a not_b;
   later = λ p. let a = one.later p in let b = two.later p in omega arith;

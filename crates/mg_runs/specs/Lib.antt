@@ -16,3 +16,4 @@ pub mod Damages
 pub mod Stays
 pub mod PostingOrder
 pub mod FinishedRuns
+pub mod Steps

@@ -9,8 +9,8 @@ use Rattle.mg_defs.specs.declared.TermPosting.{TermPosting}
 use Rattle.mg_defs.specs.Bits.{Bits}
 use Rattle.mg_bits.specs.BitWriting.{BitWriting}
 use Rattle.mg_runs.specs.Cursors.{IsAtPostingBy, IsRun, IsRunAt}
-use Rattle.mg_runs.specs.Joins.{Counts, IsPut, IsPutting, other}
-use Rattle.mg_runs.specs.Merging.{AreLeft, AreRuns, AreRunsAt, IsMerged, IsTaking, StandFor}
+use Rattle.mg_runs.specs.Joins.{Counts, IsCounting, IsPut, IsPutting, other}
+use Rattle.mg_runs.specs.Merging.{AreLeft, AreRuns, AreRunsAt, IsGathering, IsMerged, IsShaped, IsTaking, StandFor}
 use Rattle.mg_runs.specs.Pooled.{Pooled}
 use Rattle.mg_runs.specs.Rounds.{AreStored, IsGroupAt}
 use Rattle.mg_runs.specs.declared.cursor.Cursor.{Cursor}
@@ -22,6 +22,10 @@ use Rattle.mg_runs.specs.declared.round.Round.{Round}
 abbrev pub GroupStands : Group → List ℕ → List (List TermPosting) → Type 0
 GroupStands group bytes lefts = StandFor group.pool.slots group.cursors.items bytes lefts
 
+-- each cursor of a group has its slot and its key
+abbrev pub GroupShaped : Group → Type 0
+GroupShaped group = IsShaped group.pool.slots group.cursors.items group.tournament
+
 -- for what may be left of each of a group's runs, by the bytes of any file
 abbrev pub ForLefts : Group → (List (List TermPosting) → Type 0) → Type 0
 ForLefts group claim = (file : List ℕ) (lefts : List (List TermPosting)) → GroupStands group file lefts → claim lefts
@@ -30,9 +34,17 @@ ForLefts group claim = (file : List ℕ) (lefts : List (List TermPosting)) → G
 abbrev pub GroupHas : Group → List ℕ → List TermPosting → Type 0
 GroupHas group bytes left = AreLeft group.pool.slots group.cursors.items bytes left
 
+-- by these bytes, so many of the postings that were left are counted, and the group has the others
+abbrev pub GroupCounting : Group → List ℕ → List TermPosting → ℕ → Type 0
+GroupCounting group bytes left count = IsCounting group.pool.slots group.cursors.items bytes left count
+
 -- by these bytes, this posting comes first of all that was left, and the group has what follows it
 abbrev pub GroupMerged : Group → List ℕ → List (List TermPosting) → TermPosting → Type 0
 GroupMerged group bytes base p = IsMerged group.pool.slots group.cursors.items bytes base p
+
+-- by these bytes, the posting has this count so far, and the group has what is left
+abbrev pub GroupGathering : Group → List ℕ → TermPosting → List (List TermPosting) → ℕ → Type 0
+GroupGathering group bytes p base count = IsGathering group.pool.slots group.cursors.items bytes p base count
 
 -- by these bytes, the postings that are left of a group are still to be written behind this one
 abbrev pub GroupPutting : Group → List ℕ → Option Files → Option Files → BitWriting → BitWriting → TermPosting → Bits → Type 0
@@ -81,8 +93,12 @@ abbrev pub ForLeft : Group → Option Files → (List ℕ → List TermPosting �
 ForLeft group files claim = IsSome files → (left : List TermPosting) → GroupHas group (file_bytes group.file files) left → claim (file_bytes group.file files) left
 
 -- for all of them that are a run which has room behind so many bits
+abbrev pub ForLeftRunAt : Group → Option Files → ℕ → (List ℕ → List TermPosting → Type 0) → Type 0
+ForLeftRunAt group files behind claim = ForLeft group files (λ bytes left. IsRun left → behind + 256 * length left ≤ 2 ^ 61 → claim bytes left)
+
+-- whatever the bytes
 abbrev pub ForLeftRun : Group → Option Files → ℕ → (List TermPosting → Type 0) → Type 0
-ForLeftRun group files behind claim = ForLeft group files (λ _ left. IsRun left → behind + 256 * length left ≤ 2 ^ 61 → claim left)
+ForLeftRun group files behind claim = ForLeftRunAt group files behind (λ _ left. claim left)
 
 -- what stood before a group's postings were put: the bytes of its file, the files, and the writer; and the bits that are to be put
 pub record PutStart : Type 0 where

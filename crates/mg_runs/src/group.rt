@@ -1,16 +1,14 @@
 //! Runs that are merged.
-ghost use Rattle.std.specs.Prelude.{◌≡◌, ◌≤◌, ◌<◌, ◌+◌, ◌-◌, ◌*◌, ◌/◌, ◌^◌, ℕ, [], Some, IfErr, IfOk, IfSome, OnOk, OnSome, length, max, slice_index, slice_index_or, drop};
+ghost use Rattle.std.specs.Prelude.{◌≡◌, ◌≤◌, ◌<◌, ◌+◌, ◌-◌, ◌*◌, ◌^◌, ℕ, Some, IfOk, IfSome, OnOk, OnSome, length, slice_index, slice_index_or, drop};
 ghost use Rattle.std.specs.List.{All};
-ghost use Rattle.mg_dev.specs.PartCauses.{HasPartCause};
-ghost use Rattle.mg_bits.specs.Pages.{Looked};
 ghost use Rattle.mg_defs.specs.declared.TermPosting.{TermPosting};
-ghost use Rattle.mg_runs.specs.Pooled.{SamePool};
-ghost use Rattle.mg_runs.specs.Cursors.{HasPosting, NoDamage, NoMemory};
-ghost use Rattle.mg_runs.specs.Damages.{NamesPart, TellsBitOf};
-ghost use Rattle.mg_runs.specs.Decoding.{IsInDocument};
-ghost use Rattle.mg_runs.specs.Merging.{IsAlike, IsHead, IsShaped, key_of as key, left_together, no_cursor, first as first_of, NoneBefore, AllOpen};
-ghost use Rattle.mg_runs.specs.Reading.{GroupHas, GroupMerged, GroupStands, ForLefts, ForRuns, ForStep, ForTaken, ForLeft};
 ghost use Rattle.mg_dev.specs.Moments.{Between};
+ghost use Rattle.mg_runs.specs.Pooled.{SamePool};
+ghost use Rattle.mg_runs.specs.Cursors.{HasPosting, NoDamage};
+ghost use Rattle.mg_runs.specs.Decoding.{IsInDocument};
+ghost use Rattle.mg_runs.specs.Merging.{IsAlike, IsHead, key_of as key, left_together, no_cursor, first as first_of, NoneBefore, AllOpen};
+ghost use Rattle.mg_runs.specs.Reading.{GroupHas, GroupMerged, GroupShaped, GroupStands, ForLefts, ForRuns, ForStep, ForTaken, ForLeft};
+ghost use Rattle.mg_runs.specs.Steps.{GroupStep, HasSlots, LookStep, PoolBack};
 
 use crate::Pool;
 use crate::cursor::Cursor;
@@ -57,9 +55,7 @@ fn open_all<S: Store>(
         (λ bytes runs. IfOk result (λ made. AllOpen pool.new.slots made.items bytes runs places.now)) }
     ensures undamaged { ForRuns file.now (S.files store.old) places.now (λ _ _. NoDamage result) }
     ensures pool { SamePool pool.old pool.new }
-    ensures looked { Between S.files S.reads S.faults store.old store.new (Looked file.now.part) }
-    ensures cause { HasPartCause (S.faults store.old) (S.faults store.new) result }
-    ensures names { IfErr result (NamesPart file.now.part) }
+    ensures read { Between S.files S.reads S.faults store.old store.new (LookStep file.now.part result) }
 {
     let mut cursors = match Vec::with_capacity(alloc, places.len()) {
         Ok(made) => made,
@@ -82,7 +78,8 @@ fn ranked(alloc: Global, cursors: &Vec<Cursor>) -> Result<Tournament, AllocError
     requires some { 1 ≤ length cursors.now.items }
     requires few { length cursors.now.items < 2 ^ 31 }
     ensures len { IfOk result (λ t. length t ≡ length cursors.now.items) }
-    ensures keys { IfOk result (λ t. (k : ℕ) → k < length cursors.now.items → slice_index t k ≡ key (slice_index_or cursors.now.items k no_cursor)) }
+    ensures keys { IfOk result (λ t. (k : ℕ) → k < length cursors.now.items →
+        slice_index t k ≡ key (slice_index_or cursors.now.items k no_cursor)) }
 {
     let mut tournament = Tournament::new(alloc, cursors.len() as u32)?;
     for k in 0..cursors.len() {
@@ -102,21 +99,15 @@ impl<'a> Group<'a> {
         file: FileRef<'a>,
         places: &[u64],
     ) -> Result<Self, PartErr>
-        requires some { 1 ≤ length places.now }
-        requires room { length places.now ≤ pool.limit / 64 }
-        requires limit { pool.limit ≤ 2 ^ 30 }
-        requires entries { pool.entries ≡ [] }
-        ensures shape { IfOk result (λ g. IsShaped g.pool.slots g.cursors.items g.tournament) }
+        requires slots { HasSlots pool (length places.now) }
+        ensures shape { IfOk result (λ g. GroupShaped g) }
         ensures total { IfOk result (λ g. left_together g.cursors.items ≤ 2 ^ 32 * length places.now) }
-        ensures told { ForRuns file.entry (S.files store.old) places.now (λ bytes runs. IfOk result (λ g. GroupStands g bytes runs)) }
+        ensures told { ForRuns file.entry (S.files store.old) places.now
+            (λ bytes runs. IfOk result (λ g. GroupStands g bytes runs)) }
         ensures undamaged { ForRuns file.entry (S.files store.old) places.now (λ _ _. NoDamage result) }
-        ensures entries { IfOk result (λ g. g.pool.entries ≡ []) }
-        ensures limit { IfOk result (λ g. g.pool.limit ≡ pool.limit) }
-        ensures peak { IfOk result (λ g. g.pool.peak ≡ max pool.peak (64 * length places.now)) }
+        ensures pool { IfOk result (λ g. PoolBack (length places.now) pool g.pool) }
         ensures file { IfOk result (λ g. g.file ≡ file.entry) }
-        ensures looked { Between S.files S.reads S.faults store.old store.new (Looked file.entry.part) }
-        ensures cause { HasPartCause (S.faults store.old) (S.faults store.new) result }
-        ensures names { IfErr result (NamesPart file.entry.part) }
+        ensures read { Between S.files S.reads S.faults store.old store.new (LookStep file.entry.part result) }
     {
         pool.use_slots(places.len());
         match open_all(alloc, store, &mut pool, &file, places) {
@@ -142,10 +133,11 @@ impl<'a> Group<'a> {
 
     /// The least of the postings at which cursors are, and whose it is.
     fn head(&self) -> Option<(u32, TermPosting)>
-        requires shape { IsShaped self.now.pool.slots self.now.cursors.items self.now.tournament }
+        requires shape { GroupShaped self.now }
         ensures told { ForLefts self.now (λ lefts. IsHead result lefts) }
         ensures within { IfSome result (λ head. head.0 < length self.now.cursors.items) }
-        ensures left { IfSome result (λ head. 1 ≤ (slice_index_or self.now.cursors.items head.0 no_cursor).left) }
+        ensures left { IfSome result
+            (λ head. 1 ≤ (slice_index_or self.now.cursors.items head.0 no_cursor).left) }
         ensures in_document { IfSome result (λ head. IsInDocument head.1) }
     {
         let run = self.tournament.least();
@@ -158,21 +150,16 @@ impl<'a> Group<'a> {
 
     /// Moves a cursor to the next posting of its run.
     fn step<S: Store>(&mut self, store: &mut S, run: u32) -> Result<(), PartErr>
-        requires shape { IsShaped self.old.pool.slots self.old.cursors.items self.old.tournament }
+        requires shape { GroupShaped self.old }
         requires within { run < length self.old.cursors.items }
         requires left { 1 ≤ (slice_index_or self.old.cursors.items run no_cursor).left }
-        ensures shape { OnOk result (IsShaped self.new.pool.slots self.new.cursors.items self.new.tournament) }
-        ensures told { ForStep run self.old (S.files store.old) (λ bytes lefts. OnOk result (GroupStands self.new bytes lefts)) }
+        ensures told { ForStep run self.old (S.files store.old)
+            (λ bytes lefts. OnOk result (GroupStands self.new bytes lefts)) }
         ensures undamaged { ForStep run self.old (S.files store.old) (λ _ _. NoDamage result) }
-        ensures total { OnOk result (left_together self.new.cursors.items + 1 ≡ left_together self.old.cursors.items) }
-        ensures rest { left_together self.new.cursors.items ≤ left_together self.old.cursors.items }
-        ensures pool { SamePool self.old.pool self.new.pool }
-        ensures file { self.new.file ≡ self.old.file }
-        ensures looked { Between S.files S.reads S.faults store.old store.new (Looked self.old.file.part) }
-        ensures cause { HasPartCause (S.faults store.old) (S.faults store.new) result }
-        ensures memory { NoMemory result }
-        ensures names { IfErr result (NamesPart self.old.file.part) }
-        ensures bit { IfErr result (TellsBitOf self.new.cursors.items) }
+        ensures total { OnOk result
+            (left_together self.new.cursors.items + 1 ≡ left_together self.old.cursors.items) }
+        ensures step { Between S.files S.reads S.faults store.old store.new
+            (GroupStep self.old self.new result) }
     {
         let k = run as usize;
         let cursor = self.cursors[k];
@@ -188,10 +175,11 @@ impl<'a> Group<'a> {
 
     /// The run whose posting has this term and document, and how much it counts there.
     fn alike(&self, posting: &TermPosting) -> Option<(u32, u32)>
-        requires shape { IsShaped self.now.pool.slots self.now.cursors.items self.now.tournament }
+        requires shape { GroupShaped self.now }
         ensures some { ForLefts self.now (λ lefts. NoneBefore posting.now lefts → IsAlike posting.now lefts result) }
         ensures within { IfSome result (λ found. found.0 < length self.now.cursors.items) }
-        ensures left { IfSome result (λ found. 1 ≤ (slice_index_or self.now.cursors.items found.0 no_cursor).left) }
+        ensures left { IfSome result
+            (λ found. 1 ≤ (slice_index_or self.now.cursors.items found.0 no_cursor).left) }
     {
         match self.head() {
             Some((run, head)) if head.term == posting.term && head.doc == posting.doc => {
@@ -207,21 +195,14 @@ impl<'a> Group<'a> {
         store: &mut S,
         first: &TermPosting,
     ) -> Result<TermPosting, PartErr>
-        requires shape { IsShaped self.old.pool.slots self.old.cursors.items self.old.tournament }
-        ensures shape { OnOk result (IsShaped self.new.pool.slots self.new.cursors.items self.new.tournament) }
+        requires shape { GroupShaped self.old }
         ensures told { ForTaken first.now self.old (S.files store.old)
             (λ bytes base. 1 ≤ first.now.count → IfOk result (λ p. GroupMerged self.new bytes base p)) }
         ensures undamaged { ForTaken first.now self.old (S.files store.old) (λ _ _. NoDamage result) }
-        ensures rest { left_together self.new.cursors.items ≤ left_together self.old.cursors.items }
         ensures doc { IfOk result (λ p. p.doc ≡ first.now.doc) }
         ensures count { IfOk result (λ p. first.now.count ≤ p.count) }
-        ensures pool { SamePool self.old.pool self.new.pool }
-        ensures file { self.new.file ≡ self.old.file }
-        ensures looked { Between S.files S.reads S.faults store.old store.new (Looked self.old.file.part) }
-        ensures cause { HasPartCause (S.faults store.old) (S.faults store.new) result }
-        ensures memory { NoMemory result }
-        ensures names { IfErr result (NamesPart self.old.file.part) }
-        ensures bit { IfErr result (TellsBitOf self.new.cursors.items) }
+        ensures step { Between S.files S.reads S.faults store.old store.new
+            (GroupStep self.old self.new result) }
     {
         let mut count = first.count;
         while let Some((run, more)) = self.alike(first) {
@@ -243,21 +224,16 @@ impl<'a> Group<'a> {
 
     /// The next posting of all runs, with the counts of those that have its term and document.
     pub fn next<S: Store>(&mut self, store: &mut S) -> Result<Option<TermPosting>, PartErr>
-        requires shape { IsShaped self.old.pool.slots self.old.cursors.items self.old.tournament }
-        ensures shape { OnOk result (IsShaped self.new.pool.slots self.new.cursors.items self.new.tournament) }
-        ensures told { ForLeft self.old (S.files store.old) (λ bytes left. IfOk result (λ p. (p ≡ first_of left) × GroupHas self.new bytes (drop 1 left))) }
+        requires shape { GroupShaped self.old }
+        ensures told { ForLeft self.old (S.files store.old)
+            (λ bytes left. IfOk result (λ p. (p ≡ first_of left) × GroupHas self.new bytes (drop 1 left))) }
         ensures undamaged { ForLeft self.old (S.files store.old) (λ _ _. NoDamage result) }
         ensures doc { IfOk result (λ p. IfSome p (λ x. 1 ≤ x.doc)) }
         ensures count { IfOk result (λ p. IfSome p (λ x. 1 ≤ x.count)) }
-        ensures fall { IfOk result (λ p. OnSome p (left_together self.new.cursors.items < left_together self.old.cursors.items)) }
-        ensures rest { left_together self.new.cursors.items ≤ left_together self.old.cursors.items }
-        ensures pool { SamePool self.old.pool self.new.pool }
-        ensures file { self.new.file ≡ self.old.file }
-        ensures looked { Between S.files S.reads S.faults store.old store.new (Looked self.old.file.part) }
-        ensures cause { HasPartCause (S.faults store.old) (S.faults store.new) result }
-        ensures memory { NoMemory result }
-        ensures names { IfErr result (NamesPart self.old.file.part) }
-        ensures bit { IfErr result (TellsBitOf self.new.cursors.items) }
+        ensures fall { IfOk result (λ p. OnSome p
+            (left_together self.new.cursors.items < left_together self.old.cursors.items)) }
+        ensures step { Between S.files S.reads S.faults store.old store.new
+            (GroupStep self.old self.new result) }
     {
         let (run, first) = match self.head() {
             Some(head) => head,

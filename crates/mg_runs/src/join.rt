@@ -1,20 +1,17 @@
 //! Runs of one file that are joined into runs of another.
-ghost use Rattle.std.specs.Prelude.{◌≡◌, ◌≢◌, ◌≤◌, ◌<◌, ◌+◌, ◌*◌, ◌↔◌, ◌^◌, ℕ, Err, IfErr, IfOk, OnOk, OnSome, IsTrue, [], length, max, ◌%◌, ◌/◌};
-ghost use Rattle.mg_dev.specs.Names.{full_name};
+ghost use Rattle.std.specs.Prelude.{◌≡◌, ◌≤◌, ◌<◌, ◌+◌, ◌*◌, ◌↔◌, ◌^◌, ℕ, Err, IfOk, OnOk, OnSome, IsTrue, length, ◌%◌};
 ghost use Rattle.mg_dev.specs.declared.part.Part.{Part as AnyPart};
 ghost use Rattle.mg_dev.specs.Causes.{HasPutCause};
+ghost use Rattle.mg_dev.specs.Moments.{Between};
 ghost use Rattle.mg_dev.specs.PartCauses.{HasPartCause};
-ghost use Rattle.mg_bits.specs.Pages.{Looked};
-ghost use Rattle.mg_bits.specs.BitWriting.{Holds};
 ghost use Rattle.mg_defs.specs.Postings.{IsBefore, merged};
 ghost use Rattle.mg_defs.specs.declared.TermPosting.{TermPosting};
-ghost use Rattle.mg_runs.specs.Pooled.{SamePool};
 ghost use Rattle.mg_runs.specs.Cursors.{NoDamage};
 ghost use Rattle.mg_runs.specs.Damages.{NamesItsPart, NamesPart};
-ghost use Rattle.mg_runs.specs.Merging.{AreRuns, IsShaped, left_together};
-ghost use Rattle.mg_runs.specs.Joins.{Passed, WrotePostings, WritesRun, Counts};
-ghost use Rattle.mg_runs.specs.Reading.{ForCounted, ForRuns, ForGroup, ForLeft, ForLeftRun, ForPutting, PutSince};
-ghost use Rattle.mg_dev.specs.Moments.{Between};
+ghost use Rattle.mg_runs.specs.Merging.{AreRuns, left_together};
+ghost use Rattle.mg_runs.specs.Joins.{WrotePostings, WritesRun, Counts};
+ghost use Rattle.mg_runs.specs.Reading.{ForCounted, ForRuns, ForGroup, ForLeft, ForLeftRun, ForPutting, GroupShaped, PutSince};
+ghost use Rattle.mg_runs.specs.Steps.{GroupLook, GroupWrite, HasSlots, LookStep, MayWrite, PoolBack, RunStep};
 
 use crate::Pool;
 use crate::decode::MOST_LEFT;
@@ -44,15 +41,14 @@ pub fn refused(refusal: PutErr) -> PartErr
 
 /// How many postings the runs have.
 fn count_postings<S: Store>(group: &mut Group<'_>, store: &mut S) -> Result<u64, PartErr>
-    requires shape { IsShaped group.old.pool.slots group.old.cursors.items group.old.tournament }
-    ensures told { ForLeft group.old (S.files store.old) (λ _ left. IfOk result (λ count. count ≡ length left)) }
-    ensures undamaged { ForLeft group.old (S.files store.old) (λ _ left. length left < 2 ^ 32 → NoDamage result) }
+    requires shape { GroupShaped group.old }
+    ensures told { ForLeft group.old (S.files store.old)
+        (λ _ left. IfOk result (λ count. count ≡ length left)) }
+    ensures undamaged { ForLeft group.old (S.files store.old)
+        (λ _ left. length left < 2 ^ 32 → NoDamage result) }
     ensures few { IfOk result (λ count. count < 2 ^ 32) }
-    ensures pool { SamePool group.old.pool group.new.pool }
-    ensures file { group.new.file ≡ group.old.file }
-    ensures looked { Between S.files S.reads S.faults store.old store.new (Looked group.old.file.part) }
-    ensures cause { HasPartCause (S.faults store.old) (S.faults store.new) result }
-    ensures names { IfErr result (NamesPart group.old.file.part) }
+    ensures read { Between S.files S.reads S.faults store.old store.new
+        (GroupLook group.old group.new result) }
 {
     let mut count = 0u64;
     loop {
@@ -85,21 +81,17 @@ fn put_next<S: Store>(
     w: &mut BitWriter<'_>,
     last: &TermPosting,
 ) -> Result<Option<TermPosting>, PartErr>
-    requires shape { IsShaped group.old.pool.slots group.old.cursors.items group.old.tournament }
-    requires holds { Holds w.old (S.files store.old) }
-    requires apart { full_name group.old.file.base.now group.old.file.part ≢ w.old.name }
-    ensures shape { OnOk result (IsShaped group.new.pool.slots group.new.cursors.items group.new.tournament) }
-    ensures told { ForPutting last.now group.old (S.files store.old) w.old (λ from. IfOk result (PutSince from group.new (S.files store.new) w.new)) }
+    requires shape { GroupShaped group.old }
+    requires writer { MayWrite group.old.file w.old (S.files store.old) }
+    ensures shape { OnOk result (GroupShaped group.new) }
+    ensures told { ForPutting last.now group.old (S.files store.old) w.old
+        (λ from. IfOk result (PutSince from group.new (S.files store.new) w.new)) }
     ensures undamaged { ForPutting last.now group.old (S.files store.old) w.old (λ _. NoDamage result) }
-    ensures total { IfOk result (λ put. OnSome put (left_together group.new.cursors.items < left_together group.old.cursors.items)) }
-    ensures holds { OnOk result (Holds w.new (S.files store.new)) }
+    ensures total { IfOk result (λ put. OnSome put
+        (left_together group.new.cursors.items < left_together group.old.cursors.items)) }
     ensures place { OnOk result (w.old.place ≤ 2 ^ 61 + 256 → w.new.place ≤ 2 ^ 61 + 256) }
-    ensures pool { SamePool group.old.pool group.new.pool }
-    ensures file { group.new.file ≡ group.old.file }
-    ensures name { w.new.name ≡ w.old.name }
-    ensures passed { Between S.files S.reads S.faults store.old store.new (Passed group.old.file.part w.old.name) }
-    ensures cause { HasPartCause (S.faults store.old) (S.faults store.new) result }
-    ensures names { IfErr result (NamesPart group.old.file.part) }
+    ensures step { Between S.files S.reads S.faults store.old store.new
+        (GroupWrite group.old group.new w.old w.new result) }
 {
     match group.next(store) {
         Ok(Some(posting)) => {
@@ -122,20 +114,15 @@ fn put_postings<S: Store>(
     store: &mut S,
     w: &mut BitWriter<'_>,
 ) -> Result<(), PartErr>
-    requires shape { IsShaped group.old.pool.slots group.old.cursors.items group.old.tournament }
-    requires holds { Holds w.old (S.files store.old) }
-    requires apart { full_name group.old.file.base.now group.old.file.part ≢ w.old.name }
+    requires shape { GroupShaped group.old }
+    requires writer { MayWrite group.old.file w.old (S.files store.old) }
     requires place { w.old.place ≤ 2 ^ 61 + 256 }
-    ensures told { ForLeftRun group.old (S.files store.old) w.old.place (λ left. OnOk result (WrotePostings S.files store.old store.new w.old w.new left)) }
+    ensures told { ForLeftRun group.old (S.files store.old) w.old.place
+        (λ left. OnOk result (WrotePostings S.files store.old store.new w.old w.new left)) }
     ensures undamaged { ForLeftRun group.old (S.files store.old) w.old.place (λ _. NoDamage result) }
-    ensures holds { OnOk result (Holds w.new (S.files store.new)) }
     ensures place { OnOk result (w.new.place ≤ 2 ^ 61 + 256) }
-    ensures pool { SamePool group.old.pool group.new.pool }
-    ensures file { group.new.file ≡ group.old.file }
-    ensures name { w.new.name ≡ w.old.name }
-    ensures passed { Between S.files S.reads S.faults store.old store.new (Passed group.old.file.part w.old.name) }
-    ensures cause { HasPartCause (S.faults store.old) (S.faults store.new) result }
-    ensures names { IfErr result (NamesPart group.old.file.part) }
+    ensures step { Between S.files S.reads S.faults store.old store.new
+        (GroupWrite group.old group.new w.old w.new result) }
 {
     let mut last = TermPosting {
         term: 0,
@@ -166,19 +153,14 @@ fn count_runs<S: Store>(
     file: FileRef<'_>,
     places: &[u64],
 ) -> Result<Counted, PartErr>
-    requires some { 1 ≤ length places.now }
-    requires room { length places.now ≤ pool.limit / 64 }
-    requires limit { pool.limit ≤ 2 ^ 30 }
-    requires entries { pool.entries ≡ [] }
-    ensures told { ForRuns file.entry (S.files store.old) places.now (λ _ runs. AreRuns runs → IfOk result (λ made. Counts made runs)) }
-    ensures undamaged { ForRuns file.entry (S.files store.old) places.now (λ _ runs. AreRuns runs → length (merged runs) < 2 ^ 32 → NoDamage result) }
+    requires slots { HasSlots pool (length places.now) }
+    ensures told { ForRuns file.entry (S.files store.old) places.now
+        (λ _ runs. AreRuns runs → IfOk result (λ made. Counts made runs)) }
+    ensures undamaged { ForRuns file.entry (S.files store.old) places.now
+        (λ _ runs. AreRuns runs → length (merged runs) < 2 ^ 32 → NoDamage result) }
     ensures few { IfOk result (λ made. made.count < 2 ^ 32) }
-    ensures entries { IfOk result (λ made. made.pool.entries ≡ []) }
-    ensures limit { IfOk result (λ made. made.pool.limit ≡ pool.limit) }
-    ensures peak { IfOk result (λ made. made.pool.peak ≡ max pool.peak (64 * length places.now)) }
-    ensures looked { Between S.files S.reads S.faults store.old store.new (Looked file.entry.part) }
-    ensures cause { HasPartCause (S.faults store.old) (S.faults store.new) result }
-    ensures names { IfErr result (NamesPart file.entry.part) }
+    ensures pool { IfOk result (λ made. PoolBack (length places.now) pool made.pool) }
+    ensures read { Between S.files S.reads S.faults store.old store.new (LookStep file.entry.part result) }
 {
     let mut group = match Group::load(alloc, store, pool, file, places) {
         Ok(group) => group,
@@ -203,29 +185,18 @@ fn put_run<S: Store>(
     places: &[u64],
     w: &mut BitWriter<'_>,
 ) -> Result<Pool, PartErr>
-    requires some { 1 ≤ length places.now }
-    requires room { length places.now ≤ counted.pool.limit / 64 }
-    requires limit { counted.pool.limit ≤ 2 ^ 30 }
-    requires entries { counted.pool.entries ≡ [] }
+    requires slots { HasSlots counted.pool (length places.now) }
     requires count_some { 1 ≤ counted.count }
     requires count_few { counted.count < 2 ^ 32 }
-    requires holds { Holds w.old (S.files store.old) }
-    requires apart { full_name file.base.now file.part ≢ w.old.name }
+    requires writer { MayWrite file w.old (S.files store.old) }
     requires whole { w.old.place % 8 ≡ 0 }
     requires place { w.old.place ≤ 2 ^ 61 }
     ensures told { ForCounted counted file.entry (S.files store.old) places.now w.old.place
         (WritesRun S.files store.old store.new w.old w.new result) }
     ensures undamaged { ForGroup file.entry (S.files store.old) places.now w.old.place (λ _. NoDamage result) }
-    ensures entries { IfOk result (λ made. made.entries ≡ []) }
-    ensures limit { IfOk result (λ made. made.limit ≡ counted.pool.limit) }
-    ensures peak { IfOk result (λ made. made.peak ≡ max counted.pool.peak (64 * length places.now)) }
-    ensures holds { OnOk result (Holds w.new (S.files store.new)) }
-    ensures place { OnOk result (w.new.place ≤ 2 ^ 61 + 264) }
-    ensures whole { OnOk result (w.new.place % 8 ≡ 0) }
-    ensures name { w.new.name ≡ w.old.name }
-    ensures passed { Between S.files S.reads S.faults store.old store.new (Passed file.entry.part w.old.name) }
-    ensures cause { HasPartCause (S.faults store.old) (S.faults store.new) result }
-    ensures names { IfErr result (NamesPart file.entry.part) }
+    ensures pool { IfOk result (λ made. PoolBack (length places.now) counted.pool made) }
+    ensures step { Between S.files S.reads S.faults store.old store.new
+        (RunStep file.entry.part w.old w.new result) }
 {
     let Counted { pool, count } = counted;
     let mut group = match Group::load(alloc, store, pool, file, places) {
@@ -256,25 +227,15 @@ pub fn join<S: Store>(
     places: &[u64],
     w: &mut BitWriter<'_>,
 ) -> Result<Pool, PartErr>
-    requires some { 1 ≤ length places.now }
-    requires room { length places.now ≤ pool.limit / 64 }
-    requires limit { pool.limit ≤ 2 ^ 30 }
-    requires entries { pool.entries ≡ [] }
-    requires holds { Holds w.old (S.files store.old) }
-    requires apart { full_name file.base.now file.part ≢ w.old.name }
+    requires slots { HasSlots pool (length places.now) }
+    requires writer { MayWrite file w.old (S.files store.old) }
     requires whole { w.old.place % 8 ≡ 0 }
-    ensures told { ForGroup file.entry (S.files store.old) places.now w.old.place (WritesRun S.files store.old store.new w.old w.new result) }
+    ensures told { ForGroup file.entry (S.files store.old) places.now w.old.place
+        (WritesRun S.files store.old store.new w.old w.new result) }
     ensures undamaged { ForGroup file.entry (S.files store.old) places.now w.old.place (λ _. NoDamage result) }
-    ensures entries { IfOk result (λ made. made.entries ≡ []) }
-    ensures limit { IfOk result (λ made. made.limit ≡ pool.limit) }
-    ensures peak { IfOk result (λ made. made.peak ≡ max pool.peak (64 * length places.now)) }
-    ensures holds { OnOk result (Holds w.new (S.files store.new)) }
-    ensures place { OnOk result (w.new.place ≤ 2 ^ 61 + 264) }
-    ensures whole { OnOk result (w.new.place % 8 ≡ 0) }
-    ensures name { w.new.name ≡ w.old.name }
-    ensures passed { Between S.files S.reads S.faults store.old store.new (Passed file.entry.part w.old.name) }
-    ensures cause { HasPartCause (S.faults store.old) (S.faults store.new) result }
-    ensures names { IfErr result (NamesPart file.entry.part) }
+    ensures pool { IfOk result (λ made. PoolBack (length places.now) pool made) }
+    ensures step { Between S.files S.reads S.faults store.old store.new
+        (RunStep file.entry.part w.old w.new result) }
 {
     let counted = match count_runs(alloc, store, pool, file, places) {
         Ok(counted) => counted,

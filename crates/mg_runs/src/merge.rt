@@ -1,14 +1,14 @@
 //! The postings of all runs.
 ghost use Rattle.std.specs.Prelude.{◌≡◌, ◌≤◌, ◌<◌, ◌*◌, ◌/◌, ◌^◌, List, [], IfErr, IfOk, IfSome, OnOk, OnSome, IsSome, length, drop, max};
 ghost use Rattle.mg_dev.specs.PartCauses.{HasPartCause};
-ghost use Rattle.mg_bits.specs.Pages.{Looked};
 ghost use Rattle.mg_defs.specs.declared.TermPosting.{TermPosting};
 ghost use Rattle.mg_runs.specs.Cursors.{NoDamage, NoMemory};
-ghost use Rattle.mg_runs.specs.Damages.{NamesItsPart, NamesPart, NamesPartOf, TellsBitIn};
+ghost use Rattle.mg_runs.specs.Damages.{NamesItsPart, NamesPartOf, TellsBitIn};
 ghost use Rattle.mg_runs.specs.Joins.{IsRunPart, Worked};
 ghost use Rattle.mg_runs.specs.Left.{IsMerging, postings_left, ForMerging};
 ghost use Rattle.mg_runs.specs.Merging.{first as first_of};
 ghost use Rattle.mg_runs.specs.Reading.{RoundTells, ForRound};
+ghost use Rattle.mg_runs.specs.Steps.{LookStep};
 ghost use Rattle.mg_dev.specs.Moments.{Between};
 
 use crate::group::Group;
@@ -58,9 +58,8 @@ impl<'a> Merge<'a> {
         ensures base { IfOk result (λ merge. merge.base ≡ round.entry.file.base.now) }
         ensures runs { IfOk result (λ merge. merge.runs ≡ runs) }
         ensures peak { IfOk result (λ merge. merge.peak ≡ max round.entry.pool.peak (64 * length round.entry.places.items)) }
-        ensures looked { Between S.files S.reads S.faults store.old store.new (Looked round.entry.file.part) }
-        ensures cause { HasPartCause (S.faults store.old) (S.faults store.new) result }
-        ensures names { IfErr result (NamesPart round.entry.file.part) }
+        ensures read { Between S.files S.reads S.faults store.old store.new
+            (LookStep round.entry.file.part result) }
     {
         let Round { pool, places, file } = round;
         let base = file.base;

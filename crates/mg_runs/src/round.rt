@@ -1,14 +1,11 @@
 //! Rounds: the runs of one part, joined into fewer runs of another.
-ghost use Rattle.std.specs.Prelude.{◌≡◌, ◌≢◌, ◌≤◌, ◌<◌, ◌+◌, ◌-◌, ◌*◌, ◌/◌, ◌%◌, ◌^◌, [], IfErr, IfOk, OnOk, length, max};
-ghost use Rattle.mg_dev.specs.Names.{full_name};
-ghost use Rattle.mg_dev.specs.PartCauses.{HasPartCause};
-ghost use Rattle.mg_bits.specs.BitWriting.{Holds};
+ghost use Rattle.std.specs.Prelude.{◌≡◌, ◌≤◌, ◌<◌, ◌+◌, ◌-◌, ◌/◌, [], IfOk, length};
+ghost use Rattle.mg_dev.specs.Moments.{Between};
 ghost use Rattle.mg_runs.specs.Cursors.{NoDamage};
-ghost use Rattle.mg_runs.specs.Damages.{NamesItsPart, NamesPart};
-ghost use Rattle.mg_runs.specs.Joins.{IsRunPart, Passed, Worked, other, GroupsJoined};
+ghost use Rattle.mg_runs.specs.Joins.{IsRunPart, other, GroupsJoined};
 ghost use Rattle.mg_runs.specs.Stays.{SamePart};
 ghost use Rattle.mg_runs.specs.Reading.{ForStored, RoundHas, ForRound, peak_with, next_name};
-ghost use Rattle.mg_dev.specs.Moments.{Between};
+ghost use Rattle.mg_runs.specs.Steps.{HasSlots, MayWrite, PassStep, PoolBack, RunStep, WorkStep};
 
 use crate::Pool;
 use crate::join::{join, refused};
@@ -52,27 +49,17 @@ fn join_groups<S: Store>(
     width: usize,
     w: &mut BitWriter<'_>,
 ) -> Result<Joined, PartErr>
-    requires some { 1 ≤ width }
+    requires slots { HasSlots pool width }
     requires more { width < length places.now }
-    requires room { width ≤ pool.limit / 64 }
-    requires limit { pool.limit ≤ 2 ^ 30 }
-    requires entries { pool.entries ≡ [] }
-    requires holds { Holds w.old (S.files store.old) }
-    requires apart { full_name file.base.now file.part ≢ w.old.name }
+    requires writer { MayWrite file w.old (S.files store.old) }
     requires place { w.old.place ≡ 0 }
-    ensures told { ForStored file.entry (S.files store.old) places.now (λ runs. IfOk result (GroupsJoined width runs S.files store.old store.new w.old w.new)) }
+    ensures told { ForStored file.entry (S.files store.old) places.now
+        (λ runs. IfOk result (GroupsJoined width runs S.files store.old store.new w.old w.new)) }
     ensures undamaged { ForStored file.entry (S.files store.old) places.now (λ _. NoDamage result) }
     ensures count { IfOk result (λ made. length made.places.items ≡ (length places.now + width - 1) / width) }
-    ensures entries { IfOk result (λ made. made.pool.entries ≡ []) }
-    ensures limit { IfOk result (λ made. made.pool.limit ≡ pool.limit) }
-    ensures peak { IfOk result (λ made. made.pool.peak ≡ max pool.peak (64 * width)) }
-    ensures holds { OnOk result (Holds w.new (S.files store.new)) }
-    ensures place { OnOk result (w.new.place ≤ 2 ^ 61 + 264) }
-    ensures whole { OnOk result (w.new.place % 8 ≡ 0) }
-    ensures name { w.new.name ≡ w.old.name }
-    ensures passed { Between S.files S.reads S.faults store.old store.new (Passed file.entry.part w.old.name) }
-    ensures cause { HasPartCause (S.faults store.old) (S.faults store.new) result }
-    ensures names { IfErr result (NamesPart file.entry.part) }
+    ensures pool { IfOk result (λ made. PoolBack width pool made.pool) }
+    ensures step { Between S.files S.reads S.faults store.old store.new
+        (RunStep file.entry.part w.old w.new result) }
 {
     let mut made = match Vec::with_capacity(alloc, places.len() / width + 1) {
         Ok(made) => made,
@@ -103,23 +90,19 @@ impl<'a> Round<'a> {
         store: &mut S,
         width: usize,
     ) -> Result<Round<'a>, PartErr>
-        requires some { 1 ≤ width }
+        requires slots { HasSlots self.pool width }
         requires more { width < length self.places.items }
-        requires room { width ≤ self.pool.limit / 64 }
-        requires limit { self.pool.limit ≤ 2 ^ 30 }
-        requires entries { self.pool.entries ≡ [] }
         requires part { IsRunPart self.file.part }
-        ensures told { ForRound self.entry (S.files store.old) (λ whole. IfOk result (λ next. RoundHas next (S.files store.new) whole)) }
+        ensures told { ForRound self.entry (S.files store.old)
+            (λ whole. IfOk result (λ next. RoundHas next (S.files store.new) whole)) }
         ensures undamaged { ForRound self.entry (S.files store.old) (λ _. NoDamage result) }
-        ensures count { IfOk result (λ next. length next.places.items ≡ (length self.entry.places.items + width - 1) / width) }
-        ensures entries { IfOk result (λ next. next.pool.entries ≡ []) }
-        ensures limit { IfOk result (λ next. next.pool.limit ≡ self.entry.pool.limit) }
-        ensures peak { IfOk result (λ next. next.pool.peak ≡ max self.entry.pool.peak (64 * width)) }
+        ensures count { IfOk result
+            (λ next. length next.places.items ≡ (length self.entry.places.items + width - 1) / width) }
+        ensures pool { IfOk result (λ next. PoolBack width self.entry.pool next.pool) }
         ensures base { IfOk result (λ next. next.file.base ≡ self.entry.file.base) }
         ensures part { IfOk result (λ next. next.file.part ≡ other self.entry.file.part) }
-        ensures passed { Between S.files S.reads S.faults store.old store.new (Passed self.entry.file.part (next_name self.entry.file)) }
-        ensures cause { HasPartCause (S.faults store.old) (S.faults store.new) result }
-        ensures names { IfErr result (NamesPart self.entry.file.part) }
+        ensures step { Between S.files S.reads S.faults store.old store.new
+            (PassStep self.entry.file.part (next_name self.entry.file) result) }
     {
         let Round { pool, places, file } = self;
         let to = FileRef {
@@ -151,23 +134,22 @@ impl<'a> Round<'a> {
         width: usize,
     ) -> Result<Round<'a>, PartErr>
         requires some { 2 ≤ width }
-        requires room { width ≤ self.pool.limit / 64 }
-        requires limit { self.pool.limit ≤ 2 ^ 30 }
-        requires entries { self.pool.entries ≡ [] }
+        requires slots { HasSlots self.pool width }
         requires part { IsRunPart self.file.part }
-        ensures told { ForRound self.entry (S.files store.old) (λ whole. IfOk result (λ last. RoundHas last (S.files store.new) whole)) }
+        ensures told { ForRound self.entry (S.files store.old)
+            (λ whole. IfOk result (λ last. RoundHas last (S.files store.new) whole)) }
         ensures undamaged { ForRound self.entry (S.files store.old) (λ _. NoDamage result) }
         ensures few { IfOk result (λ last. length last.places.items ≤ width) }
-        ensures count { IfOk result (λ last. length last.places.items ≡ 0 → length self.entry.places.items ≡ 0) }
+        ensures count { IfOk result
+            (λ last. length last.places.items ≡ 0 → length self.entry.places.items ≡ 0) }
         ensures entries { IfOk result (λ last. last.pool.entries ≡ []) }
         ensures limit { IfOk result (λ last. last.pool.limit ≡ self.entry.pool.limit) }
         ensures peak { IfOk result (λ last. peak_with width last ≡ peak_with width self.entry) }
         ensures base { IfOk result (λ last. last.file.base ≡ self.entry.file.base) }
         ensures part { IfOk result (λ last. IsRunPart last.file.part) }
         ensures run { SamePart self.entry.file.base.now Part.Run (S.files store.old) (S.files store.new) }
-        ensures worked { Between S.files S.reads S.faults store.old store.new (Worked self.entry.file.base.now) }
-        ensures cause { HasPartCause (S.faults store.old) (S.faults store.new) result }
-        ensures names { IfErr result NamesItsPart }
+        ensures step { Between S.files S.reads S.faults store.old store.new
+            (WorkStep self.entry.file.base.now result) }
     {
         let mut round = self;
         while round.places.len() > width {

@@ -9,7 +9,8 @@ pub returns-in-Ok-clause-told : goal.returns-in-Ok-clause-told
 returns-in-Ok-clause-told c = λ x more taken e.
     let t = rw (ap (λ f. f.bytes.now) c.new-reader.ensures.feed ∙ over_same _ _ c.new.ensures.feeding, c.new-reader.ensures.place) at c.in-Ok.ensures.told in
     let same : c.in-Ok.value ≡ x = number_is c.what_was_put_is_got.ensures.gamma c.args.limit x c.in-Ok.value c.args.at _ more c.requires.limit taken e t in
-    let next : c.place.result ≡ c.args.at + length (gamma x) = c.place.ensures ∙ c.in-Ok.ensures.place ∙ ap (λ p. p + length (gamma c.in-Ok.value)) c.new-reader.ensures.place ∙ ap (λ v. c.args.at + length (gamma v)) same in
+    let next : c.place.result ≡ c.args.at + length (gamma x) = c.place.ensures ∙ c.in-Ok.ensures.place
+    ∙ ap (λ p. p + length (gamma c.in-Ok.value)) c.new-reader.ensures.place ∙ ap (λ v. c.args.at + length (gamma v)) same in
     let mk : ℕ → ℕ → Number = λ v n. record { value = v; next = n } in
     ap (λ v. Some (mk v c.place.result)) same ∙ ap (λ n. Some (mk x n)) next
 

@@ -5,6 +5,9 @@ use Rattle.std.proofs.lemmas.List.Sums.{sum_by_push}
 use Rattle.mg_runs.specs.Cursors.{HasPosting}
 use Rattle.mg_runs.specs.Merging.{left_together}
 use Rattle.mg_runs.specs.declared.cursor.Cursor.{Cursor}
+use Rattle.mg_dev.specs.declared.part_err.PartErr.TheVariants.{Memory}
+use Rattle.mg_runs.proofs.StepLaws.{cause_err, cause_ok, look_bad, look_none}
+use Rattle.mg_runs.proofs.Steps.{looked_more}
 use Rattle.mg_runs.proofs.group.open_all.Goals as goal
 
 pub loop-k-preserved : goal.loop-k-preserved
@@ -17,8 +20,29 @@ loop-k-preserved g c =
       made = search rules;
       slots = search rules;
       told = search rules;
-      postings = subst (λ (l : List Cursor). All (λ (x : Cursor). HasPosting x) l) (sym c.in-Ok-push.ensures.items) (All-push (λ (x : Cursor). HasPosting x) c.loop-k.cursors.items cursor inv.postings c.in-Ok-opened.ensures.posting);
+      postings = subst (λ (l : List Cursor). All (λ (x : Cursor). HasPosting x) l) (sym c.in-Ok-push.ensures.items)
+          (All-push (λ (x : Cursor). HasPosting x) c.loop-k.cursors.items cursor inv.postings c.in-Ok-opened.ensures.posting);
       total = omega (arith, push, inv.total, c.in-Ok-opened.ensures.left);
       pool = search rules;
       looked = search rules;
     }
+
+pub returns-in-Err-clause-read : goal.returns-in-Err-clause-read
+returns-in-Err-clause-read g c = look_bad {x = tt} Memory (look_none {T = Unit {0}} _ _ _) (λ f g. tt) tt
+
+pub returns-in-Err-push-clause-read : goal.returns-in-Err-push-clause-read
+returns-in-Err-push-clause-read g c =
+    let looked = looked_more c.loop-k.invariant.looked c.opened.ensures.looked in
+    record { looked = looked; cause = record { later = looked.faults; device = tt }; names = tt }
+
+pub returns-in-Err-opened-clause-read : goal.returns-in-Err-opened-clause-read
+returns-in-Err-opened-clause-read g c = record {
+  looked = looked_more c.loop-k.invariant.looked c.opened.ensures.looked;
+  cause = cause_err {T = Cursor} c.loop-k.invariant.looked.faults c.in-Err-opened.ensures.cause;
+  names = c.in-Err-opened.ensures.names;
+}
+
+pub returns-clause-read : goal.returns-clause-read
+returns-clause-read g c =
+    let looked = c.loop-k.invariant.looked in
+    record { looked = looked; cause = cause_ok looked.faults; names = tt }

@@ -1,21 +1,16 @@
-use Rattle.std.proofs.Common.{◌≡◌, ◌<◌, ◌^◌, List, IsSome}
-use Rattle.mg_dev.specs.Files.{bytes_at}
-use Rattle.mg_dev.specs.Names.{full_name}
-use Rattle.mg_bits.specs.Pages.{Looked}
-use Rattle.mg_defs.specs.declared.TermPosting.{TermPosting}
-use Rattle.mg_runs.specs.Pooled.{SamePool}
-use Rattle.mg_runs.specs.Merging.{AreLeft, IsShaped, left_together}
-use Rattle.mg_runs.specs.Joins.{IsCounting}
+use Rattle.std.proofs.Common.{Ok, ◌<◌, ◌^◌}
+use Rattle.mg_runs.specs.Merging.{left_together}
+use Rattle.mg_runs.specs.Reading.{ForLeft, GroupCounting, GroupShaped}
+use Rattle.mg_runs.specs.Steps.{GroupLook}
 use Rattle.mg_runs.proofs.join.count_postings.Given as goal
 
 abbrev pub invariant-loop-count : goal.invariant-loop-count
 invariant-loop-count g l = record {
-  shape : IsShaped l.group.pool.slots l.group.cursors.items l.group.tournament;
-  file : l.group.file ≡ l.initial.group.file;
-  pool : SamePool l.initial.group.pool l.group.pool;
+  shape : GroupShaped l.group;
+  read : GroupLook {T = Unit {0}} l.initial.group l.group (Ok tt) (g.S.Store.files l.initial.store) (g.S.Store.files l.store) (g.S.Store.reads l.initial.store)
+      (g.S.Store.reads l.store) (g.S.Store.faults l.initial.store) (g.S.Store.faults l.store);
   few : l.count < 2 ^ 32;
-  told : IsSome (g.S.Store.files l.initial.store) → (left : List TermPosting) → AreLeft l.initial.group.pool.slots l.initial.group.cursors.items (bytes_at (g.S.Store.files l.initial.store) (full_name l.initial.group.file.base.now l.initial.group.file.part)) left → IsCounting l.group.pool.slots l.group.cursors.items (bytes_at (g.S.Store.files l.initial.store) (full_name l.initial.group.file.base.now l.initial.group.file.part)) left l.count;
-  looked : Looked l.initial.group.file.part (g.S.Store.files l.initial.store) (g.S.Store.files l.store) (g.S.Store.reads l.initial.store) (g.S.Store.reads l.store) (g.S.Store.faults l.initial.store) (g.S.Store.faults l.store);
+  told : ForLeft l.initial.group (g.S.Store.files l.initial.store) (λ bytes left. GroupCounting l.group bytes left l.count);
 }
 
 abbrev pub decreases-loop-count : goal.decreases-loop-count

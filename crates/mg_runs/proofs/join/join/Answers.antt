@@ -1,4 +1,22 @@
+use Rattle.std.proofs.Common.{rules}
+use Rattle.mg_runs.proofs.StepLaws.{back_then, run_err, run_then, slots_back, writer_bad, writer_look, writer_look_err}
 use Rattle.mg_runs.proofs.join.join.Goals as goal
 
-pub returns-then-counted-eq0-clause-cause : goal.returns-then-counted-eq0-clause-cause
-returns-then-counted-eq0-clause-cause g c = record { later = c.count_runs.ensures.looked.faults; device = c.damage.ensures.caused _ _ }
+pub returns-in-Err-clause-step : goal.returns-in-Err-clause-step
+returns-in-Err-clause-step g c = run_err (writer_look_err c.in-Err.ensures.read)
+
+pub returns-then-counted-eq0-clause-step : goal.returns-then-counted-eq0-clause-step
+returns-then-counted-eq0-clause-step g c =
+    run_err (writer_bad c.damage.result (writer_look c.requires.writer.holds c.in-Ok.ensures.read) c.damage.ensures.caused c.damage.ensures.names)
+
+pub put_run-requires-clause-slots : goal.put_run-requires-clause-slots
+put_run-requires-clause-slots g c = slots_back c.requires.slots c.in-Ok.ensures.pool
+
+pub put_run-requires-clause-writer : goal.put_run-requires-clause-writer
+put_run-requires-clause-writer g c = record { holds = search rules; apart = c.requires.writer.apart }
+
+pub returns-clause-pool : goal.returns-clause-pool
+returns-clause-pool g c = back_then c.put_run.result c.in-Ok.ensures.pool c.put_run.ensures.pool
+
+pub returns-clause-step : goal.returns-clause-step
+returns-clause-step g c = run_then (writer_look c.requires.writer.holds c.in-Ok.ensures.read) c.put_run.ensures.step

@@ -1,34 +1,41 @@
-use Rattle.std.proofs.Common.{refl, ◌∙◌}
-use Rattle.mg_runs.proofs.Joins.{put_start, passed_none, passed_more, passed_bytes}
-use Rattle.mg_runs.proofs.Steps.{pool_more}
+use Rattle.std.proofs.Common.{◌∙◌, ap, sym}
+use Rattle.mg_dev.specs.Names.{full_name}
+use Rattle.mg_runs.proofs.Joins.{put_start, passed_bytes}
+use Rattle.mg_runs.proofs.StepLaws.{write_err, write_none, write_ok, write_then}
 use Rattle.mg_runs.proofs.join.put_postings.Goals as goal
 
 pub loop-posting-init : goal.loop-posting-init
 loop-posting-init g c = record {
   shape = c.requires.shape;
-  file = refl;
-  pool = record { entries = λ e. e; peak = refl; limit = refl };
-  holds = c.requires.holds;
   place = c.requires.place;
-  name = refl;
+  step = write_none {T = Unit {0}} c.args.group.now _ _ _ c.requires.writer.holds;
   told = λ told left has run room. put_start _ _ _ _ _ left has run room;
-  passed = passed_none _ _ _ _ _;
 }
+
+pub put_next-requires-clause-writer : goal.put_next-requires-clause-writer
+put_next-requires-clause-writer g c =
+    let inv = c.loop-posting.invariant in
+    record {
+      holds = inv.step.writer.holds;
+      apart = λ e. c.requires.writer.apart (ap (λ d. full_name d.base.now d.part) (sym inv.step.file) ∙ e ∙ inv.step.writer.name);
+    }
 
 pub loop-posting-preserved : goal.loop-posting-preserved
 loop-posting-preserved g c =
     let inv = c.loop-posting.invariant in
-    let apart = c.requires.apart in
+    let passed = inv.step.writer.pass.passed in
     record {
       shape = c.in-Ok-Some.ensures.shape;
-      file = c.put_next.ensures.file ∙ inv.file;
-      pool = pool_more _ _ _ inv.pool c.put_next.ensures.pool;
-      holds = c.in-Ok-Some.ensures.holds;
       place = c.in-Ok-Some.ensures.place inv.place;
-      name = c.put_next.ensures.name ∙ inv.name;
+      step = write_ok (write_then inv.step c.in-Ok-Some.ensures.step);
       told = λ told left has run room.
-          let same = passed_bytes _ _ _ _ _ _ _ _ _ inv.passed apart in
-          let next = rw (inv.file, same) at c.in-Ok-Some.ensures.told in
-          rw c.in-Ok-Some.field-0-is at (next (inv.passed.told ∙ told) _ _ _ (inv.told told left has run room));
-      passed = passed_more _ _ _ _ _ _ _ _ _ _ _ inv.passed (rw (inv.file, inv.name) at c.put_next.ensures.passed);
+          let same = passed_bytes passed c.requires.writer.apart in
+          let next = rw (inv.step.file, same) at c.in-Ok-Some.ensures.told in
+          rw c.in-Ok-Some.field-0-is at (next (passed.told ∙ told) _ _ _ (inv.told told left has run room));
     }
+
+pub returns-in-Ok-None-clause-step : goal.returns-in-Ok-None-clause-step
+returns-in-Ok-None-clause-step g c = write_ok (write_then c.loop-posting.invariant.step c.in-Ok-None.ensures.step)
+
+pub returns-in-Err-clause-step : goal.returns-in-Err-clause-step
+returns-in-Err-clause-step g c = write_err (write_then c.loop-posting.invariant.step c.in-Err.ensures.step)

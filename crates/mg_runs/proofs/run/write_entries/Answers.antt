@@ -20,7 +20,9 @@ to_byte_same p n h =
 to_byte_below : (n : ℕ) → to_byte n < 8
 to_byte_below n = omega arith
 
-chunks_are : (c_old new : List (List ℕ)) (count : ℕ) (bytes : List ℕ) → 12 * count ≤ length bytes → c_old ≡ first_chunks 12 (length (take (12 * count) bytes) / 12) (take (12 * count) bytes) → IsPermutation c_old new → IsPermutation (first_chunks 12 count bytes) new
+chunks_are : (c_old new : List (List ℕ)) (count : ℕ) (bytes : List ℕ) → 12 * count ≤ length bytes →
+    c_old ≡ first_chunks 12 (length (take (12 * count) bytes) / 12) (take (12 * count) bytes) → IsPermutation c_old new →
+    IsPermutation (first_chunks 12 count bytes) new
 chunks_are c_old new count bytes h e p = subst (λ t. IsPermutation t new) (e ∙ front_chunks count bytes (take (12 * count) bytes) h refl) p
 
 sorted_length : (count : ℕ) (bytes : List ℕ) (new : List (List ℕ)) → IsPermutation (first_chunks 12 count bytes) new → length new ≡ count
@@ -45,7 +47,9 @@ pub returns-clause-bits : goal.returns-clause-bits
 unfolding filled
 returns-clause-bits g c =
     let new : List (List ℕ) = c.sort_entries.new.entries in
-    let same = (are_sorted (first_chunks 12 c.args.count c.args.bytes.now) new (chunks_are c.as_chunks_mut-entries.result.0.now new c.args.count c.args.bytes.now c.requires.room c.as_chunks_mut-entries.ensures.front c.sort_entries.ensures.same) c.requires.entries).gathered in
+    let same
+    = (are_sorted (first_chunks 12 c.args.count c.args.bytes.now) new (chunks_are c.as_chunks_mut-entries.result.0.now new c.args.count c.args.bytes.now c.requires.room c.as_chunks_mut-entries.ensures.front c.sort_entries.ensures.same) c.requires.entries).gathered
+    in
     let a = rw same at c.in_ok-put_list.ensures.bits in
     let bits : List Bool = run_bits (gathered (entries_in c.args.count c.args.bytes.now)) in
     let p : c.put_list.new.w.place ≡ c.args.w.now.place + length bits = a.place in
@@ -56,7 +60,10 @@ returns-clause-bits g c =
 pub returns-clause-place : goal.returns-clause-place
 returns-clause-place g c =
     let new : List (List ℕ) = c.sort_entries.new.entries in
-    let n : length new ≡ c.args.count = sorted_length c.args.count c.args.bytes.now new (chunks_are c.as_chunks_mut-entries.result.0.now new c.args.count c.args.bytes.now c.requires.room c.as_chunks_mut-entries.ensures.front c.sort_entries.ensures.same) in
+    let n : length new ≡ c.args.count
+    = sorted_length c.args.count c.args.bytes.now new
+    (chunks_are c.as_chunks_mut-entries.result.0.now new c.args.count c.args.bytes.now c.requires.room c.as_chunks_mut-entries.ensures.front c.sort_entries.ensures.same)
+    in
     let a = c.in_ok-put_list.ensures.place in
     let b = c.in_ok-align.ensures.bits.place in
     omega (arith, length_digits (to_byte c.put_list.new.w.place) 0, to_byte_below c.put_list.new.w.place)

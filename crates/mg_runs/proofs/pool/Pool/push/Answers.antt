@@ -16,4 +16,5 @@ invariant_of-self c =
 pub returns-clause-peak : goal.returns-clause-peak
 returns-clause-peak c =
     let none = no_chunks c.self.inside.slots c.self.inside.bytes.items (rw (← c.self.view_is) at c.requires.entries) in
-    rw (← c.self.view_is) (omega (arith, c.max-self-inside.ensures, none, length_entries (c.self.inside.entries + 1) c.put_entry.new.bytes.items, length-chunks 64 c.self.inside.slots c.put_entry.new.bytes.items))
+    rw (← c.self.view_is)
+    (omega (arith, c.max-self-inside.ensures, none, length_entries (c.self.inside.entries + 1) c.put_entry.new.bytes.items, length-chunks 64 c.self.inside.slots c.put_entry.new.bytes.items))

@@ -1,10 +1,9 @@
-use Rattle.std.proofs.Common.{◌≡◌, ◌*◌, List, [], IsSome, length, min, max}
+use Rattle.std.proofs.Common.{◌≡◌, ◌*◌, [], length, min, max}
 use Rattle.mg_dev.specs.declared.part.Part.TheVariants.{Run}
-use Rattle.mg_dev.specs.Files.{bytes_at, file_at}
+use Rattle.mg_dev.specs.Files.{file_at}
 use Rattle.mg_dev.specs.Names.{full_name}
-use Rattle.mg_defs.specs.declared.TermPosting.{TermPosting}
 use Rattle.mg_runs.specs.Joins.{IsRunPart, Worked}
-use Rattle.mg_runs.specs.Rounds.{AreStored}
+use Rattle.mg_runs.specs.Reading.{ForRound, RoundHas}
 use Rattle.mg_runs.proofs.round.Round.rounds.Given as goal
 
 abbrev pub invariant-loop-alloc : goal.invariant-loop-alloc
@@ -15,9 +14,10 @@ invariant-loop-alloc g l = record {
   peak : max l.round.pool.peak (64 * min (length l.round.places.items) l.width) ≡ max l.initial.round.pool.peak (64 * min (length l.initial.round.places.items) l.width);
   base : l.round.file.base ≡ l.initial.round.file.base;
   part : IsRunPart l.round.file.part;
-  told : IsSome (g.S.Store.files l.initial.store) → (whole : List TermPosting) → AreStored (bytes_at (g.S.Store.files l.initial.store) (full_name l.initial.round.file.base.now l.initial.round.file.part)) l.initial.round.places.items whole → AreStored (bytes_at (g.S.Store.files l.store) (full_name l.round.file.base.now l.round.file.part)) l.round.places.items whole;
+  told : ForRound l.initial.round (g.S.Store.files l.initial.store) (λ whole. RoundHas l.round (g.S.Store.files l.store) whole);
   run : file_at (g.S.Store.files l.store) (full_name l.initial.round.file.base.now Run) ≡ file_at (g.S.Store.files l.initial.store) (full_name l.initial.round.file.base.now Run);
-  worked : Worked l.initial.round.file.base.now (g.S.Store.files l.initial.store) (g.S.Store.files l.store) (g.S.Store.reads l.initial.store) (g.S.Store.reads l.store) (g.S.Store.faults l.initial.store) (g.S.Store.faults l.store);
+  worked : Worked l.initial.round.file.base.now (g.S.Store.files l.initial.store) (g.S.Store.files l.store) (g.S.Store.reads l.initial.store)
+      (g.S.Store.reads l.store) (g.S.Store.faults l.initial.store) (g.S.Store.faults l.store);
 }
 
 abbrev pub decreases-loop-alloc : goal.decreases-loop-alloc

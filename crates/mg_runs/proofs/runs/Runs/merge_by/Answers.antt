@@ -28,7 +28,7 @@ overflow_cast-runs g c =
 pub returns-in-Ok-rounds-clause-left : goal.returns-in-Ok-rounds-clause-left
 returns-in-Ok-rounds-clause-left g c = λ fed is.
     c.open.ensures.left (term_postings fed) (λ told.
-    let now = sym c.rounds.ensures.worked.told ∙ told in
+    let now = sym c.rounds.ensures.step.worked.told ∙ told in
     let was = sym c.finish.ensures.wrote.told ∙ now in
     let stored = fed_stored _ _ fed _ _ is (c.in-Ok.ensures.run was fed is) (c.in-Ok.ensures.places fed is) in
     let next = rw (c.in-Ok.ensures.base, c.in-Ok.ensures.part) at c.in-Ok-rounds.ensures.told in
@@ -37,13 +37,15 @@ returns-in-Ok-rounds-clause-left g c = λ fed is.
 pub returns-in-Ok-rounds-clause-run : goal.returns-in-Ok-rounds-clause-run
 returns-in-Ok-rounds-clause-run g c = λ told fed is.
     let run = rw c.in-Ok.ensures.base at c.rounds.ensures.run in
-    let same : bytes_at (g.S.Store.files c.open.new.store) (full_name c.args.self.base Run) ≡ bytes_at (g.S.Store.files c.finish.new.store) (full_name c.args.self.base Run) = ap (λ f. bytes_at f (full_name c.args.self.base Run)) c.open.ensures.looked.files ∙ ap (λ b. unwrap_or b []) run in
+    let same : bytes_at (g.S.Store.files c.open.new.store) (full_name c.args.self.base Run) ≡ bytes_at (g.S.Store.files c.finish.new.store) (full_name c.args.self.base Run)
+    = ap (λ f. bytes_at f (full_name c.args.self.base Run)) c.open.ensures.read.looked.files ∙ ap (λ b. unwrap_or b []) run in
     on_ok _ c.open.result (ap (λ b. bits_of b) same ∙ c.in-Ok.ensures.run told fed is)
 
 pub returns-in-Ok-rounds-clause-run_bytes : goal.returns-in-Ok-rounds-clause-run_bytes
 returns-in-Ok-rounds-clause-run_bytes g c = λ told fed is.
     let run = rw c.in-Ok.ensures.base at c.rounds.ensures.run in
-    let same : bytes_at (g.S.Store.files c.open.new.store) (full_name c.args.self.base Run) ≡ bytes_at (g.S.Store.files c.finish.new.store) (full_name c.args.self.base Run) = ap (λ f. bytes_at f (full_name c.args.self.base Run)) c.open.ensures.looked.files ∙ ap (λ b. unwrap_or b []) run in
+    let same : bytes_at (g.S.Store.files c.open.new.store) (full_name c.args.self.base Run) ≡ bytes_at (g.S.Store.files c.finish.new.store) (full_name c.args.self.base Run)
+    = ap (λ f. bytes_at f (full_name c.args.self.base Run)) c.open.ensures.read.looked.files ∙ ap (λ b. unwrap_or b []) run in
     run_made c.open.result _ _ (subst AreBytes (sym same) (c.in-Ok.ensures.bytes told)) (ap (λ b. bits_of b) same ∙ c.in-Ok.ensures.run told fed is)
 
 pub returns-in-Ok-rounds-clause-runs : goal.returns-in-Ok-rounds-clause-runs
@@ -54,7 +56,9 @@ returns-in-Ok-rounds-clause-runs g c = λ fed is.
 pub returns-in-Ok-rounds-clause-peak : goal.returns-in-Ok-rounds-clause-peak
 returns-in-Ok-rounds-clause-peak g c = λ fed is.
     let count = fed_count _ _ fed (fed_cap _ _ fed is).0 (c.in-Ok.ensures.places fed is) in
-    subst (λ k. IfOk c.open.result (λ (m : Merging). m.peak ≡ k)) (peak_all (length fed) _ c.args.width _ _ c.in-Ok.first.pool.peak _ (c.in-Ok.ensures.peak ∙ is.peak) count c.in-Ok-rounds.ensures.peak c.in-Ok-rounds.ensures.few) c.open.ensures.peak
+    subst (λ k. IfOk c.open.result (λ (m : Merging). m.peak ≡ k))
+    (peak_all (length fed) _ c.args.width _ _ c.in-Ok.first.pool.peak _ (c.in-Ok.ensures.peak ∙ is.peak) count c.in-Ok-rounds.ensures.peak c.in-Ok-rounds.ensures.few)
+    c.open.ensures.peak
 
 pub returns-in-Ok-rounds-clause-undamaged : goal.returns-in-Ok-rounds-clause-undamaged
 returns-in-Ok-rounds-clause-undamaged g c = λ told.
@@ -63,17 +67,17 @@ returns-in-Ok-rounds-clause-undamaged g c = λ told.
     let now = c.finish.ensures.wrote.told ∙ told in
     let stored = fed_stored _ _ fed _ _ is (c.in-Ok.ensures.run told fed is) (c.in-Ok.ensures.places fed is) in
     let next = rw (c.in-Ok.ensures.base, c.in-Ok.ensures.part) at c.in-Ok-rounds.ensures.told in
-    c.open.ensures.undamaged (c.rounds.ensures.worked.told ∙ now) (term_postings fed) (next now (term_postings fed) stored)
+    c.open.ensures.undamaged (c.rounds.ensures.step.worked.told ∙ now) (term_postings fed) (next now (term_postings fed) stored)
 
 pub returns-in-Ok-rounds-clause-worked : goal.returns-in-Ok-rounds-clause-worked
 returns-in-Ok-rounds-clause-worked g c =
-    let rounds = rw c.in-Ok.ensures.base at c.rounds.ensures.worked in
-    worked_more _ _ _ _ _ _ _ _ _ _ (worked_wrote _ _ _ _ _ _ _ c.finish.ensures.wrote c.finish.ensures.cause.later) (worked_more _ _ _ _ _ _ _ _ _ _ rounds (worked_looked _ _ _ _ _ _ _ _ c.in-Ok-rounds.ensures.part c.open.ensures.looked))
+    let rounds = rw c.in-Ok.ensures.base at c.rounds.ensures.step.worked in
+    worked_more (worked_wrote c.finish.ensures.wrote c.finish.ensures.cause.later) (worked_more rounds (worked_looked c.in-Ok-rounds.ensures.part c.open.ensures.read.looked))
 
 pub returns-in-Err-rounds-clause-worked : goal.returns-in-Err-rounds-clause-worked
 returns-in-Err-rounds-clause-worked g c =
-    let rounds = rw c.in-Ok.ensures.base at c.rounds.ensures.worked in
-    worked_more _ _ _ _ _ _ _ _ _ _ (worked_wrote _ _ _ _ _ _ _ c.finish.ensures.wrote c.finish.ensures.cause.later) rounds
+    let rounds = rw c.in-Ok.ensures.base at c.rounds.ensures.step.worked in
+    worked_more (worked_wrote c.finish.ensures.wrote c.finish.ensures.cause.later) rounds
 
 pub returns-in-Err-rounds-clause-undamaged : goal.returns-in-Err-rounds-clause-undamaged
 returns-in-Err-rounds-clause-undamaged g c = λ told.
@@ -85,4 +89,4 @@ returns-in-Err-rounds-clause-undamaged g c = λ told.
     undamaged_as Round Merge c.in-Err-rounds.refusal (next now (term_postings fed) stored)
 
 pub returns-in-Ok-rounds-clause-names : goal.returns-in-Ok-rounds-clause-names
-returns-in-Ok-rounds-clause-names g c = refusal_names_its c.in-Ok-rounds.last.file.part c.open.result c.in-Ok-rounds.ensures.part c.open.ensures.names
+returns-in-Ok-rounds-clause-names g c = refusal_names_its c.in-Ok-rounds.last.file.part c.open.result c.in-Ok-rounds.ensures.part c.open.ensures.read.names

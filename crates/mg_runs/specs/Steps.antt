@@ -1,0 +1,127 @@
+-- What one step of a merge of runs does, told of the moments before it and after it.
+use Rattle.std.specs.Prelude.{◌≡◌, ◌≢◌, ◌≤◌, ◌+◌, ◌*◌, ◌/◌, ◌%◌, ◌^◌, ℕ, List, [], max, OnOk, IfErr}
+use Rattle.std.specs.declared.option.Option.{Option}
+use Rattle.std.specs.declared.result.Result.{Result}
+use Rattle.mg_dev.specs.Files.{Files, Reads}
+use Rattle.mg_dev.specs.Names.{full_name}
+use Rattle.mg_dev.specs.PartCauses.{HasPartCause}
+use Rattle.mg_dev.specs.declared.file_ref.FileRef.{FileRef}
+use Rattle.mg_dev.specs.declared.part.Part.{Part}
+use Rattle.mg_dev.specs.declared.part_err.PartErr.{PartErr}
+use Rattle.mg_bits.specs.BitWriting.{BitWriting, Holds}
+use Rattle.mg_bits.specs.Pages.{Looked}
+use Rattle.mg_runs.specs.Cursors.{NoMemory}
+use Rattle.mg_runs.specs.Damages.{NamesItsPart, NamesPart, TellsBitOf}
+use Rattle.mg_runs.specs.Joins.{Passed, Worked}
+use Rattle.mg_runs.specs.Merging.{left_together}
+use Rattle.mg_runs.specs.Pooled.{Pooled, SamePool}
+use Rattle.mg_runs.specs.Reading.{GroupShaped}
+use Rattle.mg_runs.specs.declared.group.Group.{Group}
+
+-- ---- what a step starts from
+
+-- the pool holds no entry, and has so many slots
+pub record HasSlots (pool : Pooled) (count : ℕ) : Type 0 where
+  pub some : 1 ≤ count
+  pub room : count ≤ pool.limit / 64
+  pub limit : pool.limit ≤ 2 ^ 30
+  pub entries : pool.entries ≡ []
+
+-- the writer stands for its file, which is another than the one that is read
+pub record MayWrite (file : FileRef) (writer : BitWriting) (files : Option Files) : Type 0 where
+  pub holds : Holds writer files
+  pub apart : full_name file.base.now file.part ≢ writer.name
+
+-- ---- what it reads
+
+-- a step that reads this part alone, and writes nothing
+pub record LookStep {T : Type 0} (part : Part) (result : Result T PartErr) (files_before files_now : Option Files)
+    (reads_before reads_now : Reads) (faults_before faults_now : ℕ) : Type 0 where
+  -- no other part was read
+  pub looked : Looked part files_before files_now reads_before reads_now faults_before faults_now
+  -- why it stops; the faults never fall
+  pub cause : HasPartCause faults_before faults_now result
+  -- a damage names the part
+  pub names : IfErr result (NamesPart part)
+
+-- a step that reads the runs of a group
+pub record GroupLook {T : Type 0} (old new : Group) (result : Result T PartErr) (files_before files_now : Option Files)
+    (reads_before reads_now : Reads) (faults_before faults_now : ℕ) : Type 0 where
+  -- the pool is as before, but for what its slots hold
+  pub pool : SamePool old.pool new.pool
+  -- the file stays
+  pub file : new.file ≡ old.file
+  -- nothing but that file was read
+  pub look : LookStep old.file.part result files_before files_now reads_before reads_now faults_before faults_now
+
+-- a step that moves the cursors of a group on
+pub record GroupStep {T : Type 0} (old new : Group) (result : Result T PartErr) (files_before files_now : Option Files)
+    (reads_before reads_now : Reads) (faults_before faults_now : ℕ) : Type 0 where
+  -- when it is done, each cursor has its slot and its key
+  pub shape : OnOk result (GroupShaped new)
+  -- no cursor has more left than before
+  pub rest : left_together new.cursors.items ≤ left_together old.cursors.items
+  -- it takes no memory
+  pub memory : NoMemory result
+  -- a damage is told at 0, or where a cursor stands
+  pub bit : IfErr result (TellsBitOf new.cursors.items)
+  -- the rest of the group and of the store
+  pub read : GroupLook old new result files_before files_now reads_before reads_now faults_before faults_now
+
+-- the pool is given back: it holds no entry, and so many of its slots were in use
+pub record PoolBack (count : ℕ) (old new : Pooled) : Type 0 where
+  pub entries : new.entries ≡ []
+  pub limit : new.limit ≡ old.limit
+  pub peak : new.peak ≡ max old.peak (64 * count)
+
+-- ---- what it writes
+
+-- a step that reads this part alone, and writes to the file of this name alone
+pub record PassStep {T : Type 0} (part : Part) (name : List ℕ) (result : Result T PartErr) (files_before files_now : Option Files)
+    (reads_before reads_now : Reads) (faults_before faults_now : ℕ) : Type 0 where
+  -- no other file was written, and no other part read
+  pub passed : Passed part name files_before files_now reads_before reads_now faults_before faults_now
+  -- why it stops; the faults never fall
+  pub cause : HasPartCause faults_before faults_now result
+  -- a damage names the part
+  pub names : IfErr result (NamesPart part)
+
+-- a step that reads this part, and puts bits with a writer
+pub record WriterStep {T : Type 0} (part : Part) (old new : BitWriting) (result : Result T PartErr) (files_before files_now : Option Files)
+    (reads_before reads_now : Reads) (faults_before faults_now : ℕ) : Type 0 where
+  -- when it is done, the writer stands for its file
+  pub holds : OnOk result (Holds new files_now)
+  -- it still writes to that file
+  pub name : new.name ≡ old.name
+  -- nothing else was written or read
+  pub pass : PassStep part old.name result files_before files_now reads_before reads_now faults_before faults_now
+
+-- a step that reads the runs of a group, and puts bits with a writer
+pub record GroupWrite {T : Type 0} (old new : Group) (writer_old writer_new : BitWriting) (result : Result T PartErr)
+    (files_before files_now : Option Files) (reads_before reads_now : Reads) (faults_before faults_now : ℕ) : Type 0 where
+  -- the pool is as before, but for what its slots hold
+  pub pool : SamePool old.pool new.pool
+  -- the file that is read stays
+  pub file : new.file ≡ old.file
+  -- the writer, and the rest of the store
+  pub writer : WriterStep old.file.part writer_old writer_new result files_before files_now reads_before reads_now faults_before faults_now
+
+-- a step that reads this part, and writes whole runs
+pub record RunStep {T : Type 0} (part : Part) (old new : BitWriting) (result : Result T PartErr) (files_before files_now : Option Files)
+    (reads_before reads_now : Reads) (faults_before faults_now : ℕ) : Type 0 where
+  -- where the writer stands is no further than a run may go
+  pub place : OnOk result (new.place ≤ 2 ^ 61 + 264)
+  -- it stands at a byte
+  pub whole : OnOk result (new.place % 8 ≡ 0)
+  -- the writer, and the rest of the store
+  pub writer : WriterStep part old new result files_before files_now reads_before reads_now faults_before faults_now
+
+-- a step that reads and writes the parts of the runs of a base alone
+pub record WorkStep {T : Type 0} (base : List ℕ) (result : Result T PartErr) (files_before files_now : Option Files)
+    (reads_before reads_now : Reads) (faults_before faults_now : ℕ) : Type 0 where
+  -- no other file was written, and no other part read
+  pub worked : Worked base files_before files_now reads_before reads_now faults_before faults_now
+  -- why it stops; the faults never fall
+  pub cause : HasPartCause faults_before faults_now result
+  -- a damage names one of the parts
+  pub names : IfErr result NamesItsPart
