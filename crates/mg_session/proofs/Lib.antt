@@ -11,6 +11,8 @@ pub mod TermLaws
 pub mod SetLaws
 pub mod StopLaws
 pub mod SessionLaws
+pub mod OpenLaws
+pub mod ServedLaws
 pub mod PhraseWalkLaws
 pub mod PhraseReplyLaws
 pub mod PhraseStepLaws
@@ -20,6 +22,7 @@ pub mod WildStopLaws
 pub mod MarkLaws
 pub mod WildListLaws
 pub mod WildTextLaws
+pub mod WildPageLaws
 mod QueriedLaws
 mod PhrasedLaws
 mod MatchedLaws

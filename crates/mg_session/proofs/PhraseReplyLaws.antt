@@ -213,22 +213,17 @@ sum_by-map f (q ∷ qs) =
     sum_by-cons f q.line (map (λ (p : Question). p.line) qs) ∙ ap (λ n. f q.line + n) (sum_by-map f qs) ∙ sym (sum_by-cons (λ (p : Question). f p.line) q qs)
 
 -- the first of the lines of an input
+-- a number for each line of an input is that of the first of them and of the rest
+pub asked_lines : (f : List ℕ → ℕ) (given : List ℕ) (answered more : List Question) → heard_questions Questions given ≡ answered ++ more →
+    sum_by f (plain_questions (lines given)) ≡ sum_by (λ (q : Question). f q.line) answered + sum_by (λ (q : Question). f q.line) more
+asked_lines f given answered more is =
+    ap (sum_by f) (questions_heard given) ∙ sum_by-map f (heard_questions Questions given) ∙ ap (sum_by (λ (q : Question). f q.line)) is ∙ sum_by-append (λ (q : Question). f q.line) answered more
+
 pub phrases_within : (s t : PhraseState) (answered : List Question) (collection given : List ℕ) → PhrasesAsked s t answered → (more : List Question) × (heard_questions Questions given ≡ answered ++ more) → PhrasesOver s collection → ReadsPhrases s.parts.text.code collection given s.reads t.reads
-phrases_within s t answered collection given a first over =
-    let split : (f : List ℕ → ℕ) → sum_by f (plain_questions (lines given)) ≡ sum_by (λ (q : Question). f q.line) answered + sum_by (λ (q : Question). f q.line) first.0 =
-    λ f. ap (sum_by f) (questions_heard given) ∙ sum_by-map f (heard_questions Questions given) ∙ ap (sum_by (λ (q : Question). f q.line)) first.1 ∙ sum_by-append (λ (q : Question). f q.line) answered first.0 in
-    record {
-      post = omega (arith, a.post collection over, split (line_lists collection));
-      text = omega (arith, a.text collection over, split (line_pages s.parts.text.code collection));
-    }
-
-pub session_all : (collection given : List ℕ) (old new : Option (List ℕ)) → new ≡ appended old (heard_session Questions (λ now. phrase_reply collection) given) → new ≡ appended old (phrase_session collection given)
-unfolding phrase_session
-session_all collection given old new is = is ∙ ap (appended old) (sym (plain_heard (phrase_reply collection) given))
-
-pub session_prefix : (collection given : List ℕ) (old new : Option (List ℕ)) → GrewByPrefix old new (heard_session Questions (λ now. phrase_reply collection) given) → GrewByPrefix old new (phrase_session collection given)
-unfolding phrase_session
-session_prefix collection given old new grew = subst (GrewByPrefix old new) (sym (plain_heard (phrase_reply collection) given)) grew
+phrases_within s t answered collection given a first over = record {
+  post = omega (arith, a.post collection over, asked_lines (line_lists collection) given answered first.0 first.1);
+  text = omega (arith, a.text collection over, asked_lines (line_pages s.parts.text.code collection) given answered first.0 first.1);
+}
 
 -- why a line stops the session
 line_stops : (s t : PhraseState) (f g : ℕ) (error : ShowErr) → HasShowCause (Err error) s.faults t.faults f g → ((collection : List ℕ) → PhrasesOver s collection → ShowIsNotBad (Err error)) → PartStops (PhraseMayStop s t) error
@@ -241,26 +236,6 @@ line_stops s t f g show.Memory cause sound = tt
 pub line_part : (s t : PhraseState) (f g : ℕ) (r : Result (Unit {0}) ShowErr) → HasShowCause r s.faults t.faults f g → ((collection : List ℕ) → PhrasesOver s collection → ShowIsNotBad r) → IfErr r (PartStops (PhraseMayStop s t))
 line_part s t f g (Ok value) cause sound = tt
 line_part s t f g (Err error) cause sound = line_stops s t f g error cause sound
-
-pub stops_show : (s t : PhraseState) (I O : Type 0) (input : Option (List ℕ)) (error : ServeErr) → EndsFor I O (ForSome input (λ given. is_too_much input_limit given ≡ true)) (PhraseMayStop s t) error →
-    Stops (Rose s.faults t.faults) I O ⊥ ((collection : List ℕ) → PhrasesOver s collection → ⊥) input (fault_of_serve error)
-stops_show s t I O input serve.Read e = e
-stops_show s t I O input serve.TooMuch e = e
-stops_show s t I O input (serve.Show show.Write) e = e
-stops_show s t I O input (serve.Show show.Memory) e = tt
-stops_show s t I O input (serve.Show (show.Part Device)) e = e
-stops_show s t I O input (serve.Show (show.Part Memory)) e = tt
-stops_show s t I O input (serve.Show (show.Part (Bad bad))) e = e
-
--- ---- what is read before the first line
-
-pub pages_from : (code now_code : TextCode) (collection given : List ℕ) (r0 r1 r2 : Reads) → now_code ≡ code → r1 part.Post ≡ r0 part.Post → r1 part.Text ≡ r0 part.Text → ReadsPhrases now_code collection given r1 r2 → ReadsPhrases code collection given r0 r2
-pages_from code now_code collection given r0 r1 r2 same post text within =
-    let w = subst (λ c. ReadsPhrases c collection given r1 r2) same within in
-    record { post = omega (arith, w.post, post); text = omega (arith, w.text, text) }
-
-pub no_pages_within : (code : TextCode) (collection given : List ℕ) (r0 r1 : Reads) → r1 part.Post ≡ r0 part.Post → r1 part.Text ≡ r0 part.Text → ReadsPhrases code collection given r0 r1
-no_pages_within code collection given r0 r1 post text = record { post = omega (arith, post); text = omega (arith, text) }
 
 -- a document that was written where nothing was held is what is held
 pub held_is : (before now doc : List ℕ) (r : Result (Unit {0}) ShowErr) → before ≡ [] → AfterPut (Some before) (Some now) doc r → OnOk r (now ≡ doc)

@@ -47,23 +47,6 @@ lists_reads f g r s m n files later reads = record {
 pub decoded_post : (f g : Option Files) (r s : Reads) (m n : ℕ) → LookedAt part.Text part.Places f g r s m n → s part.Post ≡ r part.Post
 decoded_post f g r s m n looked = looked.others part.Post refl refl
 
--- ---- what is read while a set is opened: the models of its text
-
-models_read : (f g : Option Files) (r s : Reads) (m n : ℕ) → LookedAt part.Words part.Nonwords f g r s m n → (p : Part) → 3 ≤ number p → s p ≡ r p
-models_read f g r s m n looked p high = looked.others p (other (number p) high 1 (omega arith)) (other (number p) high 2 (omega arith))
-  where
-    other : (k : ℕ) → 3 ≤ k → (q : ℕ) → q ≤ 2 → (k == q) ≡ false
-    other k h q low = grind (arith, nat_tests)
-
-pub opened_unread : (f g : Option Files) (q r s : Reads) (m n : ℕ) → SameReads q r → LookedAt part.Words part.Nonwords f g r s m n → (p : Part) → NeverRead p → s p ≡ q p
-opened_unread f g q r s m n same looked p never = models_read f g r s m n looked p (omega (arith, never_early p never)) ∙ same p
-
-pub opened_post : (f g : Option Files) (q r s : Reads) (m n : ℕ) → SameReads q r → LookedAt part.Words part.Nonwords f g r s m n → s part.Post ≡ q part.Post
-opened_post f g q r s m n same looked = models_read f g r s m n looked part.Post (omega arith) ∙ same part.Post
-
-pub opened_text : (f g : Option Files) (q r s : Reads) (m n : ℕ) → SameReads q r → LookedAt part.Words part.Nonwords f g r s m n → s part.Text ≡ q part.Text
-opened_text f g q r s m n same looked = models_read f g r s m n looked part.Text (omega arith) ∙ same part.Text
-
 -- ---- what is opened of a set
 
 pub parts_over : (base : List ℕ) (files then now : Option Files) (head : Head) (code : TextCode) (collection : List ℕ) (lex : Fronted) (text : TextReading) → then ≡ files → now ≡ then → StandsBy head code files base collection → LexStands lex then collection → TextStands text now collection →

@@ -1,52 +1,111 @@
 -- What a session of phrases answered is what the run did.
-use Rattle.std.proofs.Common.{◌≡◌, ◌∙◌, ℕ, false, List, [], Err, IsSome, sym, subst}
-use Rattle.std.specs.Prelude.{Result, OnOk, IfErr}
-use Rattle.std.specs.Option.{ForSome}
-use Rattle.mg_dev.specs.Files.{bytes_at}
-use Rattle.mg_dev.specs.Names.{full_name}
-use Rattle.mg_dev.specs.Streams.{appended, GrewByPrefix}
+use Rattle.std.proofs.Common.{arith, ◌≡◌, ◌∙◌, ◌++◌, ℕ, List, Some, Ok, Err, Option, refl, subst, sym}
+use Rattle.std.specs.Prelude.{Result}
+use Rattle.mg_dev.specs.Files.{Files, Reads}
+use Rattle.mg_dev.specs.Moments.{SinkAt, SourceAt, StoreAt}
+use Rattle.mg_dev.specs.Runs.{Run, status_of}
+use Rattle.mg_dev.specs.declared.fault.Fault.{Fault}
 use Rattle.mg_dev.specs.declared.part.Part.{Part}
 use Rattle.mg_dev.specs.declared.part.Part.TheVariants as part
-use Rattle.mg_dev.specs.declared.fault.Fault.{Fault}
-use Rattle.mg_dev.specs.declared.fault.Fault.TheVariants.{NotBuilt}
-use Rattle.mg_dev.specs.declared.status.Status.{Status}
 use Rattle.mg_defs.specs.CodedText.{TextCode}
-use Rattle.mg_defs.specs.InputLimit.{is_too_much}
-use Rattle.mg_defs.specs.Limits.{input_limit}
-use Rattle.mg_defs.specs.PhraseSession.{phrase_session}
-use Rattle.mg_layout.specs.Stands.{Stands, StandsBy}
+use Rattle.mg_defs.specs.PhraseSession.{phrase_reply, phrase_session}
+use Rattle.mg_defs.specs.Session.{Question, heard_questions, heard_session}
+use Rattle.mg_defs.specs.declared.session.Hearing.TheVariants.{Questions}
+use Rattle.mg_laws.proofs.PlainLaws.{plain_heard}
 use Rattle.mg_layout.specs.declared.head.Head.{Head}
-use Rattle.mg_reply.specs.Served.{LeftEnough}
+use Rattle.mg_session.specs.Opening.{HeadOpened, KeptByPhrases, SetOpened}
 use Rattle.mg_session.specs.Parts.{NeverRead}
 use Rattle.mg_session.specs.PhraseAnswers.{ReadsPhrases}
-use Rattle.mg_session.specs.Serves.{StopsFor}
-use Rattle.mg_dev.specs.Runs.{IfStopped, InputFailed, OutputFailed, RefusedFor, Run, StoreFailed, status_of}
+use Rattle.mg_session.specs.PhraseSearching.{PartsOverBy, PhraseMayStop, PhraseState, PhrasesAsked, PhrasesBy}
 use Rattle.mg_session.specs.Phrased.{Phrased}
-use Rattle.mg_dev.proofs.CallerLemmas.{when_ok, err_by, stopped_by, unless_by}
-use Rattle.mg_session.proofs.QueriedLaws.{done_or}
+use Rattle.mg_session.specs.Served.{LinesServed}
+use Rattle.mg_session.specs.Serves.{CountsNone}
+use Rattle.mg_session.proofs.PhraseReplyLaws.{phrases_over, phrases_within}
+use Rattle.mg_session.proofs.ServedLaws.{Kind, NoPages, ServedAs, done_or, head_stopped, lines_served, run_of, set_stopped}
+use Rattle.mg_session.proofs.StepLaws.{never_early}
 
-module _ (base : List ℕ) (run : Run) (r : Result (Unit {0}) Fault) (is : run.status ≡ status_of r)
-    (all : (collection : List ℕ) → Stands run.store.files base collection → ForSome run.input.left (λ given. OnOk r (run.out_now.written ≡ appended run.out.written (phrase_session collection given))))
-    (prefix : (collection : List ℕ) → Stands run.store.files base collection → ForSome run.input.left (λ given. GrewByPrefix run.out.written run.out_now.written (phrase_session collection given)))
-    (left : ForSome run.input.left (λ given. OnOk r (LeftEnough given run.input_now.left)))
-    (within : ForSome run.input.left (λ given. OnOk r (is_too_much input_limit given ≡ false)))
-    (pages : (head : Head) (code : TextCode) (collection : List ℕ) → StandsBy head code run.store.files base collection → ForSome run.input.left (λ given. ReadsPhrases code collection given run.store.reads run.store_now.reads))
-    (unread : (p : Part) → NeverRead p → run.store_now.reads p ≡ run.store.reads p)
-    (files : run.store_now.files ≡ run.store.files)
-    (cause : IfErr r (StopsFor base (StoreFailed run) (InputFailed run) (OutputFailed run) run.store.files run.input.left))
-    (silent : r ≡ Err NotBuilt → run.out_now.written ≡ run.out.written)
-    (not_built : IsSome run.store.files → bytes_at run.store.files (full_name base part.Head) ≡ [] → RefusedFor r NotBuilt) where
-  pub phrased_by : Phrased base run
-  phrased_by = record {
-    done = λ collection given stands some end. when_ok _ r (sym is ∙ end) (all collection stands given some);
-    left = λ given some end. when_ok _ r (sym is ∙ end) (left given some);
-    within = λ given some end. when_ok _ r (sym is ∙ end) (within given some);
-    prefix = λ collection given stands some. prefix collection stands given some;
-    silent = λ end. silent (err_by r _ (sym is ∙ end));
-    cause = subst (λ (s : Status). IfStopped s (StopsFor base (StoreFailed run) (InputFailed run) (OutputFailed run) run.store.files run.input.left)) (sym is) (stopped_by _ r cause);
-    not_built = λ told none. unless_by run r _ is (not_built told none);
-    complete = λ collection given stands some short no_store no_input no_output. done_or base collection given run r is cause stands some short no_store no_input no_output;
-    files = files;
-    pages = λ head code collection given stands some. pages head code collection stands given some;
-    unread = unread;
-  }
+-- ---- the kind
+
+pub text_is : (collection given : List ℕ) → phrase_session collection given ≡ heard_session Questions (λ now. phrase_reply collection) given
+unfolding phrase_session
+text_is collection given = plain_heard (phrase_reply collection) given
+
+pub within_none : (code : TextCode) (collection given : List ℕ) (r0 r1 : Reads) → NoPages r0 r1 → ReadsPhrases code collection given r0 r1
+within_none code collection given r0 r1 none = record { post = omega (arith, none.0); text = omega (arith, none.2) }
+
+pub within_from : (code : TextCode) (collection given : List ℕ) (r0 r1 r2 : Reads) → NoPages r0 r1 → ReadsPhrases code collection given r1 r2 → ReadsPhrases code collection given r0 r2
+within_from code collection given r0 r1 r2 none w = record { post = omega (arith, w.post, none.0); text = omega (arith, w.text, none.2) }
+
+pub kept : (p : Part) → NeverRead p → KeptByPhrases p
+kept part.Head never = absurd never
+kept part.Words never = absurd never
+kept part.Nonwords never = absurd never
+kept part.Text never = absurd never
+kept part.Places never = absurd never
+kept part.Lex never = absurd never
+kept part.LexAt never = absurd never
+kept part.Post never = absurd never
+kept part.Skip never = absurd never
+kept part.Weights never = absurd never
+kept part.Run never = tt
+kept part.MergeA never = tt
+kept part.MergeB never = tt
+kept part.Plain never = tt
+
+pub within : (s t : PhraseState) (qs : List Question) (code : TextCode) (collection given : List ℕ) → PhrasesAsked s t qs → (more : List Question) × (heard_questions Questions given ≡ qs ++ more) →
+    PartsOverBy s.files s.parts code collection → ReadsPhrases code collection given s.reads t.reads
+within s t qs code collection given a first over =
+    subst (λ (c : TextCode). ReadsPhrases c collection given s.reads t.reads) over.1 (phrases_within s t qs collection given a first over.0)
+
+abbrev pub phrases : Kind
+phrases = record {
+  text = phrase_session;
+  IsWithin = ReadsPhrases;
+  IsUnread = NeverRead;
+  IsCounted = CountsNone;
+  IsKept = KeptByPhrases;
+  hearing = Questions;
+  State = PhraseState;
+  at = λ (s : PhraseState). record { files = s.files; reads = s.reads; faults = s.faults };
+  Answers = PhrasesBy;
+  After = PhrasesAsked;
+  MayStop = PhraseMayStop;
+  IsOver = λ (s : PhraseState). PartsOverBy s.files s.parts;
+  reply = λ collection now. phrase_reply collection;
+  behind_head = λ p never. omega (arith, never_early p never);
+  never_opened = kept;
+  lists_kept = (tt, tt, tt);
+  within_none = within_none;
+  within_from = within_from;
+  answers = λ s code collection over. phrases_over s collection over.0;
+  text_is = text_is;
+  files = λ s t qs a. a.step.files;
+  unread = λ s t qs a p never. a.step.unread p never;
+  within = within;
+  device = λ s t rose. rose;
+  bad = λ s t b may code collection over. may collection over.0;
+}
+
+-- ---- its run
+
+phrased_as : (base : List ℕ) (run : Run) (r : Result (Unit {0}) Fault) → run.status ≡ status_of r → ServedAs phrases base run → Phrased base run
+phrased_as base run r is served = record {
+  served = served;
+  complete = λ collection given stands some short no_store no_input no_output.
+      done_or CountsNone base collection given run r is served.cause stands (λ n counted. counted) some short no_store no_input no_output;
+}
+
+pub no_head : (base : List ℕ) (s0 s1 : StoreAt) (i : SourceAt) (o e e1 : SinkAt) (f : Fault) → HeadOpened base s0 s1 (Err f) → Phrased base (run_of s0 s1 i i o o e e1 (Err f))
+no_head base s0 s1 i o e e1 f h = phrased_as base (run_of s0 s1 i i o o e e1 (Err f)) (Err f) refl (head_stopped phrases base s0 s1 i o e e1 f h)
+
+pub no_set : (base : List ℕ) (s0 s1 s2 : StoreAt) (i : SourceAt) (o e e1 : SinkAt) (head : Head) (f : Fault) → HeadOpened base s0 s1 (Ok head) →
+    SetOpened (PartsOverBy s2.files) KeptByPhrases (λ count. ⊥) head base s1 s2 (Err f) → Phrased base (run_of s0 s2 i i o o e e1 (Err f))
+no_set base s0 s1 s2 i o e e1 head f h set =
+    phrased_as base (run_of s0 s2 i i o o e e1 (Err f)) (Err f) refl (set_stopped phrases (PartsOverBy s2.files) (λ count. ⊥) base s0 s1 s2 i o e e1 head f h set (λ n never. absurd never))
+
+pub phrased : (base : List ℕ) (s0 s1 : StoreAt) (old new : PhraseState) (i i1 : SourceAt) (o o1 e e1 : SinkAt) (head : Head) (r : Result (Unit {0}) Fault) → HeadOpened base s0 s1 (Ok head) →
+    SetOpened (PartsOverBy old.files) KeptByPhrases (λ count. ⊥) head base s1 (phrases.at old) (Ok old.parts) → LinesServed Questions PhrasesBy PhrasesAsked PhraseMayStop old new i i1 o o1 r →
+    Phrased base (run_of s0 (phrases.at new) i i1 o o1 e e1 r)
+phrased base s0 s1 old new i i1 o o1 e e1 head r h set lines =
+    phrased_as base (run_of s0 (phrases.at new) i i1 o o1 e e1 r) r refl
+    (lines_served phrases (PartsOverBy old.files) (λ count. ⊥) base s0 s1 old new i i1 o o1 e e1 head old.parts r h set (λ code collection over. over) lines)

@@ -1,88 +1,93 @@
--- What a session answered is what the run did.
-use Rattle.std.proofs.Common.{◌≡◌, ◌∙◌, ◌⊎◌, ℕ, true, false, List, [], Some, Ok, Err, IsSome, Option, refl, sym, ap, subst, inl, inr}
-use Rattle.std.specs.Prelude.{Result, OnOk, IfErr}
-use Rattle.std.specs.Option.{ForSome}
-use Rattle.mg_dev.specs.Files.{Files, bytes_at}
-use Rattle.mg_dev.specs.Names.{full_name}
-use Rattle.mg_dev.specs.Streams.{appended, GrewByPrefix}
-use Rattle.mg_dev.specs.declared.part.Part.{Part}
-use Rattle.mg_dev.specs.declared.part.Part.TheVariants as part
+-- What a session of queries answered is what the run did.
+use Rattle.std.proofs.Common.{arith, ◌≡◌, ◌∙◌, ℕ, true, List, Some, Ok, Err, Option, refl}
+use Rattle.std.specs.Prelude.{Result}
+use Rattle.mg_dev.specs.Files.{Files, Reads}
+use Rattle.mg_dev.specs.Moments.{SinkAt, SourceAt, StoreAt, store_at}
+use Rattle.mg_dev.specs.Runs.{Run, status_of}
 use Rattle.mg_dev.specs.declared.fault.Fault.{Fault}
-use Rattle.mg_dev.specs.declared.fault.Fault.TheVariants.{Usage, StoreFault, ReadFault, WriteFault, NotBuilt, Damaged, NoCollection, TooLarge, TooManyDocuments, TooManyPieces, Changed, Memory, NameClash, InputTooLong, SameName, TooManyRotations}
-use Rattle.mg_dev.specs.declared.status.Status.{Status}
-use Rattle.mg_dev.specs.declared.status.Status.TheVariants.{Done, Stopped}
+use Rattle.mg_dev.specs.declared.part.Part.{Part}
 use Rattle.mg_defs.specs.CodedText.{TextCode}
-use Rattle.mg_defs.specs.InputLimit.{is_too_much}
-use Rattle.mg_defs.specs.Limits.{input_limit}
-use Rattle.mg_defs.specs.Replies.{session}
-use Rattle.mg_defs.specs.Session.{questions_of}
-use Rattle.mg_layout.specs.Stands.{Stands, StandsBy}
+use Rattle.mg_defs.specs.Replies.{reply, session}
+use Rattle.mg_defs.specs.Session.{heard_session, questions_of}
+use Rattle.mg_defs.specs.declared.session.Hearing.TheVariants.{Commands}
 use Rattle.mg_layout.specs.declared.head.Head.{Head}
-use Rattle.mg_reply.specs.Served.{LeftEnough}
+use Rattle.mg_session.specs.Opening.{HeadOpened, KeptByQueries, SetOpened}
 use Rattle.mg_session.specs.Parts.{NeverRead, is_of_text}
-use Rattle.mg_session.specs.Searching.{AskForNoText}
-use Rattle.mg_session.specs.Serves.{ReadsWithin, StopsFor}
-use Rattle.mg_dev.specs.Runs.{IfStopped, InputFailed, OutputFailed, RefusedFor, Run, Stops, StoreFailed, status_of}
 use Rattle.mg_session.specs.Queried.{Queried}
-use Rattle.mg_layout.proofs.CallerLemmas.{head_there}
-use Rattle.mg_dev.proofs.CallerLemmas.{when_ok, err_by, stopped_by, unless_by}
+use Rattle.mg_session.specs.Searching.{AnswersBy, AskForNoText, Asked, MayStop, Opened, OpenedOver, Over, Searching, state_of}
+use Rattle.mg_session.specs.Served.{LinesServed}
+use Rattle.mg_session.specs.Serves.{CountsNone, ReadsWithin}
+use Rattle.mg_session.proofs.ServedLaws.{Kind, NoPages, ServedAs, done_or, head_stopped, lines_served, run_of, set_stopped}
+use Rattle.mg_session.proofs.SessionLaws.{answers_over, first_ask_none, pages_within}
+use Rattle.mg_session.proofs.StepLaws.{never_early, text_behind}
 
-true_is_not_false : true ≡ false → ⊥
-true_is_not_false e = cc
+-- ---- the kind
 
--- where nothing stands in a session's way and no device failed, want of memory is the only refusal
-only_memory : (store_rose input_rose output_rose : Type 0) (files : Option Files) (base collection given : List ℕ) (left : Option (List ℕ)) (fault : Fault) →
-    StopsFor base store_rose input_rose output_rose files left fault → Stands files base collection → left ≡ Some given → is_too_much input_limit given ≡ false →
-    ¬ store_rose → ¬ input_rose → ¬ output_rose → fault ≡ Memory
-only_memory s i o files base collection given left Usage cause stands is short no_store no_input no_output = absurd cause
-only_memory s i o files base collection given left StoreFault cause stands is short no_store no_input no_output = absurd (no_store cause)
-only_memory s i o files base collection given left ReadFault cause stands is short no_store no_input no_output = absurd (no_input cause)
-only_memory s i o files base collection given left WriteFault cause stands is short no_store no_input no_output = absurd (no_output cause)
-only_memory s i o files base collection given left NotBuilt cause stands is short no_store no_input no_output = absurd (head_there files base collection stands (cause stands.told))
-only_memory s i o files base collection given left (Damaged bad) cause stands is short no_store no_input no_output = absurd (cause collection stands)
-only_memory s i o files base collection given left NoCollection cause stands is short no_store no_input no_output = absurd cause
-only_memory s i o files base collection given left (TooLarge size most) cause stands is short no_store no_input no_output = absurd cause
-only_memory s i o files base collection given left TooManyDocuments cause stands is short no_store no_input no_output = absurd cause
-only_memory s i o files base collection given left (TooManyPieces stream) cause stands is short no_store no_input no_output = absurd cause
-only_memory s i o files base collection given left (Changed what first second) cause stands is short no_store no_input no_output = absurd cause
-only_memory s i o files base collection given left Memory cause stands is short no_store no_input no_output = refl
-only_memory s i o files base collection given left (NameClash p) cause stands is short no_store no_input no_output = absurd cause
-only_memory s i o files base collection given left InputTooLong cause stands is short no_store no_input no_output = absurd (true_is_not_false (sym (cause given is) ∙ short))
-only_memory s i o files base collection given left SameName cause stands is short no_store no_input no_output = absurd cause
-only_memory s i o files base collection given left (TooManyRotations count) cause stands is short no_store no_input no_output = absurd cause
+pub text_is : (collection given : List ℕ) → session collection given ≡ heard_session Commands (reply collection) given
+unfolding session
+text_is collection given = refl
 
-pub done_or : (base collection given : List ℕ) (run : Run) (r : Result (Unit {0}) Fault) → run.status ≡ status_of r
-    → IfErr r (StopsFor base (StoreFailed run) (InputFailed run) (OutputFailed run) run.store.files run.input.left)
-    → Stands run.store.files base collection → run.input.left ≡ Some given → is_too_much input_limit given ≡ false
-    → ¬ StoreFailed run → ¬ InputFailed run → ¬ OutputFailed run → (run.status ≡ Done) ⊎ Stops run Memory
-done_or base collection given run (Ok u) is cause stands told short no_store no_input no_output = inl is
-done_or base collection given run (Err f) is cause stands told short no_store no_input no_output =
-    inr (is ∙ ap Stopped (only_memory _ _ _ _ base collection given _ f cause stands told short no_store no_input no_output))
+pub within_none : (code : TextCode) (collection given : List ℕ) (r0 r1 : Reads) → NoPages r0 r1 → ReadsWithin code collection given r0 r1
+within_none code collection given r0 r1 none = record { post = omega (arith, none.0); text = omega (arith, none.2) }
 
-module _ (base : List ℕ) (run : Run) (r : Result (Unit {0}) Fault) (is : run.status ≡ status_of r)
-    (all : (collection : List ℕ) → Stands run.store.files base collection → ForSome run.input.left (λ given. OnOk r (run.out_now.written ≡ appended run.out.written (session collection given))))
-    (prefix : (collection : List ℕ) → Stands run.store.files base collection → ForSome run.input.left (λ given. GrewByPrefix run.out.written run.out_now.written (session collection given)))
-    (left : ForSome run.input.left (λ given. OnOk r (LeftEnough given run.input_now.left)))
-    (within : ForSome run.input.left (λ given. OnOk r (is_too_much input_limit given ≡ false)))
-    (pages : (head : Head) (code : TextCode) (collection : List ℕ) → StandsBy head code run.store.files base collection → ForSome run.input.left (λ given. ReadsWithin code collection given run.store.reads run.store_now.reads))
-    (unread : (p : Part) → NeverRead p → run.store_now.reads p ≡ run.store.reads p)
-    (texts_unread : ForSome run.input.left (λ given. AskForNoText (questions_of given) → (p : Part) → is_of_text p ≡ true → run.store_now.reads p ≡ run.store.reads p))
-    (files : run.store_now.files ≡ run.store.files)
-    (cause : IfErr r (StopsFor base (StoreFailed run) (InputFailed run) (OutputFailed run) run.store.files run.input.left))
-    (silent : r ≡ Err NotBuilt → run.out_now.written ≡ run.out.written)
-    (not_built : IsSome run.store.files → bytes_at run.store.files (full_name base part.Head) ≡ [] → RefusedFor r NotBuilt) where
-  pub queried_by : Queried base run
-  queried_by = record {
-    done = λ collection given stands some end. when_ok _ r (sym is ∙ end) (all collection stands given some);
-    left = λ given some end. when_ok _ r (sym is ∙ end) (left given some);
-    within = λ given some end. when_ok _ r (sym is ∙ end) (within given some);
-    prefix = λ collection given stands some. prefix collection stands given some;
-    silent = λ end. silent (err_by r _ (sym is ∙ end));
-    cause = subst (λ (s : Status). IfStopped s (StopsFor base (StoreFailed run) (InputFailed run) (OutputFailed run) run.store.files run.input.left)) (sym is) (stopped_by _ r cause);
-    not_built = λ told none. unless_by run r _ is (not_built told none);
-    complete = λ collection given stands some short no_store no_input no_output. done_or base collection given run r is cause stands some short no_store no_input no_output;
-    files = files;
-    pages = λ head code collection given stands some. pages head code collection stands given some;
-    unread = unread;
-    texts_unread = λ given some. texts_unread given some;
-  }
+pub within_from : (code : TextCode) (collection given : List ℕ) (r0 r1 r2 : Reads) → NoPages r0 r1 → ReadsWithin code collection given r1 r2 → ReadsWithin code collection given r0 r2
+within_from code collection given r0 r1 r2 none w = record { post = omega (arith, w.post, none.0); text = omega (arith, w.text, none.2) }
+
+abbrev pub queries : Kind
+queries = record {
+  text = session;
+  IsWithin = ReadsWithin;
+  IsUnread = NeverRead;
+  IsCounted = CountsNone;
+  IsKept = KeptByQueries;
+  hearing = Commands;
+  State = Searching;
+  at = λ (s : Searching). record { files = s.files; reads = s.reads; faults = s.faults };
+  Answers = AnswersBy;
+  After = Asked;
+  MayStop = MayStop;
+  IsOver = Over;
+  reply = reply;
+  behind_head = λ p never. omega (arith, never_early p never);
+  never_opened = λ p never. tt;
+  lists_kept = (tt, tt, tt);
+  within_none = within_none;
+  within_from = within_from;
+  answers = answers_over;
+  text_is = text_is;
+  files = λ s t qs a. a.files;
+  unread = λ s t qs a p never. a.unread p never;
+  within = λ s t qs code collection given a first over. pages_within s t qs code collection given a first over;
+  device = λ s t rose. rose;
+  bad = λ s t b may. may;
+}
+
+-- ---- its run
+
+queried_as : (base : List ℕ) (run : Run) (r : Result (Unit {0}) Fault) → run.status ≡ status_of r → ServedAs queries base run →
+    ((given : List ℕ) → run.input.left ≡ Some given → AskForNoText (questions_of given) → (p : Part) → is_of_text p ≡ true → run.store_now.reads p ≡ run.store.reads p) → Queried base run
+queried_as base run r is served texts_unread = record {
+  served = served;
+  complete = λ collection given stands some short no_store no_input no_output.
+      done_or CountsNone base collection given run r is served.cause stands (λ n counted. counted) some short no_store no_input no_output;
+  texts_unread = texts_unread;
+}
+
+pub no_head : (base : List ℕ) (s0 s1 : StoreAt) (i : SourceAt) (o e e1 : SinkAt) (f : Fault) → HeadOpened base s0 s1 (Err f) → Queried base (run_of s0 s1 i i o o e e1 (Err f))
+no_head base s0 s1 i o e e1 f h =
+    queried_as base (run_of s0 s1 i i o o e e1 (Err f)) (Err f) refl (head_stopped queries base s0 s1 i o e e1 f h) (λ given some asks p of_text. h.unread p (text_behind p of_text))
+
+pub no_set : (base : List ℕ) (s0 s1 s2 : StoreAt) (i : SourceAt) (o e e1 : SinkAt) (head : Head) (f : Fault) → HeadOpened base s0 s1 (Ok head) →
+    SetOpened (OpenedOver s2.files) KeptByQueries (λ count. ⊥) head base s1 s2 (Err f) → Queried base (run_of s0 s2 i i o o e e1 (Err f))
+no_set base s0 s1 s2 i o e e1 head f h set =
+    queried_as base (run_of s0 s2 i i o o e e1 (Err f)) (Err f) refl (set_stopped queries (OpenedOver s2.files) (λ count. ⊥) base s0 s1 s2 i o e e1 head f h set (λ n never. absurd never))
+    (λ given some asks p of_text. set.unread p tt ∙ h.unread p (text_behind p of_text))
+
+pub queried : (base : List ℕ) (s0 s1 : StoreAt) (old new : Searching) (i i1 : SourceAt) (o o1 e e1 : SinkAt) (head : Head) (r : Result (Unit {0}) Fault) → HeadOpened base s0 s1 (Ok head) →
+    SetOpened (OpenedOver old.files) KeptByQueries (λ count. ⊥) head base s1 (queries.at old) (Ok old.opened) → LinesServed Commands AnswersBy Asked MayStop old new i i1 o o1 r →
+    Queried base (run_of s0 (queries.at new) i i1 o o1 e e1 r)
+queried base s0 s1 old new i i1 o o1 e e1 head r h set lines =
+    queried_as base (run_of s0 (queries.at new) i i1 o o1 e e1 r) r refl
+    (lines_served queries (OpenedOver old.files) (λ count. ⊥) base s0 s1 old new i i1 o o1 e e1 head old.opened r h set (λ code collection over. over) lines)
+    (λ given some asks p of_text.
+    first_ask_none old new lines.answered.answered given lines.answered.after (lines.answered.first given some) asks p of_text ∙ set.unread p tt ∙ h.unread p (text_behind p of_text))

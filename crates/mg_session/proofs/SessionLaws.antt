@@ -27,14 +27,6 @@ use Rattle.mg_session.specs.Serves.{ReadsWithin, Stops}
 pub answers_over : (s : Searching) (code : TextCode) (collection : List ℕ) → Over s code collection → AnswersBy s (reply collection)
 answers_over s code collection over = record { code = code; collection = collection; over = over; by_is = refl }
 
-pub session_all : (collection given : List ℕ) (old new : Option (List ℕ)) → new ≡ appended old (session_of (reply collection) given) → new ≡ appended old (session collection given)
-unfolding session
-session_all collection given old new is = is
-
-pub session_prefix : (collection given : List ℕ) (old new : Option (List ℕ)) → GrewByPrefix old new (session_of (reply collection) given) → GrewByPrefix old new (session collection given)
-unfolding session
-session_prefix collection given old new grew = grew
-
 -- the first of the queries of an input
 pub pages_within : (s t : Searching) (answered : List Question) (code : TextCode) (collection given : List ℕ) → Asked s t answered → (more : List Question) × (questions_of given ≡ answered ++ more) → Over s code collection → ReadsWithin code collection given s.reads t.reads
 unfolding session_bound session_text_bound
@@ -46,13 +38,3 @@ pages_within s t answered code collection given a first over = record {
 -- where no query line of an input asks for texts, none of the first of them does
 pub first_ask_none : (s t : Searching) (answered : List Question) (given : List ℕ) → Asked s t answered → (more : List Question) × (questions_of given ≡ answered ++ more) → AskForNoText (questions_of given) → (p : Part) → is_of_text p ≡ true → t.reads p ≡ s.reads p
 first_ask_none s t answered given a first none p of_text = a.texts_unread (ask_before answered first.0 (subst AskForNoText first.1 none)) p of_text
-
-pub stops_show : (s t : Searching) (I O : Type 0) (input : Option (List ℕ)) (error : ServeErr) → EndsFor I O (ForSome input (λ given. is_too_much input_limit given ≡ true)) (MayStop s t) error →
-    Stops (Rose s.faults t.faults) I O ⊥ ((code : TextCode) (collection : List ℕ) → Over s code collection → ⊥) input (fault_of_serve error)
-stops_show s t I O input serve.Read e = e
-stops_show s t I O input serve.TooMuch e = e
-stops_show s t I O input (serve.Show show.Write) e = e
-stops_show s t I O input (serve.Show show.Memory) e = tt
-stops_show s t I O input (serve.Show (show.Part Device)) e = e
-stops_show s t I O input (serve.Show (show.Part Memory)) e = tt
-stops_show s t I O input (serve.Show (show.Part (Bad bad))) e = e

@@ -1,55 +1,33 @@
 -- Why a session stops, by what the calls that it makes answer.
-use Rattle.std.proofs.Common.{arith, ◌+◌, ◌-◌, ◌^◌, min, max, ◌≡◌, ◌≤◌, ◌==◌, ◌⊎◌, inl, inr, ℕ, true, false, cond, List, [], Option, Some, None, Ok, Err, IsSome, sym, ◌∙◌, ap, subst}
-use Rattle.std.specs.Prelude.{IfErr}
+use Rattle.std.proofs.Common.{arith, ◌+◌, ◌-◌, ◌^◌, min, max, ◌≡◌, ◌≤◌, ◌==◌, ◌⊎◌, inl, inr, ℕ, true, false, cond, List, Option, Some, Err, IsSome, refl, sym, ◌∙◌, ap}
 use Rattle.std.proofs.lemmas.Bool.Decides.{nat_tests}
-use Rattle.std.specs.declared.result.Result.{Result}
 use Rattle.mg_dev.specs.Causes.{Rose}
 use Rattle.mg_dev.specs.Faults.{fault_of_part}
-use Rattle.mg_dev.specs.Files.{Files, OneRead, Reads, SameReads, bytes_at, with_read}
-use Rattle.mg_dev.specs.Names.{full_name, number}
+use Rattle.mg_dev.specs.Files.{Files, OneRead, Reads, SameReads, with_read}
+use Rattle.mg_dev.specs.Names.{number}
 use Rattle.mg_dev.specs.PartCauses.{HasPartCause}
+use Rattle.mg_dev.specs.declared.bad.Bad.{Bad}
 use Rattle.mg_dev.specs.declared.fault.Fault.{Fault}
 use Rattle.mg_dev.specs.declared.fault.Fault.TheVariants as fault
 use Rattle.mg_dev.specs.declared.part.Part.{Part}
 use Rattle.mg_dev.specs.declared.part.Part.TheVariants as part
 use Rattle.mg_dev.specs.declared.part_err.PartErr.{PartErr}
-use Rattle.mg_dev.specs.declared.part_err.PartErr.TheVariants.{Device, Memory, Bad}
-use Rattle.mg_defs.specs.CodedText.{TextCode}
-use Rattle.mg_defs.specs.Heads as defs
-use Rattle.mg_defs.specs.Heads.{IsHead}
+use Rattle.mg_dev.specs.declared.part_err.PartErr.TheVariants as err
+use Rattle.mg_dev.specs.declared.show_err.ShowErr.TheVariants as show
+use Rattle.mg_defs.specs.InputLimit.{is_too_much}
 use Rattle.mg_front.specs.Reading.{IsNotBad}
-use Rattle.mg_layout.specs.HeadAnswers.{AnswersBack, AnswersHead, fields_of}
-use Rattle.mg_layout.specs.Stands.{Stands, StandsBy, StandsForNone}
-use Rattle.mg_layout.specs.declared.head.Head.{Head}
-use Rattle.mg_layout.proofs.CallerLemmas.{loaded_set, own_head}
-use Rattle.mg_session.specs.Parts.{NeverRead, is_of_text}
-use Rattle.mg_session.specs.Serves.{ReadsWithin, Stops, StopsFor}
-use Rattle.mg_session.proofs.StepLaws.{never_early, text_behind}
+use Rattle.mg_defs.specs.Limits.{input_limit}
+use Rattle.mg_layout.specs.Stands.{Stands}
+use Rattle.mg_layout.proofs.CallerLemmas.{head_there}
+use Rattle.mg_reply.specs.Printed.{IsTooLong}
+use Rattle.mg_reply.specs.Served.{EndsFor, fault_of_serve}
+use Rattle.mg_reply.specs.declared.serve.ServeErr.{ServeErr}
+use Rattle.mg_reply.specs.declared.serve.ServeErr.TheVariants as serve
+use Rattle.mg_session.specs.Opening.{OpenStops}
+use Rattle.mg_session.specs.Served.{LineStops}
+use Rattle.mg_session.specs.Serves.{IsFirst, ServeStops, Stops}
 
--- ---- heads
-
--- a head that was refused as bad is that of no set
-pub bad_head : (files : Option Files) (base : List ℕ) (refusal : PartErr) →
-    (IsSome files → (h : defs.Head) → IsHead 1 2 (bytes_at files (full_name base part.Head)) h → AnswersBack h (Err refusal)) → (before now : ℕ) (I O : Type 0) (input : Option (List ℕ)) → HasPartCause {T = Option Head} before now (Err refusal) →
-    StopsFor base (Rose before now) I O files input (fault_of_part refusal)
-bad_head files base Device back before now I O input cause = cause.device
-bad_head files base Memory back before now I O input cause = tt
-bad_head files base (Bad bad) back before now I O input cause = λ collection stands. back stands.told _ (own_head files base collection stands)
-
--- what was loaded, and the store after that
-pub some_head : (bytes : List ℕ) (loaded : Option Head) (head : Head) → loaded ≡ Some head → AnswersHead 1 2 bytes (Ok loaded) → IsHead 1 2 bytes (fields_of head)
-some_head bytes loaded head is answer = subst (λ o. AnswersHead 1 2 bytes (Ok o)) is answer
-
-pub no_head : (bytes : List ℕ) (loaded : Option Head) → loaded ≡ None → AnswersHead 1 2 bytes (Ok loaded) → bytes ≡ []
-no_head bytes loaded is answer = subst (λ o. AnswersHead 1 2 bytes (Ok o)) is answer
-
-pub stands_loaded : (files mid : Option Files) (base collection : List ℕ) (loaded : Option Head) (head : Head) → loaded ≡ Some head → mid ≡ files → (IsSome files → AnswersHead 1 2 (bytes_at files (full_name base part.Head)) (Ok loaded)) → Stands files base collection →
-    (code : TextCode) × StandsBy head code mid base collection
-stands_loaded files mid base collection loaded head is same answer stands =
-    let by = loaded_set files base collection head stands (some_head (bytes_at files (full_name base part.Head)) loaded head is (answer stands.told)) in
-    (by.0, subst (λ f. StandsBy head by.0 f base collection) (sym same) by.1)
-
--- ---- what is read before the first line
+-- ---- what is read of the head
 
 pub head_read : (r s : Reads) → SameReads r s ⊎ OneRead r s part.Head → (p : Part) → 1 ≤ number p → s p ≡ r p
 unfolding with_read
@@ -59,73 +37,104 @@ head_read r s (inr one) p high = one p ∙ ap (λ b. cond b (max (r p) (min (r p
     other : (n : ℕ) → 1 ≤ n → (n == 0) ≡ false
     other n h = grind (arith, nat_tests)
 
-pub head_unread : (r s : Reads) → SameReads r s ⊎ OneRead r s part.Head → (p : Part) → NeverRead p → s p ≡ r p
-head_unread r s read p never = head_read r s read p (omega (arith, never_early p never))
+-- ---- causes while a set is opened
 
-pub head_no_text : (r s : Reads) → SameReads r s ⊎ OneRead r s part.Head → (p : Part) → is_of_text p ≡ true → s p ≡ r p
-head_no_text r s read p of_text = head_read r s read p (text_behind p of_text)
+-- a part was refused
+pub open_part : {T : Type 0} (refusal : PartErr) (s0 s1 t : ℕ) (U D : Type 0) (C : ℕ → Type 0) → s0 ≤ s1 → HasPartCause {T = T} s1 t (Err refusal) → ((IsNotBad refusal → ⊥) → D) → OpenStops (Rose s0 t) U D C (fault_of_part refusal)
+open_part err.Device s0 s1 t U D C le cause bad = omega (arith, le, cause.device)
+open_part err.Memory s0 s1 t U D C le cause bad = tt
+open_part (err.Bad b) s0 s1 t U D C le cause bad = bad (λ d. d)
 
-pub within_from : (code : TextCode) (collection given : List ℕ) (r0 r1 r2 : Reads) → r1 part.Post ≡ r0 part.Post → r1 part.Text ≡ r0 part.Text → ReadsWithin code collection given r1 r2 → ReadsWithin code collection given r0 r2
-within_from code collection given r0 r1 r2 post text w = record { post = omega (arith, w.post, post); text = omega (arith, w.text, text) }
+-- what stops the opening stops the session
+pub open_stops : (f : Fault) (A B I O U V D E : Type 0) (C K : ℕ → Type 0) (input : Option (List ℕ)) → (A → B) → (U → V) → (D → E) → ((n : ℕ) → C n → K n) → OpenStops A U D C f → Stops B I O V E K input f
+open_stops fault.Usage A B I O U V D E C K input rose none bad counts stops = stops
+open_stops fault.StoreFault A B I O U V D E C K input rose none bad counts stops = rose stops
+open_stops fault.ReadFault A B I O U V D E C K input rose none bad counts stops = absurd stops
+open_stops fault.WriteFault A B I O U V D E C K input rose none bad counts stops = absurd stops
+open_stops fault.NotBuilt A B I O U V D E C K input rose none bad counts stops = none stops
+open_stops (fault.Damaged b) A B I O U V D E C K input rose none bad counts stops = bad stops
+open_stops fault.NoCollection A B I O U V D E C K input rose none bad counts stops = stops
+open_stops (fault.TooLarge size most) A B I O U V D E C K input rose none bad counts stops = stops
+open_stops fault.TooManyDocuments A B I O U V D E C K input rose none bad counts stops = stops
+open_stops (fault.TooManyPieces stream) A B I O U V D E C K input rose none bad counts stops = stops
+open_stops (fault.Changed what first second) A B I O U V D E C K input rose none bad counts stops = stops
+open_stops fault.Memory A B I O U V D E C K input rose none bad counts stops = tt
+open_stops (fault.NameClash p) A B I O U V D E C K input rose none bad counts stops = stops
+open_stops fault.InputTooLong A B I O U V D E C K input rose none bad counts stops = absurd stops
+open_stops fault.SameName A B I O U V D E C K input rose none bad counts stops = stops
+open_stops (fault.TooManyRotations count) A B I O U V D E C K input rose none bad counts stops = counts count stops
 
-pub nothing_within : (code : TextCode) (collection given : List ℕ) (r0 r1 : Reads) → r1 part.Post ≡ r0 part.Post → r1 part.Text ≡ r0 part.Text → ReadsWithin code collection given r0 r1
-nothing_within code collection given r0 r1 post text = record { post = omega (arith, post); text = omega (arith, text) }
+-- ---- causes while lines are answered
 
--- ---- causes
+pub ended : (error : ServeErr) (I O L : Type 0) (MayStop : PartErr → Type 0) → EndsFor I O L MayStop error → LineStops I O L MayStop (fault_of_serve error)
+ended serve.Read I O L MayStop e = e
+ended serve.TooMuch I O L MayStop e = e
+ended (serve.Show show.Write) I O L MayStop e = e
+ended (serve.Show show.Memory) I O L MayStop e = tt
+ended (serve.Show (show.Part err.Device)) I O L MayStop e = e
+ended (serve.Show (show.Part err.Memory)) I O L MayStop e = tt
+ended (serve.Show (show.Part (err.Bad b))) I O L MayStop e = e
 
--- a part was refused while the set was loaded
-pub load_stops : {T : Type 0} (refusal : PartErr) (s0 s1 t : ℕ) (I O D : Type 0) (input : Option (List ℕ)) → s0 ≤ s1 → HasPartCause {T = T} s1 t (Err refusal) → ((d : IsNotBad refusal → ⊥) → D) → Stops (Rose s0 t) I O ⊥ D input (fault_of_part refusal)
-load_stops Device s0 s1 t I O D input le cause bad = omega (arith, le, cause.device)
-load_stops Memory s0 s1 t I O D input le cause bad = tt
-load_stops (Bad b) s0 s1 t I O D input le cause bad = bad (λ d. d)
+-- what stops the lines stops the session
+pub line_stops : (f : Fault) (B I O V E : Type 0) (K : ℕ → Type 0) (MayStop : PartErr → Type 0) (input : Option (List ℕ)) → (MayStop err.Device → B) → ((b : Bad) → MayStop (err.Bad b) → E) → LineStops I O (IsTooLong input) MayStop f → Stops B I O V E K input f
+line_stops fault.Usage B I O V E K MayStop input rose bad stops = stops
+line_stops fault.StoreFault B I O V E K MayStop input rose bad stops = rose stops
+line_stops fault.ReadFault B I O V E K MayStop input rose bad stops = stops
+line_stops fault.WriteFault B I O V E K MayStop input rose bad stops = stops
+line_stops fault.NotBuilt B I O V E K MayStop input rose bad stops = absurd stops
+line_stops (fault.Damaged b) B I O V E K MayStop input rose bad stops = bad b stops
+line_stops fault.NoCollection B I O V E K MayStop input rose bad stops = stops
+line_stops (fault.TooLarge size most) B I O V E K MayStop input rose bad stops = stops
+line_stops fault.TooManyDocuments B I O V E K MayStop input rose bad stops = stops
+line_stops (fault.TooManyPieces stream) B I O V E K MayStop input rose bad stops = stops
+line_stops (fault.Changed what first second) B I O V E K MayStop input rose bad stops = stops
+line_stops fault.Memory B I O V E K MayStop input rose bad stops = tt
+line_stops (fault.NameClash p) B I O V E K MayStop input rose bad stops = stops
+line_stops fault.InputTooLong B I O V E K MayStop input rose bad stops = stops
+line_stops fault.SameName B I O V E K MayStop input rose bad stops = stops
+line_stops (fault.TooManyRotations count) B I O V E K MayStop input rose bad stops = absurd stops
 
-wider : (f : Fault) (A B I O D E : Type 0) (input : Option (List ℕ)) → (A → B) → (D → E) → Stops A I O ⊥ D input f → Stops B I O ⊥ E input f
-wider fault.Usage A B I O D E input rose bad stops = stops
-wider fault.StoreFault A B I O D E input rose bad stops = rose stops
-wider fault.ReadFault A B I O D E input rose bad stops = stops
-wider fault.WriteFault A B I O D E input rose bad stops = stops
-wider fault.NotBuilt A B I O D E input rose bad stops = stops
-wider (fault.Damaged b) A B I O D E input rose bad stops = bad stops
-wider fault.NoCollection A B I O D E input rose bad stops = stops
-wider (fault.TooLarge size most) A B I O D E input rose bad stops = stops
-wider fault.TooManyDocuments A B I O D E input rose bad stops = stops
-wider (fault.TooManyPieces stream) A B I O D E input rose bad stops = stops
-wider (fault.Changed what first second) A B I O D E input rose bad stops = stops
-wider fault.Memory A B I O D E input rose bad stops = tt
-wider (fault.NameClash p) A B I O D E input rose bad stops = stops
-wider fault.InputTooLong A B I O D E input rose bad stops = stops
-wider fault.SameName A B I O D E input rose bad stops = stops
-wider (fault.TooManyRotations count) A B I O D E input rose bad stops = stops
+-- and it is none of the first refusals
+pub line_later : (f : Fault) (I O L X : Type 0) (MayStop : PartErr → Type 0) → LineStops I O L MayStop f → IsFirst f → X
+line_later fault.Usage I O L X MayStop stops first = absurd first
+line_later fault.StoreFault I O L X MayStop stops first = absurd first
+line_later fault.ReadFault I O L X MayStop stops first = absurd first
+line_later fault.WriteFault I O L X MayStop stops first = absurd first
+line_later fault.NotBuilt I O L X MayStop stops first = absurd stops
+line_later (fault.Damaged b) I O L X MayStop stops first = absurd first
+line_later fault.NoCollection I O L X MayStop stops first = absurd first
+line_later (fault.TooLarge size most) I O L X MayStop stops first = absurd first
+line_later fault.TooManyDocuments I O L X MayStop stops first = absurd first
+line_later (fault.TooManyPieces stream) I O L X MayStop stops first = absurd first
+line_later (fault.Changed what first_count second) I O L X MayStop stops first = absurd first
+line_later fault.Memory I O L X MayStop stops first = absurd first
+line_later (fault.NameClash p) I O L X MayStop stops first = absurd first
+line_later fault.InputTooLong I O L X MayStop stops first = absurd first
+line_later fault.SameName I O L X MayStop stops first = absurd first
+line_later (fault.TooManyRotations count) I O L X MayStop stops first = absurd stops
 
-rose_before : (s0 s1 t : ℕ) → s0 ≤ s1 → Rose s1 t → Rose s0 t
-rose_before s0 s1 t le rose = omega (arith, le, rose)
+-- ---- what is left where nothing stands in the way
 
-pub stops_wider : (r : Result (Unit {0}) Fault) (s0 s1 t : ℕ) (I O D E : Type 0) (input : Option (List ℕ)) → s0 ≤ s1 → (D → E) → IfErr r (Stops (Rose s1 t) I O ⊥ D input) → IfErr r (Stops (Rose s0 t) I O ⊥ E input)
-stops_wider (Ok done) s0 s1 t I O D E input le bad stops = tt
-stops_wider (Err f) s0 s1 t I O D E input le bad stops = wider f (Rose s1 t) (Rose s0 t) I O D E input (rose_before s0 s1 t le) bad stops
+true_is_not_false : true ≡ false → ⊥
+true_is_not_false e = cc
 
-from_built : (f : Fault) (A I O U D : Type 0) (input : Option (List ℕ)) → Stops A I O ⊥ D input f → Stops A I O U D input f
-from_built fault.Usage A I O U D input stops = stops
-from_built fault.StoreFault A I O U D input stops = stops
-from_built fault.ReadFault A I O U D input stops = stops
-from_built fault.WriteFault A I O U D input stops = stops
-from_built fault.NotBuilt A I O U D input stops = absurd stops
-from_built (fault.Damaged b) A I O U D input stops = stops
-from_built fault.NoCollection A I O U D input stops = stops
-from_built (fault.TooLarge size most) A I O U D input stops = stops
-from_built fault.TooManyDocuments A I O U D input stops = stops
-from_built (fault.TooManyPieces stream) A I O U D input stops = stops
-from_built (fault.Changed what first second) A I O U D input stops = stops
-from_built fault.Memory A I O U D input stops = tt
-from_built (fault.NameClash p) A I O U D input stops = stops
-from_built fault.InputTooLong A I O U D input stops = stops
-from_built fault.SameName A I O U D input stops = stops
-from_built (fault.TooManyRotations count) A I O U D input stops = stops
-
-pub stops_for : (r : Result (Unit {0}) Fault) (s0 s1 t : ℕ) (I O D : Type 0) (files : Option Files) (base : List ℕ) (input : Option (List ℕ)) → s0 ≤ s1 → (D → StandsForNone files base) → IfErr r (Stops (Rose s1 t) I O ⊥ D input) → IfErr r (StopsFor base (Rose s0 t) I O files input)
-stops_for (Ok done) s0 s1 t I O D files base input le bad stops = tt
-stops_for (Err f) s0 s1 t I O D files base input le bad stops = from_built f (Rose s0 t) I O (IsSome files → bytes_at files (full_name base part.Head) ≡ []) (StandsForNone files base) input (wider f (Rose s1 t) (Rose s0 t) I O D (StandsForNone files base) input (rose_before s0 s1 t le) bad stops)
-
--- what stops once the head is there is no missing head
-pub is_built : (r : Result (Unit {0}) Fault) (A I O D : Type 0) (input : Option (List ℕ)) → IfErr r (Stops A I O ⊥ D input) → r ≡ Err fault.NotBuilt → ⊥
-is_built r A I O D input stops is = subst (λ (x : Result (Unit {0}) Fault). IfErr x (Stops A I O ⊥ D input)) is stops
+-- where nothing stands in a session's way and no device failed, want of memory is the only refusal
+pub only_memory : (IsCounted : Option Files → List ℕ → ℕ → Type 0) (s i o : Type 0) (files : Option Files) (base collection given : List ℕ) (left : Option (List ℕ)) (f : Fault) →
+    ServeStops IsCounted base s i o files left f → Stands files base collection → ((n : ℕ) → IsCounted files base n → ⊥) → left ≡ Some given → is_too_much input_limit given ≡ false →
+    ¬ s → ¬ i → ¬ o → f ≡ fault.Memory
+only_memory C s i o files base collection given left fault.Usage cause stands few is short no_store no_input no_output = absurd cause
+only_memory C s i o files base collection given left fault.StoreFault cause stands few is short no_store no_input no_output = absurd (no_store cause)
+only_memory C s i o files base collection given left fault.ReadFault cause stands few is short no_store no_input no_output = absurd (no_input cause)
+only_memory C s i o files base collection given left fault.WriteFault cause stands few is short no_store no_input no_output = absurd (no_output cause)
+only_memory C s i o files base collection given left fault.NotBuilt cause stands few is short no_store no_input no_output = absurd (head_there files base collection stands (cause stands.told))
+only_memory C s i o files base collection given left (fault.Damaged bad) cause stands few is short no_store no_input no_output = absurd (cause collection stands)
+only_memory C s i o files base collection given left fault.NoCollection cause stands few is short no_store no_input no_output = absurd cause
+only_memory C s i o files base collection given left (fault.TooLarge size most) cause stands few is short no_store no_input no_output = absurd cause
+only_memory C s i o files base collection given left fault.TooManyDocuments cause stands few is short no_store no_input no_output = absurd cause
+only_memory C s i o files base collection given left (fault.TooManyPieces stream) cause stands few is short no_store no_input no_output = absurd cause
+only_memory C s i o files base collection given left (fault.Changed what first second) cause stands few is short no_store no_input no_output = absurd cause
+only_memory C s i o files base collection given left fault.Memory cause stands few is short no_store no_input no_output = refl
+only_memory C s i o files base collection given left (fault.NameClash p) cause stands few is short no_store no_input no_output = absurd cause
+only_memory C s i o files base collection given left fault.InputTooLong cause stands few is short no_store no_input no_output = absurd (true_is_not_false (sym (cause given is) ∙ short))
+only_memory C s i o files base collection given left fault.SameName cause stands few is short no_store no_input no_output = absurd cause
+only_memory C s i o files base collection given left (fault.TooManyRotations count) cause stands few is short no_store no_input no_output = absurd (few count cause)

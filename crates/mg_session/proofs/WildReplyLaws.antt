@@ -58,14 +58,6 @@ line_unread collection line w error sound = record { put = grew_nothing w (wild_
 pub patterns_over : (s : WildState) (collection : List ℕ) → WildOver s collection → WildBy s (λ now. wild_reply collection)
 patterns_over s collection over = record { collection = collection; over = over; by_is = refl }
 
-pub session_all : (collection given : List ℕ) (old new : Option (List ℕ)) → new ≡ appended old (heard_session Questions (λ now. wild_reply collection) given) → new ≡ appended old (wild_session collection given)
-unfolding wild_session
-session_all collection given old new is = is ∙ ap (appended old) (sym (plain_heard (wild_reply collection) given))
-
-pub session_prefix : (collection given : List ℕ) (old new : Option (List ℕ)) → GrewByPrefix old new (heard_session Questions (λ now. wild_reply collection) given) → GrewByPrefix old new (wild_session collection given)
-unfolding wild_session
-session_prefix collection given old new grew = subst (GrewByPrefix old new) (sym (plain_heard (wild_reply collection) given)) grew
-
 -- why a line stops the session
 line_stops : (s t : WildState) (f g : ℕ) (error : ShowErr) → HasShowCause (Err error) s.faults t.faults f g → ((collection : List ℕ) → WildOver s collection → ShowIsNotBad (Err error)) → PartStops (WildMayStop s t) error
 line_stops s t f g (show.Part Device) cause sound = cause.caused
@@ -77,13 +69,3 @@ line_stops s t f g show.Memory cause sound = tt
 pub line_part : (s t : WildState) (f g : ℕ) (r : Result (Unit {0}) ShowErr) → HasShowCause r s.faults t.faults f g → ((collection : List ℕ) → WildOver s collection → ShowIsNotBad r) → IfErr r (PartStops (WildMayStop s t))
 line_part s t f g (Ok value) cause sound = tt
 line_part s t f g (Err error) cause sound = line_stops s t f g error cause sound
-
-pub stops_show : (s t : WildState) (I O : Type 0) (input : Option (List ℕ)) (error : ServeErr) → EndsFor I O (ForSome input (λ given. is_too_much input_limit given ≡ true)) (WildMayStop s t) error →
-    Stops (Rose s.faults t.faults) I O ⊥ ((collection : List ℕ) → WildOver s collection → ⊥) input (fault_of_serve error)
-stops_show s t I O input serve.Read e = e
-stops_show s t I O input serve.TooMuch e = e
-stops_show s t I O input (serve.Show show.Write) e = e
-stops_show s t I O input (serve.Show show.Memory) e = tt
-stops_show s t I O input (serve.Show (show.Part Device)) e = e
-stops_show s t I O input (serve.Show (show.Part Memory)) e = tt
-stops_show s t I O input (serve.Show (show.Part (Bad b))) e = e

@@ -1,13 +1,12 @@
--- What patterns are answered from in a set that stands, and what is read of it before the first line.
-use Rattle.std.proofs.Common.{arith, ◌≡◌, ◌≤◌, ◌+◌, ℕ, false, List, [], ◌∷◌, map, refl, sym, ◌∙◌, ap, subst}
+-- What patterns are answered from in a set that stands, and the rotations of its lexicon.
+use Rattle.std.proofs.Common.{arith, ◌≡◌, ◌<◌, ◌+◌, ℕ, List, [], ◌∷◌, length, map, refl, sym, ◌∙◌, ap, subst}
 use Rattle.std.specs.List.{enumerate_from}
 use Rattle.std.specs.declared.option.Option.{Option}
-use Rattle.mg_bits.specs.Pages.{Looked}
-use Rattle.mg_dev.specs.Files.{Files, Reads, bytes_at}
-use Rattle.mg_dev.specs.Names.{full_name, number, same_part}
-use Rattle.mg_dev.specs.declared.part.Part.{Part}
+use Rattle.mg_dev.specs.Files.{Files, bytes_at}
+use Rattle.mg_dev.specs.Names.{full_name}
 use Rattle.mg_dev.specs.declared.part.Part.TheVariants as part
 use Rattle.mg_defs.specs.CodedText.{TextCode}
+use Rattle.mg_defs.specs.Front.{Entry}
 use Rattle.mg_defs.specs.Heads as defs
 use Rattle.mg_defs.specs.Lexicon.{info_bytes, info_of, lexicon}
 use Rattle.mg_defs.specs.WithinLimits.{IsWithinLimits}
@@ -15,13 +14,12 @@ use Rattle.mg_defs.specs.Rotations.{most_rotations, rotation_count}
 use Rattle.mg_defs.specs.Terms.{dictionary}
 use Rattle.mg_defs.proofs.FrontParts.{one_front}
 use Rattle.mg_defs.proofs.LexiconLaws.{lexicon_entries}
-use Rattle.mg_layout.specs.Stands.{StandsBy}
+use Rattle.mg_layout.specs.Stands.{Stands, StandsBy}
 use Rattle.mg_layout.specs.declared.head.Head.{Head}
 use Rattle.mg_lex.specs.Reading.{IsLexicon}
 use Rattle.mg_wild.specs.Loading.{HasTermsOf, HasTooMany, IsWholeLexicon, TellsOf, strings_of}
 use Rattle.mg_wild.specs.Terms.{LexTerms}
 use Rattle.mg_session.specs.PhraseSearchLaws.{lists_stay}
-use Rattle.mg_session.specs.WildAnswers.{NeverReadByPatterns}
 use Rattle.mg_session.specs.WildSearching.{PartsAreOf, WildParts}
 use Rattle.mg_session.proofs.SetLaws.{set_lexicon, set_weights}
 
@@ -52,50 +50,42 @@ lexicon_strings : (collection : List ℕ) → strings_of (lexicon collection) �
 unfolding lexicon
 lexicon_strings collection = strings_from collection 0 (dictionary collection)
 
--- too many rotations that were counted are those of the collection
-pub counted_set : (base : List ℕ) (files : Option Files) (head : Head) (code : TextCode) (collection : List ℕ) (found : ℕ) → StandsBy head code files base collection → HasTooMany (bytes_at files (full_name base part.Lex)) head.terms found → found ≡ rotation_count (dictionary collection)
-counted_set base files head code collection found is many =
-    let same = one_front 16 (bytes_at files (full_name base part.Lex)) many.es (lexicon collection) many.entries.front (record { entries = lexicon_entries collection; bytes_are = (set_lexicon base files head code collection is).lex_is }) in
+strings_size : (es : List Entry) → length (strings_of es) ≡ length es
+strings_size [] = refl
+strings_size (e ∷ es) = omega (arith, strings_size es)
+
+lexicon_size : (collection : List ℕ) → length (lexicon collection) ≡ length (dictionary collection)
+lexicon_size collection = sym (strings_size (lexicon collection)) ∙ ap length (lexicon_strings collection)
+
+-- the part tells of one number of too many rotations
+pub one_count : (bytes : List ℕ) (count found other : ℕ) → HasTooMany bytes count found → HasTooMany bytes count other → found ≡ other
+one_count bytes count found other one two =
+    one.counted ∙ ap (λ es. rotation_count (strings_of es)) (one_front 16 bytes one.es two.es one.entries.front two.entries.front) ∙ sym two.counted
+
+-- where terms are held, it tells of none
+pub not_held : (terms : LexTerms) (bytes : List ℕ) (count found : ℕ) → IsWholeLexicon terms bytes count → HasTooMany bytes count found → ⊥
+not_held terms bytes count found whole many =
+    let same = one_front 16 bytes whole.es many.es whole.entries.front many.entries.front in
+    let held = ap rotation_count whole.terms.terms ∙ ap (λ es. rotation_count (strings_of es)) same ∙ sym many.counted in
+    omega (arith, whole.few, many.many, held)
+
+-- the lexicon of a set that stands has the terms of the collection
+pub set_has : (base : List ℕ) (files : Option Files) (head : Head) (code : TextCode) (collection : List ℕ) → StandsBy head code files base collection → most_rotations < rotation_count (dictionary collection) →
+    HasTooMany (bytes_at files (full_name base part.Lex)) head.terms (rotation_count (dictionary collection))
+set_has base files head code collection is many =
+    let lexicon_is = set_lexicon base files head code collection is in
+    record {
+      es = lexicon collection;
+      entries = record {
+        front = record { entries = lexicon_entries collection; bytes_are = lexicon_is.lex_is };
+        size = lexicon_size collection ∙ lexicon_is.terms_are;
+      };
+      counted = sym (ap rotation_count (lexicon_strings collection));
+      many = many;
+    }
+
+-- too many rotations that Lex tells of are those of the collection that stands
+pub counted_of : (files : Option Files) (base collection : List ℕ) → Stands files base collection → (found terms : ℕ) → HasTooMany (bytes_at files (full_name base part.Lex)) terms found → found ≡ rotation_count (dictionary collection)
+counted_of files base collection stands found terms many =
+    let same = one_front 16 (bytes_at files (full_name base part.Lex)) many.es (lexicon collection) many.entries.front (record { entries = lexicon_entries collection; bytes_are = stands.stand.are.lex }) in
     many.counted ∙ ap (λ es. rotation_count (strings_of es)) same ∙ ap rotation_count (lexicon_strings collection)
-
--- terms that are held have no more rotations than may be held
-pub few_rotations : (terms : LexTerms) (bytes : List ℕ) (count : ℕ) (collection : List ℕ) → IsWholeLexicon terms bytes count → HasTermsOf terms collection → rotation_count (dictionary collection) ≤ most_rotations
-few_rotations terms bytes count collection whole are = subst (λ ts. rotation_count ts ≤ most_rotations) are.terms whole.few
-
--- ---- what is read before the first line
-
--- a part that is never read is not the head
-pub behind_head : (p : Part) → NeverReadByPatterns p → 1 ≤ number p
-behind_head part.Head never = absurd never
-behind_head part.Words never = omega arith
-behind_head part.Nonwords never = omega arith
-behind_head part.Text never = omega arith
-behind_head part.Places never = omega arith
-behind_head part.Lex never = omega arith
-behind_head part.LexAt never = omega arith
-behind_head part.Post never = omega arith
-behind_head part.Skip never = omega arith
-behind_head part.Weights never = omega arith
-behind_head part.Run never = omega arith
-behind_head part.MergeA never = omega arith
-behind_head part.MergeB never = omega arith
-behind_head part.Plain never = omega arith
-
-not_lex : (p : Part) → NeverReadByPatterns p → same_part p part.Lex ≡ false
-not_lex part.Head never = refl
-not_lex part.Words never = refl
-not_lex part.Nonwords never = refl
-not_lex part.Text never = refl
-not_lex part.Places never = refl
-not_lex part.Lex never = absurd never
-not_lex part.LexAt never = refl
-not_lex part.Post never = refl
-not_lex part.Skip never = refl
-not_lex part.Weights never = refl
-not_lex part.Run never = refl
-not_lex part.MergeA never = refl
-not_lex part.MergeB never = refl
-not_lex part.Plain never = refl
-
-pub lex_unread : (f g : Option Files) (r s : Reads) (m n : ℕ) → Looked part.Lex f g r s m n → (p : Part) → NeverReadByPatterns p → s p ≡ r p
-lex_unread f g r s m n looked p never = looked.others p (not_lex p never)

@@ -35,7 +35,7 @@ use Rattle.mg_text.specs.Reading.{ShowIsNotBad}
 use Rattle.mg_wild.specs.Loading.{HasTermsOf, TellsOf}
 use Rattle.mg_wild.specs.Terms.{LexTerms}
 use Rattle.mg_session.specs.DocumentSets.{DocumentMarks, IsNextBehind, has_doc, marked_to}
-use Rattle.mg_session.specs.WildAnswers.{NeverReadByPatterns, ReadsNoText, WildAnswered, WildSources}
+use Rattle.mg_session.specs.WildAnswers.{NeverReadByPatterns, ReadsNoOther, WildAnswered, WildSources}
 use Rattle.mg_session.specs.WildMarks.{AddsLists, term_rows, terms_at}
 use Rattle.mg_session.proofs.MarkLaws.{marked_end, marked_hit, marked_miss, marked_next, marked_none}
 
@@ -108,7 +108,7 @@ terms_from p all front (t ∷ ts) n is size =
     filter-miss t ts is = rw is refl
 
 -- the terms with these numbers are those that match
-matching_terms : (collection : List ℕ) (p : Pattern) (terms : List (List ℕ)) (ns : List ℕ) → ns ≡ matching_numbers p 0 terms → terms ≡ dictionary collection → terms_at collection ns ≡ matching collection p
+pub matching_terms : (collection : List ℕ) (p : Pattern) (terms : List (List ℕ)) (ns : List ℕ) → ns ≡ matching_numbers p 0 terms → terms ≡ dictionary collection → terms_at collection ns ≡ matching collection p
 matching_terms collection p terms ns is same =
     ap (terms_at collection) (is ∙ ap (matching_numbers p 0) same) ∙ terms_from p (dictionary collection) [] (dictionary collection) 0 refl refl
 
@@ -383,15 +383,15 @@ wild_end collection p ns marks w0 w1 w2 w3 p0 p1 p2 result m none rows numbers p
 
 unread_post : (p : Part) → NeverReadByPatterns p → p ≢ part.Post
 unread_post part.Head never = absurd never
-unread_post part.Words never = absurd never
-unread_post part.Nonwords never = absurd never
+unread_post part.Words never = λ e. absurd cc
+unread_post part.Nonwords never = λ e. absurd cc
 unread_post part.Text never = λ e. absurd cc
-unread_post part.Places never = absurd never
+unread_post part.Places never = λ e. absurd cc
 unread_post part.Lex never = absurd never
-unread_post part.LexAt never = absurd never
+unread_post part.LexAt never = λ e. absurd cc
 unread_post part.Post never = absurd never
 unread_post part.Skip never = absurd never
-unread_post part.Weights never = absurd never
+unread_post part.Weights never = λ e. absurd cc
 unread_post part.Run never = λ e. absurd cc
 unread_post part.MergeA never = λ e. absurd cc
 unread_post part.MergeB never = λ e. absurd cc
@@ -399,24 +399,24 @@ unread_post part.Plain never = λ e. absurd cc
 
 unread_skip : (p : Part) → NeverReadByPatterns p → p ≢ part.Skip
 unread_skip part.Head never = absurd never
-unread_skip part.Words never = absurd never
-unread_skip part.Nonwords never = absurd never
+unread_skip part.Words never = λ e. absurd cc
+unread_skip part.Nonwords never = λ e. absurd cc
 unread_skip part.Text never = λ e. absurd cc
-unread_skip part.Places never = absurd never
+unread_skip part.Places never = λ e. absurd cc
 unread_skip part.Lex never = absurd never
-unread_skip part.LexAt never = absurd never
+unread_skip part.LexAt never = λ e. absurd cc
 unread_skip part.Post never = absurd never
 unread_skip part.Skip never = absurd never
-unread_skip part.Weights never = absurd never
+unread_skip part.Weights never = λ e. absurd cc
 unread_skip part.Run never = λ e. absurd cc
 unread_skip part.MergeA never = λ e. absurd cc
 unread_skip part.MergeB never = λ e. absurd cc
 unread_skip part.Plain never = λ e. absurd cc
 
-pub nothing_read : (f : Option Files) (r : Reads) (n : ℕ) → ReadsNoText f f r r n n
+pub nothing_read : (f : Option Files) (r : Reads) (n : ℕ) → ReadsNoOther f f r r n n
 nothing_read f r n = record { files = refl; faults = omega arith; unread = λ p never. refl }
 
-pub lists_read : (f g : Option Files) (r s : Reads) (m n : ℕ) → g ≡ f → m ≤ n → ReadsLists r s → ReadsNoText f g r s m n
+pub lists_read : (f g : Option Files) (r s : Reads) (m n : ℕ) → g ≡ f → m ≤ n → ReadsLists r s → ReadsNoOther f g r s m n
 lists_read f g r s m n files later reads = record {
   files = files;
   faults = later;

@@ -5,6 +5,8 @@ pub mod Answering
 pub mod Sessions
 pub mod Showing
 pub mod Serves
+pub mod Opening
+pub mod Served
 pub mod SearchLaws
 pub mod PhraseAnswers
 pub mod PhraseSearching

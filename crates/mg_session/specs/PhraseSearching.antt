@@ -7,6 +7,7 @@ use Rattle.mg_dev.specs.declared.part.Part.{Part}
 use Rattle.mg_dev.specs.declared.part.Part.TheVariants as part
 use Rattle.mg_dev.specs.declared.part_err.PartErr.{PartErr}
 use Rattle.mg_dev.specs.declared.part_err.PartErr.TheVariants.{Device, Memory, Bad}
+use Rattle.mg_defs.specs.CodedText.{TextCode}
 use Rattle.mg_defs.specs.WithinLimits.{IsWithinLimits}
 use Rattle.mg_defs.specs.PhraseSession.{phrase_reply}
 use Rattle.mg_defs.specs.Session.{Question}
@@ -61,6 +62,10 @@ pub record PartsOver (files : Option Files) (p : PhraseParts) (collection : List
   pub limits : IsWithinLimits version collection
   pub lex : LexStands p.lex files collection
   pub sources : PhraseSources p.base files p.text p.all collection
+
+-- and its text is under these codes
+abbrev pub PartsOverBy : Option Files → PhraseParts → TextCode → List ℕ → Type 0
+PartsOverBy files p code collection = PartsOver files p collection × (p.text.code ≡ code)
 
 -- no file changed, no fault was forgotten, and no part was read that a session never reads
 pub record OnlyReads (files_before files_now : Option Files) (reads_before reads_now : Reads) (faults_before faults_now : ℕ) : Type 0 where

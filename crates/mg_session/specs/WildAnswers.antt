@@ -1,5 +1,5 @@
 -- What a line of a session of patterns is answered from, and what is printed of it.
-use Rattle.std.specs.Prelude.{◌≡◌, ℕ, ◌≤◌, List, length}
+use Rattle.std.specs.Prelude.{◌≡◌, ℕ, ◌+◌, ◌≤◌, List, length, sum_by}
 use Rattle.std.specs.declared.option.Option.{Option}
 use Rattle.std.specs.declared.result.Result.{Result}
 use Rattle.mg_dev.specs.Files.{Files, Reads}
@@ -7,22 +7,44 @@ use Rattle.mg_dev.specs.Streams.{AfterPut}
 use Rattle.mg_dev.specs.declared.part.Part.{Part}
 use Rattle.mg_dev.specs.declared.part.Part.TheVariants as part
 use Rattle.mg_dev.specs.declared.show_err.ShowErr.{ShowErr}
-use Rattle.mg_defs.specs.Patterns.{Pattern}
+use Rattle.mg_defs.specs.CodedText.{TextCode}
+use Rattle.mg_defs.specs.Lines.{lines}
+use Rattle.mg_defs.specs.PageBounds.{ranked_bound}
+use Rattle.mg_defs.specs.Patterns.{Pattern, PatternLine, bad, matching, pattern_of, sides}
+use Rattle.mg_defs.specs.PlainSession.{plain_questions}
 use Rattle.mg_defs.specs.Split.{documents}
 use Rattle.mg_defs.specs.WildSession.{match_text, wild_reply}
 use Rattle.mg_post.specs.TermLists.{ListsStand}
 use Rattle.mg_text.specs.Reading.{ShowIsNotBad}
 use Rattle.mg_wild.specs.Loading.{HasTermsOf, TellsOf}
 use Rattle.mg_wild.specs.Terms.{LexTerms}
-use Rattle.mg_session.specs.Parts.{NeverRead}
 
--- a session of patterns reads no text besides
+-- a session of patterns reads the head, the lexicon and the lists alone
 abbrev pub NeverReadByPatterns : Part → Type 0
-NeverReadByPatterns part.Text = Unit {0}
-NeverReadByPatterns p = NeverRead p
+NeverReadByPatterns part.Head = ⊥
+NeverReadByPatterns part.Lex = ⊥
+NeverReadByPatterns part.Post = ⊥
+NeverReadByPatterns part.Skip = ⊥
+NeverReadByPatterns _ = Unit {0}
+
+-- the pages of Post that a pattern may read: those of the lists of the terms that match it
+unfoldable pub pattern_pages : List ℕ → Pattern → ℕ
+pattern_pages collection p = ranked_bound collection (matching collection p)
+
+-- of a line; none where it is no pattern
+abbrev pub pages_of : List ℕ → PatternLine → ℕ
+pages_of collection (sides p) = pattern_pages collection p
+pages_of collection (bad at) = 0
+
+abbrev pub wild_pages : List ℕ → List ℕ → ℕ
+wild_pages collection line = pages_of collection (pattern_of line)
+
+-- no more pages of Post are read than the bounds of the lines add up to
+pub record ReadsPatterns (code : TextCode) (collection given : List ℕ) (before now : Reads) : Type 0 where
+  pub post : now part.Post ≤ before part.Post + sum_by (wild_pages collection) (plain_questions (lines given))
 
 -- no file changed, no fault was forgotten, and no part was read that a session of patterns never reads
-pub record ReadsNoText (files_before files_now : Option Files) (reads_before reads_now : Reads) (faults_before faults_now : ℕ) : Type 0 where
+pub record ReadsNoOther (files_before files_now : Option Files) (reads_before reads_now : Reads) (faults_before faults_now : ℕ) : Type 0 where
   pub files : files_now ≡ files_before
   pub faults : faults_before ≤ faults_now
   pub unread : (p : Part) → NeverReadByPatterns p → reads_now p ≡ reads_before p

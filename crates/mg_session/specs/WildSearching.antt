@@ -1,14 +1,17 @@
 -- A state of a search for patterns over built files, and what a line does to it.
-use Rattle.std.specs.Prelude.{◌≡◌, ℕ, List}
+use Rattle.std.specs.Prelude.{◌≡◌, ℕ, ◌+◌, ◌≤◌, List, sum_by}
 use Rattle.std.specs.declared.option.Option.{Option}
 use Rattle.mg_dev.specs.Causes.{Rose}
 use Rattle.mg_dev.specs.Files.{Files, Reads}
+use Rattle.mg_dev.specs.declared.part.Part.TheVariants as part
 use Rattle.mg_dev.specs.declared.part_err.PartErr.{PartErr}
 use Rattle.mg_dev.specs.declared.part_err.PartErr.TheVariants.{Device, Memory, Bad}
+use Rattle.mg_defs.specs.CodedText.{TextCode}
+use Rattle.mg_defs.specs.Session.{Question}
 use Rattle.mg_defs.specs.WildSession.{wild_reply}
 use Rattle.mg_defs.specs.declared.session.Settings.{Settings}
 use Rattle.mg_wild.specs.Terms.{LexTerms}
-use Rattle.mg_session.specs.WildAnswers.{ReadsNoText, WildSources}
+use Rattle.mg_session.specs.WildAnswers.{ReadsNoOther, WildSources, wild_pages}
 
 -- a base that patterns are answered from, the terms of its lexicon, how many documents there are, and how many can be marked
 pub record WildParts : Type 0 where
@@ -35,6 +38,10 @@ HasRoom p = p.room ≡ p.all
 abbrev pub PartsAreOf : Option Files → WildParts → List ℕ → Type 0
 PartsAreOf files p collection = WildSources p.base files p.terms p.all collection
 
+-- whatever the codes of its text are
+abbrev pub PartsAreBy : Option Files → WildParts → TextCode → List ℕ → Type 0
+PartsAreBy files p code collection = PartsAreOf files p collection
+
 abbrev pub WildFits : WildState → Type 0
 WildFits s = HasRoom s.parts
 
@@ -47,10 +54,11 @@ pub record WildBy (s : WildState) (by : Settings → List ℕ → List ℕ) : Ty
   pub over : WildOver s collection
   pub by_is : by ≡ (λ now. wild_reply collection)
 
--- lines were answered in between
-pub record WildAsked (s t : WildState) : Type 0 where
-  pub step : ReadsNoText s.files t.files s.reads t.reads s.faults t.faults
+-- these lines were answered in between
+pub record WildAsked (s t : WildState) (questions : List Question) : Type 0 where
+  pub step : ReadsNoOther s.files t.files s.reads t.reads s.faults t.faults
   pub same : t.parts ≡ s.parts
+  pub post : (collection : List ℕ) → WildOver s collection → t.reads part.Post ≤ s.reads part.Post + sum_by (λ (q : Question). wild_pages collection q.line) questions
 
 -- why a part may be refused
 abbrev pub WildMayStop : WildState → WildState → PartErr → Type 0

@@ -1,50 +1,43 @@
--- Why a session of patterns over files stops.
-use Rattle.std.specs.Prelude.{◌≡◌, ◌<◌, ℕ, List}
+-- Which rotations a session of patterns counts, and why it stops.
+use Rattle.std.specs.Prelude.{◌<◌, ℕ, List}
 use Rattle.std.specs.Option.{IsSome}
 use Rattle.std.specs.declared.option.Option.{Option}
 use Rattle.mg_dev.specs.Faults.{fault_of_part}
-use Rattle.mg_dev.specs.Files.{Files}
+use Rattle.mg_dev.specs.Files.{Files, bytes_at}
+use Rattle.mg_dev.specs.Names.{full_name}
 use Rattle.mg_dev.specs.declared.fault.Fault.{Fault}
-use Rattle.mg_dev.specs.declared.fault.Fault.TheVariants.{NotBuilt, TooManyRotations}
-use Rattle.mg_defs.specs.CodedText.{TextCode}
-use Rattle.mg_defs.specs.Rotations.{most_rotations, rotation_count}
-use Rattle.mg_defs.specs.Terms.{dictionary}
-use Rattle.mg_layout.specs.Stands.{HasNoHead, Stands, StandsBy, StandsForNone}
+use Rattle.mg_dev.specs.declared.fault.Fault.TheVariants.{TooManyRotations}
+use Rattle.mg_dev.specs.declared.part.Part.TheVariants as part
+use Rattle.mg_defs.specs.Heads as defs
+use Rattle.mg_defs.specs.Heads.{IsHead}
+use Rattle.mg_defs.specs.Rotations.{most_rotations}
 use Rattle.mg_layout.specs.declared.head.Head.{Head}
+use Rattle.mg_wild.specs.Loading.{HasTooMany}
 use Rattle.mg_wild.specs.declared.rotated.RotErr.{RotErr}
 use Rattle.mg_wild.specs.declared.rotated.RotErr.TheVariants as rot
-use Rattle.mg_session.specs.Serves.{StandsByNone, Stops}
+use Rattle.mg_session.specs.Serves.{ServeStops}
 
--- the cause of each refusal as in the other sessions, and of one more: there are more rotations than can be held, and as many as counted
-abbrev pub WildStopsBy : Type 0 → Type 0 → Type 0 → Type 0 → Type 0 → (ℕ → Type 0) → Option (List ℕ) → Fault → Type 0
-WildStopsBy store_rose input_rose output_rose unbuilt damaged counted input (TooManyRotations count) = (most_rotations < count) × counted count
-WildStopsBy store_rose input_rose output_rose unbuilt damaged counted input fault = Stops store_rose input_rose output_rose unbuilt damaged input fault
+-- the lexicon has as many terms as this head tells, and these have so many rotations, which are too many
+abbrev pub TooManyBy : Head → Option Files → List ℕ → ℕ → Type 0
+TooManyBy head files base count = HasTooMany (bytes_at files (full_name base part.Lex)) head.terms count
 
--- the terms of a collection that the files under a base stand for have so many rotations
-abbrev pub AreRotationsAt : Option Files → List ℕ → ℕ → Type 0
-AreRotationsAt files base count = (collection : List ℕ) → Stands files base collection → count ≡ rotation_count (dictionary collection)
+-- The lexicon has as many terms as the head of the files tells, and these have so many rotations, which are too many.
+pub record HasTooManyTerms (files : Option Files) (base : List ℕ) (count : ℕ) : Type 0 where
+  pub head : defs.Head
+  pub head_is : IsHead 1 2 (bytes_at files (full_name base part.Head)) head
+  pub many : HasTooMany (bytes_at files (full_name base part.Lex)) head.terms count
+
+-- so many rotations were counted by the lexicon of a set with this head, and are too many; over a store that tells no files they are only too many
+abbrev pub CountedBy : Head → Option Files → List ℕ → ℕ → Type 0
+CountedBy head files base count = (most_rotations < count) × (IsSome files → TooManyBy head files base count)
+
+-- the same of the head of these files
+abbrev pub CountsTooMany : Option Files → List ℕ → ℕ → Type 0
+CountsTooMany files base count = (most_rotations < count) × (IsSome files → HasTooManyTerms files base count)
 
 -- the cause of each refusal by the files under a base
 abbrev pub WildStops : List ℕ → Type 0 → Type 0 → Type 0 → Option Files → Option (List ℕ) → Fault → Type 0
-WildStops base store_rose input_rose output_rose files input fault =
-    WildStopsBy store_rose input_rose output_rose
-    (IsSome files → HasNoHead files base) (StandsForNone files base) (AreRotationsAt files base) input fault
-
--- the same of a collection for which they stand with this head
-abbrev pub AreRotationsBy : Head → Option Files → List ℕ → ℕ → Type 0
-AreRotationsBy head files base count =
-    (code : TextCode) (collection : List ℕ) → StandsBy head code files base collection → count ≡ rotation_count (dictionary collection)
-
--- the cause of each refusal by the files that have this head
-abbrev pub WildSetStops : Head → List ℕ → Type 0 → Type 0 → Type 0 → Option Files → Option (List ℕ) → Fault → Type 0
-WildSetStops head base store_rose input_rose output_rose files input fault =
-    WildStopsBy store_rose input_rose output_rose ⊥ (StandsByNone head files base) (AreRotationsBy head files base) input fault
-
--- a refusal before the input is read
-abbrev pub IsFirst : Fault → Type 0
-IsFirst NotBuilt = Unit {0}
-IsFirst (TooManyRotations count) = Unit {0}
-IsFirst _ = ⊥
+WildStops base store_rose input_rose output_rose files input fault = ServeStops CountsTooMany base store_rose input_rose output_rose files input fault
 
 -- the fault of a lexicon whose terms are not held
 abbrev pub fault_of_rotated : RotErr → Fault

@@ -22,6 +22,7 @@ mod phrase_line;
 mod phrase_searcher;
 mod ranked;
 mod searcher;
+mod serving;
 mod session;
 mod texts;
 mod wild;

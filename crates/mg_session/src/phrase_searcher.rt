@@ -1,13 +1,14 @@
 //! An answerer of phrases over the open parts of a set.
-ghost use Rattle.std.specs.Prelude.{◌≡◌, ◌≤◌, ℕ, Some, length};
+ghost use Rattle.std.specs.Prelude.{◌≡◌, ◌≤◌, ◌^◌, ℕ, Some, length, IfOk};
 ghost use Rattle.mg_defs.specs.Texts.{count as count_text};
-ghost use Rattle.mg_dev.specs.Moments.{Between};
+ghost use Rattle.mg_dev.specs.Moments.{Between, store_at};
 ghost use Rattle.mg_dev.specs.Streams.{AfterPut};
 ghost use Rattle.mg_query.specs.AllOf.{IsAllOf};
 ghost use Rattle.mg_text.specs.Reading.{ShowIsNotBad};
 ghost use Rattle.mg_session.specs.Answering.{HasShowCause, HasShowLack};
 ghost use Rattle.mg_session.specs.Replying.{AnswersWords, RepliesToPhrase};
-ghost use Rattle.mg_session.specs.PhraseSearching.{OnlyReads, PartsFit, PhraseState, SamePhraseParts, phrase_state};
+ghost use Rattle.mg_session.specs.Opening.{KeptByPhrases, SetOpened};
+ghost use Rattle.mg_session.specs.PhraseSearching.{OnlyReads, PartsFit, PartsOverBy, PhraseState, SamePhraseParts, phrase_state};
 ghost use Rattle.mg_session.specs.PhraseSearching.{PhraseMayStop, PhrasesAsked, PhrasesBy, PhrasesFit};
 ghost use Rattle.mg_session.specs.PhraseSearchLaws.{phrases_later, phrases_more, phrases_none, phrases_stop};
 
@@ -16,7 +17,8 @@ use crate::find::find_terms;
 use crate::held::HeldDocument;
 use crate::phrase_line::read_phrase;
 use mg_defs::Settings;
-use mg_dev::{ShowErr, Sink, Store};
+use mg_dev::{Fault, ShowErr, Sink, Store};
+use mg_layout::Head;
 use mg_lex::Lex;
 use mg_query::{Query, Terms};
 use mg_reply::{Answerer, answer_refused, put_count};
@@ -64,6 +66,32 @@ impl<'a, S: Store> PhraseSearcher<'a, S> {
             all,
             held: HeldDocument::new(alloc),
         }
+    }
+
+    /// Opens the parts of a set with this head: its lexicon's places and the models of its text are loaded.
+    pub(crate) fn open(
+        alloc: Global,
+        store: &mut S,
+        base: &'a str,
+        head: &Head,
+    ) -> Result<Self, Fault>
+        requires words { head.now.words ≤ 2 ^ 22 }
+        requires others { head.now.others ≤ 2 ^ 22 }
+        ensures fits { IfOk result (PartsFit (S.files store.new)) }
+        ensures opened { SetOpened (PartsOverBy (S.files store.new)) KeptByPhrases (λ count. ⊥) head.now base.entry.now
+            (store_at S.files S.reads S.faults store.old)
+            (store_at S.files S.reads S.faults store.new) result }
+    {
+        let lex = match Lex::load(alloc, store, base, head) {
+            Ok(lex) => lex,
+            Err(refusal) => return Err(Fault::from(refusal)),
+        };
+        let text = match TextReader::load(alloc, store, base, head) {
+            Ok(text) => text,
+            Err(refusal) => return Err(Fault::from(refusal)),
+        };
+        let searcher = PhraseSearcher::new(alloc, base, lex, text, head.documents);
+        Ok(searcher)
     }
 
     /// Writes the reply to a line.

@@ -1,16 +1,17 @@
 //! An answerer over the open parts of a set.
-ghost use Rattle.std.specs.Prelude.{◌≡◌, ◌≤◌, false, true, length};
+ghost use Rattle.std.specs.Prelude.{◌≡◌, ◌≤◌, ◌^◌, false, true, length, IfOk};
 ghost use Rattle.std.specs.List.{IsDistinct};
 ghost use Rattle.std.specs.Str.{bytes_eq};
 ghost use Rattle.mg_defs.specs.PageBounds.{boolean_bound, ranked_bound};
 ghost use Rattle.mg_defs.specs.QueryTerms.{query_terms};
 ghost use Rattle.mg_defs.specs.ShownAnswers.{ranking, satisfying};
-ghost use Rattle.mg_dev.specs.Moments.{Between};
+ghost use Rattle.mg_dev.specs.Moments.{Between, store_at};
 ghost use Rattle.mg_query.specs.QueryOf.{query_of};
 ghost use Rattle.mg_session.specs.Answering.{HasShowCause, HasShowLack};
+ghost use Rattle.mg_session.specs.Opening.{KeptByQueries, SetOpened};
 ghost use Rattle.mg_session.specs.Parts.{Stepped};
 ghost use Rattle.mg_session.specs.Replying.{AnswersOpened, RepliesTo};
-ghost use Rattle.mg_session.specs.Searching.{AnswersBy, Asked, Fits, MayStop, SameOpened, SearchFits, Searching, opened_at, state_of};
+ghost use Rattle.mg_session.specs.Searching.{AnswersBy, Asked, Fits, MayStop, OpenedOver, SameOpened, SearchFits, Searching, opened_at, state_of};
 ghost use Rattle.mg_session.specs.SearchLaws.{answers_later, asked_more, asked_none, stops_later};
 
 use crate::boolean::answer_query;
@@ -19,7 +20,7 @@ use crate::find::find_terms;
 use crate::ranked::answer_terms;
 use crate::texts::Texts;
 use mg_defs::Settings;
-use mg_dev::{ShowErr, Sink, Store};
+use mg_dev::{Fault, ShowErr, Sink, Store};
 use mg_layout::Head;
 use mg_lex::Lex;
 use mg_query::{Query, Terms, parse_ranked};
@@ -57,6 +58,28 @@ impl<'a, S: Store> Searcher<'a, S> {
             texts: Texts::new(alloc, base, head),
             all: head.documents,
         }
+    }
+
+    /// Opens the parts of a set with this head: its lexicon's places are loaded, and nothing of the text.
+    pub(crate) fn open(
+        alloc: Global,
+        store: &mut S,
+        base: &'a str,
+        head: &Head,
+    ) -> Result<Self, Fault>
+        requires words { head.now.words ≤ 2 ^ 22 }
+        requires others { head.now.others ≤ 2 ^ 22 }
+        ensures fits { IfOk result (SearchFits (S.files store.new)) }
+        ensures opened { SetOpened (OpenedOver (S.files store.new)) KeptByQueries (λ count. ⊥) head.now base.entry.now
+            (store_at S.files S.reads S.faults store.old)
+            (store_at S.files S.reads S.faults store.new) result }
+    {
+        let lex = match Lex::load(alloc, store, base, head) {
+            Ok(lex) => lex,
+            Err(refusal) => return Err(Fault::from(refusal)),
+        };
+        let searcher = Searcher::new(alloc, base, lex, head);
+        Ok(searcher)
     }
 
     /// Writes the reply to a Boolean line.

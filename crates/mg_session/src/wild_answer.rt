@@ -1,27 +1,28 @@
 //! The answer to a pattern: the terms that match it, and the documents that have one of them.
-ghost use Rattle.std.specs.Prelude.{◌≡◌, ◌≢◌, ◌+◌, ◌-◌, ◌^◌, ◌<◌, [], ◌∷◌, All, Err, IfOk, IfSome, OnOk, length};
+ghost use Rattle.std.specs.Prelude.{◌≡◌, ◌≢◌, ◌+◌, ◌-◌, ◌^◌, ◌<◌, ◌≤◌, [], ◌∷◌, All, Err, IfOk, IfSome, OnOk, length};
 ghost use Rattle.mg_dev.specs.Causes.{HasPutCause, HasLack};
 ghost use Rattle.mg_dev.specs.Each.{ForEach};
 ghost use Rattle.mg_dev.specs.Moments.{Between};
 ghost use Rattle.mg_dev.specs.PartCauses.{HasPartCause};
+ghost use Rattle.mg_defs.specs.PageBounds.{list_pages, ranked_bound};
 ghost use Rattle.mg_defs.specs.WildSession.{numbers_text, term_row};
 ghost use Rattle.mg_post.specs.Answers.{AnswersList};
-ghost use Rattle.mg_post.specs.Cursor.{CursorFits, IsFrom, SameList};
+ghost use Rattle.mg_post.specs.Cursor.{CursorFits, IsFrom, SameList, post_pages};
 ghost use Rattle.mg_post.specs.TermLists.{ReadsLists};
-ghost use Rattle.mg_rank.specs.Ranked.{AnswersBehind, ForList, ForTerm};
+ghost use Rattle.mg_rank.specs.Ranked.{AnswersBehind, ForList, ForTerm, PostRoseWith, PostWithin};
 ghost use Rattle.mg_reply.specs.Printed.{Passes};
 ghost use Rattle.mg_wild.specs.Patterns.{sides_of};
 ghost use Rattle.mg_session.specs.Answering.{HasShowCause, HasShowLack};
 ghost use Rattle.mg_session.specs.DocumentSets.{marked_to};
 ghost use Rattle.mg_session.specs.Replying.{AnswersPattern};
-ghost use Rattle.mg_session.specs.WildAnswers.{ForLexTerms, ReadsNoText, WildSources};
-ghost use Rattle.mg_session.specs.WildMarks.{MarksLists, MarksTerms, rows_at};
+ghost use Rattle.mg_session.specs.WildAnswers.{ForLexTerms, ReadsNoOther, WildSources, pattern_pages};
+ghost use Rattle.mg_session.specs.WildMarks.{MarksLists, MarksTerms, rows_at, terms_at};
 
 use crate::document_set::DocumentSet;
 use mg_defs::Posting;
 use mg_dev::{PartErr, PutErr, ShowErr, Sink, Store};
 use mg_layout::TermInfo;
-use mg_post::Cursor;
+use mg_post::{Cursor, cursor_pages_are_within};
 use mg_reply::Pending;
 use mg_wild::{Pattern, Rotated};
 use std::alloc::Global;
@@ -37,6 +38,8 @@ fn next_posting<S: Store>(
     ensures fits { OnOk result (CursorFits cursor.new (S.files store.new)) }
     ensures same { SameList cursor.old cursor.new }
     ensures answer { ForList (S.files store.old) last cursor.old (λ base collection t. AnswersList result (AnswersBehind base collection t last cursor.new)) }
+    ensures within { ForList (S.files store.old) last cursor.old (λ _ collection t. post_pages cursor.new ≤ list_pages collection t) }
+    ensures post { ForList (S.files store.old) last cursor.old (λ _ _ _. PostRoseWith S.reads store.old store.new cursor.old cursor.new) }
     ensures sound { IfOk result (λ found. IfSome found (IsFrom (last + 1) cursor.old.all)) }
     ensures reads { ReadsLists (S.reads store.old) (S.reads store.new) }
     ensures files { S.files store.new ≡ S.files store.old }
@@ -58,6 +61,8 @@ fn mark_list<S: Store>(
     requires room { marked.old.all ≡ all }
     ensures room { marked.new.all ≡ all }
     ensures answer { ForTerm base.now (S.files store.old) info.now all (λ collection t. MarksLists (t ∷ []) marked.old marked.new result collection) }
+    ensures pages { ForTerm base.now (S.files store.old) info.now all
+        (λ collection t. PostWithin S.reads store.old store.new (list_pages collection t)) }
     ensures reads { ReadsLists (S.reads store.old) (S.reads store.new) }
     ensures files { S.files store.new ≡ S.files store.old }
     ensures cause { HasPartCause (S.faults store.old) (S.faults store.new) result }
@@ -66,6 +71,7 @@ fn mark_list<S: Store>(
         Ok(cursor) => cursor,
         Err(_lack) => return Err(PartErr::Memory),
     };
+    cursor_pages_are_within();
     let mut last = 0;
     while last < all {
         let posting = match next_posting(&mut cursor, store, last) {
@@ -94,6 +100,8 @@ fn mark_all<S: Store>(
     requires room { marked.old.all ≡ all }
     ensures room { marked.new.all ≡ all }
     ensures answer { ForEach (WildSources base.now (S.files store.old) terms.now all) (MarksTerms numbers.now marked.old marked.new result) }
+    ensures pages { ForEach (WildSources base.now (S.files store.old) terms.now all)
+        (λ collection. PostWithin S.reads store.old store.new (ranked_bound collection (terms_at collection numbers.now))) }
     ensures reads { ReadsLists (S.reads store.old) (S.reads store.new) }
     ensures files { S.files store.new ≡ S.files store.old }
     ensures cause { HasPartCause (S.faults store.old) (S.faults store.new) result }
@@ -198,7 +206,9 @@ pub(crate) fn answer_pattern<S: Store, O: Sink>(
     ensures room { marked.new.all ≡ all }
     ensures answer { ForEach (WildSources base.now (S.files store.old) terms.now all)
         (AnswersPattern O.written out.old out.new result (sides_of pattern.now)) }
-    ensures step { Between S.files S.reads S.faults store.old store.new ReadsNoText }
+    ensures pages { ForEach (WildSources base.now (S.files store.old) terms.now all)
+        (λ collection. PostWithin S.reads store.old store.new (pattern_pages collection (sides_of pattern.now))) }
+    ensures step { Between S.files S.reads S.faults store.old store.new ReadsNoOther }
     ensures cause { HasShowCause result (S.faults store.old) (S.faults store.new) (O.faults out.old) (O.faults out.new) }
     ensures lack { HasShowLack (O.lacks out.old) (O.lacks out.new) result }
 {

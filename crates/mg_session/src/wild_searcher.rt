@@ -1,22 +1,28 @@
 //! An answerer of patterns over the open parts of a set.
-ghost use Rattle.std.specs.Prelude.{◌≡◌, ◌≤◌, length};
+ghost use Rattle.std.specs.Prelude.{◌≡◌, ◌≤◌, ℕ, IfOk, IsSome, length};
 ghost use Rattle.mg_defs.specs.WildSession.{bad_pattern};
 ghost use Rattle.mg_dev.specs.Causes.{HasPutCause, HasLack};
 ghost use Rattle.mg_dev.specs.Each.{ForEach};
-ghost use Rattle.mg_dev.specs.Moments.{Between};
+ghost use Rattle.mg_dev.specs.Moments.{Between, store_at};
+ghost use Rattle.mg_dev.specs.Runs.{RefusedFor};
+ghost use Rattle.mg_dev.specs.declared.fault.Fault.TheVariants.{TooManyRotations};
+ghost use Rattle.mg_rank.specs.Ranked.{PostWithin};
 ghost use Rattle.mg_reply.specs.Printed.{Puts};
 ghost use Rattle.mg_session.specs.Answering.{HasShowCause, HasShowLack};
-ghost use Rattle.mg_session.specs.WildAnswers.{ReadsNoText};
+ghost use Rattle.mg_session.specs.Opening.{KeptByPatterns, SetOpened};
+ghost use Rattle.mg_session.specs.WildAnswers.{ReadsNoOther, wild_pages};
 ghost use Rattle.mg_session.specs.Replying.{RepliesToPattern};
-ghost use Rattle.mg_session.specs.WildSearching.{HasRoom, PartsAreOf, WildAsked, WildBy, WildFits, WildMayStop, WildState, wild_state};
+ghost use Rattle.mg_session.specs.WildSearching.{HasRoom, PartsAreBy, PartsAreOf, WildAsked, WildBy, WildFits, WildMayStop, WildState, wild_state};
+ghost use Rattle.mg_session.specs.WildServes.{CountedBy, TooManyBy, fault_of_rotated as fault_of_rotated_spec};
 ghost use Rattle.mg_session.specs.WildSearchLaws.{wild_later, wild_more, wild_none, wild_stop};
 
 use crate::document_set::DocumentSet;
 use crate::wild_answer::answer_pattern;
 use mg_defs::Settings;
-use mg_dev::{PartErr, PutErr, ShowErr, Sink, Store};
+use mg_dev::{Fault, PartErr, PutErr, ShowErr, Sink, Store};
+use mg_layout::Head;
 use mg_reply::{Answerer, Pending};
-use mg_wild::{PatternErr, Rotated, read_pattern};
+use mg_wild::{PatternErr, RotErr, Rotated, read_pattern};
 use std::alloc::Global;
 use std::marker::{Model, PhantomData};
 
@@ -40,6 +46,16 @@ impl<'a, S: Store> Model for WildSearcher<'a, S> {
     ghost Value = { WildParts };
 
     ghost view = { λ s. record { base = s.base.now; terms = s.terms; all = s.all; room = s.marked.all } };
+}
+
+/// The fault of a lexicon whose terms are not held.
+fn fault_of_rotated(error: RotErr) -> Fault
+    ensures { result ≡ fault_of_rotated_spec error }
+{
+    match error {
+        RotErr::Part(refusal) => Fault::from(refusal),
+        RotErr::TooMany { count } => Fault::TooManyRotations { count },
+    }
 }
 
 /// Writes that a line is no pattern, and from which place on.
@@ -81,6 +97,35 @@ impl<'a, S: Store> WildSearcher<'a, S> {
         }
     }
 
+    /// Opens the parts of a set with this head: its terms and all their rotations are loaded, and room
+    /// is taken for a bit for each document.
+    pub(crate) fn open(
+        alloc: Global,
+        store: &mut S,
+        base: &'a str,
+        head: &Head,
+    ) -> Result<Self, Fault>
+        ensures fits { IfOk result HasRoom }
+        ensures opened { SetOpened (PartsAreBy (S.files store.new)) KeptByPatterns
+            (CountedBy head.now (S.files store.old) base.entry.now) head.now base.entry.now
+            (store_at S.files S.reads S.faults store.old)
+            (store_at S.files S.reads S.faults store.new) result }
+        ensures many { IsSome (S.files store.old) → (count : ℕ) →
+            TooManyBy head.now (S.files store.old) base.entry.now count →
+            RefusedFor result (TooManyRotations count) }
+    {
+        let terms = match Rotated::load(alloc, store, base, head) {
+            Ok(terms) => terms,
+            Err(refusal) => return Err(fault_of_rotated(refusal)),
+        };
+        let marked = match DocumentSet::new(alloc, head.documents) {
+            Ok(marked) => marked,
+            Err(_) => return Err(Fault::Memory),
+        };
+        let searcher = WildSearcher::new(alloc, base, terms, head.documents, marked);
+        Ok(searcher)
+    }
+
     /// Writes the reply to a pattern.
     fn answer_question<O: Sink>(
         &mut self,
@@ -92,7 +137,9 @@ impl<'a, S: Store> WildSearcher<'a, S> {
         requires fits { HasRoom self.old }
         ensures same { self.new ≡ self.old }
         ensures replied { ForEach (PartsAreOf (S.files store.old) self.old) (RepliesToPattern O.written out.old out.new result line.now) }
-        ensures step { Between S.files S.reads S.faults store.old store.new ReadsNoText }
+        ensures pages { ForEach (PartsAreOf (S.files store.old) self.old)
+            (λ collection. PostWithin S.reads store.old store.new (wild_pages collection line.now)) }
+        ensures step { Between S.files S.reads S.faults store.old store.new ReadsNoOther }
         ensures cause { HasShowCause result (S.faults store.old) (S.faults store.new) (O.faults out.old) (O.faults out.new) }
         ensures lack { HasShowLack (O.lacks out.old) (O.lacks out.new) result }
     {
@@ -128,7 +175,7 @@ impl<'a, S: Store> Answerer for WildSearcher<'a, S> {
 
     ghost answers = { λ s by. WildBy s by };
 
-    ghost after = { λ s t questions. WildAsked s t };
+    ghost after = { λ s t questions. WildAsked s t questions };
 
     ghost may_stop = { λ s t error. WildMayStop s t error };
 
@@ -144,9 +191,9 @@ impl<'a, S: Store> Answerer for WildSearcher<'a, S> {
 
     ghost after_none = { λ s. wild_none s };
 
-    ghost after_more = { λ s t u xs ys first more. wild_more s t u first more };
+    ghost after_more = { λ s t u xs ys first more. wild_more s t u xs ys first more };
 
-    ghost same_reply = { λ s t xs by after answers. wild_later s t by after answers };
+    ghost same_reply = { λ s t xs by after answers. wild_later s t xs by after answers };
 
-    ghost stops_later = { λ s t u xs error after stops. wild_stop s t u error after stops };
+    ghost stops_later = { λ s t u xs error after stops. wild_stop s t u xs error after stops };
 }

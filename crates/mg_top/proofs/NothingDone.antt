@@ -1,7 +1,7 @@
 -- A run that lacked memory before it touched a device does what each tool allows.
 use Rattle.std.proofs.Common.{◌≡◌, ◌∙◌, ℕ, List, Option, None, Some, sym, ap, subst, inl, inr, arith}
 use Rattle.std.specs.Option.{is_some}
-use Rattle.mg_dev.specs.Files.{bytes_at, file_at}
+use Rattle.mg_dev.specs.Files.{Files, Reads, bytes_at, file_at}
 use Rattle.mg_dev.specs.StreamLaws.{grew_nothing}
 use Rattle.mg_dev.specs.Streams.{GrewByPrefix}
 use Rattle.mg_dev.specs.declared.part.Part.{Part}
@@ -10,6 +10,7 @@ use Rattle.mg_dev.specs.declared.fault.Fault.{Fault}
 use Rattle.mg_dev.specs.declared.fault.Fault.TheVariants.{Usage, WriteFault, Memory}
 use Rattle.mg_dev.specs.declared.status.Status.{Status}
 use Rattle.mg_dev.specs.declared.status.Status.TheVariants.{Done, Stopped}
+use Rattle.mg_defs.specs.CodedText.{TextCode}
 use Rattle.mg_defs.specs.Generator.{made_collection}
 use Rattle.mg_defs.specs.Join.{join}
 use Rattle.mg_defs.specs.PhraseSession.{phrase_session}
@@ -19,7 +20,12 @@ use Rattle.mg_defs.specs.WildSession.{wild_session}
 use Rattle.mg_make.specs.Putting.{OthersSame}
 use Rattle.mg_merge.specs.Merging.{budget_of}
 use Rattle.mg_session.specs.Serves as serves
-use Rattle.mg_session.specs.WildServes.{WildStops}
+use Rattle.mg_session.specs.Parts.{NeverRead}
+use Rattle.mg_session.specs.PhraseAnswers.{ReadsPhrases}
+use Rattle.mg_session.specs.Served.{Served}
+use Rattle.mg_session.specs.Serves.{ReadsWithin}
+use Rattle.mg_session.specs.WildAnswers.{NeverReadByPatterns, ReadsPatterns}
+use Rattle.mg_session.specs.WildServes.{CountsTooMany}
 use Rattle.mg_plain.specs.Stops.{ScanStops}
 use Rattle.mg_build.specs.Outcomes.{DecodeStops}
 use Rattle.mg_words.specs.Tasks.{Task, build, query, decode, scan, trial, migrate, check, wild, phrase, merge}
@@ -106,51 +112,42 @@ module _ (run : Run) (stops : Stops run Memory) (store : run.store_now ≡ run.s
     input = input;
   }
 
-  queried : (n : List ℕ) → Queried n run
-  queried n = record {
+  -- a session, whatever it prints and counts, of which nothing was read
+  served : (text : List ℕ → List ℕ → List ℕ) (IsWithin : TextCode → List ℕ → List ℕ → Reads → Reads → Type 0) (IsUnread : Part → Type 0) (IsCounted : Option Files → List ℕ → ℕ → Type 0) (n : List ℕ) →
+      ((code : TextCode) (c given : List ℕ) → IsWithin code c given run.store.reads run.store_now.reads) → Served text IsWithin IsUnread IsCounted n run
+  served text IsWithin IsUnread IsCounted n within = record {
     done = λ c given stands some is. absurd (not_done is);
     left = λ given some is. absurd (not_done is);
     within = λ given some is. absurd (not_done is);
-    prefix = λ c given stands some. prefix (session c given);
-    silent = λ is. silent;
-    cause = caused (serves.StopsFor n (StoreFailed run) (InputFailed run) (OutputFailed run) run.store.files run.input.left) tt;
+    prefix = λ c given stands some. prefix (text c given);
+    silent = λ fault first is. silent;
+    untouched = λ fault first is. ap (λ s. s.left) input;
+    cause = caused (serves.ServeStops IsCounted n (StoreFailed run) (InputFailed run) (OutputFailed run) run.store.files run.input.left) tt;
     not_built = λ told none. inr (inr stops);
-    complete = λ c given stands some short no_store no_input no_output. inr stops;
     files = files;
-    pages = λ head code c given stands some. record { post = rw (same_reads part.Post) (omega arith); text = rw (same_reads part.Text) (omega arith) };
+    pages = λ head code c given stands some. within code c given;
     unread = λ p never. same_reads p;
+  }
+
+  queried : (n : List ℕ) → Queried n run
+  queried n = record {
+    served = served session ReadsWithin NeverRead serves.CountsNone n (λ code c given. record { post = rw (same_reads part.Post) (omega arith); text = rw (same_reads part.Text) (omega arith) });
+    complete = λ c given stands some short no_store no_input no_output. inr stops;
     texts_unread = λ given some asks p is. same_reads p;
   }
 
   phrased : (n : List ℕ) → Phrased n run
   phrased n = record {
-    done = λ c given stands some is. absurd (not_done is);
-    left = λ given some is. absurd (not_done is);
-    within = λ given some is. absurd (not_done is);
-    prefix = λ c given stands some. prefix (phrase_session c given);
-    silent = λ is. silent;
-    cause = caused (serves.StopsFor n (StoreFailed run) (InputFailed run) (OutputFailed run) run.store.files run.input.left) tt;
-    not_built = λ told none. inr (inr stops);
+    served = served phrase_session ReadsPhrases NeverRead serves.CountsNone n (λ code c given. record { post = rw (same_reads part.Post) (omega arith); text = rw (same_reads part.Text) (omega arith) });
     complete = λ c given stands some short no_store no_input no_output. inr stops;
-    files = files;
-    pages = λ head code c given stands some. record { post = rw (same_reads part.Post) (omega arith); text = rw (same_reads part.Text) (omega arith) };
-    unread = λ p never. same_reads p;
   }
 
   matched : (n : List ℕ) → Matched n run
   matched n = record {
-    done = λ c given stands some is. absurd (not_done is);
-    left = λ given some is. absurd (not_done is);
-    within = λ given some is. absurd (not_done is);
-    prefix = λ c given stands some. prefix (wild_session c given);
-    silent = λ fault first is. silent;
-    untouched = λ fault first is. ap (λ s. s.left) input;
-    cause = caused (WildStops n (StoreFailed run) (InputFailed run) (OutputFailed run) run.store.files run.input.left) tt;
-    not_built = λ told none. inr (inr stops);
+    served = served wild_session ReadsPatterns NeverReadByPatterns CountsTooMany n (λ code c given. record { post = rw (same_reads part.Post) (omega arith) });
+    too_many = λ count told terms. inr (inr stops);
     many = λ c stands more. inr (inr stops);
     complete = λ c given stands few some short no_store no_input no_output. inr stops;
-    files = files;
-    unread = λ p never. same_reads p;
   }
 
   decoded : (n : List ℕ) → Decoded n run

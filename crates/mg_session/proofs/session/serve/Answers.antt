@@ -1,8 +1,26 @@
-use Rattle.std.proofs.Common.{refl}
-use Rattle.mg_session.proofs.QueriedLaws.{queried_by}
+use Rattle.std.proofs.Common.{arith}
+use Rattle.mg_session.specs.Searching.{state_of}
+use Rattle.mg_session.proofs.QueriedLaws.{no_head, no_set, queried}
 use Rattle.mg_session.proofs.session.serve.Goals as goal
 
+pub returns-in-Err-clause-queried : goal.returns-in-Err-clause-queried
+returns-in-Err-clause-queried g c = λ err err_now. no_head _ _ _ _ _ _ _ c.in-Err.fault c.in-Err.ensures.opened
+
+pub returns-in-Err-open-clause-queried : goal.returns-in-Err-open-clause-queried
+returns-in-Err-open-clause-queried g c = λ err err_now. no_set _ _ _ _ _ _ _ _ c.in-Ok.head c.in-Err-open.fault c.in-Ok.ensures.opened c.in-Err-open.ensures.opened
+
 pub returns-clause-queried : goal.returns-clause-queried
-returns-clause-queried g c = λ err err_now. queried_by _ _ c.serve_files.result refl
-    c.serve_files.ensures.all c.serve_files.ensures.prefix c.serve_files.ensures.left c.serve_files.ensures.within c.serve_files.ensures.pages c.serve_files.ensures.unread c.serve_files.ensures.texts_unread c.serve_files.ensures.files
-    c.serve_files.ensures.cause c.serve_files.ensures.silent c.serve_files.ensures.not_built
+returns-clause-queried g c = λ err err_now.
+    queried _ _ _
+    (state_of (g.S.Store.files c.open.new.store) (g.S.Store.reads c.open.new.store) (g.S.Store.faults c.open.new.store) c.in-Ok-open.searcher)
+    (state_of (g.S.Store.files c.answer_lines.new.dev) (g.S.Store.reads c.answer_lines.new.dev) (g.S.Store.faults c.answer_lines.new.dev) c.answer_lines.new.answerer)
+    _ _ _ _ _ _ c.in-Ok.head c.answer_lines.result c.in-Ok.ensures.opened c.in-Ok-open.ensures.opened c.answer_lines.ensures.served
+
+pub returns-in-Err-clause-later : goal.returns-in-Err-clause-later
+returns-in-Err-clause-later g c = c.in-Err.ensures.opened.faults
+
+pub returns-in-Err-open-clause-later : goal.returns-in-Err-open-clause-later
+returns-in-Err-open-clause-later g c = omega (arith, c.in-Ok.ensures.opened.faults, c.in-Err-open.ensures.opened.faults)
+
+pub returns-clause-later : goal.returns-clause-later
+returns-clause-later g c = omega (arith, c.in-Ok.ensures.opened.faults, c.in-Ok-open.ensures.opened.faults, c.answer_lines.ensures.served.answered.after.faults)

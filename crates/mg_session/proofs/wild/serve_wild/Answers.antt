@@ -1,8 +1,27 @@
-use Rattle.std.proofs.Common.{refl}
-use Rattle.mg_session.proofs.MatchedLaws.{matched_by}
+use Rattle.std.proofs.Common.{arith}
+use Rattle.mg_session.specs.WildSearching.{wild_state}
+use Rattle.mg_session.proofs.MatchedLaws.{matched, no_head, no_set}
 use Rattle.mg_session.proofs.wild.serve_wild.Goals as goal
 
+pub returns-in-Err-clause-matched : goal.returns-in-Err-clause-matched
+returns-in-Err-clause-matched g c = λ err err_now. no_head _ _ _ _ _ _ _ c.in-Err.fault c.in-Err.ensures.opened
+
+pub returns-in-Err-open-clause-matched : goal.returns-in-Err-open-clause-matched
+returns-in-Err-open-clause-matched g c = λ err err_now.
+    no_set _ _ _ _ _ _ _ _ c.in-Ok.head c.in-Err-open.fault c.in-Ok.ensures.opened c.in-Err-open.ensures.opened c.in-Err-open.ensures.many
+
 pub returns-clause-matched : goal.returns-clause-matched
-returns-clause-matched g c = λ err err_now. matched_by _ _ c.serve_files.result refl
-    c.serve_files.ensures.all c.serve_files.ensures.prefix c.serve_files.ensures.left c.serve_files.ensures.within c.serve_files.ensures.unread c.serve_files.ensures.files
-    c.serve_files.ensures.cause c.serve_files.ensures.silent c.serve_files.ensures.untouched c.serve_files.ensures.not_built c.serve_files.ensures.many
+returns-clause-matched g c = λ err err_now.
+    matched _ _ _
+    (wild_state (g.S.Store.files c.open.new.store) (g.S.Store.reads c.open.new.store) (g.S.Store.faults c.open.new.store) c.in-Ok-open.searcher)
+    (wild_state (g.S.Store.files c.answer_lines.new.dev) (g.S.Store.reads c.answer_lines.new.dev) (g.S.Store.faults c.answer_lines.new.dev) c.answer_lines.new.answerer)
+    _ _ _ _ _ _ c.in-Ok.head c.answer_lines.result c.in-Ok.ensures.opened c.in-Ok-open.ensures.opened c.in-Ok-open.ensures.many c.answer_lines.ensures.served
+
+pub returns-in-Err-clause-later : goal.returns-in-Err-clause-later
+returns-in-Err-clause-later g c = c.in-Err.ensures.opened.faults
+
+pub returns-in-Err-open-clause-later : goal.returns-in-Err-open-clause-later
+returns-in-Err-open-clause-later g c = omega (arith, c.in-Ok.ensures.opened.faults, c.in-Err-open.ensures.opened.faults)
+
+pub returns-clause-later : goal.returns-clause-later
+returns-clause-later g c = omega (arith, c.in-Ok.ensures.opened.faults, c.in-Ok-open.ensures.opened.faults, c.answer_lines.ensures.served.answered.after.step.faults)

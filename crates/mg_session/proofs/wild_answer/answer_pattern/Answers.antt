@@ -1,5 +1,6 @@
-use Rattle.std.proofs.Common.{◌∙◌}
+use Rattle.std.proofs.Common.{arith, ◌∙◌}
 use Rattle.mg_session.proofs.ReplyLaws.{part_sound, put_sound}
+use Rattle.mg_session.proofs.WildPageLaws.{pattern_bound}
 use Rattle.mg_session.proofs.WildTextLaws.{lists_read, matched, nothing_read, numbers_below, wild_end, wild_marked_cut, wild_stop, wild_terms_cut}
 use Rattle.mg_session.proofs.wild_answer.answer_pattern.Goals as goal
 
@@ -52,3 +53,23 @@ returns-clause-answer g c = λ collection sources.
 
 pub returns-clause-step : goal.returns-clause-step
 returns-clause-step g c = lists_read _ _ _ _ _ _ c.in-Ok-mark_all.ensures.files c.in-Ok-mark_all.ensures.cause.later c.in-Ok-mark_all.ensures.reads
+
+pub returns-in-Err-mark_all-clause-pages : goal.returns-in-Err-mark_all-clause-pages
+returns-in-Err-mark_all-clause-pages g c = λ collection sources.
+    omega (arith, c.in-Err-mark_all.ensures.pages collection sources, pattern_bound collection _ c.args.terms.now.terms _ (c.as_slice-numbers.ensures ∙ c.in-Ok.ensures) sources.terms_are.terms)
+
+pub returns-in-Err-pass_terms-clause-pages : goal.returns-in-Err-pass_terms-clause-pages
+returns-in-Err-pass_terms-clause-pages g c = λ collection sources.
+    omega (arith, c.in-Ok-mark_all.ensures.pages collection sources, pattern_bound collection _ c.args.terms.now.terms _ (c.as_slice-numbers.ensures ∙ c.in-Ok.ensures) sources.terms_are.terms)
+
+pub returns-in-Err-pass_marked-clause-pages : goal.returns-in-Err-pass_marked-clause-pages
+returns-in-Err-pass_marked-clause-pages g c = λ collection sources.
+    omega (arith, c.in-Ok-mark_all.ensures.pages collection sources, pattern_bound collection _ c.args.terms.now.terms _ (c.as_slice-numbers.ensures ∙ c.in-Ok.ensures) sources.terms_are.terms)
+
+pub returns-in-Ok-flush-clause-pages : goal.returns-in-Ok-flush-clause-pages
+returns-in-Ok-flush-clause-pages g c = λ collection sources.
+    omega (arith, c.in-Ok-mark_all.ensures.pages collection sources, pattern_bound collection _ c.args.terms.now.terms _ (c.as_slice-numbers.ensures ∙ c.in-Ok.ensures) sources.terms_are.terms)
+
+pub returns-clause-pages : goal.returns-clause-pages
+returns-clause-pages g c = λ collection sources.
+    omega (arith, c.in-Ok-mark_all.ensures.pages collection sources, pattern_bound collection _ c.args.terms.now.terms _ (c.as_slice-numbers.ensures ∙ c.in-Ok.ensures) sources.terms_are.terms)

@@ -1,5 +1,7 @@
 use Rattle.std.proofs.Common.{◌≡◌, ◌≤◌, ℕ, List, take}
+use Rattle.mg_defs.specs.PageBounds.{ranked_bound}
 use Rattle.mg_post.specs.TermLists.{ReadsLists}
+use Rattle.mg_rank.specs.Ranked.{PostWithin}
 use Rattle.mg_session.specs.WildAnswers.{WildSources}
 use Rattle.mg_session.specs.WildMarks.{AddsLists, terms_at}
 use Rattle.mg_session.proofs.wild_answer.mark_all.Given as goal
@@ -11,4 +13,5 @@ invariant-loop-number g l = record {
   reads : ReadsLists (g.S.Store.reads l.fn.store) (g.S.Store.reads l.store);
   faults : g.S.Store.faults l.fn.store ≤ g.S.Store.faults l.store;
   added : (collection : List ℕ) → WildSources l.base (g.S.Store.files l.fn.store) l.terms l.all collection → AddsLists collection (terms_at collection (take l.number-index l.numbers)) l.fn.marked l.marked;
+  post : (collection : List ℕ) → WildSources l.base (g.S.Store.files l.fn.store) l.terms l.all collection → PostWithin g.S.Store.reads l.fn.store l.store (ranked_bound collection (terms_at collection (take l.number-index l.numbers)));
 }

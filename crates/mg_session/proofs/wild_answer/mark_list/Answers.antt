@@ -2,7 +2,7 @@ use Rattle.std.proofs.Common.{arith, ◌≤◌, ◌<◌, ◌+◌, sym, ◌∙◌
 use Rattle.mg_defs.specs.Lists.{postings}
 use Rattle.mg_defs.specs.PageBounds.{numbers_in}
 use Rattle.mg_post.specs.TermLists.{ListsStand}
-use Rattle.mg_session.proofs.WildListLaws.{list_later, marking_end, marking_next, marking_start, or_list}
+use Rattle.mg_session.proofs.WildListLaws.{for_within, list_later, marking_end, marking_next, marking_start, or_list}
 use Rattle.mg_post.proofs.ListHeads.{none_at}
 use Rattle.mg_session.proofs.wild_answer.mark_list.Goals as goal
 
@@ -17,6 +17,7 @@ loop-last-init g c = record {
   faults = omega arith;
   walk = λ collection t stand i all_is. marking_start collection t c.args.marked.now;
   list = λ collection t stand i all_is. c.in-Ok.ensures.term collection (numbers_in (postings collection t)) t 0 i all_is;
+  post = λ collection t stand i all_is. omega arith;
 }
 
 pub returns-in-Ok-None-clause-answer : goal.returns-in-Ok-None-clause-answer
@@ -57,6 +58,10 @@ loop-last-preserved g c =
           let f = c.loop-last.invariant.list collection t stand i all_is in
           let a = (rw c.in-Ok-Some.field-0-is at c.in-Ok-Some.ensures.answer) c.args.base.now collection t stand2 f in
           list_later c.args.base.now collection t (c.loop-last.last + 1) c.in-Ok-Some.posting.doc _ a.cursor from.from;
+      post = λ collection t stand i all_is.
+          let stand2 = subst (λ fs. ListsStand c.args.base.now fs collection) (sym c.loop-last.invariant.files) stand in
+          let f = c.loop-last.invariant.list collection t stand i all_is in
+          omega (arith, c.loop-last.invariant.post collection t stand i all_is, c.next_posting.ensures.post c.args.base.now collection t stand2 f);
     }
 
 pub mark-requires-clause-some : goal.mark-requires-clause-some
@@ -68,3 +73,19 @@ mark-requires-clause-within g c = let from = (rw c.in-Ok-Some.field-0-is at c.in
 pub returns-clause-answer : goal.returns-clause-answer
 returns-clause-answer g c = λ collection t stand i all_is.
     marking_end collection t c.loop-last.last c.args.marked.now c.loop-last.marked (c.loop-last.invariant.walk collection t stand i all_is) (λ d low le. absurd (omega (arith, c.loop-last-test.false, all_is, low, le)))
+
+pub returns-in-Ok-None-clause-pages : goal.returns-in-Ok-None-clause-pages
+returns-in-Ok-None-clause-pages g c = λ collection t stand i all_is.
+    let stand2 = subst (λ fs. ListsStand c.args.base.now fs collection) (sym c.loop-last.invariant.files) stand in
+    let f = c.loop-last.invariant.list collection t stand i all_is in
+    omega (arith, c.loop-last.invariant.post collection t stand i all_is, c.next_posting.ensures.post c.args.base.now collection t stand2 f, c.next_posting.ensures.within c.args.base.now collection t stand2 f)
+
+pub returns-in-Err-next_posting-clause-pages : goal.returns-in-Err-next_posting-clause-pages
+returns-in-Err-next_posting-clause-pages g c = λ collection t stand i all_is.
+    let stand2 = subst (λ fs. ListsStand c.args.base.now fs collection) (sym c.loop-last.invariant.files) stand in
+    let f = c.loop-last.invariant.list collection t stand i all_is in
+    omega (arith, c.loop-last.invariant.post collection t stand i all_is, c.next_posting.ensures.post c.args.base.now collection t stand2 f, c.next_posting.ensures.within c.args.base.now collection t stand2 f)
+
+pub returns-clause-pages : goal.returns-clause-pages
+returns-clause-pages g c = λ collection t stand i all_is.
+    omega (arith, c.loop-last.invariant.post collection t stand i all_is, c.cursor_pages_are_within.ensures c.args.base.now collection (numbers_in (postings collection t)) t c.loop-last.last _ (c.loop-last.invariant.list collection t stand i all_is), for_within collection (numbers_in (postings collection t)) t)

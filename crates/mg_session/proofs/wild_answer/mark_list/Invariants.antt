@@ -1,6 +1,7 @@
-use Rattle.std.proofs.Common.{◌-◌, ◌≡◌, ◌≤◌, ℕ, List, length}
+use Rattle.std.proofs.Common.{◌-◌, ◌≡◌, ◌+◌, ◌≤◌, ℕ, List, length}
+use Rattle.mg_dev.specs.declared.part.Part.TheVariants as part
 use Rattle.mg_defs.specs.Split.{documents}
-use Rattle.mg_post.specs.Cursor.{CursorFits}
+use Rattle.mg_post.specs.Cursor.{CursorFits, post_pages}
 use Rattle.mg_post.specs.TermLists.{ListsStand, ReadsLists}
 use Rattle.mg_layout.specs.Infos.{IsInfoOf}
 use Rattle.mg_rank.specs.Ranked.{ListFor}
@@ -18,6 +19,7 @@ invariant-loop-last g l = record {
   faults : g.S.Store.faults l.fn.store ≤ g.S.Store.faults l.store;
   walk : (collection t : List ℕ) → ListsStand l.base (g.S.Store.files l.fn.store) collection → IsInfoOf collection t l.info → l.all ≡ length (documents collection) → Marking collection t l.last l.fn.marked l.marked;
   list : (collection t : List ℕ) → ListsStand l.base (g.S.Store.files l.fn.store) collection → IsInfoOf collection t l.info → l.all ≡ length (documents collection) → ListFor l.base collection t l.last l.cursor;
+  post : (collection t : List ℕ) → ListsStand l.base (g.S.Store.files l.fn.store) collection → IsInfoOf collection t l.info → l.all ≡ length (documents collection) → g.S.Store.reads l.store part.Post ≤ g.S.Store.reads l.fn.store part.Post + post_pages l.cursor;
 }
 
 abbrev pub decreases-loop-last : goal.decreases-loop-last

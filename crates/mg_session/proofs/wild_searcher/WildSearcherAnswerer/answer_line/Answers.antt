@@ -1,4 +1,4 @@
-use Rattle.std.proofs.Common.{List, ℕ, sym, subst}
+use Rattle.std.proofs.Common.{arith, List, ℕ, sym, subst}
 use Rattle.mg_defs.specs.declared.session.Settings.{Settings}
 use Rattle.mg_dev.specs.Streams.{AfterPut}
 use Rattle.mg_session.specs.WildSearching.{wild_state}
@@ -10,7 +10,11 @@ returns-clause-content g c = λ by answers. subst (λ (r : Settings → List ℕ
     (c.answer_question.ensures.replied answers.collection answers.over).put
 
 pub returns-clause-after : goal.returns-clause-after
-returns-clause-after g c = record { step = c.answer_question.ensures.step; same = c.answer_question.ensures.same }
+returns-clause-after g c = record {
+  step = c.answer_question.ensures.step;
+  same = c.answer_question.ensures.same;
+  post = λ collection over. omega (arith, c.answer_question.ensures.pages collection over);
+}
 
 pub returns-clause-part : goal.returns-clause-part
 returns-clause-part g c = line_part

@@ -1,0 +1,263 @@
+-- What opening a set does, by what loading its head and its parts answers.
+use Rattle.std.proofs.Common.{arith, ◌≡◌, ◌≤◌, ◌^◌, ◌⊎◌, ◌∙◌, ℕ, false, List, Ok, Err, None, Some, IsSome, Option, refl, sym, ap, subst, inl, inr}
+use Rattle.std.specs.Prelude.{Result}
+use Rattle.mg_bits.specs.Pages.{Looked}
+use Rattle.mg_dev.specs.Causes.{Rose}
+use Rattle.mg_dev.specs.Faults.{fault_of_part}
+use Rattle.mg_dev.specs.Files.{Files, OneRead, Reads, SameReads, bytes_at}
+use Rattle.mg_dev.specs.Moments.{StoreAt}
+use Rattle.mg_dev.specs.Names.{full_name, number, same_part}
+use Rattle.mg_dev.specs.PartCauses.{HasPartCause}
+use Rattle.mg_dev.specs.declared.fault.Fault.{Fault}
+use Rattle.mg_dev.specs.declared.fault.Fault.TheVariants.{NotBuilt}
+use Rattle.mg_dev.specs.declared.part.Part.{Part}
+use Rattle.mg_dev.specs.declared.part.Part.TheVariants as part
+use Rattle.mg_dev.specs.declared.part_err.PartErr.{PartErr}
+use Rattle.mg_dev.specs.declared.part_err.PartErr.TheVariants as err
+use Rattle.mg_defs.specs.CodedText.{TextCode}
+use Rattle.mg_defs.specs.Heads as defs
+use Rattle.mg_defs.specs.Heads.{IsHead}
+use Rattle.mg_defs.specs.WithinLimits.{IsWithinLimits}
+use Rattle.mg_front.specs.Reading.{Fronted, IsNotBad, LookedAt}
+use Rattle.mg_layout.specs.HeadAnswers.{AnswersBack, AnswersHead, fields_of}
+use Rattle.mg_layout.specs.Stands.{StandsBy}
+use Rattle.mg_layout.specs.declared.head.Head.{Head}
+use Rattle.mg_layout.proofs.CallerLemmas.{no_empty_head, own_head}
+use Rattle.mg_lex.specs.Reading.{IsLexicon, LexStands}
+use Rattle.mg_text.specs.Reading.{IsText, TextReading, TextStands}
+use Rattle.mg_wild.specs.Loading.{HasTermsOf, TellsOf}
+use Rattle.mg_wild.specs.Terms.{LexTerms}
+use Rattle.mg_session.specs.Opening.{HeadOpened, KeptByPatterns, KeptByPhrases, KeptByQueries, OpenStops, SetOpened}
+use Rattle.mg_session.specs.PhraseSearching.{PartsOver, PartsOverBy, PhraseParts}
+use Rattle.mg_session.specs.Searching.{Opened, OpenedOver, opened_at}
+use Rattle.mg_session.specs.Serves.{StandsByNone}
+use Rattle.mg_session.specs.WildSearching.{PartsAreBy, WildParts}
+use Rattle.mg_session.specs.WildServes.{CountedBy}
+use Rattle.mg_session.proofs.PhraseStepLaws.{parts_over}
+use Rattle.mg_session.proofs.SetLaws.{opened_over, set_lexicon, set_text}
+use Rattle.mg_session.proofs.StopLaws.{head_read, open_part}
+use Rattle.mg_session.proofs.WildSetLaws.{wild_parts}
+
+-- ---- the head
+
+-- what is told of loading it
+pub record Loaded (base : List ℕ) (s0 s1 : StoreAt) (r : Result (Option Head) PartErr) : Type 0 where
+  pub answer : IsSome s0.files → AnswersHead 1 2 (bytes_at s0.files (full_name base part.Head)) r
+  pub back : IsSome s0.files → (h : defs.Head) → IsHead 1 2 (bytes_at s0.files (full_name base part.Head)) h → AnswersBack h r
+  pub files : s1.files ≡ s0.files
+  pub reads : SameReads s0.reads s1.reads ⊎ OneRead s0.reads s1.reads part.Head
+  pub cause : HasPartCause s0.faults s1.faults r
+
+module _ (base : List ℕ) (s0 s1 : StoreAt) where
+  head_some : (head : Head) → Loaded base s0 s1 (Ok (Some head)) → HeadOpened base s0 s1 (Ok head)
+  head_some head l = record {
+    files = l.files;
+    faults = l.cause.later;
+    unread = λ p high. head_read s0.reads s1.reads l.reads p high;
+    head = l.answer;
+    cause = tt;
+    not_built = λ told none. absurd (no_empty_head _ _ (l.answer told) none);
+    built = λ h told is. tt;
+  }
+
+  pub head_loaded : (loaded : Option Head) (head : Head) → loaded ≡ Some head → Loaded base s0 s1 (Ok loaded) → HeadOpened base s0 s1 (Ok head)
+  head_loaded loaded head is l = head_some head (subst (λ (o : Option Head). Loaded base s0 s1 (Ok o)) is l)
+
+  head_none : Loaded base s0 s1 (Ok None) → HeadOpened base s0 s1 (Err NotBuilt)
+  head_none l = record {
+    files = l.files;
+    faults = l.cause.later;
+    unread = λ p high. head_read s0.reads s1.reads l.reads p high;
+    head = tt;
+    cause = l.answer;
+    not_built = λ told none. inl refl;
+    built = λ h told is. absurd (l.back told h is);
+  }
+
+  pub head_missing : (loaded : Option Head) → loaded ≡ None → Loaded base s0 s1 (Ok loaded) → HeadOpened base s0 s1 (Err NotBuilt)
+  head_missing loaded is l = head_none (subst (λ (o : Option Head). Loaded base s0 s1 (Ok o)) is l)
+
+  pub head_refused : (refusal : PartErr) → Loaded base s0 s1 (Err refusal) → HeadOpened base s0 s1 (Err (fault_of_part refusal))
+  head_refused err.Device l = record {
+    files = l.files;
+    faults = l.cause.later;
+    unread = λ p high. head_read s0.reads s1.reads l.reads p high;
+    head = tt;
+    cause = l.cause.device;
+    not_built = λ told none. inr (inl refl);
+    built = λ h told is. tt;
+  }
+  head_refused err.Memory l = record {
+    files = l.files;
+    faults = l.cause.later;
+    unread = λ p high. head_read s0.reads s1.reads l.reads p high;
+    head = tt;
+    cause = tt;
+    not_built = λ told none. inr (inr refl);
+    built = λ h told is. tt;
+  }
+  head_refused (err.Bad bad) l = record {
+    files = l.files;
+    faults = l.cause.later;
+    unread = λ p high. head_read s0.reads s1.reads l.reads p high;
+    head = tt;
+    cause = λ collection stands. l.back stands.told _ (own_head s0.files base collection stands);
+    not_built = λ told none. absurd ((l.answer told).0 none);
+    built = λ h told is. absurd (l.back told h is);
+  }
+
+-- ---- a set for queries
+
+module _ (base : List ℕ) (s0 s1 : StoreAt) (head : Head) where
+  pub queries_opened : (lex : Fronted) (opened : Opened) → opened ≡ opened_at base lex head → s1.files ≡ s0.files → SameReads s0.reads s1.reads → s0.faults ≤ s1.faults →
+      ((collection : List ℕ) → IsLexicon base s0.files head.terms collection → LexStands lex s1.files collection) →
+      SetOpened (OpenedOver s1.files) KeptByQueries (λ count. ⊥) head base s0 s1 (Ok opened)
+  queries_opened lex opened made files reads faults stands = record {
+    files = files;
+    faults = faults;
+    unread = λ p kept. reads p;
+    over = λ code collection is. subst (λ (o : Opened). OpenedOver s1.files o code collection) (sym made)
+        (opened_over base s0.files s1.files head code collection lex files is (stands collection (set_lexicon base s0.files head code collection is)));
+    cause = tt;
+  }
+
+  pub queries_refused : (refusal : PartErr) → s1.files ≡ s0.files → SameReads s0.reads s1.reads → HasPartCause {T = Fronted} s0.faults s1.faults (Err refusal) →
+      ((collection : List ℕ) → IsLexicon base s0.files head.terms collection → IsNotBad refusal) →
+      SetOpened (OpenedOver s1.files) KeptByQueries (λ count. ⊥) head base s0 s1 (Err (fault_of_part refusal))
+  queries_refused refusal files reads cause never_bad = record {
+    files = files;
+    faults = cause.later;
+    unread = λ p kept. reads p;
+    over = tt;
+    cause = open_part {T = Fronted} refusal s0.faults s0.faults s1.faults ⊥ _ (λ count. ⊥) (omega arith) cause
+        (λ bad code collection is. bad (never_bad collection (set_lexicon base s0.files head code collection is)));
+  }
+
+-- ---- a set for phrases
+
+-- the models are not among what is kept
+not_words : (p : Part) → KeptByPhrases p → same_part p part.Words ≡ false
+not_words part.Head kept = refl
+not_words part.Words kept = absurd kept
+not_words part.Nonwords kept = absurd kept
+not_words part.Text kept = refl
+not_words part.Places kept = refl
+not_words part.Lex kept = refl
+not_words part.LexAt kept = refl
+not_words part.Post kept = refl
+not_words part.Skip kept = refl
+not_words part.Weights kept = refl
+not_words part.Run kept = refl
+not_words part.MergeA kept = refl
+not_words part.MergeB kept = refl
+not_words part.Plain kept = refl
+
+not_others : (p : Part) → KeptByPhrases p → same_part p part.Nonwords ≡ false
+not_others part.Head kept = refl
+not_others part.Words kept = absurd kept
+not_others part.Nonwords kept = absurd kept
+not_others part.Text kept = refl
+not_others part.Places kept = refl
+not_others part.Lex kept = refl
+not_others part.LexAt kept = refl
+not_others part.Post kept = refl
+not_others part.Skip kept = refl
+not_others part.Weights kept = refl
+not_others part.Run kept = refl
+not_others part.MergeA kept = refl
+not_others part.MergeB kept = refl
+not_others part.Plain kept = refl
+
+module _ (base : List ℕ) (s0 s1 : StoreAt) (head : Head) where
+  pub no_lexicon : (refusal : PartErr) → s1.files ≡ s0.files → SameReads s0.reads s1.reads → HasPartCause {T = Fronted} s0.faults s1.faults (Err refusal) →
+      ((collection : List ℕ) → IsLexicon base s0.files head.terms collection → IsNotBad refusal) →
+      SetOpened (PartsOverBy s1.files) KeptByPhrases (λ count. ⊥) head base s0 s1 (Err (fault_of_part refusal))
+  no_lexicon refusal files reads cause never_bad = record {
+    files = files;
+    faults = cause.later;
+    unread = λ p kept. reads p;
+    over = tt;
+    cause = open_part {T = Fronted} refusal s0.faults s0.faults s1.faults ⊥ _ (λ count. ⊥) (omega arith) cause
+        (λ bad code collection is. bad (never_bad collection (set_lexicon base s0.files head code collection is)));
+  }
+
+-- the lexicon was loaded, and then the text
+module _ (base : List ℕ) (s0 s1 s2 : StoreAt) (head : Head) (first : s1.files ≡ s0.files) (reads : SameReads s0.reads s1.reads) (later : s0.faults ≤ s1.faults)
+    (looked : LookedAt part.Words part.Nonwords s1.files s2.files s1.reads s2.reads s1.faults s2.faults) where
+  unread : (p : Part) → KeptByPhrases p → s2.reads p ≡ s0.reads p
+  unread p kept = looked.others p (not_words p kept) (not_others p kept) ∙ reads p
+
+  pub no_text : (refusal : PartErr) → HasPartCause {T = TextReading} s1.faults s2.faults (Err refusal) → ((code : TextCode) (collection : List ℕ) → IsText base s1.files head code collection → IsNotBad refusal) →
+      SetOpened (PartsOverBy s2.files) KeptByPhrases (λ count. ⊥) head base s0 s2 (Err (fault_of_part refusal))
+  no_text refusal cause never_bad = record {
+    files = looked.files ∙ first;
+    faults = omega (arith, later, looked.faults);
+    unread = unread;
+    over = tt;
+    cause = open_part {T = TextReading} refusal s0.faults s1.faults s2.faults ⊥ _ (λ count. ⊥) later cause
+        (λ bad code collection is. bad (never_bad code collection (set_text base s0.files s1.files head code collection first is)));
+  }
+
+  pub phrases_opened : (lex : Fronted) (text : TextReading) (parts : PhraseParts) → parts ≡ record { base = base; lex = lex; text = text; all = head.documents } →
+      ((collection : List ℕ) → IsLexicon base s0.files head.terms collection → LexStands lex s1.files collection) →
+      ((code : TextCode) (collection : List ℕ) → IsText base s1.files head code collection → TextStands text s2.files collection) →
+      ((code : TextCode) (collection : List ℕ) → IsText base s1.files head code collection → text.code ≡ code) →
+      SetOpened (PartsOverBy s2.files) KeptByPhrases (λ count. ⊥) head base s0 s2 (Ok parts)
+  phrases_opened lex text parts made lexicon stands code_is = record {
+    files = looked.files ∙ first;
+    faults = omega (arith, later, looked.faults);
+    unread = unread;
+    over = λ code collection is.
+        let own = set_text base s0.files s1.files head code collection first is in
+        subst (λ (p : PhraseParts). PartsOverBy s2.files p code collection) (sym made) (
+          parts_over base s0.files s1.files s2.files head code collection lex text first looked.files is (lexicon collection (set_lexicon base s0.files head code collection is)) (stands code collection own),
+          code_is code collection own,
+        );
+    cause = tt;
+  }
+
+-- ---- a set for patterns
+
+-- the lexicon is not among what is kept
+not_lexicon : (p : Part) → KeptByPatterns p → same_part p part.Lex ≡ false
+not_lexicon part.Head kept = refl
+not_lexicon part.Words kept = refl
+not_lexicon part.Nonwords kept = refl
+not_lexicon part.Text kept = refl
+not_lexicon part.Places kept = refl
+not_lexicon part.Lex kept = absurd kept
+not_lexicon part.LexAt kept = refl
+not_lexicon part.Post kept = refl
+not_lexicon part.Skip kept = refl
+not_lexicon part.Weights kept = refl
+not_lexicon part.Run kept = refl
+not_lexicon part.MergeA kept = refl
+not_lexicon part.MergeB kept = refl
+not_lexicon part.Plain kept = refl
+
+lexicon_read : (f g : Option Files) (r s : Reads) (m n : ℕ) → Looked part.Lex f g r s m n → (p : Part) → KeptByPatterns p → s p ≡ r p
+lexicon_read f g r s m n looked p kept = looked.others p (not_lexicon p kept)
+
+module _ (base : List ℕ) (s0 s1 : StoreAt) (head : Head) (looked : Looked part.Lex s0.files s1.files s0.reads s1.reads s0.faults s1.faults) where
+  -- its terms are not held, or there is no room for a bit for each document
+  pub patterns_refused : (f : Fault) → OpenStops (Rose s0.faults s1.faults) ⊥ (StandsByNone head s0.files base) (CountedBy head s0.files base) f →
+      SetOpened (PartsAreBy s1.files) KeptByPatterns (CountedBy head s0.files base) head base s0 s1 (Err f)
+  patterns_refused f cause = record {
+    files = looked.files;
+    faults = looked.faults;
+    unread = lexicon_read s0.files s1.files s0.reads s1.reads s0.faults s1.faults looked;
+    over = tt;
+    cause = cause;
+  }
+
+  pub patterns_opened : (terms : LexTerms) (room : ℕ) (parts : WildParts) → parts ≡ record { base = base; terms = terms; all = head.documents; room = room } →
+      ((collection : List ℕ) → IsLexicon base s0.files head.terms collection → HasTermsOf terms collection) →
+      ((collection : List ℕ) → IsWithinLimits head.version collection → IsLexicon base s0.files head.terms collection → TellsOf terms collection) →
+      SetOpened (PartsAreBy s1.files) KeptByPatterns (CountedBy head s0.files base) head base s0 s1 (Ok parts)
+  patterns_opened terms room parts made has tells = record {
+    files = looked.files;
+    faults = looked.faults;
+    unread = lexicon_read s0.files s1.files s0.reads s1.reads s0.faults s1.faults looked;
+    over = λ code collection is. wild_parts base s0.files s1.files head code collection terms room parts made looked.files is (has collection) (tells collection);
+    cause = tt;
+  }
