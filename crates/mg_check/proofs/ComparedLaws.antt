@@ -20,7 +20,8 @@ use Rattle.mg_defs.specs.Split.{documents}
 use Rattle.mg_layout.specs.Contents.{StandAt}
 use Rattle.mg_check.specs.declared.lists.Places.{Places}
 use Rattle.mg_post.specs.Writing.{InBytes, Listing}
-use Rattle.mg_check.specs.Listing.{AreBehind, BeginsAt, IsNotDevice, ListsAgree, ListsFollow, ListsStand, Refutes, post_upto, skip_upto}
+use Rattle.mg_check.specs.Listing.{AreBehind, BeginsAt, IsNotDevice, ListsAgree, ListsFollow, ListsStand, post_upto, skip_upto}
+use Rattle.mg_check_text.specs.Refusals.{Refutes}
 use Rattle.mg_check.proofs.LexiconLaws.{post_name, skip_name}
 
 -- ---- bytes that begin with others

@@ -6,7 +6,8 @@ use Rattle.std.specs.declared.result.Result.{Result}
 use Rattle.mg_dev.specs.Files.{Files, bytes_at}
 use Rattle.mg_dev.specs.declared.part_err.PartErr.{PartErr}
 use Rattle.mg_dev.specs.declared.part_err.PartErr.TheVariants.{Device, Memory, Bad}
-use Rattle.mg_check.specs.Counting.{Comparing, HasBegun, HasWeighed, Weighing, WhereBad}
+use Rattle.mg_check.specs.Counting.{Comparing, HasBegun, HasWeighed, Weighing}
+use Rattle.mg_check_text.specs.Refusals.{WhereBad}
 
 pub where_bad : {T : Type 0} (P Q : Type 0) (r : Result T PartErr) → (P → Q) → WhereBad P r → WhereBad Q r
 where_bad P Q (Ok value) f p = tt

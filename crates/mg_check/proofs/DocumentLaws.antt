@@ -1,31 +1,19 @@
 -- What a document adds to the lists of terms.
-use Rattle.std.proofs.Common.{arith, ◌≡◌, ◌<◌, ◌≤◌, ◌+◌, ◌-◌, ℕ, zero, suc, true, false, Bool, cond, nat_lt, List, [], ◌∷◌, ◌++◌, length, map, get_or, refl, sym, ap, subst, ◌∙◌, append-nil, length-append, eq-eqb, inl, inr, is_some, Result, Ok, Err, ◌⊎◌, ◌^◌}
+use Rattle.std.proofs.Common.{arith, ◌≡◌, ◌<◌, ◌≤◌, ◌+◌, ◌-◌, ℕ, zero, suc, true, false, Bool, cond, nat_lt, List, [], ◌∷◌, ◌++◌, length, map, get_or, refl, sym, ap, subst, ◌∙◌, append-nil, length-append, eq-eqb}
 use Rattle.std.specs.Prelude.{nat_eq, filter, slice_index}
-use Rattle.std.specs.List.{AllByRecursion, enumerate_from}
+use Rattle.std.specs.List.{enumerate_from}
 use Rattle.std.specs.declared.option.Option.{Option}
-use Rattle.std.proofs.lemmas.List.{get_or_past}
-use Rattle.std.proofs.lemmas.List.Sums.{sum_by_more_le}
-use Rattle.std.proofs.lemmas.Bool.{cases_lt}
 use Rattle.std.proofs.lemmas.Bool.Decides.{nat_tests}
 use Rattle.mg_defs.specs.declared.Posting.{Posting}
 use Rattle.mg_defs.specs.PostingLists.{postings_upto}
 use Rattle.mg_defs.specs.Split.{documents}
 use Rattle.mg_defs.specs.Terms.{dictionary, docs, freq, freq_in}
 use Rattle.mg_defs.proofs.StandGrow.{docs-are, grown, grows-by}
-use Rattle.mg_defs.proofs.SplitLaws.{docs_within}
-use Rattle.mg_defs.proofs.StandDocs.{docs-codable}
-use Rattle.mg_defs.proofs.TermLaws.{dictionary-of_words}
-use Rattle.mg_defs.specs.CodedText.{TextCode}
-use Rattle.mg_defs.specs.Means.{IsCodable}
-use Rattle.mg_dev.specs.Causes.{Rose}
-use Rattle.mg_dev.specs.Files.{Files, file_at}
-use Rattle.mg_dev.specs.PartCauses.{HasPartCause}
-use Rattle.mg_dev.specs.declared.part_err.PartErr.{PartErr}
-use Rattle.mg_dev.specs.declared.part_err.PartErr.TheVariants.{Device, Memory, Bad}
-use Rattle.mg_text.proofs.CallerLemmas.{text_stays}
+use Rattle.mg_dev.specs.Files.{Files}
 use Rattle.mg_model.specs.Terms.{TermNumbers, terms_and_numbers}
-use Rattle.mg_text.specs.Reading.{SameText, TextReading, TextStands}
-use Rattle.mg_check.specs.Documents.{counted_in}
+use Rattle.mg_text.specs.Reading.{TextReading, TextStands}
+use Rattle.mg_check_text.specs.Documents.{counted_in}
+use Rattle.mg_check_text.proofs.CallerLemmas.{table_terms}
 use Rattle.mg_check.specs.Listing.{HasRoomFor, HasRoomForAll, HoldsLists, Ranged, SameRooms, lists_of, lists_upto, postings_in, room_at, with_document}
 
 -- ---- the posting of a document in the list of one of its terms
@@ -118,52 +106,7 @@ room_for_all w collection n le rooms = record {
   each = λ k in_range. omega (arith, rooms k in_range, grows_to collection (get_or (dictionary collection) (w.first + k) []) n (length (documents collection) - n) (omega (arith, le)));
 }
 
--- ---- a text that stands
-
-all_at : {X : Type 0} (P : X → Type 0) (xs : List X) (n : ℕ) (d : X) → n < length xs → AllByRecursion P xs → P (get_or xs n d)
-all_at P [] n d lt all = absurd (omega (arith, lt))
-all_at P (x ∷ xs) zero d lt all = all.0
-all_at P (x ∷ xs) (suc n) d lt all = all_at P xs n d (omega (arith, lt)) all.1
-
-pub table_terms : (table : TermNumbers) (r : TextReading) (files : Option Files) (collection : List ℕ) → table ≡ terms_and_numbers r.code.words.pieces → TextStands r files collection → table.terms ≡ dictionary collection
-table_terms table r files collection is stand =
-    ap (λ (t : TermNumbers). t.terms) is ∙ ap (λ pieces. (terms_and_numbers pieces).terms) stand.code.0.pieces ∙ sym (dictionary-of_words collection)
-
-pub doc_codable : (r : TextReading) (files : Option Files) (collection : List ℕ) (n : ℕ) → n < length (documents collection) → TextStands r files collection → IsCodable r.code (get_or (documents collection) n [])
-doc_codable r files collection n lt stand = all_at (IsCodable r.code) (documents collection) n [] lt (docs-codable r.code collection stand.code stand.few)
-
-pub doc_short : (collection : List ℕ) (n : ℕ) → length collection < 2 ^ 32 → length (get_or (documents collection) n []) ≤ 2 ^ 32 - 1
-doc_short collection n few = by_place (cases_lt n (length (documents collection)))
-  where
-    by_place : (n < length (documents collection)) ⊎ (length (documents collection) ≤ n) → length (get_or (documents collection) n []) ≤ 2 ^ 32 - 1
-    by_place (inl lt) = omega (arith, few, docs_within collection, sum_by_more_le (λ (d : List ℕ). length d) (documents collection) n [] lt)
-    by_place (inr past) = omega (arith, ap (λ (d : List ℕ). length d) (get_or_past (documents collection) n [] past))
-
-pub same_text : (r : TextReading) → SameText r r
-same_text r = record { text = refl; places = refl; code = refl; version = refl; documents = refl; size = refl }
-
-pub text_more : (a b c : TextReading) → SameText a b → SameText b c → SameText a c
-text_more a b c one two = record {
-  text = two.text ∙ one.text;
-  places = two.places ∙ one.places;
-  code = two.code ∙ one.code;
-  version = two.version ∙ one.version;
-  documents = two.documents ∙ one.documents;
-  size = two.size ∙ one.size;
-}
-
--- what stands for a reader does so for what the reader became, while no file changes
-pub stands_on : (r now : TextReading) (files files_now : Option Files) (collection : List ℕ) → SameText r now → files_now ≡ files → TextStands r files collection → TextStands now files_now collection
-stands_on r now files files_now collection same stay stands = text_stays r now files files_now collection same (ap is_some stay) (ap (λ f. file_at f r.text.name) stay) (ap (λ f. file_at f r.places.name) stay) stands
-
-pub caused_more : {T : Type 0} (a b c : ℕ) (result : Result T PartErr) → a ≤ b → HasPartCause b c result → HasPartCause a c result
-caused_more a b c (Ok value) le cause = record { later = omega (arith, cause.later, le); device = tt }
-caused_more a b c (Err Device) le cause = record { later = omega (arith, cause.later, le); device = rose_behind a b c le cause.device }
-  where
-    rose_behind : (a b c : ℕ) → a ≤ b → Rose b c → Rose a c
-    rose_behind a b c le rose = omega (arith, le, rose)
-caused_more a b c (Err Memory) le cause = record { later = omega (arith, cause.later, le); device = tt }
-caused_more a b c (Err (Bad bad)) le cause = record { later = omega (arith, cause.later, le); device = tt }
+-- ---- lists as far as documents go
 
 -- no posting is there before the first document
 pub upto_none : (w : Ranged) (collection : List ℕ) → HoldsLists w (λ number. []) → HoldsLists w (lists_upto 0 collection)
@@ -183,15 +126,6 @@ room_stays w v collection same room = record {
       subst (λ xs. slice_index xs (k + 1) - slice_index xs k ≡ docs collection (get_or (dictionary collection) (v.first + k) [])) (sym same.starts)
       (subst (λ n. room_at w k ≡ docs collection (get_or (dictionary collection) (n + k) [])) (sym same.first) (room.each k (omega (arith, in_range, same.count))));
 }
-
--- ---- a document that was read
-
-pub doc_of_reader : (collection : List ℕ) (before : ℕ) (held bytes : List ℕ) → held ≡ get_or (documents collection) (before + 1 - 1) [] → bytes ≡ held → bytes ≡ get_or (documents collection) before []
-doc_of_reader collection before held bytes is same = let at : before + 1 - 1 ≡ before = omega arith in same ∙ is ∙ ap (λ k. get_or (documents collection) k []) at
-
-pub known_is : (r now : TextReading) (files : Option Files) (code : TextCode) (doc : List ℕ) (collection : List ℕ) (before : ℕ) → SameText r now → code ≡ now.code → doc ≡ get_or (documents collection) before [] → before < r.documents → TextStands r files collection → IsCodable code doc
-known_is r now files code doc collection before same code_is doc_is lt stand =
-    subst (λ x. IsCodable x doc) (sym (code_is ∙ same.code)) (subst (IsCodable r.code) (sym doc_is) (doc_codable r files collection before (omega (arith, lt, stand.documents)) stand))
 
 pub counted_is : (r : TextReading) (table : TermNumbers) (files : Option Files) (collection : List ℕ) (before : ℕ) (doc : List ℕ) (found told : List (ℕ × ℕ)) → doc ≡ get_or (documents collection) before [] → table ≡ terms_and_numbers r.code.words.pieces →
     TextStands r files collection → found ≡ counted_in table.terms doc → told ≡ found → told ≡ counted_in (dictionary collection) (get_or (documents collection) before [])

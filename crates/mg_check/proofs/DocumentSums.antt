@@ -18,8 +18,9 @@ use Rattle.mg_defs.specs.Sorted.{number_of, sorted_distinct}
 use Rattle.mg_defs.specs.Terms.{freq_in, same_term, terms}
 use Rattle.mg_defs.specs.Weights.{has_term, weight, weight_in_doc, wd}
 use Rattle.mg_defs.proofs.SortedLaws.{has-sorted, number-missing, rising-unique, same-is, sorted-rising}
-use Rattle.mg_check.specs.Counting.{docs_among, one_more_each, weight_of_counts}
-use Rattle.mg_check.specs.Documents.{counted_in, numbers_in}
+use Rattle.mg_check.specs.Counting.{docs_among, one_more_each}
+use Rattle.mg_check_text.specs.TermsRead.{weight_of_counts}
+use Rattle.mg_check_text.specs.Documents.{counted_in, numbers_in}
 
 abbrev has : List (List ℕ) → List ℕ → Bool
 has strings s = list_any (bytes_eq s) strings

@@ -22,8 +22,11 @@ use Rattle.mg_layout.specs.HeadAnswers.{AnswersBack, AnswersHead, AnswersWithin,
 use Rattle.mg_layout.specs.Stands.{Stands, parts_at}
 use Rattle.mg_layout.specs.declared.head.Head.{Head}
 use Rattle.mg_layout.proofs.CallerLemmas.{head_there, no_empty_head, own_head}
-use Rattle.mg_check.specs.Checking.{IfBad}
+use Rattle.mg_check_text.specs.Refusals.{IfBad}
 use Rattle.mg_check.specs.declared.found.Found.{Found}
+use Rattle.mg_dev.specs.Files.{Reads}
+use Rattle.mg_check_text.specs.Reads.{reads_outside}
+use Rattle.mg_check.specs.Reads.{ReadsSet}
 use Rattle.mg_check.specs.Found.{CheckStops, StandsWith, TellsOutside}
 
 pub loaded-head : (bytes : List ℕ) (loaded : Option Head) (head : Head) → loaded ≡ Some head → AnswersHead 1 2 bytes (Ok loaded) → IsHead 1 2 bytes (fields_of head)
@@ -146,3 +149,9 @@ refused-unbuilt rose files base (Err f) stands cause told none = elim (not-built
   | inl is ↦ inl (ap Err is)
   | inr other ↦ elim other [ inl is ↦ inr (inl (ap Err is)) | inr is ↦ inr (inr (ap Err is)) ]
 ]
+
+-- ---- what was read
+
+pub set_read : (r s : Reads) → reads_outside s ≡ reads_outside r → ReadsSet r s
+unfolding reads_outside
+set_read r s same = record { merge_a = cc; merge_b = cc; plain = cc }

@@ -20,7 +20,8 @@ use Rattle.mg_lex.specs.Writing.{LexWriting, TookTerms}
 use Rattle.mg_text.specs.Reading.{SameText, TextReading}
 use Rattle.mg_check.specs.declared.lists.Places.{Places}
 use Rattle.mg_check.specs.Listing.{AreRooms, AreSizes, BeginsAt, CanCompare, HasCompared, HasRoomForAll, HasRooms, HoldsLists, IsIndexOf, IsRangeOf, LexiconStands, ListsAgree, ListsStand, Ranged, SameRooms, lists_of, post_upto, skip_upto}
-use Rattle.mg_check.proofs.DocumentLaws.{room_stays, stands_on}
+use Rattle.mg_check.proofs.DocumentLaws.{room_stays}
+use Rattle.mg_check_text.proofs.CallerLemmas.{stands_on}
 
 -- ---- sizes
 

@@ -16,7 +16,7 @@ use Rattle.mg_defs.specs.Front.{front, is_below, whole_at}
 use Rattle.mg_defs.specs.Lexicon.{lex_at_part, lex_part, lexicon}
 use Rattle.mg_lex.specs.Terms.{entries_of, terms_of}
 use Rattle.mg_lex.specs.Writing.{TermsStand}
-use Rattle.mg_check.specs.Listing.{Refutes}
+use Rattle.mg_check_text.specs.Refusals.{Refutes}
 
 -- ---- names of what is written in memory
 

@@ -1,12 +1,3 @@
-mod ReadLaws
-mod UnreadLaws
-mod UseLaws
-mod CodeLaws
-mod LoadLaws
-mod TermNumbers
-mod Counts
-mod WeightSums
-mod CountedTerms
 mod Comparing
 mod LexiconLaws
 mod RangedLaws
@@ -15,8 +6,6 @@ mod WrittenLaws
 mod ListedLaws
 mod ComparedLaws
 mod IndexLaws
-mod TextLaws
-mod NextLaws
 mod RestLaws
 mod FoundLaws
 mod DocumentSums

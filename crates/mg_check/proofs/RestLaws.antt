@@ -1,30 +1,26 @@
 -- Where the text of a set means documents: what the other parts and the head's numbers are to be.
-use Rattle.std.proofs.Common.{arith, ◌≡◌, ◌≤◌, ◌<◌, ◌-◌, ◌*◌, ◌^◌, ◌==◌, ◌⊎◌, inl, inr, ℕ, Bool, true, false, if◌then◌else◌, List, Contains, length, map, IfErr, OnOk, Ok, Err, sym, ap, subst, ◌∙◌}
-use Rattle.std.specs.List.{AllByRecursion, flat_map}
+use Rattle.std.proofs.Common.{arith, ◌≡◌, ◌≤◌, ◌<◌, ◌-◌, ◌*◌, ◌⊎◌, inl, inr, ℕ, List, length, map, IfErr, OnOk, Ok, Err, sym, ap, subst, ◌∙◌}
 use Rattle.std.specs.declared.option.Option.{Option}
 use Rattle.std.specs.declared.result.Result.{Result}
 use Rattle.std.proofs.Math.Nat.{eq-or-lt_of_le}
-use Rattle.mg_dev.specs.Files.{Files, bytes_at}
+use Rattle.mg_dev.specs.Files.{Files}
 use Rattle.mg_defs.specs.declared.Stream.TheVariants.{Words, Others}
 use Rattle.mg_defs.specs.declared.TermPosting.{TermPosting}
-use Rattle.mg_defs.specs.Bits.{as_bytes, bits_of}
-use Rattle.mg_defs.specs.CodedText.{IsTextCode, TextCode, places_part, text_part}
+use Rattle.mg_defs.specs.Bits.{as_bytes}
+use Rattle.mg_defs.specs.CodedText.{text_part}
 use Rattle.mg_defs.specs.Heads as defs
 use Rattle.mg_defs.specs.Heads.{run_count}
-use Rattle.mg_defs.specs.WithinLimits.{IsWithinLimits}
 use Rattle.mg_defs.specs.Means.{StandForNone, docs_bytes}
 use Rattle.mg_defs.specs.Occurrences.{occurrences}
 use Rattle.mg_defs.specs.RunBits.{run_part_bits, runs_bits}
 use Rattle.mg_defs.specs.Split.{documents, has_open_end, joined}
 use Rattle.mg_defs.specs.Lists.{inverted, lists_entries}
-use Rattle.mg_defs.specs.Stands.{Parts, Stand, head_of, skip_count}
+use Rattle.mg_defs.specs.Stands.{Stand, head_of, skip_count}
 use Rattle.mg_defs.specs.Terms.{dictionary, docs}
-use Rattle.mg_defs.specs.Vocabulary.{all_pieces, pieces_in, sorted_pieces}
+use Rattle.mg_defs.specs.Vocabulary.{sorted_pieces}
 use Rattle.mg_defs.proofs.SplitLaws.{split_unique}
 use Rattle.mg_defs.proofs.StandDocs.{most}
 use Rattle.mg_defs.proofs.StandLaws.{stands-only, told-stands}
-use Rattle.mg_defs.proofs.StandSizes.{text-room}
-use Rattle.mg_defs.proofs.StandUse.{code-of}
 use Rattle.mg_defs.proofs.StandWhole.{whole-set}
 use Rattle.mg_laws.proofs.WholeBytes.{entries_sized}
 use Rattle.mg_dev.specs.declared.part_err.PartErr.{PartErr}
@@ -33,59 +29,15 @@ use Rattle.mg_layout.specs.HeadAnswers.{fields_of}
 use Rattle.mg_layout.specs.Stands.{parts_at}
 use Rattle.mg_layout.specs.declared.head.Head.{Head}
 use Rattle.mg_model.specs.Terms.{TermNumbers, terms_and_numbers}
-use Rattle.mg_text.specs.Places.{most_text}
 use Rattle.mg_text.specs.Reading.{SameText, TextReading, TextStands}
-use Rattle.mg_check.specs.Checking.{FoundText, IfBad, IsLoaded, IsMeant, OnBad}
+use Rattle.mg_check_text.specs.Checking.{FoundText, IsLoaded, IsMeant}
+use Rattle.mg_check_text.specs.Refusals.{IfBad, OnBad, Refutes}
 use Rattle.mg_check.specs.Counting.{TermsStand}
 use Rattle.mg_check.specs.Found.{StandsWith}
-use Rattle.mg_check.specs.Listing.{IndexStands, IsIndexOf, Refutes}
-use Rattle.mg_check.specs.Rest.{AreNumbers, HaveSizes, RestStands}
-use Rattle.mg_check.proofs.DocumentLaws.{stands_on, table_terms}
-use Rattle.mg_check.proofs.NextLaws.{head-few}
+use Rattle.mg_check.specs.Listing.{IndexStands, IsIndexOf}
+use Rattle.mg_check.specs.Rest.{AreNumbers, HaveSizes, IsTold, PartsStand, RestStands}
+use Rattle.mg_check_text.proofs.CallerLemmas.{code-meant, meant-stands, own-docs, stands_on, table_terms, head-few}
 use Rattle.mg_check.proofs.RunSteps.{same_runs}
-use Rattle.mg_check.proofs.TextLaws.{all-get, all-others, all-words}
-
--- ---- the collection that is meant
-
-own-docs : (parts : Parts) (h : defs.Head) (code : TextCode) (docs : List (List ℕ)) → IsMeant parts h code docs → docs ≡ documents (joined docs h.open_end)
-own-docs parts h code docs meant = (split_unique (joined docs h.open_end) docs h.open_end meant.split).0
-
-pub code-meant : (parts : Parts) (h : defs.Head) (code : TextCode) (docs : List (List ℕ)) → IsMeant parts h code docs → IsTextCode (joined docs h.open_end) code
-code-meant parts h code docs meant =
-    let own = own-docs parts h code docs meant in (
-      code-of Words (joined docs h.open_end) code.words meant.mean.tell.model.words (λ k d within. all-get (Contains code.words.pieces) (all_pieces Words (joined docs h.open_end)) k d (subst (λ (ds : List (List ℕ)). AllByRecursion (Contains code.words.pieces) (flat_map (pieces_in Words) ds)) own (all-words code docs meant.mean.each)) within) meant.words,
-      code-of Others (joined docs h.open_end) code.others meant.mean.tell.model.others (λ k d within. all-get (Contains code.others.pieces) (all_pieces Others (joined docs h.open_end)) k d (subst (λ (ds : List (List ℕ)). AllByRecursion (Contains code.others.pieces) (flat_map (pieces_in Others) ds)) own (all-others code docs meant.mean.each)) within) meant.others,
-    )
-
-text-meant : (parts : Parts) (h : defs.Head) (code : TextCode) (docs : List (List ℕ)) → IsMeant parts h code docs → parts.text ≡ text_part code (joined docs h.open_end)
-text-meant parts h code docs meant = meant.mean.text ∙ ap (docs_bytes code) (own-docs parts h code docs meant)
-
-room : (narrow : Bool) (n : ℕ) → n < (if narrow then 2 ^ 32 else 2 ^ 60) → n ≤ (if narrow then 2 ^ 32 - 1 else 2 ^ 60)
-room true n h = omega (arith, h)
-room false n h = omega (arith, h)
-
-small-text : (version : ℕ) (code : TextCode) (collection : List ℕ) → IsTextCode collection code → IsWithinLimits version collection → length (text_part code collection) ≤ most_text version
-small-text version code collection is within = room (version == 1) (length (text_part code collection)) (text-room version collection code within is)
-
--- the reader reads its text
-pub meant-stands : (files : Option Files) (base : List ℕ) (head : Head) (r : TextReading) (docs : List (List ℕ)) → IsLoaded files base head r → IsMeant (parts_at files base) (fields_of head) r.code docs → TextStands r files (joined docs head.open_end)
-meant-stands files base head r docs loaded meant =
-    let parts = parts_at files base in
-    let own = own-docs (parts_at files base) (fields_of head) r.code docs meant in
-    let code = code-meant (parts_at files base) (fields_of head) r.code docs meant in
-    let text = text-meant (parts_at files base) (fields_of head) r.code docs meant in
-    let size : r.size ≡ length (text_part r.code (joined docs head.open_end)) = loaded.reader.size_is ∙ sym loaded.text ∙ ap length text in
-    record {
-      told = loaded.told;
-      model = loaded.tell.model;
-      code = code;
-      text = ap (λ (name : List ℕ). bits_of (bytes_at files name)) loaded.reader.text_is ∙ ap bits_of text;
-      places = ap (bytes_at files) loaded.reader.places_is ∙ meant.places ∙ ap (λ (v : ℕ). places_part v r.code (joined docs head.open_end)) (sym loaded.reader.version_is);
-      size = size;
-      documents = loaded.reader.documents_are ∙ sym meant.mean.count ∙ ap length own;
-      few = (most head.version (joined docs head.open_end) meant.limits).0;
-      small = subst (λ (v : ℕ). r.size ≤ most_text v) (sym loaded.reader.version_is) (subst (λ (n : ℕ). n ≤ most_text head.version) (sym size) (small-text head.version r.code (joined docs head.open_end) code meant.limits));
-    }
 
 -- ---- all parts
 
@@ -97,7 +49,7 @@ head-meant files base head r docs loaded meant numbers =
     let words : head.words ≡ length (sorted_pieces Words (joined docs head.open_end)) = loaded.words ∙ ap length code.0.pieces in
     let others : head.others ≡ length (sorted_pieces Others (joined docs head.open_end)) = loaded.others ∙ ap length code.1.pieces in
     let runs : head.runs ≡ run_count (length (occurrences (joined docs head.open_end))) head.cap = loaded.tell.head.within.runs ∙ ap (λ (n : ℕ). run_count n head.cap) numbers.occurrences in
-    let text : head.text_bytes ≡ length (text_part r.code (joined docs head.open_end)) = sym loaded.text ∙ ap length (text-meant (parts_at files base) (fields_of head) r.code docs meant) in
+    let text : head.text_bytes ≡ length (text_part r.code (joined docs head.open_end)) = sym loaded.text ∙ ap length (meant.mean.text ∙ ap (docs_bytes r.code) (own-docs (parts_at files base) (fields_of head) r.code docs meant)) in
     let size : head.collection ≡ length (joined docs head.open_end) = meant.bytes in
     let terms = numbers.terms in
     let occurrences_are = numbers.occurrences in
@@ -186,15 +138,21 @@ refutes-so P Q Device so other = tt
 refutes-so P Q Memory so other = tt
 refutes-so P Q (Bad bad) so other = λ q. other (so q)
 
--- where the lists and the lexicon were compared last
-pub rest-ok : (files : Option Files) (base : List ℕ) (head : Head) (collection : List ℕ) (r : Result (Unit {0}) PartErr) → head.terms ≡ length (dictionary collection) → head.occurrences ≡ length (occurrences collection) → HaveSizes (parts_at files base) head →
-    TermsStand base files head.cap collection → OnOk r (IndexStands files base collection) → OnOk r (RestStands files base head collection)
-rest-ok files base head collection (Ok done) terms_are occurrences_are sizes terms index = record { numbers = numbers-of files base head collection terms_are occurrences_are sizes index; terms = terms; index = index }
-rest-ok files base head collection (Err refusal) terms_are occurrences_are sizes terms index = tt
+pub other-so : (P Q : Type 0) (r : Result (Unit {0}) PartErr) → (Q → P) → IfErr r (Refutes P) → IfErr r (Refutes Q)
+other-so P Q (Ok done) so other = tt
+other-so P Q (Err refusal) so other = refutes-so P Q refusal so other
 
-pub rest-other : (files : Option Files) (base : List ℕ) (head : Head) (collection : List ℕ) (r : Result (Unit {0}) PartErr) → IfErr r (Refutes (IndexStands files base collection)) → IfErr r (Refutes (RestStands files base head collection))
-rest-other files base head collection (Ok done) other = tt
-rest-other files base head collection (Err refusal) other = refutes-so (IndexStands files base collection) (RestStands files base head collection) refusal (λ rest. rest.index) other
+pub ok-so : (P Q : Type 0) (r : Result (Unit {0}) PartErr) → (P → Q) → OnOk r P → OnOk r Q
+ok-so P Q (Ok done) so p = so p
+ok-so P Q (Err refusal) so p = tt
+
+-- what was compared of a head and of the parts is all
+pub rest-of : (files : Option Files) (base : List ℕ) (head : Head) (terms : ℕ) (collection : List ℕ) → terms ≡ length (dictionary collection) → IsTold (parts_at files base) head terms → PartsStand files base head collection → RestStands files base head collection
+rest-of files base head terms collection count told parts = record {
+  numbers = numbers-of files base head collection (told.terms_are ∙ count) parts.occurrences_are told.sizes parts.index;
+  terms = parts.terms;
+  index = parts.index;
+}
 
 -- ---- a set whose text was read
 

@@ -11,7 +11,8 @@ use Rattle.mg_dev.specs.declared.part_err.PartErr.TheVariants.{Device, Memory, B
 use Rattle.mg_defs.specs.Bits.{as_bytes}
 use Rattle.mg_defs.specs.RunBits.{run_part_bits}
 use Rattle.mg_runs.specs.Fed.{cap_of}
-use Rattle.mg_check.specs.Counting.{Comparing, HasBegun, HasTaken, RunReading, WhereBad}
+use Rattle.mg_check.specs.Counting.{Comparing, HasBegun, HasTaken, RunReading}
+use Rattle.mg_check_text.specs.Refusals.{WhereBad}
 use Rattle.mg_check.proofs.RunSteps.{RunsJoin, done_bytes, last_bytes, pool_bytes}
 
 -- ---- the occurrences of a document

@@ -18,7 +18,8 @@ use Rattle.mg_runs.proofs.CallerLemmas.{finished-room, finished-full, finished-l
 use Rattle.mg_runs.specs.Bytes.{AreEntries}
 use Rattle.mg_runs.specs.Fed.{IsOccurrence, AreOccurrences, cap_of}
 use Rattle.mg_runs.specs.Pooled.{Pooled, used}
-use Rattle.mg_check.specs.Counting.{HasBegun, HasTaken, RunReading, WhereBad}
+use Rattle.mg_check.specs.Counting.{HasBegun, HasTaken, RunReading}
+use Rattle.mg_check_text.specs.Refusals.{WhereBad}
 
 -- ---- lists
 

@@ -20,8 +20,9 @@ use Rattle.mg_defs.specs.Split.{documents}
 use Rattle.mg_defs.specs.Terms.{dictionary, terms}
 use Rattle.mg_defs.specs.Weights.{weight}
 use Rattle.mg_runs.specs.Fed.{cap_of}
-use Rattle.mg_check.specs.Counting.{AreOwn, GoesOn, HasTaken, HasTallied, HasWeighed, Tallying, WhereBad, docs_among, occurrences_from}
-use Rattle.mg_check.specs.Documents.{numbers_in}
+use Rattle.mg_check.specs.Counting.{AreOwn, GoesOn, HasTaken, HasTallied, HasWeighed, Tallying, docs_among, occurrences_from}
+use Rattle.mg_check_text.specs.Refusals.{WhereBad}
+use Rattle.mg_check_text.specs.Documents.{numbers_in}
 
 -- ---- occurrences
 

@@ -23,12 +23,12 @@ use Rattle.mg_defs.specs.Weights.{weight}
 use Rattle.mg_model.specs.Terms.{TermNumbers, terms_and_numbers}
 use Rattle.mg_runs.specs.Fed.{cap_of}
 use Rattle.mg_text.specs.Reading.{SameText, TextReading, TextStands}
-use Rattle.mg_check.specs.Counting.{AreOwn, AreTermsOf, CanAdd, GoesOn, HasTallied, HaveTallied, IsCounted, NoneGoesOn, SameParts, TalliedText, Tallying, TermsRead, TermsStand, WhereBad, occurrences_from}
-use Rattle.mg_check.specs.Documents.{counted_in, numbers_in}
-use Rattle.mg_check.specs.Listing.{Refutes}
+use Rattle.mg_check.specs.Counting.{AreOwn, AreTermsOf, CanAdd, GoesOn, HasTallied, HaveTallied, NoneGoesOn, SameParts, TalliedText, Tallying, TermsStand, occurrences_from}
+use Rattle.mg_check_text.specs.TermsRead.{IsCounted, TermsRead}
+use Rattle.mg_check_text.specs.Refusals.{WhereBad, Refutes}
+use Rattle.mg_check_text.specs.Documents.{counted_in, numbers_in}
 use Rattle.mg_check.proofs.Comparing.{where_bad}
-use Rattle.mg_check.proofs.CountedTerms.{rising_of}
-use Rattle.mg_check.proofs.DocumentLaws.{doc_codable, stands_on, table_terms}
+use Rattle.mg_check_text.proofs.CallerLemmas.{rising_of, doc_codable, stands_on, table_terms}
 use Rattle.mg_check.proofs.TallySteps.{occ_is}
 
 -- ---- the same text

@@ -1,20 +1,16 @@
 -- What contracts see of terms that are counted, and of weights and runs that are compared with their parts.
-use Rattle.std.specs.Prelude.{◌≡◌, ◌≢◌, ℕ, ◌+◌, ◌-◌, ◌*◌, ◌<◌, ◌≤◌, ◌^◌, ◌==◌, nat_eq, nat_lt, if◌then◌else◌, List, [], ◌∷◌, ◌++◌, All, length, take, drop, flat_map, min, slice_index, slice_set, map, filter, sum_by, count_by, Ok, Err}
+use Rattle.std.specs.Prelude.{◌≡◌, ◌≢◌, ℕ, ◌+◌, ◌-◌, ◌*◌, ◌<◌, ◌≤◌, ◌^◌, List, [], ◌∷◌, ◌++◌, All, length, take, drop, flat_map, min, slice_index, slice_set, map, count_by}
 use Rattle.std.specs.Cmp.Lexicographic.{slice_cmp}
 use Rattle.std.specs.List.Sorted.{IsStrictlySortedBy}
 use Rattle.std.specs.Ordering.{nat_cmp}
 use Rattle.std.specs.Option.{IsSome}
 use Rattle.std.specs.declared.option.Option.{Option}
-use Rattle.std.specs.declared.result.Result.{Result}
 use Rattle.std.specs.List.{enumerate_from, list_any}
 use Rattle.mg_dev.specs.Files.{Files, bytes_at}
 use Rattle.mg_dev.specs.Names.{full_name}
 use Rattle.mg_dev.specs.declared.part.Part.TheVariants as part
-use Rattle.mg_dev.specs.declared.part_err.PartErr.{PartErr}
-use Rattle.mg_dev.specs.declared.part_err.PartErr.TheVariants.{Device, Memory, Bad}
 use Rattle.mg_defs.specs.CodedText.{TextCode}
 use Rattle.mg_defs.specs.Bits.{as_bytes}
-use Rattle.mg_defs.specs.Fixed.{isqrt}
 use Rattle.mg_defs.specs.Means.{IsCodable}
 use Rattle.mg_defs.specs.Numbers.{four}
 use Rattle.mg_defs.specs.Occurrences.{occurrences}
@@ -25,48 +21,14 @@ use Rattle.mg_runs.specs.FinishedRuns.{finished}
 use Rattle.mg_defs.specs.Split.{documents}
 use Rattle.mg_defs.specs.Stands.{weights_part}
 use Rattle.mg_defs.specs.Terms.{dictionary, same_term, terms}
-use Rattle.mg_defs.specs.Weights.{weight, weight_in_doc}
+use Rattle.mg_defs.specs.Weights.{weight}
 use Rattle.mg_text.specs.Reading.{TextReading, TextStands}
-use Rattle.mg_check.specs.Documents.{counted_in, numbers_in}
+use Rattle.mg_check_text.specs.Documents.{counted_in, numbers_in}
+use Rattle.mg_check_text.specs.TermsRead.{IsCounted, TermsRead}
 use Rattle.mg_runs.specs.Fed.{AreOccurrences, cap_of}
 use Rattle.mg_runs.specs.Pooled.{Pooled}
 
--- ---- the terms of a document
-
--- the numbers of the terms that were read last, in reading order, and how often each comes
-pub record TermsRead : Type 0 where
-  pub numbers : List ℕ
-  pub counted : List (ℕ × ℕ)
-
--- each of these terms that comes among numbers, by its number, and how often it comes
-abbrev pub counted_among : List (List ℕ) → List ℕ → List (ℕ × ℕ)
-counted_among dictionary numbers =
-    filter (λ (e : ℕ × ℕ). nat_lt 0 e.1) (map (λ (e : ℕ × List ℕ). (e.0, count_by (nat_eq e.0) numbers)) (enumerate_from 0 dictionary))
-
--- counts of rising numbers after one number more, which is not below them
-abbrev pub one_more : ℕ → List (ℕ × ℕ) → List (ℕ × ℕ)
-one_more number [] = (number, 1) ∷ []
-one_more number (e ∷ []) = if e.0 == number then (number, e.1 + 1) ∷ [] else e ∷ (number, 1) ∷ []
-one_more number (e ∷ f ∷ counted) = e ∷ one_more number (f ∷ counted)
-
--- a term of so many, and a count
-pub record IsCounted (terms : ℕ) (e : ℕ × ℕ) : Type 0 where
-  pub term : e.0 < terms
-  pub some : 1 ≤ e.1
-  pub few : e.1 < 2 ^ 32
-
--- the weight of a document, by how often it has each of its terms
-abbrev pub weight_of_counts : List (ℕ × ℕ) → ℕ
-weight_of_counts counted = isqrt (sum_by (λ (e : ℕ × ℕ). weight_in_doc e.1 * weight_in_doc e.1) counted)
-
 -- ---- a part that is compared with wanted bytes as they come
-
--- this holds where damage is told
-abbrev pub WhereBad : {T : Type 0} → Type 0 → Result T PartErr → Type 0
-WhereBad claim (Ok value) = Unit {0}
-WhereBad claim (Err Device) = Unit {0}
-WhereBad claim (Err Memory) = Unit {0}
-WhereBad claim (Err (Bad bad)) = claim
 
 -- the full name of the part's file, and how many bytes were compared
 pub record Comparing : Type 0 where

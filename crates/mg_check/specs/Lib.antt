@@ -1,6 +1,3 @@
-pub mod Documents
-pub mod Decoding
-pub mod Checking
 pub mod Counting
 pub mod Listing
 pub mod Rest

@@ -25,6 +25,7 @@ use Rattle.mg_lex.specs.Writing.{LexWriting, TookTerms}
 use Rattle.mg_model.specs.Terms.{TermNumbers}
 use Rattle.mg_post.specs.Writing.{Listing, Took}
 use Rattle.mg_text.specs.Reading.{TextReading, TextStands}
+use Rattle.mg_check_text.specs.Refusals.{Refutes}
 use Rattle.mg_check.specs.declared.lexicon.Lexicon.{Lexicon}
 use Rattle.mg_check.specs.declared.lists.Compared.{Compared}
 use Rattle.mg_check.specs.declared.lists.NewLists.{NewLists}
@@ -109,12 +110,6 @@ pub record AreRooms (w : Ranged) (all : ℕ) : Type 0 where
   pub within : (k : ℕ) → k < length w.next → room_at w k ≤ all
 
 -- ---- refusals
-
--- where a part is told as bad, this does not hold
-abbrev pub Refutes : Type 0 → PartErr → Type 0
-Refutes P Device = Unit {0}
-Refutes P Memory = Unit {0}
-Refutes P (Bad bad) = P → ⊥
 
 -- the store was not asked
 abbrev pub IsNotDevice : PartErr → Type 0

@@ -9,7 +9,8 @@ use Rattle.mg_defs.specs.Stands.{Parts, post_part, skip_count}
 use Rattle.mg_defs.specs.Terms.{dictionary}
 use Rattle.mg_layout.specs.declared.head.Head.{Head}
 use Rattle.mg_check.specs.Counting.{TermsStand}
-use Rattle.mg_check.specs.Listing.{IndexStands, Refutes}
+use Rattle.mg_check.specs.Listing.{IndexStands}
+use Rattle.mg_check_text.specs.Refusals.{Refutes}
 
 -- the head has as many terms and occurrences as a collection, and the sizes of its lists and skip entries
 pub record AreNumbers (head : Head) (collection : List ℕ) : Type 0 where
@@ -23,6 +24,17 @@ pub record HaveSizes (parts : Parts) (head : Head) : Type 0 where
   pub post : length parts.post ≡ head.post_bytes
   pub skip : length parts.skip ≡ 16 * head.skip_count
 
+-- The head has so many terms, and the sizes of Post and Skip.
+pub record IsTold (parts : Parts) (head : Head) (terms : ℕ) : Type 0 where
+  pub terms_are : head.terms ≡ terms
+  pub sizes : HaveSizes parts head
+
+-- the head's number of occurrences, and the six parts that tell of terms, are those of a collection
+pub record PartsStand (files : Option Files) (base : List ℕ) (head : Head) (collection : List ℕ) : Type 0 where
+  pub occurrences_are : head.occurrences ≡ length (occurrences collection)
+  pub terms : TermsStand base files head.cap collection
+  pub index : IndexStands files base collection
+
 -- these numbers, and the six parts that tell of terms, are those of a collection
 pub record RestStands (files : Option Files) (base : List ℕ) (head : Head) (collection : List ℕ) : Type 0 where
   pub numbers : AreNumbers head collection
@@ -32,6 +44,10 @@ pub record RestStands (files : Option Files) (base : List ℕ) (head : Head) (co
 -- a refusal tells that Weights and Run are not those of the collection
 abbrev pub RefutesTerms : {T : Type 0} → Option Files → List ℕ → ℕ → Result T PartErr → List ℕ → Type 0
 RefutesTerms files base cap result collection = IfErr result (Refutes (TermsStand base files cap collection))
+
+-- a refusal tells that this number or these parts are not
+abbrev pub RefutesParts : {T : Type 0} → Option Files → List ℕ → Head → Result T PartErr → List ℕ → Type 0
+RefutesParts files base head result collection = IfErr result (Refutes (PartsStand files base head collection))
 
 -- a refusal tells that these numbers or these parts are not
 abbrev pub RefutesRest : {T : Type 0} → Option Files → List ℕ → Head → Result T PartErr → List ℕ → Type 0

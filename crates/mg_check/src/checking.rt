@@ -5,18 +5,18 @@ ghost use Rattle.mg_defs.specs.Heads.{IsWithin};
 ghost use Rattle.mg_defs.specs.Means.{IsModel, StandForNone};
 ghost use Rattle.mg_layout.specs.HeadAnswers.{fields_of};
 ghost use Rattle.mg_layout.specs.Stands.{parts_at};
+ghost use Rattle.mg_model.specs.Terms.{terms_and_numbers};
 ghost use Rattle.mg_text.specs.Reading.{TextFits, WhereTextStands};
-ghost use Rattle.mg_check.specs.Checking.{HasHead, IsLoaded, OnBad};
+ghost use Rattle.mg_check_text.specs.Checking.{HasHead, IsLoaded};
+ghost use Rattle.mg_check_text.specs.Refusals.{OnBad, Refutes};
 ghost use Rattle.mg_check.specs.Found.{StandsWith};
-ghost use Rattle.mg_check.specs.Listing.{Refutes};
-ghost use Rattle.mg_check.specs.Reads.{reads_outside};
-ghost use Rattle.mg_check.specs.Rest.{HaveSizes, RefutesRest, RestStands};
+ghost use Rattle.mg_check_text.specs.Reads.{reads_outside};
+ghost use Rattle.mg_check.specs.Rest.{HaveSizes, IsTold, PartsStand, RefutesParts, RefutesRest, RestStands};
 
 use crate::counting::check_terms;
 use crate::index::check_index;
 use crate::lists::SKIP_ENTRY_BYTES;
-use crate::load::load_text;
-use crate::read_text::read_text;
+use mg_check_text::{load_text, read_text};
 use mg_defs::{LEAST_BUDGET, OCCURRENCE_BYTES};
 use mg_dev::{Bad, FileRef, Part, PartErr, Store};
 use mg_layout::{Head, expect_size};
@@ -101,6 +101,56 @@ fn run_size(head: &Head) -> u32
     least.max(head.occurrences as u32)
 }
 
+// Sees that the head tells so many terms, and that Post and Skip have the sizes that it tells.
+fn expect_told<S: Store>(store: &mut S, base: &str, head: &Head, terms: u64) -> Result<(), PartErr>
+    requires entries { head.now.skip_count < 2 ^ 32 }
+    ensures told { IsSome (S.files store.old) → OnOk result (IsTold (parts_at (S.files store.old) base.now) head.now terms) }
+    ensures other { IsSome (S.files store.old) → IfErr result (Refutes (IsTold (parts_at (S.files store.old) base.now) head.now terms)) }
+    ensures files { S.files store.new ≡ S.files store.old }
+    ensures unread { reads_outside (S.reads store.new) ≡ reads_outside (S.reads store.old) }
+    ensures cause { HasPartCause (S.faults store.old) (S.faults store.new) result }
+{
+    match expect_number(TERMS_AT, terms, u64::from(head.terms)) {
+        Ok(()) => {}
+        Err(refusal) => return Err(refusal),
+    }
+    expect_sizes(store, base, head)
+}
+
+// Sees that the head's number of occurrences, and the six parts that tell of terms, are those of the collection whose
+// text is read.
+fn check_parts<S: Store>(
+    alloc: Global,
+    store: &mut S,
+    base: &str,
+    head: &Head,
+    reader: &mut TextReader<'_, S>,
+    table: &TermTable,
+) -> Result<(), PartErr>
+    requires within { IsWithin (fields_of head.now) }
+    requires fits { TextFits reader.old (S.files store.old) }
+    requires documents { reader.old.documents ≡ head.now.documents }
+    requires table { table.now ≡ terms_and_numbers reader.old.code.words.pieces }
+    ensures stand { WhereTextStands reader.old (S.files store.old) (λ collection. OnOk result (PartsStand (S.files store.old) base.now head.now collection)) }
+    ensures other { WhereTextStands reader.old (S.files store.old) (RefutesParts (S.files store.old) base.now head.now result) }
+    ensures files { S.files store.new ≡ S.files store.old }
+    ensures unread { reads_outside (S.reads store.new) ≡ reads_outside (S.reads store.old) }
+    ensures cause { HasPartCause (S.faults store.old) (S.faults store.new) result }
+{
+    let documents = head.documents;
+    let size = run_size(head);
+    let counts = match check_terms(alloc, store, base, reader, table, size, documents) {
+        Ok(counts) => counts,
+        Err(refusal) => return Err(refusal),
+    };
+    let at = occurrences_at(head.version);
+    match expect_number(at, counts.occurrences, head.occurrences) {
+        Ok(()) => {}
+        Err(refusal) => return Err(refusal),
+    }
+    check_index(alloc, store, base, reader, table, &counts.docs, documents)
+}
+
 // Sees that the numbers of the head that the text does not tell, and the six parts that tell of terms, are those of the
 // collection whose text is read.
 fn check_rest<S: Store>(
@@ -123,29 +173,12 @@ fn check_rest<S: Store>(
         Ok(table) => table,
         Err(_) => return Err(PartErr::Memory),
     };
-    let (count, documents) = (u64::from(table.count()), head.documents);
-    match expect_number(TERMS_AT, count, u64::from(head.terms)) {
+    let terms = u64::from(table.count());
+    match expect_told(store, base, head, terms) {
         Ok(()) => {}
         Err(refusal) => return Err(refusal),
     }
-    match expect_sizes(store, base, head) {
-        Ok(()) => {}
-        Err(refusal) => return Err(refusal),
-    }
-    let size = run_size(head);
-    let counts = match check_terms(alloc, store, base, reader, &table, size, documents) {
-        Ok(counts) => counts,
-        Err(refusal) => return Err(refusal),
-    };
-    match expect_number(
-        occurrences_at(head.version),
-        counts.occurrences,
-        head.occurrences,
-    ) {
-        Ok(()) => {}
-        Err(refusal) => return Err(refusal),
-    }
-    check_index(alloc, store, base, reader, &table, &counts.docs, documents)
+    check_parts(alloc, store, base, head, reader, &table)
 }
 
 // Checks a set whose text can be read: that its parts are those of a collection.

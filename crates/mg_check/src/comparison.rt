@@ -2,8 +2,9 @@
 ghost use Rattle.std.specs.Prelude.{◌≡◌, ◌≢◌, ◌+◌, ◌≤◌, ◌^◌, length, true, Err, IsSome, OnOk};
 ghost use Rattle.mg_dev.specs.Names.{full_name};
 ghost use Rattle.mg_dev.specs.PartCauses.{HasPartCause};
-ghost use Rattle.mg_check.specs.Counting.{WhereBad, HasBegunMore, GoesOnOtherwise, EndsThere, EndsElsewhere};
-ghost use Rattle.mg_check.specs.Reads.{is_of_set, reads_outside};
+ghost use Rattle.mg_check_text.specs.Refusals.{WhereBad};
+ghost use Rattle.mg_check.specs.Counting.{HasBegunMore, GoesOnOtherwise, EndsThere, EndsElsewhere};
+ghost use Rattle.mg_check_text.specs.Reads.{is_of_set, reads_outside};
 
 use mg_dev::{FileRef, Part, PartErr, Store};
 use mg_layout::{expect_bytes, expect_size};
@@ -21,7 +22,7 @@ impl<'a> Model for Comparison<'a> {
     ghost use Rattle.std.specs.Prelude.{◌≡◌, true};
     ghost use Rattle.mg_dev.specs.Names.{full_name};
     ghost use Rattle.mg_check.specs.Counting.{Comparing};
-    ghost use Rattle.mg_check.specs.Reads.{is_of_set};
+    ghost use Rattle.mg_check_text.specs.Reads.{is_of_set};
 
     ghost Value = { Comparing };
 

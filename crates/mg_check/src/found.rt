@@ -4,7 +4,8 @@ ghost use Rattle.mg_dev.specs.Causes.{Rose};
 ghost use Rattle.mg_dev.specs.declared.fault.Fault.TheVariants as fault;
 ghost use Rattle.mg_layout.specs.Stands.{HasNoHead};
 ghost use Rattle.mg_check.specs.Found.{CheckStops, StandsWith, TellsOutside, TellsNotBuilt, IfStands};
-ghost use Rattle.mg_check.specs.Reads.{ReadsSet, reads_outside};
+ghost use Rattle.mg_check.specs.Reads.{ReadsSet};
+ghost use Rattle.mg_check_text.specs.Reads.{reads_outside};
 
 use crate::checking::check_set;
 use mg_dev::{Fault, Store};

@@ -6,9 +6,9 @@ ghost use Rattle.std.specs.Ordering.{nat_cmp};
 ghost use Rattle.mg_dev.specs.PartCauses.{HasPartCause};
 ghost use Rattle.mg_lex.specs.Writing.{TookTerms};
 ghost use Rattle.mg_check.specs.Listing.{CanPush, TakesTerm, FindsLexicon, RefusesLexicon};
-ghost use Rattle.mg_check.specs.Reads.{reads_outside};
+ghost use Rattle.mg_check_text.specs.Reads.{reads_outside};
 
-use crate::wanted::{expect_whole, wanted};
+use mg_check_text::{expect_whole, wanted};
 use mg_dev::{FileRef, Part, PartErr, Store};
 use mg_layout::TermInfo;
 use mg_lex::{LexWriter, lexicon_has_its_terms};

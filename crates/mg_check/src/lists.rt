@@ -15,11 +15,11 @@ ghost use Rattle.mg_defs.specs.Lists.{Rises};
 ghost use Rattle.mg_post.specs.Writing.{Pushed, PushedMore, SameFiles, Took};
 ghost use Rattle.mg_layout.specs.Infos.{info_of};
 ghost use Rattle.mg_check.specs.Listing.{AreBehind, ArePlaces, AreRooms, CanList, CanPush, IsLaidOut, IsNotDevice, end_of_range, TookPosting, TookPostings, TookList, ForWritten, AreEndsOf, FindsFollowing, RefutesFollowing, CanPushIn, ForListed, ListsOn, CanCompareIn, ComparesRange, RefusesRange};
-ghost use Rattle.mg_check.specs.Reads.{reads_outside};
+ghost use Rattle.mg_check_text.specs.Reads.{reads_outside};
 
 use crate::lexicon::Lexicon;
 use crate::postings::RangeLists;
-use crate::wanted::{expect_more, wanted};
+use mg_check_text::{expect_more, wanted};
 use mg_defs::Posting;
 use mg_dev::{Bad, FileRef, Part, PartErr, Store};
 use mg_layout::TermInfo;

@@ -9,12 +9,13 @@ ghost use Rattle.mg_dev.specs.PartCauses.{HasPartCause};
 ghost use Rattle.mg_dev.specs.declared.part.Part.TheVariants as part;
 ghost use Rattle.mg_runs.specs.Bytes.{AreEntries};
 ghost use Rattle.mg_runs.specs.Fed.{cap_of};
-ghost use Rattle.mg_check.specs.Counting.{HasTaken, WhereBad, run_bytes, run_of_pool, HasBegunMore, GoesOnOtherwise, HasTakenOne, HasTakenAll, RunsOtherwise, RunsOtherwiseOn, HasBegunRuns, AreItsRuns, AreOtherRuns};
-ghost use Rattle.mg_check.specs.Reads.{reads_outside};
+ghost use Rattle.mg_check.specs.Counting.{HasTaken, run_bytes, run_of_pool, HasBegunMore, GoesOnOtherwise, HasTakenOne, HasTakenAll, RunsOtherwise, RunsOtherwiseOn, HasBegunRuns, AreItsRuns, AreOtherRuns};
+ghost use Rattle.mg_check_text.specs.Refusals.{WhereBad};
+ghost use Rattle.mg_check_text.specs.Reads.{reads_outside};
 
 use crate::comparison::Comparison;
-use crate::wanted::wanted;
 use mg_bits::BitWriter;
+use mg_check_text::wanted;
 use mg_defs::{LEAST_BUDGET, OCCURRENCE_BYTES, ranges_join};
 use mg_dev::{FileRef, Part, PartErr, PutErr, Store};
 use mg_mem::SureStore;

@@ -5,12 +5,14 @@ ghost use Rattle.mg_dev.specs.Names.{full_name};
 ghost use Rattle.mg_dev.specs.PartCauses.{HasPartCause};
 ghost use Rattle.mg_dev.specs.declared.part.Part.TheVariants as part;
 ghost use Rattle.mg_runs.specs.Fed.{cap_of};
-ghost use Rattle.mg_check.specs.Counting.{CanAdd, HasTallied, IsCounted, NoneGoesOn, NotTallied, SameParts, WhereBad, one_more_each, TalliedNext, AreTallied};
-ghost use Rattle.mg_check.specs.Reads.{reads_outside};
+ghost use Rattle.mg_check.specs.Counting.{CanAdd, HasTallied, NoneGoesOn, NotTallied, SameParts, one_more_each, TalliedNext, AreTallied};
+ghost use Rattle.mg_check_text.specs.TermsRead.{IsCounted};
+ghost use Rattle.mg_check_text.specs.Refusals.{WhereBad};
+ghost use Rattle.mg_check_text.specs.Reads.{reads_outside};
 
-use crate::doc_terms::{DocTerms, weight_of};
 use crate::run_part::RunPart;
 use crate::weights::Weights;
+use mg_check_text::{DocTerms, weight_of};
 use mg_dev::{Bad, Part, PartErr, Store};
 use mg_laws::few_of_each;
 use std::alloc::{AllocError, Global};

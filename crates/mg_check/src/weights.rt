@@ -5,8 +5,9 @@ ghost use Rattle.mg_dev.specs.Names.{full_name};
 ghost use Rattle.mg_dev.specs.PartCauses.{HasPartCause};
 ghost use Rattle.mg_dev.specs.declared.part.Part.TheVariants as part;
 ghost use Rattle.mg_defs.specs.Numbers.{four};
-ghost use Rattle.mg_check.specs.Counting.{HasWeighed, WhereBad, HasWeighedMore, WeighsOtherwise, WeighsOtherwiseOn, AreItsWeights, AreOtherWeights};
-ghost use Rattle.mg_check.specs.Reads.{reads_outside};
+ghost use Rattle.mg_check.specs.Counting.{HasWeighed, HasWeighedMore, WeighsOtherwise, WeighsOtherwiseOn, AreItsWeights, AreOtherWeights};
+ghost use Rattle.mg_check_text.specs.Refusals.{WhereBad};
+ghost use Rattle.mg_check_text.specs.Reads.{reads_outside};
 
 use crate::comparison::Comparison;
 use mg_dev::{Part, PartErr, Store};

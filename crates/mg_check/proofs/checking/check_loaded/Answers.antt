@@ -1,4 +1,4 @@
-use Rattle.mg_check.proofs.DocumentLaws.{caused_more}
+use Rattle.mg_check_text.proofs.CallerLemmas.{caused_more}
 use Rattle.mg_check.proofs.RestLaws.{set-none, set-stands}
 use Rattle.mg_check.proofs.checking.check_loaded.Goals as goal
 

@@ -1,5 +1,5 @@
 use Rattle.std.proofs.Common.{arith}
-use Rattle.mg_check.proofs.DocumentLaws.{caused_more}
+use Rattle.mg_check_text.proofs.CallerLemmas.{caused_more}
 use Rattle.mg_check.proofs.RestLaws.{none-here, stands-here}
 use Rattle.mg_check.proofs.checking.check_set.Goals as goal
 

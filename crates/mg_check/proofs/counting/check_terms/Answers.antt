@@ -6,7 +6,7 @@ use Rattle.mg_defs.specs.Terms.{dictionary}
 use Rattle.mg_text.specs.Reading.{TextStands}
 use Rattle.mg_check.specs.Counting.{AreOwn, HasTallied, HaveTallied, TermsStand, docs_among, occurrences_from}
 use Rattle.mg_check.proofs.Comparing.{where_bad}
-use Rattle.mg_check.proofs.DocumentLaws.{table_terms}
+use Rattle.mg_check_text.proofs.CallerLemmas.{table_terms}
 use Rattle.mg_check.proofs.TallySteps.{occ_is}
 use Rattle.mg_check.proofs.TallyText.{IsOf, all_taken, have_own, of_same, own_have, own_stand, own_stays, parts_same, refuted, stand_own, text_none}
 use Rattle.mg_check.proofs.counting.check_terms.Goals as goal

@@ -1,7 +1,7 @@
 use Rattle.std.proofs.Common.{rules, arith, Err, ◌≤◌, ◌+◌, ◌-◌, ◌^◌, ◌∙◌, ℕ, List, [], length, get_or, ap, sym, subst, IsSome}
 use Rattle.mg_defs.specs.Split.{documents}
 use Rattle.mg_check.specs.Counting.{AreOwn, AreTermsOf, HasTallied}
-use Rattle.mg_check.proofs.DocumentLaws.{doc_of_reader, doc_short, known_is}
+use Rattle.mg_check_text.proofs.CallerLemmas.{doc_of_reader, doc_short, known_is}
 use Rattle.mg_check.proofs.TallyText.{are_terms, can_add, next_bad, not_bad, text_next}
 use Rattle.mg_check.proofs.counting.count_document.Goals as goal
 

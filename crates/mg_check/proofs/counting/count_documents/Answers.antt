@@ -1,7 +1,7 @@
 use Rattle.std.proofs.Common.{arith, Err, ◌≡◌, ◌+◌, ◌∙◌, ℕ, subst}
 use Rattle.mg_check.specs.Counting.{AreOwn, TalliedText}
 use Rattle.mg_check.proofs.Comparing.{where_bad}
-use Rattle.mg_check.proofs.DocumentLaws.{stands_on, text_more}
+use Rattle.mg_check_text.proofs.CallerLemmas.{stands_on, text_more}
 use Rattle.mg_check.proofs.TallyText.{own_stays, parts_more, same_back, text_same}
 use Rattle.mg_check.proofs.counting.count_documents.Goals as goal
 

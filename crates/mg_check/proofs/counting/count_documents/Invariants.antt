@@ -1,7 +1,7 @@
 use Rattle.std.proofs.Common.{◌≡◌, ◌≤◌, ◌^◌, ◌-◌}
 use Rattle.mg_text.specs.Reading.{SameText, TextFits}
 use Rattle.mg_check.specs.Counting.{SameParts, TalliedText}
-use Rattle.mg_check.specs.Reads.{reads_outside}
+use Rattle.mg_check_text.specs.Reads.{reads_outside}
 use Rattle.mg_check.proofs.counting.count_documents.Given as goal
 
 abbrev pub invariant-loop-before : goal.invariant-loop-before

@@ -1,6 +1,5 @@
 use Rattle.mg_dev.specs.Causes.{Rose}
-use Rattle.mg_check.proofs.FoundLaws.{completes, refused-unbuilt, tells-outside}
-use Rattle.mg_check.proofs.UnreadLaws.{set_read}
+use Rattle.mg_check.proofs.FoundLaws.{completes, refused-unbuilt, tells-outside, set_read}
 use Rattle.mg_check.proofs.found.check.Goals as goal
 
 pub returns-clause-outside : goal.returns-clause-outside

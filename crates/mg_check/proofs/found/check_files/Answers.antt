@@ -3,10 +3,9 @@ use Rattle.mg_dev.specs.Files.{bytes_at}
 use Rattle.mg_dev.specs.Names.{full_name}
 use Rattle.mg_dev.specs.declared.part.Part.TheVariants as part
 use Rattle.mg_layout.specs.HeadAnswers.{fields_of}
-use Rattle.mg_check.proofs.DocumentLaws.{caused_more}
+use Rattle.mg_check_text.proofs.CallerLemmas.{caused_more, head_read}
 use Rattle.mg_check.proofs.FoundLaws.{early-err, head-refused, loaded-head, no-head, set-found, set-none-here, set-refused}
 use Rattle.mg_layout.proofs.CallerLemmas.{no_empty_head}
-use Rattle.mg_check.proofs.UnreadLaws.{head_read}
 use Rattle.mg_check.proofs.found.check_files.Goals as goal
 
 pub returns-in-Err-clause-cause : goal.returns-in-Err-clause-cause

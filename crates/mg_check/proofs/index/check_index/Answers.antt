@@ -1,7 +1,8 @@
 use Rattle.std.proofs.Common.{rules, arith, ◌≡◌, ◌∙◌, ℕ, List, length, ap, sym, subst, IsSome}
 use Rattle.mg_dev.specs.declared.part_err.PartErr.{PartErr}
 use Rattle.mg_defs.specs.Terms.{dictionary}
-use Rattle.mg_check.specs.Listing.{AreSizes, IndexStands, LexiconStands, ListsStand, Refutes}
+use Rattle.mg_check.specs.Listing.{AreSizes, IndexStands, LexiconStands, ListsStand}
+use Rattle.mg_check_text.specs.Refusals.{Refutes}
 use Rattle.mg_check.proofs.Comparing.{on_ok}
 use Rattle.mg_check.proofs.IndexLaws.{compared_none, compared_on, few_documents, if_err, lexicon_on, lists_stand_on, sizes_of, took_all}
 use Rattle.mg_check.proofs.LexiconLaws.{refutes_wider}

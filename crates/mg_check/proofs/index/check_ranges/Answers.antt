@@ -2,7 +2,7 @@ use Rattle.std.proofs.Common.{arith, ◌≡◌, ◌+◌, ◌∙◌, length, refl
 use Rattle.mg_text.specs.Reading.{TextFits}
 use Rattle.mg_check.specs.Listing.{ListsStand}
 use Rattle.mg_check.proofs.ComparedLaws.{not_bad_refutes}
-use Rattle.mg_check.proofs.DocumentLaws.{text_more}
+use Rattle.mg_check_text.proofs.CallerLemmas.{text_more}
 use Rattle.mg_check.proofs.IndexLaws.{can_on, compared_on, index_stays, lists_stand_on}
 use Rattle.mg_check.proofs.LexiconLaws.{refutes_wider}
 use Rattle.mg_check.proofs.index.check_ranges.Goals as goal

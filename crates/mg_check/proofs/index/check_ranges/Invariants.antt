@@ -2,7 +2,7 @@ use Rattle.std.proofs.Common.{◌≡◌, ◌≤◌, ◌-◌, ℕ, List, Some}
 use Rattle.mg_mem.specs.Shelf.{files_of}
 use Rattle.mg_text.specs.Reading.{SameText, TextFits}
 use Rattle.mg_check.specs.Listing.{CanCompare, HasCompared, IsIndexOf}
-use Rattle.mg_check.specs.Reads.{reads_outside}
+use Rattle.mg_check_text.specs.Reads.{reads_outside}
 use Rattle.mg_check.proofs.index.check_ranges.Given as goal
 
 abbrev pub invariant-loop-first : goal.invariant-loop-first

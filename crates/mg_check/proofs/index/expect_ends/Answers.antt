@@ -1,5 +1,5 @@
 use Rattle.std.proofs.Common.{◌∙◌}
-use Rattle.mg_check.proofs.UnreadLaws.{none_read}
+use Rattle.mg_check_text.proofs.CallerLemmas.{none_read}
 use Rattle.mg_check.proofs.index.expect_ends.Goals as goal
 
 pub returns-in-Err-clause-unread : goal.returns-in-Err-clause-unread

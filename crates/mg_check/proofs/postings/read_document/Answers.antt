@@ -1,7 +1,8 @@
 use Rattle.std.proofs.Common.{rules, arith, ◌<◌, ◌≤◌, ◌+◌, ◌-◌, [], length, get_or, sym, subst}
 use Rattle.mg_defs.specs.Split.{documents}
 use Rattle.mg_check.specs.Listing.{HasRoomFor, HoldsLists, lists_upto, with_document}
-use Rattle.mg_check.proofs.DocumentLaws.{counted_is, doc_of_reader, doc_short, holds_upto, known_is, range_in, room_upto}
+use Rattle.mg_check.proofs.DocumentLaws.{counted_is, holds_upto, range_in, room_upto}
+use Rattle.mg_check_text.proofs.CallerLemmas.{doc_of_reader, doc_short, known_is}
 use Rattle.mg_check.proofs.postings.read_document.Goals as goal
 
 pub returns-in-Err-clause-never_bad : goal.returns-in-Err-clause-never_bad

@@ -1,6 +1,7 @@
 use Rattle.std.proofs.Common.{arith, ◌+◌, ◌∙◌}
 use Rattle.mg_check.proofs.RangedLaws.{same_more}
-use Rattle.mg_check.proofs.DocumentLaws.{room_for_all, room_stays, stands_on, text_more, upto_all}
+use Rattle.mg_check.proofs.DocumentLaws.{room_for_all, room_stays, upto_all}
+use Rattle.mg_check_text.proofs.CallerLemmas.{stands_on, text_more}
 use Rattle.mg_check.proofs.postings.read_postings.Goals as goal
 
 pub returns-in-Err-clause-never_bad : goal.returns-in-Err-clause-never_bad

@@ -1,7 +1,7 @@
 use Rattle.std.proofs.Common.{◌≡◌, ◌≤◌, ◌^◌, ◌-◌, ℕ, List}
 use Rattle.mg_text.specs.Reading.{SameText, TextFits, TextStands}
 use Rattle.mg_check.specs.Listing.{HasRoomForAll, HoldsLists, IsLaidOut, SameRooms, lists_upto}
-use Rattle.mg_check.specs.Reads.{reads_outside}
+use Rattle.mg_check_text.specs.Reads.{reads_outside}
 use Rattle.mg_check.proofs.postings.read_postings.Given as goal
 
 abbrev pub invariant-loop-before : goal.invariant-loop-before

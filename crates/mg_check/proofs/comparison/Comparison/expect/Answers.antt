@@ -1,4 +1,4 @@
-use Rattle.mg_check.proofs.UnreadLaws.{one_of_set}
+use Rattle.mg_check_text.proofs.CallerLemmas.{one_of_set}
 use Rattle.mg_check.proofs.comparison.Comparison.expect.Goals as goal
 
 pub returns-in-Err-clause-unread : goal.returns-in-Err-clause-unread

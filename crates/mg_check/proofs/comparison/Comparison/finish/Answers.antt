@@ -1,4 +1,4 @@
-use Rattle.mg_check.proofs.UnreadLaws.{none_read}
+use Rattle.mg_check_text.proofs.CallerLemmas.{none_read}
 use Rattle.mg_check.proofs.comparison.Comparison.finish.Goals as goal
 
 pub returns-clause-unread : goal.returns-clause-unread

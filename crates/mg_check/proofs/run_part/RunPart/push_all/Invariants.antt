@@ -1,6 +1,6 @@
 use Rattle.std.proofs.Common.{◌≡◌, ◌<◌, ◌≤◌, ◌+◌, ◌^◌, ◌++◌, ℕ, List, length, map, take}
 use Rattle.mg_check.specs.Counting.{HasTaken}
-use Rattle.mg_check.specs.Reads.{reads_outside}
+use Rattle.mg_check_text.specs.Reads.{reads_outside}
 use Rattle.mg_check.proofs.run_part.RunPart.push_all.Given as goal
 
 abbrev pub invariant-loop-number : goal.invariant-loop-number

@@ -1,5 +1,6 @@
 use Rattle.std.proofs.Common.{Err, sym, subst, IsSome}
-use Rattle.mg_check.specs.Counting.{HasTallied, HaveTallied, NotTallied, Tallying, WhereBad}
+use Rattle.mg_check.specs.Counting.{HasTallied, HaveTallied, NotTallied, Tallying}
+use Rattle.mg_check_text.specs.Refusals.{WhereBad}
 use Rattle.mg_check.proofs.TallyAdds.{have_tallied, weights_other}
 use Rattle.mg_check.proofs.tally.Tally.finish.Goals as goal
 

@@ -1,0 +1,164 @@
+-- What callers may cite of the text: readers that stay, documents that were read, and the collection that is meant.
+use Rattle.std.proofs.Common.{arith, ◌≡◌, ◌<◌, ◌≤◌, ◌+◌, ◌-◌, ℕ, zero, suc, true, false, Bool, List, [], ◌∷◌, length, get_or, refl, sym, ap, subst, ◌∙◌, inl, inr, is_some, Result, Ok, Err, ◌⊎◌, ◌^◌, ◌==◌, if◌then◌else◌, Contains}
+use Rattle.std.specs.List.{AllByRecursion, flat_map}
+use Rattle.std.specs.declared.option.Option.{Option}
+use Rattle.std.proofs.lemmas.List.{get_or_past}
+use Rattle.std.proofs.lemmas.List.Sums.{sum_by_more_le}
+use Rattle.std.proofs.lemmas.Bool.{cases_lt}
+use Rattle.mg_defs.specs.Split.{documents, joined}
+use Rattle.mg_defs.specs.Terms.{dictionary, docs}
+use Rattle.mg_defs.proofs.SplitLaws.{docs_within, split_unique}
+use Rattle.mg_defs.proofs.StandDocs.{docs-codable, most}
+use Rattle.mg_defs.proofs.TermLaws.{dictionary-of_words}
+use Rattle.mg_defs.specs.CodedText.{TextCode, IsTextCode, places_part, text_part}
+use Rattle.mg_defs.specs.Means.{IsCodable, docs_bytes}
+use Rattle.mg_dev.specs.Causes.{Rose}
+use Rattle.mg_dev.specs.Files.{Files, file_at, bytes_at, OneRead, Reads, SameReads}
+use Rattle.mg_dev.specs.PartCauses.{HasPartCause}
+use Rattle.mg_dev.specs.declared.part_err.PartErr.{PartErr}
+use Rattle.mg_dev.specs.declared.part_err.PartErr.TheVariants.{Device, Memory, Bad}
+use Rattle.mg_text.proofs.CallerLemmas.{text_stays}
+use Rattle.mg_model.specs.Terms.{TermNumbers, terms_and_numbers}
+use Rattle.mg_text.specs.Reading.{SameText, TextReading, TextStands}
+use Rattle.mg_defs.specs.declared.Stream.TheVariants.{Words, Others}
+use Rattle.mg_defs.specs.Bits.{bits_of}
+use Rattle.mg_defs.specs.Heads as defs
+use Rattle.mg_defs.specs.WithinLimits.{IsWithinLimits}
+use Rattle.mg_defs.specs.Stands.{Parts}
+use Rattle.mg_defs.specs.Vocabulary.{all_pieces, pieces_in}
+use Rattle.mg_defs.proofs.StandSizes.{text-room}
+use Rattle.mg_defs.proofs.StandUse.{code-of}
+use Rattle.mg_layout.specs.HeadAnswers.{fields_of}
+use Rattle.mg_layout.specs.Stands.{parts_at}
+use Rattle.mg_layout.specs.declared.head.Head.{Head}
+use Rattle.mg_text.specs.Places.{most_text}
+use Rattle.mg_check_text.specs.Checking.{IsLoaded, IsMeant}
+use Rattle.mg_check_text.proofs.TextLaws.{all-get, all-others, all-words}
+use Rattle.std.specs.Cmp.Lexicographic.{slice_cmp}
+use Rattle.std.specs.List.Sorted.{IsStrictlySortedBy}
+use Rattle.std.specs.Ordering.{nat_cmp}
+use Rattle.mg_dev.specs.declared.part.Part.{Part}
+use Rattle.mg_dev.specs.declared.part.Part.TheVariants as part
+use Rattle.mg_layout.specs.Contents.{ReadsOnly}
+use Rattle.mg_check_text.specs.Reads.{is_of_set, reads_outside}
+use Rattle.mg_check_text.proofs.CountedTerms as counted
+use Rattle.mg_check_text.proofs.NextLaws as next
+use Rattle.mg_check_text.proofs.UnreadLaws as unread
+
+-- ---- a text that stands
+
+all_at : {X : Type 0} (P : X → Type 0) (xs : List X) (n : ℕ) (d : X) → n < length xs → AllByRecursion P xs → P (get_or xs n d)
+all_at P [] n d lt all = absurd (omega (arith, lt))
+all_at P (x ∷ xs) zero d lt all = all.0
+all_at P (x ∷ xs) (suc n) d lt all = all_at P xs n d (omega (arith, lt)) all.1
+
+pub table_terms : (table : TermNumbers) (r : TextReading) (files : Option Files) (collection : List ℕ) → table ≡ terms_and_numbers r.code.words.pieces → TextStands r files collection → table.terms ≡ dictionary collection
+table_terms table r files collection is stand =
+    ap (λ (t : TermNumbers). t.terms) is ∙ ap (λ pieces. (terms_and_numbers pieces).terms) stand.code.0.pieces ∙ sym (dictionary-of_words collection)
+
+pub doc_codable : (r : TextReading) (files : Option Files) (collection : List ℕ) (n : ℕ) → n < length (documents collection) → TextStands r files collection → IsCodable r.code (get_or (documents collection) n [])
+doc_codable r files collection n lt stand = all_at (IsCodable r.code) (documents collection) n [] lt (docs-codable r.code collection stand.code stand.few)
+
+pub doc_short : (collection : List ℕ) (n : ℕ) → length collection < 2 ^ 32 → length (get_or (documents collection) n []) ≤ 2 ^ 32 - 1
+doc_short collection n few = by_place (cases_lt n (length (documents collection)))
+  where
+    by_place : (n < length (documents collection)) ⊎ (length (documents collection) ≤ n) → length (get_or (documents collection) n []) ≤ 2 ^ 32 - 1
+    by_place (inl lt) = omega (arith, few, docs_within collection, sum_by_more_le (λ (d : List ℕ). length d) (documents collection) n [] lt)
+    by_place (inr past) = omega (arith, ap (λ (d : List ℕ). length d) (get_or_past (documents collection) n [] past))
+
+pub same_text : (r : TextReading) → SameText r r
+same_text r = record { text = refl; places = refl; code = refl; version = refl; documents = refl; size = refl }
+
+pub text_more : (a b c : TextReading) → SameText a b → SameText b c → SameText a c
+text_more a b c one two = record {
+  text = two.text ∙ one.text;
+  places = two.places ∙ one.places;
+  code = two.code ∙ one.code;
+  version = two.version ∙ one.version;
+  documents = two.documents ∙ one.documents;
+  size = two.size ∙ one.size;
+}
+
+-- what stands for a reader does so for what the reader became, while no file changes
+pub stands_on : (r now : TextReading) (files files_now : Option Files) (collection : List ℕ) → SameText r now → files_now ≡ files → TextStands r files collection → TextStands now files_now collection
+stands_on r now files files_now collection same stay stands = text_stays r now files files_now collection same (ap is_some stay) (ap (λ f. file_at f r.text.name) stay) (ap (λ f. file_at f r.places.name) stay) stands
+
+pub caused_more : {T : Type 0} (a b c : ℕ) (result : Result T PartErr) → a ≤ b → HasPartCause b c result → HasPartCause a c result
+caused_more a b c (Ok value) le cause = record { later = omega (arith, cause.later, le); device = tt }
+caused_more a b c (Err Device) le cause = record { later = omega (arith, cause.later, le); device = rose_behind a b c le cause.device }
+  where
+    rose_behind : (a b c : ℕ) → a ≤ b → Rose b c → Rose a c
+    rose_behind a b c le rose = omega (arith, le, rose)
+caused_more a b c (Err Memory) le cause = record { later = omega (arith, cause.later, le); device = tt }
+caused_more a b c (Err (Bad bad)) le cause = record { later = omega (arith, cause.later, le); device = tt }
+
+-- ---- a document that was read
+
+pub doc_of_reader : (collection : List ℕ) (before : ℕ) (held bytes : List ℕ) → held ≡ get_or (documents collection) (before + 1 - 1) [] → bytes ≡ held → bytes ≡ get_or (documents collection) before []
+doc_of_reader collection before held bytes is same = let at : before + 1 - 1 ≡ before = omega arith in same ∙ is ∙ ap (λ k. get_or (documents collection) k []) at
+
+pub known_is : (r now : TextReading) (files : Option Files) (code : TextCode) (doc : List ℕ) (collection : List ℕ) (before : ℕ) → SameText r now → code ≡ now.code → doc ≡ get_or (documents collection) before [] → before < r.documents → TextStands r files collection → IsCodable code doc
+known_is r now files code doc collection before same code_is doc_is lt stand =
+    subst (λ x. IsCodable x doc) (sym (code_is ∙ same.code)) (subst (IsCodable r.code) (sym doc_is) (doc_codable r files collection before (omega (arith, lt, stand.documents)) stand))
+
+-- ---- the collection that is meant
+
+pub own-docs : (parts : Parts) (h : defs.Head) (code : TextCode) (docs : List (List ℕ)) → IsMeant parts h code docs → docs ≡ documents (joined docs h.open_end)
+own-docs parts h code docs meant = (split_unique (joined docs h.open_end) docs h.open_end meant.split).0
+
+pub code-meant : (parts : Parts) (h : defs.Head) (code : TextCode) (docs : List (List ℕ)) → IsMeant parts h code docs → IsTextCode (joined docs h.open_end) code
+code-meant parts h code docs meant =
+    let own = own-docs parts h code docs meant in (
+      code-of Words (joined docs h.open_end) code.words meant.mean.tell.model.words (λ k d within. all-get (Contains code.words.pieces) (all_pieces Words (joined docs h.open_end)) k d (subst (λ (ds : List (List ℕ)). AllByRecursion (Contains code.words.pieces) (flat_map (pieces_in Words) ds)) own (all-words code docs meant.mean.each)) within) meant.words,
+      code-of Others (joined docs h.open_end) code.others meant.mean.tell.model.others (λ k d within. all-get (Contains code.others.pieces) (all_pieces Others (joined docs h.open_end)) k d (subst (λ (ds : List (List ℕ)). AllByRecursion (Contains code.others.pieces) (flat_map (pieces_in Others) ds)) own (all-others code docs meant.mean.each)) within) meant.others,
+    )
+
+text-meant : (parts : Parts) (h : defs.Head) (code : TextCode) (docs : List (List ℕ)) → IsMeant parts h code docs → parts.text ≡ text_part code (joined docs h.open_end)
+text-meant parts h code docs meant = meant.mean.text ∙ ap (docs_bytes code) (own-docs parts h code docs meant)
+
+room : (narrow : Bool) (n : ℕ) → n < (if narrow then 2 ^ 32 else 2 ^ 60) → n ≤ (if narrow then 2 ^ 32 - 1 else 2 ^ 60)
+room true n h = omega (arith, h)
+room false n h = omega (arith, h)
+
+small-text : (version : ℕ) (code : TextCode) (collection : List ℕ) → IsTextCode collection code → IsWithinLimits version collection → length (text_part code collection) ≤ most_text version
+small-text version code collection is within = room (version == 1) (length (text_part code collection)) (text-room version collection code within is)
+
+-- the reader reads its text
+pub meant-stands : (files : Option Files) (base : List ℕ) (head : Head) (r : TextReading) (docs : List (List ℕ)) → IsLoaded files base head r → IsMeant (parts_at files base) (fields_of head) r.code docs → TextStands r files (joined docs head.open_end)
+meant-stands files base head r docs loaded meant =
+    let parts = parts_at files base in
+    let own = own-docs (parts_at files base) (fields_of head) r.code docs meant in
+    let code = code-meant (parts_at files base) (fields_of head) r.code docs meant in
+    let text = text-meant (parts_at files base) (fields_of head) r.code docs meant in
+    let size : r.size ≡ length (text_part r.code (joined docs head.open_end)) = loaded.reader.size_is ∙ sym loaded.text ∙ ap length text in
+    record {
+      told = loaded.told;
+      model = loaded.tell.model;
+      code = code;
+      text = ap (λ (name : List ℕ). bits_of (bytes_at files name)) loaded.reader.text_is ∙ ap bits_of text;
+      places = ap (bytes_at files) loaded.reader.places_is ∙ meant.places ∙ ap (λ (v : ℕ). places_part v r.code (joined docs head.open_end)) (sym loaded.reader.version_is);
+      size = size;
+      documents = loaded.reader.documents_are ∙ sym meant.mean.count ∙ ap length own;
+      few = (most head.version (joined docs head.open_end) meant.limits).0;
+      small = subst (λ (v : ℕ). r.size ≤ most_text v) (sym loaded.reader.version_is) (subst (λ (n : ℕ). n ≤ most_text head.version) (sym size) (small-text head.version r.code (joined docs head.open_end) code meant.limits));
+    }
+
+-- ---- ranges, terms and reads
+
+-- the most of any version
+pub head-few : (head : Head) → defs.IsWithin (fields_of head) → (head.collection < 2 ^ 32) × (head.documents ≤ 2 ^ 24)
+head-few head within = next.head-few head within
+
+-- terms rise by their numbers
+pub rising_of : (t : TermNumbers) (words : List (List ℕ)) → t ≡ terms_and_numbers words → IsStrictlySortedBy (slice_cmp nat_cmp) t.terms
+rising_of t words is = counted.rising_of t words is
+
+-- what was not read, or of a set alone, leaves the reads of other parts
+pub none_read : (r s : Reads) → SameReads r s → reads_outside s ≡ reads_outside r
+none_read r s same = unread.none_read r s same
+
+pub one_of_set : (r s : Reads) (p : Part) → is_of_set p ≡ true → ReadsOnly p r s → reads_outside s ≡ reads_outside r
+one_of_set r s p of_set only = unread.one_of_set r s p of_set only
+
+pub head_read : (r s : Reads) → SameReads r s ⊎ OneRead r s part.Head → reads_outside s ≡ reads_outside r
+head_read r s one = unread.head_read r s one

@@ -1,0 +1,21 @@
+use Rattle.std.proofs.Common.{◌≡◌, ◌∙◌, sym}
+use Rattle.mg_layout.specs.Stands.{parts_at}
+use Rattle.mg_check_text.specs.Checking.{IsAtEnd}
+use Rattle.mg_check_text.proofs.NextLaws.{bad-less, end-here, text-found, text-none, told-there}
+use Rattle.mg_check_text.proofs.whole_text.read_text.Goals as goal
+
+pub returns-in-Ok-expect_end-clause-found : goal.returns-in-Ok-expect_end-clause-found
+returns-in-Ok-expect_end-clause-found g c = λ loaded.
+    let same : c.model.result.now ≡ c.args.reader.now.code = c.model.ensures ∙ c.read_docs.ensures.same.code in
+    let told = told-there (g.S.Store.files c.args.store.now) (g.S.Store.files c.read_docs.new.store) c.read_docs.ensures.files loaded.told in
+    text-found (g.S.Store.files c.args.store.now) c.args.base.now c.args.head.now c.args.reader.now c.in-Ok.progress loaded (c.in-Ok.ensures.found loaded.told) c.in-Ok.ensures.all
+    (end-here (g.S.Store.files c.args.store.now) (g.S.Store.files c.read_docs.new.store) c.args.base.now c.args.head.now c.args.reader.now.code c.model.result.now c.in-Ok.progress c.read_docs.ensures.files same (c.in-Ok-expect_end.ensures.ends told))
+
+pub returns-clause-none : goal.returns-clause-none
+returns-clause-none g c = λ loaded.
+    let same : c.model.result.now ≡ c.args.reader.now.code = c.model.ensures ∙ c.read_docs.ensures.same.code in
+    let told = told-there (g.S.Store.files c.args.store.now) (g.S.Store.files c.read_docs.new.store) c.read_docs.ensures.files loaded.told in
+    text-none (g.S.Store.files c.args.store.now) c.args.base.now c.args.head.now c.args.reader.now c.in-Ok.progress c.in-Err-expect_end.refusal loaded (c.in-Ok.ensures.found loaded.told) c.in-Ok.ensures.all
+    (bad-less (IsAtEnd (parts_at (g.S.Store.files c.read_docs.new.store) c.args.base.now) c.args.head.now c.model.result.now c.in-Ok.progress) (IsAtEnd (parts_at (g.S.Store.files c.args.store.now) c.args.base.now) c.args.head.now c.args.reader.now.code c.in-Ok.progress) c.in-Err-expect_end.refusal
+    (λ ends. end-here (g.S.Store.files c.read_docs.new.store) (g.S.Store.files c.args.store.now) c.args.base.now c.args.head.now c.model.result.now c.args.reader.now.code c.in-Ok.progress (sym c.read_docs.ensures.files) (sym same) ends)
+    (c.in-Err-expect_end.ensures.other told))

@@ -1,0 +1,24 @@
+//! What is read of the text of a set of which nothing is known.
+//!
+//! The text is decoded, and each document is coded anew and compared with its bytes. So at the end the parts that are
+//! read mean one collection, or the set stands for none. Documents are read again for their terms.
+#![tactic(auto)]
+
+mod code_doc;
+mod doc_terms;
+mod document;
+mod expected;
+mod held;
+mod load;
+mod next_doc;
+mod progress;
+mod recent;
+mod uses;
+mod whole_text;
+
+pub use doc_terms::{DocTerms, weight_of};
+pub use document::read_doc;
+pub use expected::{expect_more, expect_whole, wanted};
+pub use held::Held;
+pub use load::load_text;
+pub use whole_text::read_text;

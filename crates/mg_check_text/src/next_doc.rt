@@ -1,0 +1,222 @@
+//! One document more of a text that nothing is known of.
+ghost use Rattle.std.specs.Prelude.{◌≡◌, ◌≢◌, ◌+◌, ◌-◌, ◌*◌, ◌<◌, ◌≤◌, ◌^◌, Err, IfErr, IsSome, OnOk, length};
+ghost use Rattle.mg_dev.specs.Bads.{IsNotBad};
+ghost use Rattle.mg_dev.specs.PartCauses.{HasPartCause};
+ghost use Rattle.mg_defs.specs.CodedText.{coded_size};
+ghost use Rattle.mg_defs.specs.Heads.{IsWithin};
+ghost use Rattle.mg_defs.specs.Means.{IsModel, StandForNone};
+ghost use Rattle.mg_defs.specs.Split.{IsDocument};
+ghost use Rattle.mg_layout.specs.HeadAnswers.{fields_of};
+ghost use Rattle.mg_layout.specs.Stands.{parts_at};
+ghost use Rattle.mg_text.specs.Reading.{SameText, TextFits};
+ghost use Rattle.mg_check_text.specs.Checking.{HasAdded, IsInRange, IsNextDoc, ForNextDoc, PlaceStands, FoundMore, WhereRead};
+ghost use Rattle.mg_check_text.specs.Refusals.{OnBad, Refutes};
+ghost use Rattle.mg_check_text.specs.Decoding.{HasRoom};
+ghost use Rattle.mg_check_text.specs.Reads.{reads_outside};
+
+use crate::code_doc::code_doc;
+use crate::document::read_doc;
+use crate::expected::expect_more;
+use crate::held::Held;
+use crate::progress::Progress;
+use mg_dev::{Bad, FileRef, Part, PartErr, Store};
+use mg_fields::{eight_bytes, four_bytes};
+use mg_layout::Head;
+use mg_model::TextModel;
+use mg_text::TextReader;
+use std::alloc::Global;
+
+// The byte that closes a document.
+const CLOSING: u8 = 2;
+
+/// Sees that a place stands in Places as the one of this number, from 0.
+pub(crate) fn expect_place<S: Store>(
+    store: &mut S,
+    base: &str,
+    version: u8,
+    number: u32,
+    place: u64,
+) -> Result<(), PartErr>
+    requires narrow { version ≡ 1 → place < 2 ^ 32 }
+    ensures stand { IsSome (S.files store.old) → OnOk result (PlaceStands version number place (parts_at (S.files store.old) base.now)) }
+    ensures other { IsSome (S.files store.old) → IfErr result (Refutes (PlaceStands version number place (parts_at (S.files store.old) base.now))) }
+    ensures files { S.files store.new ≡ S.files store.old }
+    ensures unread { reads_outside (S.reads store.new) ≡ reads_outside (S.reads store.old) }
+    ensures cause { HasPartCause (S.faults store.old) (S.faults store.new) result }
+{
+    let file = FileRef {
+        base,
+        part: Part::Places,
+    };
+    let compared = if version == 1 {
+        expect_more(
+            store,
+            file,
+            4 * u64::from(number),
+            &four_bytes(place as u32),
+        )
+    } else {
+        expect_more(store, file, 8 * u64::from(number), &eight_bytes(place))
+    };
+    match compared {
+        Ok(_) => Ok(()),
+        Err(refusal) => Err(refusal),
+    }
+}
+
+// Refuses bytes that close a document before their end.
+fn expect_document(doc: &[u8]) -> Result<(), PartErr>
+    ensures document { OnOk result (IsDocument doc.now) }
+    ensures other { OnBad result (IsDocument doc.now → ⊥) }
+    ensures device { result ≢ Err PartErr.Device }
+{
+    if doc.contains(&CLOSING) {
+        return Err(PartErr::Bad(Bad {
+            part: Part::Text,
+            at: 0,
+            low: u64::from(CLOSING) + 1,
+            high: 255,
+            found: u64::from(CLOSING),
+        }));
+    }
+    Ok(())
+}
+
+// Decodes the next document. It refuses text that tells of one that is longer than what the head leaves of its
+// collection, or that closes within.
+fn decode_next<S: Store>(
+    store: &mut S,
+    head: &Head,
+    reader: &mut TextReader<'_, S>,
+    held: &mut Held,
+    progress: &Progress,
+) -> Result<(), PartErr>
+    requires fits { TextFits reader.old (S.files store.old) }
+    requires bytes { progress.now.bytes ≤ head.now.collection }
+    requires more { progress.now.documents < reader.old.documents }
+    requires few { progress.now.documents < 2 ^ 32 - 1 }
+    ensures fits { TextFits reader.new (S.files store.new) }
+    ensures same { SameText reader.old reader.new }
+    ensures document { OnOk result (IsDocument held.new.bytes.items) }
+    ensures short { OnOk result (progress.now.bytes + length held.new.bytes.items ≤ head.now.collection) }
+    ensures own { ForNextDoc reader.old (S.files store.old) head.now progress.now (λ doc. OnOk result (held.new.bytes.items ≡ doc)) }
+    ensures never_bad { ForNextDoc reader.old (S.files store.old) head.now progress.now (λ _. IfErr result IsNotBad) }
+    ensures files { S.files store.new ≡ S.files store.old }
+    ensures unread { reads_outside (S.reads store.new) ≡ reads_outside (S.reads store.old) }
+    ensures cause { HasPartCause (S.faults store.old) (S.faults store.new) result }
+{
+    held.set_most(head.collection - progress.bytes);
+    match read_doc(store, reader, progress.documents + 1, held) {
+        Ok(()) => {}
+        Err(refusal) => return Err(refusal),
+    }
+    expect_document(held.bytes())
+}
+
+// A piece of the document behind this place has no codeword.
+fn unknown_piece(place: u64) -> PartErr
+    ensures { result ≢ PartErr.Device }
+{
+    PartErr::Bad(Bad {
+        part: Part::Text,
+        at: place,
+        low: 1,
+        high: 1,
+        found: 0,
+    })
+}
+
+// Codes a document, and adds it to what was read where its code stands next in Text and its place in Places.
+fn add_doc<S: Store>(
+    alloc: Global,
+    store: &mut S,
+    base: &str,
+    version: u8,
+    model: &TextModel,
+    doc: &[u8],
+    progress: &mut Progress,
+) -> Result<(), PartErr>
+    requires document { IsDocument doc.now }
+    requires model { IsModel model.now }
+    requires few { length doc.now < 2 ^ 32 }
+    requires words { HasRoom model.now.words progress.old.uses.words.items (length doc.now) }
+    requires others { HasRoom model.now.others progress.old.uses.others.items (length doc.now) }
+    requires documents { progress.old.documents < 2 ^ 32 - 1 }
+    requires bytes { progress.old.bytes < 2 ^ 32 }
+    requires place { progress.old.place ≤ 2 ^ 60 }
+    requires narrow { version ≡ 1 → progress.old.place < 2 ^ 32 }
+    ensures next { IsSome (S.files store.old) → OnOk result (IsNextDoc (parts_at (S.files store.old) base.now) version model.now doc.now progress.old) }
+    ensures added { OnOk result (HasAdded model.now doc.now progress.old progress.new) }
+    ensures short { OnOk result (coded_size model.now doc.now ≤ 12 * length doc.now + 13) }
+    ensures other { IsSome (S.files store.old) →
+        OnBad result (IsNextDoc (parts_at (S.files store.old) base.now) version model.now doc.now progress.old → ⊥) }
+    ensures files { S.files store.new ≡ S.files store.old }
+    ensures unread { reads_outside (S.reads store.new) ≡ reads_outside (S.reads store.old) }
+    ensures cause { HasPartCause (S.faults store.old) (S.faults store.new) result }
+{
+    let text = FileRef {
+        base,
+        part: Part::Text,
+    };
+    let coded = match code_doc(alloc, model, doc, &mut progress.uses) {
+        Ok(Some(coded)) => coded,
+        Ok(None) => return Err(unknown_piece(progress.place)),
+        Err(_) => return Err(PartErr::Memory),
+    };
+    let place = match expect_more(store, text, progress.place, coded.bytes()) {
+        Ok(place) => place,
+        Err(refusal) => return Err(refusal),
+    };
+    match expect_place(store, base, version, progress.documents, progress.place) {
+        Ok(()) => {}
+        Err(refusal) => return Err(refusal),
+    }
+    progress.documents += 1;
+    progress.bytes += doc.len() as u64;
+    progress.last = doc.len() as u64;
+    progress.place = place;
+    Ok(())
+}
+
+/// Reads one document more: it decodes the next one, codes it anew, and compares its code with Text and its place with
+/// Places. Where one of them differs, the parts stand for no collection. After a refusal the progress is of no use.
+pub(crate) fn next_doc<S: Store>(
+    alloc: Global,
+    store: &mut S,
+    base: &str,
+    head: &Head,
+    reader: &mut TextReader<'_, S>,
+    held: &mut Held,
+    progress: &mut Progress,
+) -> Result<(), PartErr>
+    requires within { IsWithin (fields_of head.now) }
+    requires fits { TextFits reader.old (S.files store.old) }
+    requires documents { reader.old.documents ≡ head.now.documents }
+    requires model { IsModel reader.old.code }
+    requires more { progress.old.documents < head.now.documents }
+    requires range { IsInRange reader.old.code head.now progress.old }
+    ensures fits { TextFits reader.new (S.files store.new) }
+    ensures same { SameText reader.old reader.new }
+    ensures range { OnOk result (IsInRange reader.old.code head.now progress.new) }
+    ensures count { OnOk result (progress.new.documents ≡ progress.old.documents + 1) }
+    ensures found { IsSome (S.files store.old) → OnOk result (FoundMore (S.files store.old) base.now head.now reader.old progress.old progress.new) }
+    ensures none { WhereRead (S.files store.old) base.now head.now reader.old progress.old
+        (OnBad result (StandForNone (parts_at (S.files store.old) base.now))) }
+    ensures files { S.files store.new ≡ S.files store.old }
+    ensures unread { reads_outside (S.reads store.new) ≡ reads_outside (S.reads store.old) }
+    ensures cause { HasPartCause (S.faults store.old) (S.faults store.new) result }
+{
+    match decode_next(store, head, reader, held, progress) {
+        Ok(()) => {}
+        Err(refusal) => return Err(refusal),
+    }
+    add_doc(
+        alloc,
+        store,
+        base,
+        head.version,
+        reader.model(),
+        held.bytes(),
+        progress,
+    )
+}

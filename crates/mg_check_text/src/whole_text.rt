@@ -1,0 +1,181 @@
+//! The whole text of a set, and what it means.
+//!
+//! Nothing is trusted: a document is kept only once its own code was found in Text. At the end the parts that are read
+//! so far mean one collection, or the set stands for none.
+ghost use Rattle.std.specs.Prelude.{◌≡◌, ◌<◌, ◌≤◌, ◌^◌, IfOk, IsSome, OnErr, OnOk};
+ghost use Rattle.mg_dev.specs.PartCauses.{HasPartCause};
+ghost use Rattle.mg_defs.specs.Heads.{IsWithin};
+ghost use Rattle.mg_defs.specs.Means.{IsModel, StandForNone};
+ghost use Rattle.mg_layout.specs.HeadAnswers.{fields_of};
+ghost use Rattle.mg_layout.specs.Stands.{parts_at};
+ghost use Rattle.mg_text.specs.Reading.{SameText, TextFits};
+ghost use Rattle.mg_check_text.specs.Checking.{EndNumbers, FoundDocs, IsAtEnd, IsInRange, IsLoaded, FoundSet};
+ghost use Rattle.mg_check_text.specs.Refusals.{OnBad};
+ghost use Rattle.mg_check_text.specs.Reads.{reads_outside};
+
+use crate::held::Held;
+use crate::next_doc::{expect_place, next_doc};
+use crate::progress::Progress;
+use crate::uses::expect_used;
+use mg_dev::{Bad, Part, PartErr, Store};
+use mg_layout::Head;
+use mg_model::{Stream, TextModel};
+use mg_text::TextReader;
+use std::alloc::Global;
+
+// Where the flag of an open end stands in the head, and where the collection's size does.
+const OPEN_END_AT: u64 = 28;
+
+const COLLECTION_AT: u64 = 32;
+
+// Reads as many documents as the head has.
+fn read_docs<S: Store>(
+    alloc: Global,
+    store: &mut S,
+    base: &str,
+    head: &Head,
+    reader: &mut TextReader<'_, S>,
+) -> Result<Progress, PartErr>
+    requires within { IsWithin (fields_of head.now) }
+    requires fits { TextFits reader.old (S.files store.old) }
+    requires documents { reader.old.documents ≡ head.now.documents }
+    requires model { IsModel reader.old.code }
+    ensures fits { TextFits reader.new (S.files store.new) }
+    ensures same { SameText reader.old reader.new }
+    ensures range { IfOk result (λ p. IsInRange reader.old.code head.now p) }
+    ensures all { IfOk result (λ p. p.documents ≡ head.now.documents) }
+    ensures found { IsSome (S.files store.old) → IfOk result (λ p. FoundDocs (parts_at (S.files store.old) base.now) head.now.version reader.old.code p) }
+    ensures none { IsLoaded (S.files store.old) base.now head.now reader.old → OnBad result (StandForNone (parts_at (S.files store.old) base.now)) }
+    ensures files { S.files store.new ≡ S.files store.old }
+    ensures unread { reads_outside (S.reads store.new) ≡ reads_outside (S.reads store.old) }
+    ensures cause { HasPartCause (S.faults store.old) (S.faults store.new) result }
+{
+    let mut held = Held::new(alloc, head.collection);
+    let mut progress = match Progress::new(alloc, reader.model()) {
+        Ok(progress) => progress,
+        Err(_) => return Err(PartErr::Memory),
+    };
+    for _number in 0..head.documents {
+        match next_doc(alloc, store, base, head, reader, &mut held, &mut progress) {
+            Ok(()) => {}
+            Err(refusal) => return Err(refusal),
+        }
+    }
+    Ok(progress)
+}
+
+// Sees that the documents take all of Text, and that the head's flag and size are those of what was read.
+fn expect_numbers(head: &Head, progress: &Progress) -> Result<(), Bad>
+    requires documents { progress.now.documents ≤ 2 ^ 24 }
+    requires bytes { progress.now.bytes ≤ head.now.collection }
+    requires collection { head.now.collection < 2 ^ 32 }
+    requires last { progress.now.last ≤ progress.now.bytes }
+    ensures are { OnOk result (EndNumbers head.now progress.now) }
+    ensures other { OnErr result (EndNumbers head.now progress.now → ⊥) }
+{
+    if progress.place != head.text_bytes {
+        return Err(Bad {
+            part: Part::Text,
+            at: 0,
+            low: progress.place,
+            high: progress.place,
+            found: head.text_bytes,
+        });
+    }
+    if head.open_end && progress.last == 0 {
+        return Err(Bad {
+            part: Part::Head,
+            at: OPEN_END_AT,
+            low: 0,
+            high: 0,
+            found: 1,
+        });
+    }
+    let closed = progress.bytes + u64::from(progress.documents);
+    let size = if head.open_end { closed - 1 } else { closed };
+    if size != head.collection {
+        return Err(Bad {
+            part: Part::Head,
+            at: COLLECTION_AT,
+            low: size,
+            high: size,
+            found: head.collection,
+        });
+    }
+    Ok(())
+}
+
+// Sees that nothing stands in Text behind the last document, that the last place is right, that the head's numbers are
+// those of the documents, and that both codes are used as they are to be.
+fn expect_end<S: Store>(
+    alloc: Global,
+    store: &mut S,
+    base: &str,
+    head: &Head,
+    model: &TextModel,
+    progress: &Progress,
+) -> Result<(), PartErr>
+    requires within { IsWithin (fields_of head.now) }
+    requires range { IsInRange model.now head.now progress.now }
+    ensures ends { IsSome (S.files store.old) → OnOk result (IsAtEnd (parts_at (S.files store.old) base.now) head.now model.now progress.now) }
+    ensures other { IsSome (S.files store.old) → OnBad result (IsAtEnd (parts_at (S.files store.old) base.now) head.now model.now progress.now → ⊥) }
+    ensures files { S.files store.new ≡ S.files store.old }
+    ensures unread { reads_outside (S.reads store.new) ≡ reads_outside (S.reads store.old) }
+    ensures cause { HasPartCause (S.faults store.old) (S.faults store.new) result }
+{
+    match expect_numbers(head, progress) {
+        Ok(()) => {}
+        Err(bad) => return Err(PartErr::Bad(bad)),
+    }
+    match expect_place(
+        store,
+        base,
+        head.version,
+        progress.documents,
+        progress.place,
+    ) {
+        Ok(()) => {}
+        Err(refusal) => return Err(refusal),
+    }
+    let words = model.canon(Stream::Words);
+    match expect_used(alloc, Part::Words, &progress.uses.words, words) {
+        Ok(()) => {}
+        Err(refusal) => return Err(refusal),
+    }
+    let others = model.canon(Stream::Others);
+    match expect_used(alloc, Part::Nonwords, &progress.uses.others, others) {
+        Ok(()) => Ok(()),
+        Err(refusal) => Err(refusal),
+    }
+}
+
+/// Reads all of Text, and compares each document with its code and its place. Where it refuses a part, the set stands
+/// for no collection; else Head, Words, Nonwords, Text and Places are those of one collection, that of the documents.
+pub fn read_text<S: Store>(
+    alloc: Global,
+    store: &mut S,
+    base: &str,
+    head: &Head,
+    reader: &mut TextReader<'_, S>,
+) -> Result<(), PartErr>
+    requires within { IsWithin (fields_of head.now) }
+    requires fits { TextFits reader.old (S.files store.old) }
+    requires documents { reader.old.documents ≡ head.now.documents }
+    requires model { IsModel reader.old.code }
+    ensures fits { TextFits reader.new (S.files store.new) }
+    ensures same { SameText reader.old reader.new }
+    ensures found { IsLoaded (S.files store.old) base.now head.now reader.old → OnOk result (FoundSet (S.files store.old) base.now head.now reader.old) }
+    ensures none { IsLoaded (S.files store.old) base.now head.now reader.old → OnBad result (StandForNone (parts_at (S.files store.old) base.now)) }
+    ensures files { S.files store.new ≡ S.files store.old }
+    ensures unread { reads_outside (S.reads store.new) ≡ reads_outside (S.reads store.old) }
+    ensures cause { HasPartCause (S.faults store.old) (S.faults store.new) result }
+{
+    let progress = match read_docs(alloc, store, base, head, reader) {
+        Ok(progress) => progress,
+        Err(refusal) => return Err(refusal),
+    };
+    match expect_end(alloc, store, base, head, reader.model(), &progress) {
+        Ok(()) => Ok(()),
+        Err(refusal) => Err(refusal),
+    }
+}
