@@ -1,6 +1,5 @@
-//! What no clause says: the bytes of real parts, the damages by their numbers, that calls succeed, and
-//! how much is read.
-mod damages;
+//! What no clause says: the bytes of real parts, that calls succeed, and how much is read. Damages by their numbers stand
+//! in the black-box suite.
 mod fixtures;
 mod models;
 mod parts;

@@ -1,11 +1,11 @@
-//! What several tests stand on: a collection's vocabularies, and pieces of six digits.
+//! What several tests stand on: a collection's vocabularies.
 ghost use Rattle.std.specs.Prelude.{◌≡◌, ◌+◌, ◌-◌, ◌<◌, ◌≤◌, ◌^◌, OnOk};
 ghost use Rattle.mg_defs.specs.Vocabulary.{total};
 
 use mg_mem::MemStore;
 use mg_model::{TextModel, Vocab, VocabErr};
 use mg_parse::Pairs;
-use std::alloc::{AllocError, Global};
+use std::alloc::Global;
 use std::test::Fail;
 
 /// Three documents in 39 bytes.
@@ -15,7 +15,8 @@ pub const COLLECTION: &[u8] = b"the cat sat\n\x02the dog\n\x02Cat, cat & dog!\n\
 pub const WORDS_PART: &[u8] =
     b"\x03Cat\x03\x00\x03cat\x02\x00\x03dog\x02\x00\x03sat\x03\x03the\x02";
 
-const DIGITS: [u8; 16] = *b"0123456789abcdef";
+/// The part of its others: a line end 2, a blank 2, the one with an ampersand 3, the one with an exclamation mark 3, the comma 2.
+pub const OTHERS_PART: &[u8] = b"\x01\n\x02\x00\x01 \x02\x01\x02& \x03\x00\x02!\n\x03\x02, \x02";
 
 /// Counts a word and the other after it.
 fn count_pair(
@@ -82,32 +83,4 @@ pub fn both_hold(one: &MemStore, other: &MemStore, name: &str) -> bool {
         Some(bytes) => holds(other, name, bytes),
         None => false,
     }
-}
-
-/// The six hexadecimal digits of a number.
-pub fn digits_of(number: u32) -> [u8; 6] {
-    let mut digits = [0; 6];
-    let mut rest = number;
-    for i in 0..6 {
-        digits[5 - i] = DIGITS[(rest % 16) as usize];
-        rest /= 16;
-    }
-    digits
-}
-
-/// The part of the digits of so many numbers, each with this length. Where four divides a number its
-/// entry is whole, in eight bytes; every other shares all but the last digit with the one before.
-pub fn numbers_part(alloc: Global, count: u32, length: u8) -> Result<Vec<u8>, AllocError> {
-    let mut part = Vec::new(alloc);
-    for number in 0..count {
-        let digits = digits_of(number);
-        if number % 4 == 0 {
-            part.push(6)?;
-            part.extend_from_slice(&digits)?;
-        } else {
-            part.extend_from_slice(&[5, 1, digits[5]])?;
-        }
-        part.push(length)?;
-    }
-    Ok(part)
 }

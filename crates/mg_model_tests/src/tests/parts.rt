@@ -1,32 +1,27 @@
 //! The parts that are written, byte for byte, and read back.
-use crate::tests::fixtures::{COLLECTION, WORDS_PART, both_hold, holds, parts_of};
+use crate::tests::fixtures::{COLLECTION, OTHERS_PART, WORDS_PART, both_hold, holds, parts_of};
 use mg_dev::Part;
 use mg_mem::MemStore;
 use mg_model::{TermTable, TextModel};
 use std::alloc::Global;
 use std::test::Fail;
 
-// Whether the model of a collection is written as this part of words.
-fn writes_words(alloc: Global, collection: &[u8], words: &[u8]) -> Result<bool, Fail> {
+// Whether the model of a collection is written as these parts.
+fn writes(alloc: Global, collection: &[u8], words: &[u8], others: &[u8]) -> Result<bool, Fail> {
     let store = parts_of(alloc, collection)?;
-    Ok(holds(&store, "set.words", words))
-}
-
-// Whether it is written as this part of others.
-fn writes_others(alloc: Global, collection: &[u8], others: &[u8]) -> Result<bool, Fail> {
-    let store = parts_of(alloc, collection)?;
-    Ok(holds(&store, "set.nonwords", others))
+    Ok(holds(&store, "set.words", words) && holds(&store, "set.nonwords", others))
 }
 
 #[test]
 fn parts_have_their_bytes(rt: HostRuntime) -> Result<(), Fail> {
-    let alloc = rt.alloc();
-    assert!(rt; writes_words(alloc, COLLECTION, WORDS_PART)?);
     // A single piece has one bit.
-    assert!(rt; writes_words(alloc, b"a a a a ", b"\x01a\x01")?);
-    assert!(rt; writes_others(alloc, b"a a a a ", b"\x01 \x01")?);
-    assert!(rt; writes_words(alloc, b"", b"")?);
-    assert!(rt; writes_others(alloc, b"", b"")?);
+    let rows: [(&[u8], &[u8], &[u8]); 2] = [
+        (COLLECTION, WORDS_PART, OTHERS_PART),
+        (b"a a a a ", b"\x01a\x01", b"\x01 \x01"),
+    ];
+    for (collection, words, others) in rows {
+        assert!(rt; writes(rt.alloc(), collection, words, others)?);
+    }
     Ok(())
 }
 
