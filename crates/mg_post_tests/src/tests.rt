@@ -11,13 +11,9 @@ use mg_post::{Cursor, ListWriter, Posting};
 use std::alloc::Global;
 use std::test::Fail;
 
-const K_ENTRIES: [u64; 8] = [3, 0, 3, 0, 1, 0, 2, 0];
-
-const X_ENTRIES: [u64; 8] = [64, 0, 128, 128, 192, 256, 200, 384];
-
-const Y_ENTRIES: [u64; 16] = [
-    192, 0, 384, 412, 399, 822, 95, 0, 191, 159, 287, 319, 383, 479, 400, 639,
-];
+// The numbers of Skip of three small documents: 3 0, 3 0, 1 0, 2 0.
+const K_SKIP: &[u8] =
+    b"\0\0\0\0\0\0\0\x03\0\0\0\0\0\0\0\0\0\0\0\0\0\0\0\x03\0\0\0\0\0\0\0\0\0\0\0\0\0\0\0\x01\0\0\0\0\0\0\0\0\0\0\0\0\0\0\0\x02\0\0\0\0\0\0\0\0";
 
 // Writes one list; None where it is none of rising documents up to `all`.
 fn put_list<S: Store>(
@@ -81,62 +77,8 @@ fn put_lists<S: Store>(
     Ok(Some(w.finish(store)?))
 }
 
-// The bytes of numbers of 8 bytes.
-fn bytes_of(alloc: Global, numbers: &[u64]) -> Result<Vec<u8>, PutErr> {
-    let mut bytes = Vec::new(alloc);
-    for number in numbers {
-        bytes.extend_from_slice(&number.to_be_bytes())?;
-    }
-    Ok(bytes)
-}
-
-// Whether Skip has these numbers of 8 bytes.
-fn skip_has(alloc: Global, store: &SureStore, numbers: &[u64]) -> Result<bool, PutErr> {
-    let bytes = bytes_of(alloc, numbers)?;
-    Ok(store.file("set.skip") == Some(bytes.as_slice()))
-}
-
-// The sizes that lists come to; None where they were not written.
-pub fn sizes_of<S: Store>(
-    alloc: Global,
-    store: &mut S,
-    all: u32,
-    lists: &[&[Posting]],
-) -> Result<Option<(u64, u64)>, PutErr> {
-    let mut infos = Vec::new(alloc);
-    put_lists(alloc, store, all, lists, &mut infos)
-}
-
-// So many bytes, of which some repeat, with one at the end.
-fn cycled(alloc: Global, cycle: &[u8], count: usize, last: u8) -> Result<Vec<u8>, PutErr>
-    requires { 0 < length cycle.now }
-{
-    let mut bytes = Vec::new(alloc);
-    for i in 0..count {
-        bytes.push(cycle[i % cycle.len()])?;
-    }
-    bytes.push(last)?;
-    Ok(bytes)
-}
-
-// Postings of the documents from `first` on, each `gap` after the one before.
-pub fn spaced(alloc: Global, count: u32, first: u32, gap: u32) -> Result<Vec<Posting>, PutErr>
-    requires count { count < 2 ^ 20 }
-    requires gap { gap < 2 ^ 10 }
-    requires first { first < 2 ^ 10 }
-{
-    let mut list = Vec::new(alloc);
-    for i in 0..count {
-        list.push(Posting {
-            doc: first + gap * i,
-            freq: 1 + i % 3,
-        })?;
-    }
-    Ok(list)
-}
-
 // A list of so many postings alone, and where it stands.
-pub fn one_list<S: Store>(
+fn one_list<S: Store>(
     alloc: Global,
     store: &mut S,
     all: u32,
@@ -154,8 +96,8 @@ pub fn one_list<S: Store>(
     Ok(infos.first().copied().unwrap_or(none))
 }
 
-#[derive(Clone, Copy, Debug, PartialEq, Eq)]
-pub enum Step {
+#[derive(Clone, Copy)]
+enum Step {
     Next,
     To(u32),
 }
@@ -174,37 +116,33 @@ fn one_step<S: Store>(
     }
 }
 
-// What a fresh cursor answers to steps.
-pub fn taken<S: Store>(
+// Whether a cursor gives these answers to steps, and stands at each.
+fn answers_all<S: Store>(
+    cursor: &mut Cursor<'_, S>,
+    store: &mut S,
+    steps: &[(Step, Option<Posting>)],
+) -> Result<bool, PartErr>
+    requires { CursorFits cursor.old (S.files store.old) }
+{
+    let mut are_given = true;
+    for (step, given) in steps {
+        let answer = one_step(cursor, store, *step)?;
+        are_given &= answer == *given;
+        are_given &= cursor.current() == answer;
+    }
+    Ok(are_given)
+}
+
+// Whether a fresh cursor does.
+fn answers<S: Store>(
     alloc: Global,
     store: &mut S,
     info: &TermInfo,
     all: u32,
-    steps: &[Step],
-) -> Result<Vec<Option<Posting>>, PartErr> {
-    let mut cursor = Cursor::start(alloc, "set", info, all)?;
-    let mut answers = Vec::new(alloc);
-    for step in steps {
-        let answer = one_step(&mut cursor, store, *step)?;
-        if cursor.current() != answer {
-            return Ok(answers);
-        }
-        answers.push(answer)?;
-    }
-    Ok(answers)
-}
-
-// Whether a fresh cursor gives these answers to steps.
-fn answers(
-    alloc: Global,
-    store: &mut SureStore,
-    info: &TermInfo,
-    all: u32,
-    steps: &[Step],
-    given: &[Option<Posting>],
+    steps: &[(Step, Option<Posting>)],
 ) -> Result<bool, PartErr> {
-    let found = taken(alloc, store, info, all, steps)?;
-    Ok(found.as_slice() == given)
+    let mut cursor = Cursor::start(alloc, "set", info, all)?;
+    answers_all(&mut cursor, store, steps)
 }
 
 fn posting(doc: u32, freq: u32) -> Posting {
@@ -223,79 +161,25 @@ fn at_their_numbers(infos: &[TermInfo]) -> bool {
     true
 }
 
-#[test]
-fn the_lists_of_small_collections_have_their_bytes(rt: HostRuntime) -> Result<(), Fail> {
-    let alloc = rt.alloc();
-    let mut store = SureStore::new(alloc);
-    let info = one_list(alloc, &mut store, 1, &[posting(1, 4)])?;
-    assert!(rt; info.docs == 1 && info.post_at == 0 && info.skip_at == 0);
-    assert!(rt; store.file("set.post") == Some(b"\x60".as_slice()));
-    assert!(rt; skip_has(alloc, &store, &[1, 0])?);
-
+// Whether the lists of three small documents have these sizes, and stand at their numbers.
+fn puts_small(alloc: Global, store: &mut SureStore) -> Result<bool, PutErr> {
     let cat = [posting(1, 1), posting(3, 2)];
     let dog = [posting(2, 1), posting(3, 1)];
     let sat = [posting(1, 1)];
     let the = [posting(1, 1), posting(2, 1)];
     let lists = [cat.as_slice(), &dog, &sat, &the];
-    {
-        let mut infos = Vec::new(alloc);
-        let sizes = put_lists(alloc, &mut store, 3, &lists, &mut infos)?;
-        assert!(rt; sizes == Some((4, 4)));
-        assert!(rt; at_their_numbers(infos.as_slice()));
-    }
-    assert!(rt; store.file("set.post") == Some(b"\x28\x80\x00\x00".as_slice()));
-    assert!(rt; skip_has(alloc, &store, &K_ENTRIES)?);
-    Ok(())
-}
-
-// The documents up to 400 whose numbers three divides, each with its term one to five times.
-fn thirds(alloc: Global) -> Result<Vec<Posting>, PutErr> {
-    let mut list = Vec::new(alloc);
-    for doc in 1..401u32 {
-        if doc % 3 == 0 {
-            list.push(Posting {
-                doc,
-                freq: 1 + doc % 5,
-            })?;
-        }
-    }
-    Ok(list)
-}
-
-// The other documents up to 400, each with its term once.
-fn others(alloc: Global) -> Result<Vec<Posting>, PutErr> {
-    let mut list = Vec::new(alloc);
-    for doc in 1..401u32 {
-        if doc % 3 != 0 {
-            list.push(Posting { doc, freq: 1 })?;
-        }
-    }
-    Ok(list)
-}
-
-// Writes the lists of both; the sizes that they come to.
-fn put_both(alloc: Global, store: &mut SureStore) -> Result<Option<(u64, u64)>, PutErr> {
-    let third = thirds(alloc)?;
-    let other = others(alloc)?;
-    sizes_of(alloc, store, 400, &[third.as_slice(), other.as_slice()])
-}
-
-// Whether Post has the bytes of both.
-fn post_has_both(alloc: Global, store: &SureStore) -> Result<bool, PutErr> {
-    let mut post = cycled(alloc, b"\x98\x92\x66\x58", 106, 0x64)?;
-    let behind = cycled(alloc, b"\x08\x42\x10\x84\x21", 83, 0x80)?;
-    post.extend_from_slice(behind.as_slice())?;
-    Ok(store.file("set.post") == Some(post.as_slice()))
+    let mut infos = Vec::new(alloc);
+    let sizes = put_lists(alloc, store, 3, &lists, &mut infos)?;
+    Ok(sizes == Some((4, 4)) && at_their_numbers(infos.as_slice()))
 }
 
 #[test]
-fn two_lists_among_four_hundred_documents_have_their_bytes(rt: HostRuntime) -> Result<(), Fail> {
+fn the_lists_of_a_small_collection_have_their_bytes(rt: HostRuntime) -> Result<(), Fail> {
     let alloc = rt.alloc();
     let mut store = SureStore::new(alloc);
-    let sizes = put_both(alloc, &mut store)?;
-    assert!(rt; sizes == Some((191, 8)));
-    assert!(rt; post_has_both(alloc, &store)?);
-    assert!(rt; skip_has(alloc, &store, &Y_ENTRIES)?);
+    assert!(rt; puts_small(alloc, &mut store)?);
+    assert!(rt; store.file("set.post") == Some(b"\x28\x80\x00\x00".as_slice()));
+    assert!(rt; store.file("set.skip") == Some(K_SKIP));
     Ok(())
 }
 
@@ -309,35 +193,23 @@ fn put_all(alloc: Global, store: &mut SureStore, all: u32) -> Result<TermInfo, P
 }
 
 #[test]
-fn a_block_in_the_middle_costs_one_page_of_each_part(rt: HostRuntime) -> Result<(), Fail> {
-    let alloc = rt.alloc();
-    let mut store = SureStore::new(alloc);
-    let info = put_all(alloc, &mut store, 200)?;
-    assert!(rt; store.file("set.post") == Some([0u8; 50].as_slice()));
-    assert!(rt; skip_has(alloc, &store, &X_ENTRIES)?);
-    let step = [Step::To(150)];
-    let given = [Some(posting(150, 1))];
-    assert!(rt; answers(alloc, &mut store, &info, 200, &step, &given)?);
-    assert!(rt; store.reads_of(Part::Post) == 1);
-    assert!(rt; store.reads_of(Part::Skip) == 1);
-    Ok(())
-}
-
-#[test]
 fn a_long_list_is_skipped(rt: HostRuntime) -> Result<(), Fail> {
     let alloc = rt.alloc();
     let mut store = SureStore::new(alloc);
     let info = put_all(alloc, &mut store, 200_000)?;
-    assert!(rt; store.file("set.post").unwrap_or(&[]).len() == 50_000);
-    let step = [Step::To(150_000)];
-    let given = [Some(posting(150_000, 1))];
-    assert!(rt; answers(alloc, &mut store, &info, 200_000, &step, &given)?);
+    // A block in the middle costs one page of Post. Entry 2,343 is the one; a page has 256.
+    let steps = [(Step::To(150_000), Some(posting(150_000, 1)))];
+    assert!(rt; answers(alloc, &mut store, &info, 200_000, &steps)?);
     assert!(rt; store.reads_of(Part::Post) == 1);
-    // Entry 2,343 is the one; a page has 256.
     assert!(rt; store.reads_of(Part::Skip) == 10);
 
-    let past = [Step::To(200_001), Step::Next, Step::To(1), Step::Next];
-    assert!(rt; answers(alloc, &mut store, &info, 200_000, &past, &[None; 4])?);
+    let past = [
+        (Step::To(200_001), None),
+        (Step::Next, None),
+        (Step::To(1), None),
+        (Step::Next, None),
+    ];
+    assert!(rt; answers(alloc, &mut store, &info, 200_000, &past)?);
     assert!(rt; store.reads_of(Part::Post) == 1);
     assert!(rt; store.reads_of(Part::Skip) == 23);
     Ok(())
