@@ -1,5 +1,5 @@
 //! What no clause says: bytes of runs as they stand in a file, postings beside those of a plain
-//! sort, refusals of a store, and which damage is met first.
+//! sort, and which damage is met first. Failing devices stand with the tools.
 ghost use Rattle.std.specs.Prelude.{◌≡◌, ◌≤◌, ◌^◌, ℕ, List, IfOk, None, codes, length};
 ghost use Rattle.mg_runs.specs.Fed.{IsFed};
 ghost use Rattle.mg_runs.specs.Left.{IsMerging};
@@ -7,7 +7,7 @@ ghost use Rattle.mg_defs.specs.declared.TermPosting.{TermPosting};
 
 use mg_defs::TermPosting;
 use mg_dev::{Bad, Failed, FileRef, Part, PartErr, PutErr, Store};
-use mg_mem::{MemStore, SureStore};
+use mg_mem::SureStore;
 use mg_runs::{Merge, Pool, Runs};
 use std::alloc::{AllocError, Global};
 use std::test::Fail;
@@ -128,8 +128,12 @@ fn a_pool_tells_its_sizes(rt: HostRuntime) -> Result<(), Fail> {
     Ok(())
 }
 
-/// Merges these occurrences, in a pool of 4096 bytes.
-fn merged<S: Store>(alloc: Global, store: &mut S, sample: &[(u32, u16)]) -> Result<(), PartErr>
+/// How many runs these occurrences make in a pool of 4096 bytes, and its greatest use.
+fn merged<S: Store>(
+    alloc: Global,
+    store: &mut S,
+    sample: &[(u32, u16)],
+) -> Result<(u32, u64), PartErr>
     requires count { length sample.now ≤ 1000000 }
 {
     let runs = match take(alloc, store, 4096, sample) {
@@ -137,24 +141,13 @@ fn merged<S: Store>(alloc: Global, store: &mut S, sample: &[(u32, u16)]) -> Resu
         Err(refusal) => return Err(refused(refusal)),
     };
     match runs.merge(store) {
-        Ok(_) => Ok(()),
-        Err(refusal) => Err(refusal),
-    }
-}
-
-/// Takes 6000 scattered occurrences, in a pool of 4096 bytes, and merges none.
-fn not_merged<S: Store>(alloc: Global, store: &mut S) -> Result<(), PutErr> {
-    let sample = scattered(alloc, 6000, 97)?;
-    match take(alloc, store, 4096, &sample) {
-        Ok(_) => Ok(()),
+        Ok(merge) => Ok((merge.runs(), merge.peak())),
         Err(refusal) => Err(refusal),
     }
 }
 
 #[test]
-fn runs_are_these_bytes(rt: HostRuntime) -> Result<(), Fail> {
-    let alloc = rt.alloc();
-    let mut store = MemStore::new(alloc);
+fn a_run_is_these_bytes(rt: HostRuntime) -> Result<(), Fail> {
     let words = [
         (0, 0),
         (2, 0),
@@ -165,44 +158,21 @@ fn runs_are_these_bytes(rt: HostRuntime) -> Result<(), Fail> {
         (0, 2),
         (1, 2),
     ];
-    merged(alloc, &mut store, &words)?;
+    let mut store = SureStore::new(rt.alloc());
+    let counted = merged(rt.alloc(), &mut store, &words)?;
+    assert!(rt; counted == (1, 96));
     assert!(rt; store.file("set.run") == Some(b"\xd8\x49\x20\x42\x00".as_slice()));
-    merged(alloc, &mut store, &[(0, 0); 4])?;
-    assert!(rt; store.file("set.run") == Some(b"\x18".as_slice()));
-    not_merged(alloc, &mut store)?;
-    let bytes = store.file("set.run").unwrap_or(&[]);
-    assert!(rt; bytes.len() == 4096);
-    assert!(rt; bytes.starts_with(b"\xff\x0d\x20\x2a\x6e\xc9\x14\xa8\x20\x4c\x12\x4d"));
-    assert!(rt; bytes.ends_with(b"\xc4\x27\xec\x44\x02\x7e\xc4\x10"));
-    assert!(rt; store.reads_of(Part::MergeA) == 0);
     Ok(())
 }
 
 #[test]
-fn runs_and_peaks_are_counted(rt: HostRuntime) -> Result<(), Fail> {
-    let alloc = rt.alloc();
-    let cases = [
-        (0, 0, 0, b"".as_slice()),
-        (10000, 30, 4092, b"".as_slice()),
-        (
-            25000,
-            74,
-            4096,
-            b"\x1f\xff\x95\x40\x1f\xfd\x1a\x00".as_slice(),
-        ),
-    ];
-    let same = [(0, 0); 25000];
-    for (count, runs, peak, joined) in cases {
-        let sample = same.get(..count).ok_or("no case")?;
-        let mut store = MemStore::new(alloc);
-        let mut merge = take(alloc, &mut store, 4096, sample)?.merge(&mut store)?;
-        assert!(rt; merge.runs() == runs && merge.peak() == peak);
-        assert!(rt; gives(&mut merge, &mut store, sample)?);
-        assert!(rt; store.file("set.mergea") == Some(joined));
-        assert!(rt; store.file("set.mergeb") == Some(b"".as_slice()));
-        assert!(rt; (store.reads_of(Part::MergeA) > 0) == !joined.is_empty());
-        assert!(rt; store.reads_of(Part::MergeB) == 0 && store.reads_of(Part::Text) == 0);
-    }
+fn runs_are_joined_in_rounds(rt: HostRuntime) -> Result<(), Fail> {
+    let mut store = SureStore::new(rt.alloc());
+    let counted = merged(rt.alloc(), &mut store, &[(0, 0); 25000])?;
+    assert!(rt; counted == (74, 4096));
+    let joined: &[u8] = b"\x1f\xff\x95\x40\x1f\xfd\x1a\x00";
+    assert!(rt; store.file("set.mergea") == Some(joined));
+    assert!(rt; store.file("set.mergeb") == Some(b"".as_slice()));
     Ok(())
 }
 
@@ -210,37 +180,10 @@ fn runs_and_peaks_are_counted(rt: HostRuntime) -> Result<(), Fail> {
 fn postings_are_those_of_a_sort(rt: HostRuntime) -> Result<(), Fail> {
     let alloc = rt.alloc();
     let sample = scattered(alloc, 25000, 97)?;
-    let mut store = MemStore::new(alloc);
+    let mut store = SureStore::new(alloc);
     assert!(rt; merges_as_sorted(alloc, &mut store, 4096, &sample)?);
     assert!(rt; store.reads_of(Part::MergeA) > 0);
-    assert!(rt; store.file("set.mergeb") == Some(b"".as_slice()));
-    assert!(rt; merges_as_sorted(alloc, &mut store, 5000, &sample)?);
-    assert!(rt; merges_as_sorted(alloc, &mut store, 65536, &sample)?);
-    assert!(rt; merges_as_sorted(alloc, &mut store, 16777216, &sample)?);
-    assert!(rt; store.file("set.mergea") == Some(b"".as_slice()));
-    Ok(())
-}
-
-/// What comes of these occurrences where one call fails.
-fn merged_despite(alloc: Global, call: u64, sample: &[(u32, u16)]) -> Result<bool, PartErr>
-    requires count { length sample.now ≤ 1000000 }
-{
-    let mut failing = MemStore::new(alloc);
-    failing.fail_at(call, 3)?;
-    merges_as_sorted(alloc, &mut failing, 4096, sample)
-}
-
-#[test]
-fn each_failing_call_is_told(rt: HostRuntime) -> Result<(), Fail> {
-    let alloc = rt.alloc();
-    let sample = scattered(alloc, 22500, 2)?;
-    let mut store = MemStore::new(alloc);
-    assert!(rt; merges_as_sorted(alloc, &mut store, 4096, &sample)?);
-    assert!(rt; store.calls() > 20);
-    for call in 0..store.calls() {
-        let outcome = merged_despite(alloc, call, &sample);
-        assert!(rt; outcome == Err(PartErr::Device), "a failure at call {call}");
-    }
+    assert!(rt; store.reads_of(Part::MergeB) == 0 && store.reads_of(Part::Text) == 0);
     Ok(())
 }
 
@@ -288,29 +231,36 @@ impl Store for Spoiled {
     }
 }
 
+/// How merging a sample ends where so many reads are sound, and how often the runs were read.
+fn merged_spoiled(alloc: Global, sound: u64, sample: &[(u32, u16)]) -> (Result<bool, PartErr>, u64)
+    requires count { length sample.now ≤ 1000000 }
+{
+    let held = SureStore::new(alloc);
+    let mut store = Spoiled { sound, held };
+    let merged = merges_as_sorted(alloc, &mut store, 4096, sample);
+    (merged, store.held.reads_of(Part::Run))
+}
+
+/// The damage of a part at its first code.
+fn first_code(part: Part) -> Bad {
+    Bad {
+        part,
+        at: 0,
+        low: 1,
+        high: 1 << 32,
+        found: 0,
+    }
+}
+
 #[test]
 fn the_first_damage_is_told_of_its_part(rt: HostRuntime) -> Result<(), Fail> {
     let alloc = rt.alloc();
     let sample = scattered(alloc, 22500, 2)?;
-    let mut store = Spoiled {
-        sound: u64::MAX,
-        held: SureStore::new(alloc),
-    };
-    assert!(rt; merges_as_sorted(alloc, &mut store, 4096, &sample)?);
-    let Spoiled { held, .. } = store;
-    let of_run = held.reads_of(Part::Run);
+    let (merged, of_run) = merged_spoiled(alloc, u64::MAX, &sample);
+    assert!(rt; merged == Ok(true));
     for (sound, part) in [(0, Part::Run), (of_run, Part::MergeA)] {
-        let held = SureStore::new(alloc);
-        let mut spoiled = Spoiled { sound, held };
-        let bad = Bad {
-            part,
-            at: 0,
-            low: 1,
-            high: 1 << 32,
-            found: 0,
-        };
-        let outcome = merges_as_sorted(alloc, &mut spoiled, 4096, &sample);
-        assert!(rt; outcome == Err(PartErr::Bad(bad)));
+        let (told, _) = merged_spoiled(alloc, sound, &sample);
+        assert!(rt; told == Err(PartErr::Bad(first_code(part))));
     }
     Ok(())
 }
