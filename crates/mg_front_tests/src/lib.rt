@@ -5,6 +5,4 @@
 #![tactic(auto)]
 
 #[cfg(test)]
-mod failing_tests;
-#[cfg(test)]
 mod tests;
