@@ -5,12 +5,8 @@
 #![tactic(auto)]
 
 #[cfg(test)]
-mod phrase_tests;
-#[cfg(test)]
 mod places;
 #[cfg(test)]
 mod sessions;
 #[cfg(test)]
 mod tests;
-#[cfg(test)]
-mod wild_tests;
