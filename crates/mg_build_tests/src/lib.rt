@@ -5,8 +5,6 @@
 #![tactic(auto)]
 
 #[cfg(test)]
-mod building_rows;
-#[cfg(test)]
 mod building_tests;
 #[cfg(test)]
 mod counting;

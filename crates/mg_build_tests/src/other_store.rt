@@ -17,8 +17,6 @@ pub(crate) struct OtherStore {
     pub(crate) longest: usize,
     /// How often a collection was read before the first byte was appended to a part of runs.
     pub(crate) before_runs: Option<u64>,
-    /// How many calls there were before the first one that writes.
-    pub(crate) before_puts: Option<u64>,
     /// How many calls there were that write.
     pub(crate) puts: u64,
 }
@@ -33,7 +31,6 @@ impl OtherStore {
             from: u64::MAX,
             longest: 0,
             before_runs: None,
-            before_puts: None,
             puts: 0,
         }
     }
@@ -42,9 +39,6 @@ impl OtherStore {
     fn count_put(&mut self)
         ensures { self.new.held ≡ self.old.held }
     {
-        if self.before_puts.is_none() {
-            self.before_puts = Some(self.held.calls());
-        }
         self.puts = self.puts.saturating_add(1);
     }
 }
