@@ -5,8 +5,6 @@
 #![tactic(auto)]
 
 #[cfg(test)]
-mod hostile_tests;
-#[cfg(test)]
 mod tests;
 #[cfg(test)]
 mod trial_tests;

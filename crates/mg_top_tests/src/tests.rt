@@ -1,14 +1,73 @@
-//! Runs over devices in memory. Expected answers are rows worked by hand.
-use mg_dev::{Fault, Part, Status};
+//! Runs of each tool over devices in memory. Expected answers are rows worked by hand, but that of the trial, which is
+//! another implementation's.
+use mg_dev::{Fault, Status};
 use mg_mem::{MemSink, MemSource, MemStore};
 use mg_top::run;
 use std::alloc::{AllocError, Global};
 use std::test::Fail;
 
 /// Three documents.
-pub(crate) const LETTERS: &[u8] = b"the cat sat\n\x02the dog\n\x02Cat, cat & dog!\n\x02";
+const LETTERS: &[u8] = b"the cat sat\n\x02the dog\n\x02Cat, cat & dog!\n\x02";
 
-fn words(alloc: Global, given: &[&str]) -> Result<Vec<String>, AllocError> {
+/// The words of a run, its input, and what it prints.
+type Run<'a> = (&'a [&'a str], &'a [u8], &'a [u8]);
+
+/// Each tool, one after the other over one store: no clause refuses a tool that always lacks memory.
+const RUNS: [Run<'static>; 12] = [
+    (
+        &["build", "--budget=4096", "text", "set"],
+        b"",
+        b"documents 3\nwords 5\nothers 5\nterms 4\noccurrences 8\nruns 1\npool 96 of 4096\n",
+    ),
+    (&["check", "set"], b"", b"stands 3 documents 39 bytes\n"),
+    (&["decode", "set"], b"", LETTERS),
+    (
+        &["scan", "text"],
+        b"cat\n(\n",
+        b"1\n3\n= 2\n? syntax at 1\n",
+    ),
+    (
+        &["query", "set"],
+        b"cat\n.set mode text\nsat\n.set query ranked\n.set maxdocs 1\ncat dog\n",
+        b"1\n3\n= 2\n-- 1\nthe cat sat\n\x02\n= 1\n-- 3 116177\nCat, cat & dog!\n\x02\n= 3\n",
+    ),
+    (&["phrase", "set"], b"the cat\n", b"1 1\n= 1\n"),
+    (&["wild", "set"], b"*at\n", b"+ cat 2\n+ sat 1\n1\n3\n= 2\n"),
+    (&["migrate", "set", "new"], b"", b"documents 3\n"),
+    (&["decode", "new"], b"", LETTERS),
+    (
+        &["merge", "set", "set", "new"],
+        b"",
+        b"documents 6\nwords 5\nothers 5\nterms 4\noccurrences 16\nruns 1\npool 192 of 4096\n",
+    ),
+    (
+        &["decode", "new"],
+        b"",
+        b"the cat sat\n\x02the dog\n\x02Cat, cat & dog!\n\x02the cat sat\n\x02the dog\n\x02Cat, cat & dog!\n\x02",
+    ),
+    (
+        &["trial", "7", "1"],
+        b"",
+        b"documents 1\ncollection 186 bytes\nterms 27\noccurrences 27\nreplies 180 bytes\ndecode same\nqueries 40 same\n",
+    ),
+];
+
+/// The call of each device that fails.
+#[derive(Clone, Copy)]
+struct Failing {
+    input: u64,
+    output: u64,
+    error: u64,
+}
+
+/// No call fails.
+const NONE: Failing = Failing {
+    input: u64::MAX,
+    output: u64::MAX,
+    error: u64::MAX,
+};
+
+fn words_of(alloc: Global, given: &[&str]) -> Result<Vec<String>, AllocError> {
     let mut words = Vec::new(alloc);
     for word in given {
         words.push(String::from_str(alloc, word)?)?;
@@ -16,431 +75,140 @@ fn words(alloc: Global, given: &[&str]) -> Result<Vec<String>, AllocError> {
     Ok(words)
 }
 
-/// What a run left: its status, and the bytes of its outputs.
-#[derive(Drop)]
-pub(crate) struct Left {
-    pub(crate) status: Status,
-    pub(crate) out: MemSink,
-    pub(crate) err: MemSink,
-}
-
-/// Whether a run left just this.
-fn is_left(left: &Left, status: Status, out: &[u8], err: &[u8]) -> bool {
-    left.status == status && left.out.bytes() == out && left.err.bytes() == err
-}
-
-/// A store with these files.
-pub(crate) fn store_of(alloc: Global, files: &[(&str, &[u8])]) -> Result<MemStore, AllocError> {
+/// A store with the three documents.
+fn letters(alloc: Global) -> Result<MemStore, AllocError> {
     let mut store = MemStore::new(alloc);
-    for (name, bytes) in files {
-        store.put_file(name, bytes)?;
-    }
+    store.put_file("text", LETTERS)?;
     Ok(store)
 }
 
-/// Runs words over a store; the input comes a few bytes at a time.
-pub(crate) fn ran_over(
-    alloc: Global,
-    given: &[&str],
-    store: &mut MemStore,
-    lines: &[u8],
-) -> Result<Left, AllocError> {
-    let words = words(alloc, given)?;
+/// An input whose bytes come a few at a time.
+fn input_of(alloc: Global, lines: &[u8], fails: u64) -> Result<MemSource, AllocError> {
     let mut input = MemSource::new(alloc, lines, 5)?;
-    let mut out = MemSink::new(alloc);
-    let mut err = MemSink::new(alloc);
+    input.fail_at(fails)?;
+    Ok(input)
+}
+
+/// A sink that keeps so many bytes of the put that fails.
+fn sink_of(alloc: Global, fails: u64, keep: u64) -> Result<MemSink, AllocError> {
+    let mut sink = MemSink::new(alloc);
+    sink.fail_at(fails, keep)?;
+    Ok(sink)
+}
+
+/// How a row's words over a store end, and whether just the row's bytes are printed and just this line is told.
+fn ended(
+    alloc: Global,
+    store: &mut MemStore,
+    (given, lines, printed): Run<'_>,
+    failing: Failing,
+    line: &[u8],
+) -> Result<(Status, bool, bool), AllocError> {
+    let words = words_of(alloc, given)?;
+    let mut input = input_of(alloc, lines, failing.input)?;
+    let mut out = sink_of(alloc, failing.output, 1)?;
+    let mut err = sink_of(alloc, failing.error, 3)?;
     let status = run(alloc, &words, store, &mut input, &mut out, &mut err);
-    Ok(Left { status, out, err })
-}
-
-/// Whether words over a store end with status 0, print just this and tell no fault.
-pub(crate) fn prints(
-    alloc: Global,
-    given: &[&str],
-    store: &mut MemStore,
-    lines: &[u8],
-    wanted: &[u8],
-) -> Result<bool, AllocError> {
-    let left = ran_over(alloc, given, store, lines)?;
-    Ok(is_left(&left, Status::Done, wanted, b""))
-}
-
-/// Whether words over a store stop for this fault, print nothing and tell just this line.
-pub(crate) fn stops(
-    alloc: Global,
-    given: &[&str],
-    store: &mut MemStore,
-    lines: &[u8],
-    fault: Fault,
-    line: &[u8],
-) -> Result<bool, AllocError> {
-    let left = ran_over(alloc, given, store, lines)?;
-    Ok(is_left(&left, Status::Stopped(fault), b"", line))
-}
-
-/// Whether words over a store print nothing and tell just this line, whatever their status is.
-pub(crate) fn tells(
-    alloc: Global,
-    given: &[&str],
-    store: &mut MemStore,
-    lines: &[u8],
-    line: &[u8],
-) -> Result<bool, AllocError> {
-    let left = ran_over(alloc, given, store, lines)?;
-    Ok(left.out.bytes().is_empty() && left.err.bytes() == line)
-}
-
-/// How words over a store end, and whether they print nothing.
-pub(crate) fn ended(
-    alloc: Global,
-    given: &[&str],
-    store: &mut MemStore,
-    lines: &[u8],
-) -> Result<(Status, bool), AllocError> {
-    let left = ran_over(alloc, given, store, lines)?;
-    Ok((left.status, left.out.bytes().is_empty()))
-}
-
-/// Whether a scan of this text ends with status 0, prints just this and tells no fault.
-fn scans(alloc: Global, text: &[u8], lines: &[u8], wanted: &[u8]) -> Result<bool, AllocError> {
-    let mut store = store_of(alloc, &[("text", text)])?;
-    prints(alloc, &["scan", "text"], &mut store, lines, wanted)
+    Ok((status, out.bytes() == printed, err.bytes() == line))
 }
 
 #[test]
-fn scans_answer(rt: HostRuntime) -> Result<(), Fail> {
-    let rows: [(&[u8], &[u8], &[u8]); 14] = [
-        (b"", b"!cat\n", b"= 0\n"),
-        (LETTERS, b"cat\nzebra\n", b"1\n3\n= 2\n= 0\n"),
-        (
-            LETTERS,
-            b"cat & !the\ncat dog | sat",
-            b"3\n= 1\n1\n3\n= 2\n",
-        ),
-        (LETTERS, b"!zebra", b"1\n2\n3\n= 3\n"),
-        (b"\x02\x02", b"!x\n", b"1\n2\n= 2\n"),
-        (b"\x02", b"!x\n", b"1\n= 1\n"),
-        (
-            LETTERS,
-            b"cat & (dog\ncat ) dog\n, ,\n",
-            b"? syntax at 10\n? syntax at 4\n? syntax at 3\n",
-        ),
-        (
-            LETTERS,
-            b".set query ranked\ncat\ncat CAT cat\n",
-            b"3 77451\n1 50002\n= 2\n3 77451\n1 50002\n= 2\n",
-        ),
-        (
-            LETTERS,
-            b".set query ranked\ncat dog\n, ,\n",
-            b"3 116177\n2 61191\n1 50002\n= 3\n= 0\n",
-        ),
-        (
-            b"a\x02a\x02",
-            b".set query ranked\n.set maxdocs 1\na\n",
-            b"1 65536\n= 2\n",
-        ),
-        (
-            LETTERS,
-            b".set mode text\nsat\n.set mode count\ncat\n",
-            b"-- 1\nthe cat sat\n\x02\n= 1\n= 2\n",
-        ),
-        (
-            LETTERS,
-            b"cat\r\n\n.set maxdocs 0\n.cat\n",
-            b"1\n3\n= 2\n? bad command\n? bad command\n",
-        ),
-        (LETTERS, b".set maxdocs 1\ncat\n.quit\ncat\n", b"1\n= 2\n"),
-        (b"cat \x02 dog", b"dog", b"2\n= 1\n"),
-    ];
-    for (text, lines, wanted) in rows {
-        assert!(rt; scans(rt.alloc(), text, lines, wanted)?);
+fn each_tool_answers(rt: HostRuntime) -> Result<(), Fail> {
+    let alloc = rt.alloc();
+    let mut store = letters(alloc)?;
+    for row in RUNS {
+        let left = ended(alloc, &mut store, row, NONE, b"")?;
+        assert!(rt; left == (Status::Done, true, true), "{:?}", row.0);
     }
     Ok(())
 }
 
-/// The two letters of a word: each number has its own.
-fn two_letters(number: u8) -> [u8; 2] {
-    [b'a' + number / 26, b'a' + number % 26]
-}
-
-/// Puts so many words of two letters each, and what comes behind them.
-fn put_words(line: &mut Vec<u8>, count: u8, behind: &[u8]) -> Result<(), AllocError> {
-    for number in 0..count {
-        line.extend_from_slice(&two_letters(number))?;
-        line.push(b' ')?;
-    }
-    line.extend_from_slice(behind)?;
-    Ok(())
-}
-
-/// Whether lines of 1, 255, 256 and 1025 letters are answered over a document of 256 letters, which has a term of 255
-/// and one of 1.
-fn letters_are_answered(alloc: Global) -> Result<bool, AllocError> {
-    let letters = [b'a'; 1026];
-    let mut words = Vec::new(alloc);
-    for count in [1usize, 255, 256, 1025] {
-        words.extend_from_slice(&letters[..count])?;
-        words.push(b'\n')?;
-    }
-    scans(
+#[test]
+fn refusals_are_told(rt: HostRuntime) -> Result<(), Fail> {
+    let alloc = rt.alloc();
+    let mut store = letters(alloc)?;
+    let usage: &[u8] = b"mg: the words are not understood\n";
+    let left = ended(alloc, &mut store, (&["index"], b"cat\n", b""), NONE, usage)?;
+    assert!(rt; left == (Status::Stopped(Fault::Usage), true, true));
+    let unbuilt: &[u8] = b"mg: nothing is built under this name\n";
+    let left = ended(
         alloc,
-        &letters[..256],
-        words.as_slice(),
-        b"1\n= 1\n1\n= 1\n? word too long at 0\n? line too long\n",
-    )
-}
-
-/// Whether a ranked session of a line of 64 words and one of 65 is answered.
-fn ranks_are_answered(alloc: Global) -> Result<bool, AllocError> {
-    let mut ranked = Vec::new(alloc);
-    ranked.extend_from_slice(b".set  query   ranked\n")?;
-    put_words(&mut ranked, 63, b"cat\n")?;
-    put_words(&mut ranked, 65, b"\n")?;
-    scans(
-        alloc,
-        LETTERS,
-        ranked.as_slice(),
-        b"3 77451\n1 50002\n= 2\n? too many words at 192\n",
-    )
-}
-
-#[test]
-fn lines_at_their_limits_are_answered(rt: HostRuntime) -> Result<(), Fail> {
-    let alloc = rt.alloc();
-    assert!(rt; letters_are_answered(alloc)?);
-    assert!(rt; ranks_are_answered(alloc)?);
-    let open = [b'('; 33];
-    let rows: [(&[u8], &[u8]); 2] = [
-        (b"cat & | dog\n", b"? syntax at 6\n"),
-        (&open, b"? too deep at 32\n"),
-    ];
-    for (lines, wanted) in rows {
-        assert!(rt; scans(alloc, LETTERS, lines, wanted)?);
-    }
+        &mut store,
+        (&["query", "set"], b"cat\n", b""),
+        NONE,
+        unbuilt,
+    )?;
+    assert!(rt; left == (Status::Stopped(Fault::NotBuilt), true, true));
     Ok(())
 }
 
-#[test]
-fn other_words_are_not_understood(rt: HostRuntime) -> Result<(), Fail> {
-    let rows: [&[&str]; 9] = [
-        &[],
-        &["index"],
-        &["scan"],
-        &["scan", ""],
-        &["scan", "--", ""],
-        &["scan", "-h"],
-        &["scan", "text", "more"],
-        &["Scan", "text"],
-        &["check", "text", "more"],
-    ];
-    let alloc = rt.alloc();
-    for given in rows {
-        let mut store = store_of(alloc, &[("text", LETTERS)])?;
-        let line = b"mg: the words are not understood\n";
-        assert!(rt; stops(alloc, given, &mut store, b"cat\n", Fault::Usage, line)?);
-    }
-    Ok(())
-}
-
-/// The three documents twice.
-const LETTERS_TWICE: &[u8] =
-    b"the cat sat\n\x02the dog\n\x02Cat, cat & dog!\n\x02the cat sat\n\x02the dog\n\x02Cat, cat & dog!\n\x02";
-
-#[test]
-fn builds_answer(rt: HostRuntime) -> Result<(), Fail> {
-    // A build, its summary, and the summary of the set that is made of it twice.
-    let rows: [(&[&str], &[u8], &[u8]); 2] = [
-        (
-            &["build", "text", "set"],
-            b"documents 3\nwords 5\nothers 5\nterms 4\noccurrences 8\nruns 1\npool 96 of 16777216\n",
-            b"documents 6\nwords 5\nothers 5\nterms 4\noccurrences 16\nruns 1\npool 192 of 16777212\n",
-        ),
-        (
-            &["build", "--budget=4096", "text", "set"],
-            b"documents 3\nwords 5\nothers 5\nterms 4\noccurrences 8\nruns 1\npool 96 of 4096\n",
-            b"documents 6\nwords 5\nothers 5\nterms 4\noccurrences 16\nruns 1\npool 192 of 4096\n",
-        ),
-    ];
-    // What is run over each set, one after the other: no clause refuses a tool that always lacks memory.
-    let later: [(&[&str], &[u8], &[u8]); 6] = [
-        (&["decode", "set"], b"", LETTERS),
-        (&["query", "set"], b"cat\n!the\n", b"1\n3\n= 2\n3\n= 1\n"),
-        (&["phrase", "set"], b"the cat\n", b"1 1\n= 1\n"),
-        (&["wild", "set"], b"*at\n", b"+ cat 2\n+ sat 1\n1\n3\n= 2\n"),
-        (&["migrate", "set", "new"], b"", b"documents 3\n"),
-        (&["decode", "new"], b"", LETTERS),
-    ];
-    let alloc = rt.alloc();
-    for (given, wanted, merged) in rows {
-        let mut store = store_of(alloc, &[("text", LETTERS)])?;
-        assert!(rt; prints(alloc, given, &mut store, b"", wanted)?);
-        for (asked, lines, printed) in later {
-            assert!(rt; prints(alloc, asked, &mut store, lines, printed)?);
+/// How often a row's words stop for the store, each call of which fails in turn, until they end well. None where
+/// they end in another way.
+fn failures(alloc: Global, store: &mut MemStore, row: Run<'_>) -> Result<Option<u64>, AllocError> {
+    for call in 0..1000u64 {
+        store.fail_at(store.calls().saturating_add(call), 0)?;
+        let (status, is_printed, is_told) = ended(
+            alloc,
+            store,
+            row,
+            NONE,
+            b"mg: the store failed\n",
+        )?;
+        if status != Status::Stopped(Fault::StoreFault) || !is_told {
+            let is_done = status == Status::Done && is_printed;
+            return Ok(if is_done { Some(call) } else { None });
         }
+    }
+    Ok(None)
+}
+
+#[test]
+fn each_failing_call_of_a_store_is_told(rt: HostRuntime) -> Result<(), Fail> {
+    let alloc = rt.alloc();
+    let mut store = letters(alloc)?;
+    for row in RUNS {
+        let failed = failures(alloc, &mut store, row)?;
+        // A trial goes on in a store of its own.
+        let least = if row.0.len() == 3 && row.1.is_empty() {
+            0
+        } else {
+            2
+        };
+        assert!(rt; failed.is_some_and(|calls| calls >= least), "{:?}", row.0);
+    }
+    Ok(())
+}
+
+#[test]
+fn failing_inputs_and_outputs_are_told(rt: HostRuntime) -> Result<(), Fail> {
+    let alloc = rt.alloc();
+    let mut store = letters(alloc)?;
+    let unwritten = Failing {
+        input: u64::MAX,
+        output: 0,
+        error: u64::MAX,
+    };
+    // The error output fails too: the status stays.
+    let unread = Failing {
+        input: 0,
+        output: u64::MAX,
+        error: 0,
+    };
+    let line: &[u8] = b"mg: the output could not be written\n";
+    for (given, lines, printed) in RUNS {
+        let first = printed.get(..1).unwrap_or(b"");
+        let left = ended(alloc, &mut store, (given, lines, first), unwritten, line)?;
         assert!(rt;
-            prints(
-                alloc,
-                &["merge", "set", "set", "new"],
-                &mut store,
-                b"",
-                merged
-            )?
+            left == (Status::Stopped(Fault::WriteFault), true, true),
+            "{given:?}"
         );
-        assert!(rt; prints(alloc, &["decode", "new"], &mut store, b"", LETTERS_TWICE)?);
+        if !lines.is_empty() {
+            let left = ended(alloc, &mut store, (given, lines, b""), unread, b"mg:")?;
+            assert!(rt;
+                left == (Status::Stopped(Fault::ReadFault), true, true),
+                "{given:?}"
+            );
+        }
     }
-    Ok(())
-}
-
-#[test]
-fn refused_builds_and_missing_files_are_told(rt: HostRuntime) -> Result<(), Fail> {
-    let rows: [(&[&str], &[u8], Fault, &[u8]); 7] = [
-        (
-            &["build", "none", "set"],
-            b"",
-            Fault::NoCollection,
-            b"mg: there is no such collection\n",
-        ),
-        (
-            &["build", "set.lexat", "set"],
-            b"",
-            Fault::NameClash { part: Part::LexAt },
-            b"mg: the collection has the name of part lexat\n",
-        ),
-        (
-            &["build", "text", "set", "--budget", "4095"],
-            b"",
-            Fault::Usage,
-            b"mg: the words are not understood\n",
-        ),
-        (
-            &["query", "set"],
-            b"cat\n",
-            Fault::NotBuilt,
-            b"mg: nothing is built under this name\n",
-        ),
-        (
-            &["decode", "set"],
-            b"cat\n",
-            Fault::NotBuilt,
-            b"mg: nothing is built under this name\n",
-        ),
-        (
-            &["scan", "none"],
-            b"cat\n",
-            Fault::NoCollection,
-            b"mg: there is no such collection\n",
-        ),
-        (
-            &["merge", "set", "new", "set"],
-            b"",
-            Fault::SameName,
-            b"mg: both names are the same\n",
-        ),
-    ];
-    let alloc = rt.alloc();
-    for (given, lines, fault, line) in rows {
-        let mut store = store_of(alloc, &[("text", LETTERS)])?;
-        assert!(rt; stops(alloc, given, &mut store, lines, fault, line)?);
-    }
-    Ok(())
-}
-
-/// The parts of a set of version 1 for the collection `a a a a `, as far as they are decoded.
-const SET: [(&str, &[u8]); 5] = [
-    (
-        "set.head",
-        b"MGROWv1\n\
-        \x00\x00\x00\x01\x00\x00\x00\x01\x00\x00\x00\x01\x00\x00\x00\x01\
-        \x00\x15\x55\x55\x00\x00\x00\x01\x00\x00\x00\x08\x00\x00\x00\x04\
-        \x00\x00\x00\x01\x00\x00\x00\x02\x00\x00\x00\x00\x00\x00\x00\x01\
-        \x00\x00\x00\x00\x00\x00\x00\x01",
-    ),
-    ("set.words", b"\x01a\x01"),
-    ("set.nonwords", b"\x01 \x01"),
-    ("set.text", b"\xc8\x00"),
-    ("set.places", b"\x00\x00\x00\x00\x00\x00\x00\x02"),
-];
-
-#[test]
-fn sets_are_decoded(rt: HostRuntime) -> Result<(), Fail> {
-    let alloc = rt.alloc();
-    {
-        let mut store = store_of(alloc, &SET)?;
-        assert!(rt; prints(alloc, &["decode", "set"], &mut store, b"a\n", b"a a a a ")?);
-    }
-    let mut store = store_of(alloc, &[("set.head", b"MGROWv1\n\x00\x00")])?;
-    let line = b"mg: damaged: part head at 0: found 10, wanted 64 to 64\n";
-    assert!(rt; tells(alloc, &["decode", "set"], &mut store, b"a\n", line)?);
-    Ok(())
-}
-
-#[test]
-fn sets_are_checked(rt: HostRuntime) -> Result<(), Fail> {
-    let alloc = rt.alloc();
-    let mut store = store_of(alloc, &[("text", LETTERS)])?;
-    let (status, _) = ended(alloc, &["build", "text", "set"], &mut store, b"")?;
-    assert!(rt; status == Status::Done);
-    let wanted = b"stands 3 documents 39 bytes\n";
-    assert!(rt; prints(alloc, &["check", "set"], &mut store, b"", wanted)?);
-    store.put_file("set.run", b"")?;
-    let (status, is_silent) = ended(alloc, &["check", "set"], &mut store, b"")?;
-    assert!(rt; matches!(status, Status::Stopped(Fault::Damaged(_))));
-    assert!(rt; is_silent);
-    Ok(())
-}
-
-/// The status of a scan of the three documents over these devices.
-fn scanned(
-    alloc: Global,
-    input: &mut MemSource,
-    out: &mut MemSink,
-    err: &mut MemSink,
-) -> Result<Status, AllocError> {
-    let words = words(alloc, &["scan", "text"])?;
-    let mut store = store_of(alloc, &[("text", LETTERS)])?;
-    Ok(run(alloc, &words, &mut store, input, out, err))
-}
-
-/// What a scan leaves whose input fails at once, and whose error output is cut after three bytes.
-fn left_without_input(alloc: Global) -> Result<Left, AllocError> {
-    let mut input = MemSource::new(alloc, b"sat\n", 4)?;
-    input.fail_at(0)?;
-    let mut err = MemSink::new(alloc);
-    err.fail_at(0, 3)?;
-    let mut out = MemSink::new(alloc);
-    let status = scanned(alloc, &mut input, &mut out, &mut err)?;
-    Ok(Left { status, out, err })
-}
-
-/// What a scan leaves whose output is cut after one byte.
-fn left_without_output(alloc: Global) -> Result<Left, AllocError> {
-    let mut input = MemSource::new(alloc, b"sat\n", 4)?;
-    let mut out = MemSink::new(alloc);
-    out.fail_at(0, 1)?;
-    let mut err = MemSink::new(alloc);
-    let status = scanned(alloc, &mut input, &mut out, &mut err)?;
-    Ok(Left { status, out, err })
-}
-
-#[test]
-fn each_device_may_fail(rt: HostRuntime) -> Result<(), Fail> {
-    let alloc = rt.alloc();
-    {
-        // The store's second call reads the collection.
-        let mut store = store_of(alloc, &[("text", LETTERS)])?;
-        store.fail_at(1, 0)?;
-        let (status, is_silent) = ended(alloc, &["scan", "text"], &mut store, b"sat\n")?;
-        assert!(rt; status == Status::Stopped(Fault::StoreFault));
-        assert!(rt; is_silent);
-    }
-    {
-        // The error output fails too: the status stays.
-        let left = left_without_input(alloc)?;
-        assert!(rt; is_left(&left, Status::Stopped(Fault::ReadFault), b"", b"mg:"));
-    }
-    let left = left_without_output(alloc)?;
-    let line = b"mg: the output could not be written\n";
-    assert!(rt; is_left(&left, Status::Stopped(Fault::WriteFault), b"1", line));
     Ok(())
 }
