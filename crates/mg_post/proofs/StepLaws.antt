@@ -40,7 +40,8 @@ not_memory (Damaged at) own err.Device is same = is
 not_memory (Damaged at) own err.Memory is same = is
 not_memory (Damaged at) own (err.Bad bad) is same = cc
 
-part_cause : (T V : Type 0) (refusal : Refusal) (own : Part) (e : PartErr) (before now : ℕ) → IsRefused refusal own e → RefusalCause {T = T} (Err refusal) before now → IsCaused {T = V} before now (Err e)
+part_cause : (T V : Type 0) (refusal : Refusal) (own : Part) (e : PartErr) (before now : ℕ) → IsRefused refusal own e → RefusalCause {T = T} (Err refusal) before now →
+    IsCaused {T = V} before now (Err e)
 part_cause T V Device own e before now is rose = subst (λ x. IsCaused {T = V} before now (Err x)) (sym is) rose
 part_cause T V (Damaged at) own err.Device before now is rose = absurd is
 part_cause T V (Damaged at) own err.Memory before now is rose = absurd is
@@ -195,7 +196,9 @@ list_of c = record { post_at = c.post_at; docs = c.docs; parameter = c.parameter
 abbrev reader : Paging → ℕ → Reading Paging
 reader feed place = record { feed = feed; place = place }
 
-at_blocks : (c : Cursoring) (files : Option Files) (blocks : ℕ) (ps : List Posting) → blocks ≡ block_count c.docs → SkipStands c.all c.parameter (told_at files c.skip.name) c.skip_at (block_count c.docs) ps → SkipStands c.all c.parameter (told_at files c.skip.name) c.skip_at blocks ps
+at_blocks : (c : Cursoring) (files : Option Files) (blocks : ℕ) (ps : List Posting) → blocks ≡ block_count c.docs →
+    SkipStands c.all c.parameter (told_at files c.skip.name) c.skip_at (block_count c.docs) ps →
+    SkipStands c.all c.parameter (told_at files c.skip.name) c.skip_at blocks ps
 at_blocks c files blocks ps count entries = subst (λ n. SkipStands c.all c.parameter (told_at files c.skip.name) c.skip_at n ps) (sym count) entries
 
 third_of : (c : Cursoring) (blocks count : ℕ) → blocks ≡ block_count c.docs → count ≤ entries_pages c.skip_at blocks → min count (2 ^ 64 - 1) ≤ entries_pages c.skip_at (block_count c.docs)
@@ -203,7 +206,8 @@ third_of c blocks count is most = subst (λ n. min count (2 ^ 64 - 1) ≤ entrie
 
 module _ {Dev : Type 0} {device : Dev → Seen} {c : Cursoring} {d0 d1 : Dev} {doc blocks place : ℕ} {skip : Reading Paging} (k : MayGo c (device d0).files doc blocks) where
   -- an entry was refused
-  pub step_unfound : {refusal : Refusal} (e : PartErr) → ReadsFeed (SearchesBlock (search_of c doc blocks)) Fits (feeding_of 4096) device (reader c.skip place) skip d0 d1 (Err refusal) → IsRefused refusal Skip e →
+  pub step_unfound : {refusal : Refusal} (e : PartErr) →
+      ReadsFeed (SearchesBlock (search_of c doc blocks)) Fits (feeding_of 4096) device (reader c.skip place) skip d0 d1 (Err refusal) → IsRefused refusal Skip e →
       CursorStep c (record c { skip = skip.feed }) doc doc (from_doc doc) (Err e) (device d0).files (device d1).files (device d0).reads (device d1).reads (device d0).faults (device d1).faults
   step_unfound {refusal = refusal} e s is = record {
     fits = tt;
@@ -272,7 +276,8 @@ module _ {Dev : Type 0} {device : Dev → Seen} {c : Cursoring} {d0 d1 : Dev} {d
 
   module _ {d2 : Dev} {found : Found} {at : ℕ} {post : Reading Paging} (s : ReadsFeed (SearchesBlock (search_of c doc blocks)) Fits (feeding_of 4096) device (reader c.skip place) skip d0 d1 (Ok (Some found))) where
     -- its postings were refused
-    pub step_missing : {refusal : Refusal} {held : List Posting} (e : PartErr) (read entered : ℕ) → ReadsFeed (EntersFound (list_of c) found doc held) Fits (feeding_of 4096) device (reader c.post at) post d1 d2 (Err refusal) →
+    pub step_missing : {refusal : Refusal} {held : List Posting} (e : PartErr) (read entered : ℕ) →
+        ReadsFeed (EntersFound (list_of c) found doc held) Fits (feeding_of 4096) device (reader c.post at) post d1 d2 (Err refusal) →
         IsRefused refusal Post e → read ≡ post.feed.count - c.post.count → entered ≡ min (c.entered + read) (2 ^ 64 - 1) →
         CursorStep c (record c { skip = skip.feed; post = post.feed; entered = entered }) doc doc (from_doc doc) (Err e) (device d0).files (device d2).files (device d0).reads (device d2).reads (device d0).faults (device d2).faults
     step_missing {refusal = refusal} {held = held} e read entered w is counted raised =
@@ -338,7 +343,8 @@ module _ {Dev : Type 0} {device : Dev → Seen} {c : Cursoring} {d0 d1 : Dev} {d
           };
         }
 
-    pub step_entered : {inside : Inside} {block : List Posting} (held : List Posting) (entered : ℕ) → ReadsFeed (EntersFound (list_of c) found doc block) Fits (feeding_of 4096) device (reader c.post at) post d1 d2 (Ok inside) →
+    pub step_entered : {inside : Inside} {block : List Posting} (held : List Posting) (entered : ℕ) →
+        ReadsFeed (EntersFound (list_of c) found doc block) Fits (feeding_of 4096) device (reader c.post at) post d1 d2 (Ok inside) →
         held ≡ block → entered ≡ min (c.entered + inside.pages) (2 ^ 64 - 1) →
         CursorStep c (record c { skip = skip.feed; post = post.feed; reached = found.block + 1; last = found.last; held = held; entered = entered }) doc doc (from_doc doc) (Ok (Some inside.posting))
         (device d0).files (device d2).files (device d0).reads (device d2).reads (device d0).faults (device d2).faults

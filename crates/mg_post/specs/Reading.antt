@@ -1,12 +1,14 @@
 -- What a reader of postings reads from a feed and its device, by the functions that tell what contracts see of both.
-use Rattle.std.specs.Prelude.{◌≡◌, ℕ, ◌+◌, ◌^◌, ◌≤◌, List, length, take, Option, Result, MatchResult}
+use Rattle.std.specs.Prelude.{◌≡◌, ℕ, ◌+◌, ◌^◌, ◌≤◌, List, length, take, Option, Result, IfOk, OnErr, OnOk, MatchResult}
 use Rattle.mg_dev.specs.Files.{Files}
 use Rattle.mg_bits.specs.Feed.{Calm, Feeding, Device, ReadsWithin}
+use Rattle.mg_bits.specs.NextBits.{FromNext, ReadNext}
 use Rattle.mg_bits.specs.Reading.{Reading}
-use Rattle.mg_defs.specs.Bits.{Shows}
+use Rattle.mg_defs.specs.Bits.{Begins, Shows}
 use Rattle.mg_defs.specs.declared.Posting.{Posting}
-use Rattle.mg_defs.specs.Lists.{posting_bits, bits_after, Rises, Follows}
-use Rattle.mg_post.specs.Answers.{RefusalCause}
+use Rattle.mg_defs.specs.Lists.{posting_bits, bits_after, last_doc, Rises, Follows}
+use Rattle.mg_post.specs.Answers.{AnswersThis, IfDamaged, OrDevice, RefusalCause}
+use Rattle.mg_post.specs.Missing.{IsBitOfPosting, LacksPosting}
 use Rattle.mg_post.specs.declared.refusal.Refusal.{Refusal}
 
 -- the bytes that a reader reads, where its device tells them
@@ -50,4 +52,37 @@ pub record ReadsFeed {Fed Dev T : Type 0} (promise : Result T Refusal → Option
   pub does : promise result (told_bytes feeding device old dev) (feeding old.feed) (feeding new.feed)
   pub fits : agrees new.feed (device now).files
   pub calm : Calm (feeding old.feed) (feeding new.feed) (device dev) (device now)
+  pub cause : RefusalCause result (device dev).faults (device now).faults
+
+-- the posting that stands at a reader's place after a document is read, by a list's parameter and the number of documents
+pub record ReadsPosting {Fed Dev : Type 0} (all b before : ℕ) (agrees : Fed → Option Files → Type 0) (feeding : Fed → Feeding) (device : Dev → Device) (old new : Reading Fed) (dev now : Dev) (result : Result Posting Refusal) : Type 0 where
+  pub fits : agrees new.feed (device now).files
+  pub calm : Calm (feeding old.feed) (feeding new.feed) (device dev) (device now)
+  pub read : IfOk result (λ p. ReadNext feeding device old new dev now (length (posting_bits b before p)))
+  pub pages : OnErr result (OnlyPostingPages feeding device old new dev now all b before)
+  -- the place goes behind the posting; where the call is refused it is the same
+  pub place : MatchResult result (λ p. new.place ≡ old.place + length (posting_bits b before p)) (λ _. new.place ≡ old.place)
+  pub shows : IfOk result (λ p. FromNext feeding device old dev (Begins (posting_bits b before p)))
+  pub follows : IfOk result (Follows all before)
+  -- a damage is told at the first bit of the gap, or of the count
+  pub at : IfDamaged result (IsBitOfPosting all b (told_bytes feeding device old dev) before old.place)
+  -- where a posting stands there, it is answered, or the device failed
+  pub told : ForNextPosting feeding device old dev all b before (λ p. AnswersThis result p)
+  pub cause : RefusalCause result (device dev).faults (device now).faults
+
+-- so many postings that stand at a reader's place after a document are read to a block; the last document is answered
+pub record FillsBlock {Fed Dev : Type 0} (all b before count : ℕ) (block : List Posting) (agrees : Fed → Option Files → Type 0) (feeding : Fed → Feeding) (device : Dev → Device) (old new : Reading Fed) (dev now : Dev) (result : Result ℕ Refusal) : Type 0 where
+  pub fits : agrees new.feed (device now).files
+  pub calm : Calm (feeding old.feed) (feeding new.feed) (device dev) (device now)
+  pub read : OnOk result (ReadNext feeding device old new dev now (length (bits_after b before block)))
+  pub pages : OnErr result (OnlyListPages feeding device old new dev now all b before count)
+  pub place : GoesBehind result old.place new.place (length (bits_after b before block))
+  pub whole : OnOk result (length block ≡ count)
+  pub rises : OnOk result (Rises all before block)
+  pub last : IfOk result (λ last. last ≡ last_doc before block)
+  pub shows : OnOk result (FromNext feeding device old dev (Begins (bits_after b before block)))
+  -- a damage is told at the first posting that does not stand
+  pub lacks : IfDamaged result (LacksPosting all b (told_bytes feeding device old dev) before old.place count)
+  -- where so many postings stand there, these are the block, or the device failed
+  pub told : ForNextList feeding device old dev all b before count (λ ps. OrDevice result (λ _. block ≡ take count ps))
   pub cause : RefusalCause result (device dev).faults (device now).faults

@@ -1,14 +1,8 @@
 //! The postings of one block, from the current one on.
-ghost use Rattle.std.specs.Prelude.{◌≡◌, ◌+◌, ◌-◌, ◌<◌, ◌≤◌, ◌^◌, List, [], length, take, drop, IfOk, OnOk, OnErr, MatchResult};
-ghost use Rattle.mg_bits.specs.Feed.{Calm};
-ghost use Rattle.mg_defs.specs.Bits.{Begins};
+ghost use Rattle.std.specs.Prelude.{◌≡◌, ◌-◌, ◌<◌, ◌≤◌, ◌^◌, List, [], length, take, drop, IfOk};
 ghost use Rattle.mg_defs.specs.declared.Posting.{Posting};
-ghost use Rattle.mg_defs.specs.Lists.{bits_after, Rises, last_doc};
 ghost use Rattle.mg_post.specs.Cursor.{head_of, forward_to, GoesOn};
-ghost use Rattle.mg_post.specs.Answers.{IfDamaged, OrDevice, RefusalCause};
-ghost use Rattle.mg_post.specs.Missing.{LacksPosting};
-ghost use Rattle.mg_post.specs.Reading.{OnlyListPages, ForNextList, told_bytes};
-ghost use Rattle.mg_bits.specs.NextBits.{FromNext, ReadNext};
+ghost use Rattle.mg_post.specs.Reading.{FillsBlock};
 
 use crate::read::read_block;
 use crate::refusal::Refusal;
@@ -115,18 +109,8 @@ impl Block {
         requires parameter { 1 ≤ parameter }
         requires limit { parameter < 2 ^ 48 }
         requires room { count ≤ 64 }
-        ensures fits { F.fits r.new.feed (F.device dev.new).files }
-        ensures calm { Calm (F.feeding r.old.feed) (F.feeding r.new.feed) (F.device dev.old) (F.device dev.new) }
-        ensures read { OnOk result (ReadNext F.feeding F.device r.old r.new dev.old dev.new (length (bits_after parameter before self.new))) }
-        ensures pages { OnErr result (OnlyListPages F.feeding F.device r.old r.new dev.old dev.new all parameter before count) }
-        ensures rises { OnOk result (Rises all before self.new) }
-        ensures whole { OnOk result (length self.new ≡ count) }
-        ensures shows { OnOk result (FromNext F.feeding F.device r.old dev.old (Begins (bits_after parameter before self.new))) }
-        ensures lacks { IfDamaged result (LacksPosting all parameter (told_bytes F.feeding F.device r.old dev.old) before r.old.place count) }
-        ensures last { IfOk result (λ last. last ≡ last_doc before self.new) }
-        ensures place { MatchResult result (λ _. r.new.place ≡ r.old.place + length (bits_after parameter before self.new)) (λ _. r.new.place ≡ r.old.place) }
-        ensures told { ForNextList F.feeding F.device r.old dev.old all parameter before count (λ ps. OrDevice result (λ _. self.new ≡ take count ps)) }
-        ensures cause { RefusalCause result (F.device dev.old).faults (F.device dev.new).faults }
+        ensures { FillsBlock all parameter before count self.new F.fits F.feeding F.device
+            r.old r.new dev.old dev.new result }
     {
         match read_block(r, dev, parameter, count, before, all, &mut self.postings) {
             Ok(last) => {

@@ -7,7 +7,7 @@ ghost use Rattle.mg_defs.specs.Lists.{posting_bits, bits_after, last_doc, Rises,
 ghost use Rattle.mg_post.specs.Ahead.{IsAhead, IsGapCode};
 ghost use Rattle.mg_post.specs.Answers.{IfDamaged, OrDevice, RefusalCause, AnswersThis};
 ghost use Rattle.mg_post.specs.Missing.{IsBitOfPosting, LacksPosting};
-ghost use Rattle.mg_post.specs.Reading.{OnlyListPages, ForNextPosting, OnlyPostingPages, GoesBehind, ForNextList, told_bytes};
+ghost use Rattle.mg_post.specs.Reading.{OnlyListPages, ForNextPosting, OnlyPostingPages, GoesBehind, ForNextList, ReadsPosting, told_bytes};
 ghost use Rattle.mg_bits.specs.NextBits.{FromNext, ReadNext};
 
 use crate::ahead::{Ahead, GapCode, gap_code, posting_ahead};
@@ -100,17 +100,9 @@ fn next_posting<F: Feed>(
     requires ahead { IsAhead (F.feeding r.old.feed) (F.fits r.old.feed) r.old.place ahead.old.bits ahead.old.count }
     requires before { before ≤ all }
     requires code { IsGapCode parameter code.size code.few }
-    ensures fits { F.fits r.new.feed (F.device dev.new).files }
     ensures ahead { IsAhead (F.feeding r.new.feed) (F.fits r.new.feed) r.new.place ahead.new.bits ahead.new.count }
-    ensures calm { Calm (F.feeding r.old.feed) (F.feeding r.new.feed) (F.device dev.old) (F.device dev.new) }
-    ensures read { IfOk result (λ p. ReadNext F.feeding F.device r.old r.new dev.old dev.new (length (posting_bits parameter before p))) }
-    ensures pages { OnErr result (OnlyPostingPages F.feeding F.device r.old r.new dev.old dev.new all parameter before) }
-    ensures place { MatchResult result (λ p. r.new.place ≡ r.old.place + length (posting_bits parameter before p)) (λ _. r.new.place ≡ r.old.place) }
-    ensures shows { IfOk result (λ p. FromNext F.feeding F.device r.old dev.old (Begins (posting_bits parameter before p))) }
-    ensures follows { IfOk result (Follows all before) }
-    ensures at { IfDamaged result (IsBitOfPosting all parameter (told_bytes F.feeding F.device r.old dev.old) before r.old.place) }
-    ensures told { ForNextPosting F.feeding F.device r.old dev.old all parameter before (λ p. AnswersThis result p) }
-    ensures cause { RefusalCause result (F.device dev.old).faults (F.device dev.new).faults }
+    ensures posting { ReadsPosting all parameter before F.fits F.feeding F.device
+        r.old r.new dev.old dev.new result }
 {
     let seen = look(r, *ahead);
     match posting_ahead(seen, parameter, code, before, all) {
