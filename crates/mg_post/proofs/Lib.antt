@@ -12,4 +12,6 @@ mod SoundLaws
 mod StepLaws
 mod LifeLaws
 mod TermLaws
+mod WholeListLaws
+pub mod CallerLemmas
 pub mod ListHeads

@@ -11,4 +11,5 @@ pub mod Damages
 pub mod CursorSteps
 pub mod Laws
 pub mod TermLists
+pub mod WholeLists
 pub mod Writing

@@ -1,5 +1,5 @@
 //! A cursor over a list.
-ghost use Rattle.std.specs.Prelude.{◌≡◌, ◌≢◌, ◌+◌, ◌/◌, ◌<◌, ◌≤◌, ◌^◌, List, [], true, false, Option, Some, None, Ok, Err, IfOk, IfErr, IfSome, OnOk};
+ghost use Rattle.std.specs.Prelude.{◌≡◌, ◌≢◌, ◌+◌, ◌-◌, ◌/◌, ◌<◌, ◌≤◌, ◌^◌, List, [], true, false, Option, Some, None, Ok, Err, IfOk, IfErr, IfSome, OnOk};
 ghost use Rattle.mg_dev.specs.Files.{Files};
 ghost use Rattle.mg_dev.specs.Moments.{Between};
 ghost use Rattle.mg_dev.specs.PartCauses.{HasPartCause};
@@ -12,6 +12,7 @@ ghost use Rattle.mg_post.specs.Finding.{entries_pages};
 ghost use Rattle.mg_post.specs.Cursor.{head_of, after, next_doc, post_pages, entered_pages, skip_pages, CursorFits, SameList, SamePlace, StandsAt, IsFrom, NamesItsPart};
 ghost use Rattle.mg_post.specs.CursorSteps.{CursorStep};
 ghost use Rattle.mg_post.specs.TermLists.{AnswersForTerm, ReadsLists, CursorForInfo, TermPages, IsOverInfo, ForTerm};
+ghost use Rattle.mg_post.specs.WholeLists.{WalkStep};
 
 use crate::block::Block;
 use crate::enter::{ListPlace, enter};
@@ -293,5 +294,17 @@ impl<'a, S: Store> Cursor<'a, S> {
         ensures cause { HasPartCause (S.faults store.old) (S.faults store.new) result }
     {
         self.advance_to(store, doc)
+    }
+
+    /// Goes to the first posting behind a document, where the whole list of a term of a collection is
+    /// gone over: `last` is 0 at first, and then the document of the posting that was answered.
+    #[inline]
+    pub fn next_behind(&mut self, store: &mut S, last: u32) -> Result<Option<Posting>, PartErr>
+        requires fits { CursorFits self.old (S.files store.old) }
+        requires few { last < 2 ^ 32 - 1 }
+        ensures { Between S.files S.reads S.faults store.old store.new
+            (WalkStep self.old self.new last result) }
+    {
+        self.ask(store, last + 1)
     }
 }

@@ -15,7 +15,7 @@ use Rattle.mg_defs.specs.Weights.{has_term, wd, wt, weight_in_doc}
 use Rattle.mg_defs.specs.Lists.{postings, from_doc, Rises, Follows}
 use Rattle.mg_defs.proofs.ListLaws.{from_here, from_next}
 use Rattle.mg_post.specs.Cursor.{head_of}
-use Rattle.mg_post.proofs.ListHeads.{has_at, later}
+use Rattle.mg_post.proofs.CallerLemmas.{has_at, later}
 use Rattle.mg_laws.proofs.LedLists.{list_from, from_front, docs_from, length_front, some_freq}
 use Rattle.mg_rank.specs.Ranked.{SumsFor, part_sum, so_far}
 use Rattle.mg_rank.specs.Sums.{sum_of, with_more, AreApart}

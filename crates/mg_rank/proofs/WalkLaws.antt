@@ -1,8 +1,6 @@
--- A cursor that goes over the whole list of a term.
+-- What the lexicon tells of a term, and refusals.
 use Rattle.std.proofs.Common.{arith, ◌≡◌, ◌+◌, ◌≤◌, ℕ, List, length, refl, sym, ap, ◌∙◌, Bool, false, cond, [], ◌∷◌, subst, ◌≢◌}
 use Rattle.mg_defs.specs.Split.{documents}
-use Rattle.mg_defs.specs.Lists.{postings, block_count}
-use Rattle.mg_defs.proofs.ListLaws.{list_rises}
 use Rattle.mg_dev.specs.Files.{Files, Reads}
 use Rattle.mg_dev.specs.Names.{same_part}
 use Rattle.mg_dev.specs.declared.part.Part.{Part}
@@ -21,27 +19,8 @@ use Rattle.mg_layout.specs.declared.term_info.TermInfo.{TermInfo}
 use Rattle.mg_dev.specs.declared.part_err.PartErr.{PartErr}
 use Rattle.mg_dev.specs.declared.part_err.PartErr.TheVariants as part
 use Rattle.mg_post.specs.Answers.{AnswersList}
-use Rattle.mg_post.specs.Cursor.{Cursoring}
-use Rattle.mg_defs.specs.PageBounds.{numbers_in, pages_for, list_pages, parameter_of, list_bit}
-use Rattle.mg_laws.proofs.BoundLaws.{met_whole}
-use Rattle.mg_laws.proofs.MetBlocks.{own_met, term_some}
-use Rattle.mg_post.specs.TermLists.{ListsStand, MayAsk}
-use Rattle.mg_rank.specs.Ranked.{AnswersOr, ListFor, ReadsWeights}
-
-pub for_within : (collection asked t : List ℕ) → pages_for collection asked t ≤ list_pages collection t
-unfolding pages_for list_pages
-for_within collection asked t = met_whole asked (parameter_of collection t) (list_bit collection t) (block_count (length (postings collection t))) (postings collection t)
-
-pub list_later : (base collection t : List ℕ) (m n : ℕ) (c : Cursoring) → ListFor base collection t m c → m ≤ n → ListFor base collection t n c
-list_later base collection t m n c f le = record { number = f.number; term = f.term; over = f.over; parameter = f.parameter; reached_doc = f.reached_doc; early = omega (arith, f.early, le); at = f.at; first = f.first; within = f.within }
-
--- a list may be asked for the document after its last one
-pub may_ask : (base collection t : List ℕ) (last : ℕ) (files : Option Files) (c : Cursoring) → ListsStand base files collection → ListFor base collection t last c → MayAsk base collection (numbers_in (postings collection t)) t (last + 1) files c
-may_ask base collection t last files c stand f = record {
-  stand = stand;
-  cursor = list_later base collection t last (last + 1) c f (omega arith);
-  among = λ k range. own_met (length (documents collection)) k (last + 1) (postings collection t) (list_rises collection t stand.short) range;
-}
+use Rattle.mg_laws.proofs.MetBlocks.{term_some}
+use Rattle.mg_rank.specs.Ranked.{AnswersOr, ReadsWeights}
 
 -- ---- what the lexicon tells
 

@@ -21,9 +21,9 @@ use Rattle.mg_layout.specs.declared.term_info.TermInfo.{TermInfo}
 use Rattle.mg_defs.specs.Stands.{weights_part}
 use Rattle.std.specs.Map.{lookup}
 use Rattle.mg_defs.specs.Lists.{postings}
-use Rattle.mg_post.specs.Cursor.{Cursoring, post_pages}
-use Rattle.mg_defs.specs.PageBounds.{numbers_in}
-use Rattle.mg_post.specs.TermLists.{AnswersAsk, CursorFor, ListsStand}
+use Rattle.mg_post.specs.Cursor.{Cursoring}
+use Rattle.mg_post.specs.TermLists.{ListsStand, PostRises}
+pub use Rattle.mg_post.specs.WholeLists.{AnswersBehind, ForList, ListFor}
 use Rattle.mg_rank.specs.Sums.{AreApart}
 
 -- what is told of these distinct terms, each of them of the collection
@@ -66,10 +66,6 @@ AnswersOr (Err Device) fact = Unit {0}
 AnswersOr (Err Memory) fact = Unit {0}
 AnswersOr (Err (Bad bad)) fact = ⊥
 
--- a cursor over the whole list of a term, which was asked for no document past this one
-abbrev pub ListFor : List ℕ → List ℕ → List ℕ → ℕ → Cursoring → Type 0
-ListFor base collection t last c = CursorFor base collection (numbers_in (postings collection t)) t last c
-
 -- what these terms add to a document
 abbrev pub part_sum : List ℕ → List (List ℕ) → ℕ → ℕ
 part_sum collection done doc = sum_by (λ t. wd (document collection doc) t * wt collection t) (filter (has_term (document collection doc)) done)
@@ -96,15 +92,7 @@ PostWithin reads before now pages = reads now part.Post ≤ reads before part.Po
 
 -- no more pages of Post are read than the cursor has read since
 abbrev pub PostRoseWith : {X : Type 0} → (X → Reads) → X → X → Cursoring → Cursoring → Type 0
-PostRoseWith reads before now old new = reads now part.Post + post_pages old ≤ reads before part.Post + post_pages new
-
--- for each list that a cursor may go over behind this document
-abbrev pub ForList : Option Files → ℕ → Cursoring → (List ℕ → List ℕ → List ℕ → Type 0) → Type 0
-ForList files last c claim = (base collection t : List ℕ) → ListsStand base files collection → ListFor base collection t last c → claim base collection t
-
--- the answer: the first posting of the list behind this document
-abbrev pub AnswersBehind : List ℕ → List ℕ → List ℕ → ℕ → Cursoring → Option Posting → Type 0
-AnswersBehind base collection t last c found = AnswersAsk base collection (numbers_in (postings collection t)) t (last + 1) found c
+PostRoseWith reads before now old new = PostRises old new (reads before) (reads now)
 
 -- for each term of which this is told
 abbrev pub ForTerm : List ℕ → Option Files → TermInfo → ℕ → (List ℕ → List ℕ → Type 0) → Type 0

@@ -2,12 +2,10 @@
 ghost use Rattle.std.specs.Prelude.{◌≡◌, ◌≢◌, ℕ, ◌+◌, ◌-◌, ◌*◌, ◌≤◌, ◌<◌, ◌^◌, Ok, Err, IfOk, IfSome, OnOk, OnErr};
 ghost use Rattle.mg_dev.specs.PartCauses.{HasPartCause};
 ghost use Rattle.mg_defs.specs.Weights.{weight_of_term, weight_in_doc};
-ghost use Rattle.mg_post.specs.Answers.{AnswersList};
-ghost use Rattle.mg_post.specs.Cursor.{CursorFits, IsFrom, SameList, post_pages};
 ghost use Rattle.mg_defs.specs.PageBounds.{list_pages};
 ghost use Rattle.mg_post.specs.TermLists.{ReadsLists};
 ghost use Rattle.mg_rank.specs.Sums.{AreApart, AreWithin, sum_of, with_more};
-ghost use Rattle.mg_rank.specs.Ranked.{PostWithin, PostRoseWith, ForList, AnswersBehind, ForTerm, AddsTerm};
+ghost use Rattle.mg_rank.specs.Ranked.{PostWithin, ForTerm, AddsTerm};
 
 use crate::sums::Sums;
 use mg_defs::Posting;
@@ -16,29 +14,6 @@ use mg_fixed::{doc_term_weight, term_weight};
 use mg_layout::TermInfo;
 use mg_post::{Cursor, cursor_pages_are_within};
 use std::alloc::{AllocError, Global};
-
-/// The first posting of a list behind a document.
-#[inline]
-fn next_posting<S: Store>(
-    cursor: &mut Cursor<'_, S>,
-    store: &mut S,
-    last: u32,
-) -> Result<Option<Posting>, PartErr>
-    requires fits { CursorFits cursor.old (S.files store.old) }
-    requires few { last < 2 ^ 32 - 1 }
-    ensures fits { OnOk result (CursorFits cursor.new (S.files store.new)) }
-    ensures same { SameList cursor.old cursor.new }
-    ensures answer { ForList (S.files store.old) last cursor.old (λ base collection t. AnswersList result (AnswersBehind base collection t last cursor.new)) }
-    ensures within { ForList (S.files store.old) last cursor.old (λ _ collection t. post_pages cursor.new ≤ list_pages collection t) }
-    ensures post { ForList (S.files store.old) last cursor.old (λ _ _ _. PostRoseWith S.reads store.old store.new cursor.old cursor.new) }
-    ensures sound { IfOk result (λ found. IfSome found (IsFrom (last + 1) cursor.old.all)) }
-    ensures reads { ReadsLists (S.reads store.old) (S.reads store.new) }
-    ensures files { S.files store.new ≡ S.files store.old }
-    ensures memory { result ≢ Err PartErr.Memory }
-    ensures cause { HasPartCause (S.faults store.old) (S.faults store.new) result }
-{
-    cursor.ask(store, last + 1)
-}
 
 /// The weight of a term by how many documents have it.
 fn weight_of_list(docs: u32, all: u32) -> Result<u32, PartErr>
@@ -124,7 +99,7 @@ pub(crate) fn add_list<S: Store>(
     cursor_pages_are_within();
     let mut last = 0;
     while last < all {
-        let posting = match next_posting(&mut cursor, store, last) {
+        let posting = match cursor.next_behind(store, last) {
             Ok(Some(posting)) => posting,
             Ok(None) => return Ok(()),
             Err(refusal) => return Err(refusal),

@@ -7,9 +7,9 @@ use Rattle.mg_post.specs.TermLists.{ListsStand}
 use Rattle.mg_rank.specs.Sums.{AreApart, AreWithin, sum_of}
 use Rattle.mg_rank.proofs.Adding.{apart_more, within_more}
 use Rattle.mg_rank.proofs.SumLaws.{Bounded, Walking, bounded_start, bounded_next, head_sound, walk_start, walk_next, walk_end}
-use Rattle.mg_post.proofs.ListHeads.{none_at}
+use Rattle.mg_post.proofs.CallerLemmas.{cursor_later, none_at, pages_in_list}
 use Rattle.mg_defs.specs.Weights.{wt}
-use Rattle.mg_rank.proofs.WalkLaws.{for_within, weight_of, list_later, told, or_list}
+use Rattle.mg_rank.proofs.WalkLaws.{weight_of, told, or_list}
 use Rattle.mg_rank.proofs.list.add_list.Goals as goal
 
 pub returns-in-Err-clause-answer : goal.returns-in-Err-clause-answer
@@ -45,22 +45,22 @@ pub returns-in-Ok-None-clause-pages : goal.returns-in-Ok-None-clause-pages
 returns-in-Ok-None-clause-pages g c = λ collection t stand i all_is.
     let stand2 = subst (λ fs. ListsStand c.args.base.now fs collection) (sym c.loop-last.invariant.files) stand in
     let f = c.loop-last.invariant.list collection t stand i all_is in
-    omega (arith, c.loop-last.invariant.post collection t stand i all_is, c.next_posting.ensures.post c.args.base.now collection t stand2 f, c.next_posting.ensures.within c.args.base.now collection t stand2 f)
+    omega (arith, c.loop-last.invariant.post collection t stand i all_is, c.next_behind.ensures.post c.args.base.now collection t stand2 f, c.next_behind.ensures.within c.args.base.now collection t stand2 f)
 
-pub returns-in-Err-next_posting-clause-small : goal.returns-in-Err-next_posting-clause-small
-returns-in-Err-next_posting-clause-small g c = λ n small d. (c.loop-last.invariant.bounded n small).each d
+pub returns-in-Err-next_behind-clause-small : goal.returns-in-Err-next_behind-clause-small
+returns-in-Err-next_behind-clause-small g c = λ n small d. (c.loop-last.invariant.bounded n small).each d
 
-pub returns-in-Err-next_posting-clause-answer : goal.returns-in-Err-next_posting-clause-answer
-returns-in-Err-next_posting-clause-answer g c = λ collection t done stand i all_is s.
+pub returns-in-Err-next_behind-clause-answer : goal.returns-in-Err-next_behind-clause-answer
+returns-in-Err-next_behind-clause-answer g c = λ collection t done stand i all_is s.
     let stand2 = subst (λ fs. ListsStand c.args.base.now fs collection) (sym c.loop-last.invariant.files) stand in
     let f = c.loop-last.invariant.list collection t stand i all_is in
-    or_list c.in-Err-next_posting.refusal _ _ (c.in-Err-next_posting.ensures.answer c.args.base.now collection t stand2 f)
+    or_list c.in-Err-next_behind.refusal _ _ (c.in-Err-next_behind.ensures.answer c.args.base.now collection t stand2 f)
 
-pub returns-in-Err-next_posting-clause-pages : goal.returns-in-Err-next_posting-clause-pages
-returns-in-Err-next_posting-clause-pages g c = λ collection t stand i all_is.
+pub returns-in-Err-next_behind-clause-pages : goal.returns-in-Err-next_behind-clause-pages
+returns-in-Err-next_behind-clause-pages g c = λ collection t stand i all_is.
     let stand2 = subst (λ fs. ListsStand c.args.base.now fs collection) (sym c.loop-last.invariant.files) stand in
     let f = c.loop-last.invariant.list collection t stand i all_is in
-    omega (arith, c.loop-last.invariant.post collection t stand i all_is, c.next_posting.ensures.post c.args.base.now collection t stand2 f, c.next_posting.ensures.within c.args.base.now collection t stand2 f)
+    omega (arith, c.loop-last.invariant.post collection t stand i all_is, c.next_behind.ensures.post c.args.base.now collection t stand2 f, c.next_behind.ensures.within c.args.base.now collection t stand2 f)
 
 pub add_posting-requires-clause-small : goal.add_posting-requires-clause-small
 add_posting-requires-clause-small g c = omega (arith, (c.loop-last.invariant.bounded (2 ^ 40) c.requires.small).each c.in-Ok-Some.posting.doc)
@@ -78,7 +78,7 @@ pub returns-in-Err-add_posting-clause-pages : goal.returns-in-Err-add_posting-cl
 returns-in-Err-add_posting-clause-pages g c = λ collection t stand i all_is.
     let stand2 = subst (λ fs. ListsStand c.args.base.now fs collection) (sym c.loop-last.invariant.files) stand in
     let f = c.loop-last.invariant.list collection t stand i all_is in
-    omega (arith, c.loop-last.invariant.post collection t stand i all_is, c.next_posting.ensures.post c.args.base.now collection t stand2 f, c.next_posting.ensures.within c.args.base.now collection t stand2 f)
+    omega (arith, c.loop-last.invariant.post collection t stand i all_is, c.next_behind.ensures.post c.args.base.now collection t stand2 f, c.next_behind.ensures.within c.args.base.now collection t stand2 f)
 
 pub loop-last-preserved : goal.loop-last-preserved
 loop-last-preserved g c =
@@ -87,13 +87,13 @@ loop-last-preserved g c =
     let within : c.in-Ok-Some.posting.doc ≤ c.args.all = omega (arith, from.within, c.loop-last.invariant.all) in record {
       most = within;
       fits = c.in-Ok-Some.ensures.fits;
-      all = c.next_posting.ensures.same.all ∙ c.loop-last.invariant.all;
-      files = c.next_posting.ensures.files ∙ c.loop-last.invariant.files;
+      all = c.next_behind.ensures.same.all ∙ c.loop-last.invariant.all;
+      files = c.next_behind.ensures.files ∙ c.loop-last.invariant.files;
       reads = record {
-        later = λ p. omega (arith, c.loop-last.invariant.reads.later p, c.next_posting.ensures.reads.later p);
-        others = λ p a b. c.next_posting.ensures.reads.others p a b ∙ c.loop-last.invariant.reads.others p a b;
+        later = λ p. omega (arith, c.loop-last.invariant.reads.later p, c.next_behind.ensures.reads.later p);
+        others = λ p a b. c.next_behind.ensures.reads.others p a b ∙ c.loop-last.invariant.reads.others p a b;
       };
-      faults = omega (arith, c.loop-last.invariant.faults, c.next_posting.ensures.cause.later);
+      faults = omega (arith, c.loop-last.invariant.faults, c.next_behind.ensures.cause.later);
       bounded = λ n small. rw c.in-Ok-add_posting.ensures.added (bounded_next n c.loop-last.last c.in-Ok-Some.posting.doc _ c.loop-last.sums (c.loop-last.invariant.bounded n small) later c.add_posting.ensures.few);
       within = λ h. rw c.in-Ok-add_posting.ensures.added (within_more c.args.all c.in-Ok-Some.posting.doc _ c.loop-last.sums (omega (arith, later)) within (c.loop-last.invariant.within h));
       apart = λ h. rw c.in-Ok-add_posting.ensures.added (apart_more c.in-Ok-Some.posting.doc _ c.loop-last.sums (c.loop-last.invariant.apart h));
@@ -111,11 +111,11 @@ loop-last-preserved g c =
           let f = c.loop-last.invariant.list collection t stand i all_is in
           let a = (rw c.in-Ok-Some.field-0-is at c.in-Ok-Some.ensures.answer) c.args.base.now collection t stand2 f in
           let h = head_sound (length (documents collection)) 0 (c.loop-last.last + 1) (postings collection t) c.in-Ok-Some.posting (list_rises collection t stand.short) (sym a.found_is) in
-          list_later c.args.base.now collection t (c.loop-last.last + 1) c.in-Ok-Some.posting.doc _ a.cursor h.0;
+          cursor_later c.args.base.now collection (numbers_in (postings collection t)) t (c.loop-last.last + 1) c.in-Ok-Some.posting.doc _ h.0 a.cursor;
       post = λ collection t stand i all_is.
           let stand2 = subst (λ fs. ListsStand c.args.base.now fs collection) (sym c.loop-last.invariant.files) stand in
           let f = c.loop-last.invariant.list collection t stand i all_is in
-          omega (arith, c.loop-last.invariant.post collection t stand i all_is, c.next_posting.ensures.post c.args.base.now collection t stand2 f);
+          omega (arith, c.loop-last.invariant.post collection t stand i all_is, c.next_behind.ensures.post c.args.base.now collection t stand2 f);
     }
 
 pub returns-clause-small : goal.returns-clause-small
@@ -127,4 +127,4 @@ returns-clause-answer g c = λ collection t done stand i all_is s.
 
 pub returns-clause-pages : goal.returns-clause-pages
 returns-clause-pages g c = λ collection t stand i all_is.
-    omega (arith, c.loop-last.invariant.post collection t stand i all_is, c.cursor_pages_are_within.ensures c.args.base.now collection (numbers_in (postings collection t)) t c.loop-last.last _ (c.loop-last.invariant.list collection t stand i all_is), for_within collection (numbers_in (postings collection t)) t)
+    omega (arith, c.loop-last.invariant.post collection t stand i all_is, c.cursor_pages_are_within.ensures c.args.base.now collection (numbers_in (postings collection t)) t c.loop-last.last _ (c.loop-last.invariant.list collection t stand i all_is), pages_in_list collection (numbers_in (postings collection t)) t)

@@ -1,0 +1,8 @@
+-- What the proofs of crates above cite of this crate's.
+
+-- what the first posting of a list behind a document tells of the documents before it
+pub use Rattle.mg_post.proofs.ListHeads.{has_at, later, none_at}
+-- a cursor that was asked for no document past one was asked for none past a later one
+pub use Rattle.mg_post.proofs.TermLaws.{cursor_later}
+-- the pages that may be read for some documents are within those of the list
+pub use Rattle.mg_post.proofs.WholeListLaws.{pages_in_list}
