@@ -155,12 +155,19 @@ def laws(suite):
     suite.check("files of mg_defs that DEFINITIONS has not", sorted(files - told), [])
 
 
+def records_of(name):
+    """The records of this name of the crates' definitions."""
+    texts = [path.read_text() for path in CRATES.glob("*/specs/**/*.antt")]
+    return "".join(found for text in texts for found in re.findall(rf"^pub record {name}\b.*?(?=^\S)", text + "\n.", re.M | re.S))
+
+
 def fields_of(record):
-    """The fields of a record of the crates' definitions; none where there is no such record."""
-    for path in CRATES.glob("*/specs/**/*.antt"):
-        if found := re.search(rf"^pub record {record}\b.*?(?=^\S)", path.read_text() + "\n.", re.M | re.S):
-            return set(re.findall(r"^  pub (\w+) :", found[0], re.M))
-    return set()
+    """The fields of a record of the crates' definitions, and those of the records that it holds."""
+    text = re.sub(r"\n {4,}", " ", records_of(record))
+    fields = set(re.findall(r"^  pub (\w+) :", text, re.M))
+    for held in re.findall(r"^  pub \w+ : (?:.* → )?(?:CallsOnce \()?(\w+)", text, re.M):
+        fields |= fields_of(held)
+    return fields
 
 
 def promises(suite):
@@ -171,12 +178,14 @@ def promises(suite):
     readme = rows_of((ROOT / "README.md").read_text())
     suite.check("tools", len(tools), 10)
     clauses = set(re.findall(r"^\s*ensures (\w+)", (CRATES / "mg_check" / "src" / "found.rt").read_text(), re.M))
+    law = (CRATES / "mg_top" / "src" / "laws.rt").read_text().partition("pub fn runs_end_by_their_call()")[2]
+    ends = {"runs_end_by_their_call"} | set(re.findall(r"^\s*ensures (\w+)", law, re.M))
     for tool, record in tools.items():
         section = page.partition(f"\n## {tool}\n")[2].split("\n#")[0]
         suite.check(f"the record of {tool} in PROOFS", section.strip().startswith(f"`{record}`"), True)
         promised = [row for row in readme if f"`{tool}`" in row[0] and f"`{record}`" in row[-1]]
         suite.check(f"{tool} and {record} in README", len(promised), 1)
-        known = fields_of(record) | fields_of("AreMade") | (clauses if tool == "check" else set())
+        known = fields_of(record) | fields_of("AreMade") | ends | (clauses if tool == "check" else set())
         cited = {span for row in rows_of(section) for span in spans(row[1]) if re.fullmatch(r"[a-z_]+", span)}
         cited -= {"one_collection", "session_bound", "session_text_bound"}
         suite.check(f"fields of {record} in PROOFS", sorted(cited - known), [])

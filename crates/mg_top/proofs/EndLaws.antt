@@ -1,79 +1,25 @@
--- How a run ends by what its call answered, and by what the put of its lines answered.
-use Rattle.std.proofs.Common.{◌≡◌, ◌⊎◌, ℕ, List, Ok, Err, Option, refl, sym, ap, subst, inl, inr}
+-- How a run ends by what its call answered, and by what the put of its text answered.
+use Rattle.std.proofs.Common.{◌≡◌, ◌∙◌, ◌⊎◌, ℕ, List, Ok, Err, Option, refl, sym, ap, subst, inl, inr}
 use Rattle.std.specs.Prelude.{Result}
-use Rattle.mg_dev.specs.Causes.{HasLack, HasPutCause, Rose}
+use Rattle.mg_dev.specs.Causes.{HasLack, HasPutCause}
 use Rattle.mg_dev.specs.Faults.{fault_of_output}
-use Rattle.mg_dev.specs.Streams.{appended, AfterPut}
+use Rattle.mg_dev.specs.StreamLaws.{grew_nothing}
+use Rattle.mg_dev.specs.Streams.{appended, AfterPut, GrewByPrefix}
 use Rattle.mg_dev.specs.declared.device.PutErr.{PutErr}
 use Rattle.mg_dev.specs.declared.device.PutErr.TheVariants as put
 use Rattle.mg_dev.specs.declared.fault.Fault.{Fault}
-use Rattle.mg_dev.specs.declared.fault.Fault.TheVariants.{Usage, StoreFault, ReadFault, WriteFault, NotBuilt, Damaged, NoCollection, TooLarge, TooManyDocuments, TooManyPieces, Changed, Memory, NameClash, InputTooLong, SameName, TooManyRotations}
+use Rattle.mg_dev.specs.declared.fault.Fault.TheVariants.{Usage, StoreFault, WriteFault, Memory}
 use Rattle.mg_dev.specs.declared.status.Status.{Status}
 use Rattle.mg_dev.specs.declared.status.Status.TheVariants.{Done, Stopped}
-use Rattle.mg_dev.specs.Runs.{IfStopped, OutputFailed, Run, StoppedFor, Stops}
-use Rattle.mg_top.specs.Ends.{OrOutput, SilentAfter, SilentOnOutput}
+use Rattle.mg_dev.specs.Runs.{IfStopped, OutputFailed, Run, StoppedFor, Stops, StopsUnless}
+use Rattle.mg_dev.proofs.CallerLemmas.{put_grew}
+use Rattle.mg_top.specs.Ends.{CallsOnce, EndsBy, Prints, SilentAfter, SilentOnOutput, StopsByOutput}
 
-pub same_fault : (status : Status) (f g : Fault) → status ≡ Stopped f → status ≡ Stopped g → f ≡ g
+same_fault : (status : Status) (f g : Fault) → status ≡ Stopped f → status ≡ Stopped g → f ≡ g
 same_fault status f g one two = cc
 
-pub not_done : (status : Status) (f : Fault) → status ≡ Stopped f → status ≡ Done → ⊥
+not_done : (status : Status) (f : Fault) → status ≡ Stopped f → status ≡ Done → ⊥
 not_done status f one two = cc
-
--- ---- the call refused
-
--- the cause of the call's refusal is one of the run's
-or_output : (output_rose : Type 0) (stops : Fault → Type 0) → (stops WriteFault → ⊥) → (fault : Fault) → stops fault → OrOutput output_rose stops fault
-or_output rose stops never Usage cause = cause
-or_output rose stops never StoreFault cause = cause
-or_output rose stops never ReadFault cause = cause
-or_output rose stops never WriteFault cause = absurd (never cause)
-or_output rose stops never NotBuilt cause = cause
-or_output rose stops never (Damaged bad) cause = cause
-or_output rose stops never NoCollection cause = cause
-or_output rose stops never (TooLarge size most) cause = cause
-or_output rose stops never TooManyDocuments cause = cause
-or_output rose stops never (TooManyPieces stream) cause = cause
-or_output rose stops never (Changed what first second) cause = cause
-or_output rose stops never Memory cause = cause
-or_output rose stops never (NameClash p) cause = cause
-or_output rose stops never InputTooLong cause = cause
-or_output rose stops never SameName cause = cause
-or_output rose stops never (TooManyRotations count) cause = cause
-
-pub refused_cause : (run : Run) (f : Fault) (stops : Fault → Type 0) → run.status ≡ Stopped f → (stops WriteFault → ⊥) → stops f
-    → IfStopped run.status (OrOutput (OutputFailed run) stops)
-refused_cause run f stops is never cause =
-    subst (λ (s : Status). IfStopped s (OrOutput (OutputFailed run) stops)) (sym is) (or_output (OutputFailed run) stops never f cause)
-
--- nothing was written
-pub kept_silent : (f : Fault) (old new : Option (List ℕ)) (l m : ℕ) → new ≡ old → SilentAfter old new l m f
-kept_silent Usage old new l m same = same
-kept_silent StoreFault old new l m same = same
-kept_silent ReadFault old new l m same = same
-kept_silent WriteFault old new l m same = tt
-kept_silent NotBuilt old new l m same = same
-kept_silent (Damaged bad) old new l m same = same
-kept_silent NoCollection old new l m same = same
-kept_silent (TooLarge size most) old new l m same = same
-kept_silent TooManyDocuments old new l m same = same
-kept_silent (TooManyPieces stream) old new l m same = same
-kept_silent (Changed what first second) old new l m same = same
-kept_silent Memory old new l m same = inl same
-kept_silent (NameClash p) old new l m same = same
-kept_silent InputTooLong old new l m same = same
-kept_silent SameName old new l m same = same
-kept_silent (TooManyRotations count) old new l m same = same
-
-pub refused_silent : (run : Run) (f : Fault) → run.status ≡ Stopped f → run.out_now ≡ run.out → IfStopped run.status (SilentOnOutput run)
-refused_silent run f is out =
-    subst (λ (s : Status). IfStopped s (SilentOnOutput run)) (sym is) (kept_silent f _ _ _ _ (ap (λ s. s.written) out))
-
--- ---- the call was done, and its lines were put
-
--- the status by what the put answered
-abbrev pub status_of_put : Result (Unit {0}) PutErr → Status
-status_of_put (Ok u) = Done
-status_of_put (Err refusal) = Stopped (fault_of_output refusal)
 
 -- a call that was done was not refused
 pub never_stopped : (f : Fault) → Done ≡ Stopped f → ⊥
@@ -84,34 +30,98 @@ never_refused g (inl e) = never_stopped g e
 never_refused g (inr (inl e)) = never_stopped StoreFault e
 never_refused g (inr (inr e)) = never_stopped Memory e
 
-pub put_when_done : (w : Result (Unit {0}) PutErr) (status : Status) (old new : Option (List ℕ)) (bytes : List ℕ) → status ≡ status_of_put w → status ≡ Done
-    → AfterPut old new bytes w → new ≡ appended old bytes
-put_when_done (Ok u) status old new bytes is end put = put
-put_when_done (Err e) status old new bytes is end put = absurd (not_done status (fault_of_output e) is end)
+-- nothing was written
+pub kept_silent : (f : Fault) (old new : Option (List ℕ)) (l m : ℕ) → new ≡ old → SilentAfter old new l m f
+kept_silent WriteFault old new l m same = tt
+kept_silent Memory old new l m same = inl same
+kept_silent other old new l m same = same
 
-pub put_done_or : (w : Result (Unit {0}) PutErr) (run : Run) → run.status ≡ status_of_put w → HasPutCause run.out.faults run.out_now.faults w → (OutputFailed run → ⊥)
-    → (run.status ≡ Done) ⊎ Stops run Memory
-put_done_or (Ok u) run is has never = inl is
-put_done_or (Err put.Failed) run is has never = absurd (never (has.failed refl))
-put_done_or (Err put.Memory) run is has never = inr is
+-- ---- the call was refused
 
-put_stops : (w : Result (Unit {0}) PutErr) (stops : Fault → Type 0) (before now : ℕ) → stops Memory → HasPutCause before now w
-    → IfStopped (status_of_put w) (OrOutput (Rose before now) stops)
-put_stops (Ok u) stops before now memory has = tt
-put_stops (Err put.Failed) stops before now memory has = has.failed refl
-put_stops (Err put.Memory) stops before now memory has = memory
+pub refused_prints : (run : Run) (f : Fault) (text : List ℕ) → Stops run f → run.out_now ≡ run.out → Prints text run
+refused_prints run f text is out = record {
+  whole = λ end. absurd (not_done run.status f is end);
+  prefix = subst (λ (w : Option (List ℕ)). GrewByPrefix run.out.written w text) (ap (λ s. s.written) (sym out)) (grew_nothing run.out.written text);
+}
 
-pub put_cause : (run : Run) (w : Result (Unit {0}) PutErr) (stops : Fault → Type 0) → run.status ≡ status_of_put w → stops Memory
-    → HasPutCause run.out.faults run.out_now.faults w → IfStopped run.status (OrOutput (OutputFailed run) stops)
-put_cause run w stops is memory has =
-    subst (λ (s : Status). IfStopped s (OrOutput (OutputFailed run) stops)) (sym is) (put_stops w stops _ _ memory has)
+pub refused_called : (promise : Status → Type 0) (run : Run) (f : Fault) → Stops run f → run.out_now ≡ run.out → promise (Stopped f) → CallsOnce promise run
+refused_called promise run f is out promised = inr (record { call = Stopped f; promised = promised; ends = (is, out) })
 
-put_says : (w : Result (Unit {0}) PutErr) (old new : Option (List ℕ)) (l m : ℕ) → HasLack l m w → IfStopped (status_of_put w) (SilentAfter old new l m)
-put_says (Ok u) old new l m lack = tt
-put_says (Err put.Failed) old new l m lack = tt
-put_says (Err put.Memory) old new l m lack = inr (lack.lacked refl)
+-- ---- the call was done, and its text was put
 
-pub put_silent : (run : Run) (w : Result (Unit {0}) PutErr) → run.status ≡ status_of_put w → HasLack run.out.lacks run.out_now.lacks w
-    → IfStopped run.status (SilentOnOutput run)
-put_silent run w is lack =
-    subst (λ (s : Status). IfStopped s (SilentOnOutput run)) (sym is) (put_says w _ _ _ _ lack)
+-- the status by what the put answered
+abbrev pub status_of_put : Result (Unit {0}) PutErr → Status
+status_of_put (Ok u) = Done
+status_of_put (Err refusal) = Stopped (fault_of_output refusal)
+
+put_stops : (run : Run) (w : Result (Unit {0}) PutErr) → HasPutCause run.out.faults run.out_now.faults w → HasLack run.out.lacks run.out_now.lacks w
+    → IfStopped (status_of_put w) (StopsByOutput run)
+put_stops run (Ok u) has lack = tt
+put_stops run (Err put.Failed) has lack = has.failed refl
+put_stops run (Err put.Memory) has lack = lack.lacked refl
+
+pub put_called : (promise : Status → Type 0) (run : Run) (w : Result (Unit {0}) PutErr) → run.status ≡ status_of_put w → promise Done
+    → HasPutCause run.out.faults run.out_now.faults w → HasLack run.out.lacks run.out_now.lacks w → CallsOnce promise run
+put_called promise run w is promised has lack =
+    inr (record { call = Done; promised = promised; ends = subst (λ (s : Status). IfStopped s (StopsByOutput run)) (sym is) (put_stops run w has lack) })
+
+put_whole : (w : Result (Unit {0}) PutErr) (status : Status) (old new : Option (List ℕ)) (text : List ℕ) → status ≡ status_of_put w → status ≡ Done
+    → AfterPut old new text w → new ≡ appended old text
+put_whole (Ok u) status old new text is end content = content
+put_whole (Err e) status old new text is end content = absurd (not_done status (fault_of_output e) is end)
+
+pub put_prints : (run : Run) (w : Result (Unit {0}) PutErr) (text : List ℕ) → run.status ≡ status_of_put w → AfterPut run.out.written run.out_now.written text w → Prints text run
+put_prints run w text is content = record {
+  whole = λ end. put_whole w run.status _ _ text is end content;
+  prefix = put_grew w _ _ _ content;
+}
+
+-- ---- what follows of the run's status
+
+pub ends_done : (call : Status) (run : Run) → EndsBy call run → run.status ≡ Done → call ≡ Done
+ends_done Done run ends is = refl
+ends_done (Stopped f) run ends is = absurd (not_done run.status f ends.0 is)
+
+pub ends_stopped : (call : Status) (run : Run) (f : Fault) → EndsBy call run → Stops run f → (call ≡ Stopped f) ⊎ ((call ≡ Done) × StopsByOutput run f)
+ends_stopped Done run f ends is = inr (refl, subst (λ (s : Status). IfStopped s (StopsByOutput run)) is ends)
+ends_stopped (Stopped g) run f ends is = inl (ap Stopped (same_fault run.status g f ends.0 is))
+
+pub ends_unless : (call : Status) (run : Run) (f : Fault) → EndsBy call run → StoppedFor call f → StopsUnless run f
+ends_unless Done run f ends refused = absurd (never_refused f refused)
+ends_unless (Stopped g) run f ends refused = subst (λ (s : Status). StoppedFor s f) (sym ends.0) refused
+
+silent_by : (run : Run) (f : Fault) → StopsByOutput run f → SilentOnOutput run f
+silent_by run WriteFault by = tt
+silent_by run Memory by = inr by
+silent_by run other by = absurd by
+
+silent_at : (run : Run) (status : Status) → IfStopped status (StopsByOutput run) → IfStopped status (SilentOnOutput run)
+silent_at run Done by = tt
+silent_at run (Stopped f) by = silent_by run f by
+
+pub ends_silent : (call : Status) (run : Run) → EndsBy call run → IfStopped run.status (SilentOnOutput run)
+ends_silent Done run ends = silent_at run run.status ends
+ends_silent (Stopped f) run ends =
+    subst (λ (s : Status). IfStopped s (SilentOnOutput run)) (sym ends.0) (kept_silent f _ _ _ _ (ap (λ s. s.written) ends.1))
+
+memory_by : (run : Run) (f : Fault) → StopsByOutput run f → ¬ OutputFailed run → f ≡ Memory
+memory_by run WriteFault by never = absurd (never by)
+memory_by run Memory by never = refl
+memory_by run other by never = absurd by
+
+done_or : (run : Run) (status : Status) → IfStopped status (StopsByOutput run) → ¬ OutputFailed run → (status ≡ Done) ⊎ (status ≡ Stopped Memory)
+done_or run Done by never = inl refl
+done_or run (Stopped f) by never = inr (ap Stopped (memory_by run f by never))
+
+pub ends_complete : (call : Status) (run : Run) → EndsBy call run → (call ≡ Done) ⊎ (call ≡ Stopped Memory) → ¬ OutputFailed run → (run.status ≡ Done) ⊎ Stops run Memory
+ends_complete Done run ends answered never = done_or run run.status ends never
+ends_complete (Stopped f) run ends (inl e) never = absurd (never_stopped f (sym e))
+ends_complete (Stopped f) run ends (inr e) never = inr (ends.0 ∙ e)
+
+-- a call that never stops for a fault is not how a run stops for it
+pub never_called : (promise : Status → Type 0) (run : Run) → (promise (Stopped Usage) → ⊥) → CallsOnce promise run → Stops run Usage → ⊥
+never_called promise run never (inl lacks) is = let bad : Stopped Memory ≡ Stopped Usage = sym lacks.status ∙ is in cc
+never_called promise run never (inr it) is = elim (ends_stopped it.call run Usage it.ends is) [
+  | inl refused ↦ never (subst promise refused it.promised)
+  | inr output ↦ output.1
+]

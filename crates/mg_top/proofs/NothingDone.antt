@@ -1,13 +1,12 @@
 -- A run that lacked memory before it touched a device does what each tool allows.
 use Rattle.std.proofs.Common.{◌≡◌, ◌∙◌, ℕ, List, Option, None, Some, sym, ap, subst, inl, inr, arith}
-use Rattle.std.specs.Option.{is_some}
-use Rattle.mg_dev.specs.Files.{Files, Reads, bytes_at, file_at}
+use Rattle.mg_dev.specs.Files.{Files, Reads, bytes_at}
 use Rattle.mg_dev.specs.StreamLaws.{grew_nothing}
 use Rattle.mg_dev.specs.Streams.{GrewByPrefix}
 use Rattle.mg_dev.specs.declared.part.Part.{Part}
 use Rattle.mg_dev.specs.declared.part.Part.TheVariants as part
 use Rattle.mg_dev.specs.declared.fault.Fault.{Fault}
-use Rattle.mg_dev.specs.declared.fault.Fault.TheVariants.{Usage, WriteFault, Memory}
+use Rattle.mg_dev.specs.declared.fault.Fault.TheVariants.{Usage, Memory}
 use Rattle.mg_dev.specs.declared.status.Status.{Status}
 use Rattle.mg_dev.specs.declared.status.Status.TheVariants.{Done, Stopped}
 use Rattle.mg_defs.specs.CodedText.{TextCode}
@@ -17,7 +16,6 @@ use Rattle.mg_defs.specs.PhraseSession.{phrase_session}
 use Rattle.mg_defs.specs.Replies.{session}
 use Rattle.mg_defs.specs.Summaries.{summary_text, trial_text}
 use Rattle.mg_defs.specs.WildSession.{wild_session}
-use Rattle.mg_make.specs.Putting.{OthersSame}
 use Rattle.mg_merge.specs.Merging.{budget_of}
 use Rattle.mg_session.specs.Serves as serves
 use Rattle.mg_session.specs.Parts.{NeverRead}
@@ -28,15 +26,16 @@ use Rattle.mg_session.specs.WildAnswers.{NeverReadByPatterns, ReadsPatterns}
 use Rattle.mg_session.specs.WildServes.{CountsTooMany}
 use Rattle.mg_plain.specs.Stops.{ScanStops}
 use Rattle.mg_build.specs.Outcomes.{DecodeStops}
-use Rattle.mg_words.specs.Tasks.{Task, build, query, decode, scan, trial, migrate, check, wild, phrase, merge}
-use Rattle.mg_top.specs.Ends.{SilentOnOutput, ToldWhy}
+use Rattle.mg_words.specs.Plain.{Word}
+use Rattle.mg_words.specs.Tasks.{Task, build, query, decode, scan, trial, migrate, check, wild, phrase, merge, task_of}
+use Rattle.mg_top.specs.Ends.{LacksAtOnce, Prints, SilentOnOutput, ToldWhy}
 use Rattle.mg_dev.specs.Runs.{IfStopped, Run, SaysNothing, KeepsFiles, Stops, StoreFailed, InputFailed, OutputFailed}
-use Rattle.mg_top.specs.Checked.{Checked, CheckStops, standing_line}
-use Rattle.mg_top.specs.Built.{Built, BuildStops, collection_of}
+use Rattle.mg_top.specs.Checked.{Checked, standing_line}
+use Rattle.mg_top.specs.Built.{Built, collection_of}
 use Rattle.mg_build.specs.Decoded.{Decoded}
 use Rattle.mg_session.specs.Matched.{Matched}
-use Rattle.mg_top.specs.Merged.{Merged, MergeStops}
-use Rattle.mg_top.specs.Migrated.{Migrated, MigrateStops, documents_line}
+use Rattle.mg_top.specs.Merged.{Merged}
+use Rattle.mg_top.specs.Migrated.{Migrated, documents_line}
 use Rattle.mg_session.specs.Phrased.{Phrased}
 use Rattle.mg_session.specs.Queried.{Queried}
 use Rattle.mg_plain.specs.Scanned.{Scanned}
@@ -85,32 +84,14 @@ module _ (run : Run) (stops : Stops run Memory) (store : run.store_now ≡ run.s
     reads = λ p other. same_reads p;
   }
 
-  not_write : Stops run WriteFault → ⊥
-  not_write is = let bad : Stopped Memory ≡ Stopped WriteFault = sym stops ∙ is in cc
+  lacks : LacksAtOnce run
+  lacks = record { status = stops; store = store; out = out }
 
-  same_files : (base : List ℕ) → OthersSame base run.store.files run.store_now.files
-  same_files base = record { told = ap is_some files; others = λ name apart. ap (λ f. file_at f name) files }
+  prints : (text : List ℕ) → Prints text run
+  prints text = record { whole = λ is. absurd (not_done is); prefix = prefix text }
 
   made : (n base : List ℕ) (budget : ℕ) → Built n base budget run
-  made n base budget = record {
-    done = λ told is. absurd (not_done is);
-    printed = λ told is. absurd (not_done is);
-    prefix = λ told. prefix (summary_text (collection_of n run) budget);
-    silent = caused (SilentOnOutput run) (inl silent);
-    unchanged = λ fault early is. files;
-    kept = λ told is. absurd (not_write is);
-    changed = λ differ. absurd (differ files);
-    left = λ told. inl files;
-    others = same_files base;
-    cause = caused (BuildStops (StoreFailed run) (OutputFailed run) run.store.files n base) tt;
-    clash = λ p plain is. inr stops;
-    missing = λ told apart none. inr (inr stops);
-    large = λ told apart more. inr (inr stops);
-    documents = λ bytes there apart few passes. inr (inr stops);
-    pieces = λ bytes stream word there apart few passes. inr (inr stops);
-    complete = λ bytes there apart within no_store no_output. inr stops;
-    input = input;
-  }
+  made n base budget = record { made = inl lacks; prints = λ told. prints (summary_text (collection_of n run) budget); input = input }
 
   -- a session, whatever it prints and counts, of which nothing was read
   served : (text : List ℕ → List ℕ → List ℕ) (IsWithin : TextCode → List ℕ → List ℕ → Reads → Reads → Type 0) (IsUnread : Part → Type 0) (IsCounted : Option Files → List ℕ → ℕ → Type 0) (n : List ℕ) →
@@ -164,58 +145,13 @@ module _ (run : Run) (stops : Stops run Memory) (store : run.store_now ≡ run.s
   }
 
   checked : (n : List ℕ) → Checked n run
-  checked n = record {
-    done = λ told is. absurd (not_done is);
-    prefix = λ c stands. prefix (standing_line c);
-    silent = λ told none. silent;
-    cause = caused (CheckStops (StoreFailed run) (OutputFailed run) run.store.files n) tt;
-    damaged = λ told it. inr (inr stops);
-    not_built = λ told none. inr (inr stops);
-    complete = λ c stands no_store no_output. inr stops;
-    files = files;
-    unread = record { merge_a = same_reads part.MergeA; merge_b = same_reads part.MergeB; plain = same_reads part.Plain };
-    input = input;
-  }
+  checked n = record { found = inl lacks; prints = λ c stands. prints (standing_line c); input = input }
 
   migrated : (n m : List ℕ) → Migrated n m run
-  migrated n m = record {
-    done = λ version cap c stands is. absurd (not_done is);
-    copied = λ told end. elim end [ inl is ↦ absurd (not_done is) | inr is ↦ absurd (not_write is) ];
-    printed = λ c stands is. absurd (not_done is);
-    prefix = λ c stands. prefix (documents_line c);
-    silent = caused (SilentOnOutput run) (inl silent);
-    unchanged = λ fault early is. files;
-    sizes = λ head told has wrong. files;
-    kept = λ version cap c stands is. absurd (not_write is);
-    left = λ c stands. inl files;
-    others = same_files m;
-    begun = λ told. inl files;
-    cause = caused (MigrateStops (StoreFailed run) (OutputFailed run) run.store.files n m) tt;
-    same = λ is. inr stops;
-    not_built = λ told apart none. inr (inr stops);
-    complete = λ c stands apart no_store no_output. inr stops;
-    input = input;
-  }
+  migrated n m = record { made = inl lacks; prints = λ c stands. prints (documents_line c); input = input }
 
   merged : (a b m : List ℕ) → Merged a b m run
-  merged a b m = record {
-    done = λ version cap c d one two is. absurd (not_done is);
-    printed = λ version cap c d one two is. absurd (not_done is);
-    prefix = λ version cap c d one two. prefix (summary_text (join c d) (budget_of cap));
-    silent = caused (SilentOnOutput run) (inl silent);
-    unchanged = λ fault early is. files;
-    kept = λ version cap c d one two is. absurd (not_write is);
-    left = λ c d stand. inl files;
-    others = same_files m;
-    cause = caused (MergeStops (StoreFailed run) (OutputFailed run) run.store.files a b m) tt;
-    same = λ is. inr stops;
-    missing = λ told one two none. inr (inr stops);
-    large = λ size told one two by more. inr (inr stops);
-    documents = λ c d stand one two few passes. inr (inr stops);
-    pieces = λ c d stream word stand one two few passes. inr (inr stops);
-    complete = λ c d stand one two within no_store no_output. inr stops;
-    input = input;
-  }
+  merged a b m = record { joined = inl lacks; prints = λ version cap c d one two. prints (summary_text (join c d) (budget_of cap)); input = input }
 
   tried : (seed docs : ℕ) → Tried seed docs run
   tried seed docs = record {
@@ -245,9 +181,9 @@ module _ (run : Run) (stops : Stops run Memory) (store : run.store_now ≡ run.s
   nothing_done (Some (merge a b c)) = merged a b c
 
   -- memory was wanting before the words were read
-  pub ran_nothing : (task : Option Task) → ToldWhy run.status run.err.written run.err_now.written run.err.faults run.err_now.faults run.err.lacks run.err_now.lacks → Ran task run
-  ran_nothing task told = record {
+  pub ran_nothing : (words : List Word) → ToldWhy run.status run.err.written run.err_now.written run.err.faults run.err_now.faults run.err.lacks run.err_now.lacks → Ran words run
+  ran_nothing words told = record {
     usage = λ is. absurd (not_usage is);
-    does = nothing_done task;
+    does = nothing_done (task_of words);
     told = told;
   }

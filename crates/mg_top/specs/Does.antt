@@ -2,7 +2,8 @@
 use Rattle.std.specs.Prelude.{◌≡◌, ◌⊎◌, List, Some, None, String, map, string_bytes}
 use Rattle.std.specs.declared.option.Option.{Option}
 use Rattle.mg_dev.specs.declared.fault.Fault.TheVariants.{Usage, Memory}
-use Rattle.mg_words.specs.Tasks.{Task, build, query, decode, scan, migrate, merge, trial, check, phrase, wild, task_of}
+use Rattle.mg_words.specs.Plain.{Word}
+use Rattle.mg_words.specs.Tasks.{Task, build, query, decode, scan, migrate, merge, trial, check, phrase, wild, task_of, IsRefused}
 use Rattle.mg_top.specs.Ends.{ToldWhy}
 use Rattle.mg_dev.specs.Runs.{Run, Stops}
 use Rattle.mg_top.specs.Built.{Built}
@@ -37,13 +38,13 @@ Does (Some (phrase name)) run = Phrased name run
 Does (Some (wild name)) run = Matched name run
 Does None run = NotUnderstood run
 
-pub record Ran (task : Option Task) (run : Run) : Type 0 where
-  -- status 1 comes exactly where the words ask nothing, unless memory is wanting
-  pub usage : Stops run Usage → task ≡ None
-  pub does : Does task run
+pub record Ran (words : List Word) (run : Run) : Type 0 where
+  -- status 1 comes exactly where the words are refused, which then ask nothing, unless memory is wanting
+  pub usage : Stops run Usage → IsRefused words
+  pub does : Does (task_of words) run
   -- the fault's line goes to the error output, or a prefix of it where that failed or lacked memory
   pub told : ToldWhy run.status run.err.written run.err_now.written run.err.faults run.err_now.faults run.err.lacks run.err_now.lacks
 
 -- the same by the words of a command line
 abbrev pub RanFor : {A : Type 0} → List (String A) → Run → Type 0
-RanFor words run = Ran (task_of (map string_bytes words)) run
+RanFor words run = Ran (map string_bytes words) run

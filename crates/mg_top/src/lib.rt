@@ -5,7 +5,8 @@
 //! the devices told and counted before the run and after it, and the status. It is generic over the
 //! store, the input and the outputs; tests run it over devices in memory, the program over files and
 //! standard streams. [`trial`] is the work of the tool of this name, over any store. Two laws speak of the
-//! whole table: [`usage_asks_nothing`] and [`lacking_runs_do_all`].
+//! whole table: [`usage_asks_nothing`] and [`lacking_runs_do_all`]. One speaks of the tools that make one
+//! call and then print, of which the table has the call's own promise: [`runs_end_by_their_call`].
 #![tactic(auto)]
 
 mod comparing;
@@ -26,6 +27,6 @@ mod top;
 mod trial_summary;
 mod trials;
 
-pub use laws::{lacking_runs_do_all, usage_asks_nothing};
+pub use laws::{lacking_runs_do_all, runs_end_by_their_call, usage_asks_nothing};
 pub use top::run;
 pub use trials::trial;

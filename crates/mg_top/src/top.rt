@@ -21,7 +21,7 @@ use std::alloc::{AllocError, Global};
 /// Carries out the words after the program's name, and answers the status.
 ///
 /// What a run does is a record a tool. `Queried`, `Decoded`, `Scanned`, `Phrased` and `Matched` are what
-/// the tool's call promises; the others stand in `specs/`.
+/// the tool's call promises; the others stand in `specs/`, and four of them hold what the call promises.
 ///
 /// | Words | Record | What is printed |
 /// |---|---|---|
