@@ -9,12 +9,13 @@ use Rattle.mg_dev.specs.declared.file_ref.FileRef.{FileRef}
 use Rattle.mg_dev.specs.declared.part.Part.{Part}
 use Rattle.mg_dev.specs.declared.part_err.PartErr.{PartErr}
 use Rattle.mg_bits.specs.BitWriting.{BitWriting, Holds}
+use Rattle.mg_bits.specs.Pages.{Looked}
 use Rattle.mg_bits.specs.Writer.{WroteTo}
 use Rattle.mg_runs.specs.Cursors.{NoMemory}
-use Rattle.mg_runs.specs.Damages.{NamesPart, TellsBitOf}
+use Rattle.mg_runs.specs.Damages.{NamesPart, TellsBit, TellsBitOf}
 use Rattle.mg_runs.specs.Pooled.{Pooled, SamePool}
 use Rattle.mg_runs.specs.Reading.{GroupShaped}
-use Rattle.mg_runs.specs.Steps.{GroupLook, GroupStep, GroupWrite, HasSlots, LookStep, PassStep, PoolBack, RunStep, WriterStep}
+use Rattle.mg_runs.specs.Steps.{GroupLook, GroupStep, GroupWrite, HasSlots, LookStep, PassStep, PoolBack, RefusesAt, RunStep, WriterStep}
 use Rattle.mg_runs.specs.declared.group.Group.{Group}
 use Rattle.mg_runs.proofs.Joins.{passed_looked, passed_more, passed_none, passed_wrote}
 use Rattle.mg_runs.proofs.Steps.{caused_as, looked_more, looked_none, memory_as, pool_more}
@@ -35,7 +36,7 @@ cause_bad : {U : Type 0} (e : PartErr) {m n : ℕ} → m ≤ n → ((f g : ℕ) 
 cause_bad {U} e {m} {n} le caused = record { later = le; device = caused_as ℕ U m m n e (omega arith) (caused m n) }
 
 -- causes behind a call that was done
-cause_then : {T : Type 0} (result : Result T PartErr) {l m n : ℕ} → l ≤ m → HasPartCause m n result → HasPartCause l n result
+pub cause_then : {T : Type 0} (result : Result T PartErr) {l m n : ℕ} → l ≤ m → HasPartCause m n result → HasPartCause l n result
 cause_then (Ok x) le cause = cause_ok (omega (arith, le, cause.later))
 cause_then (Err e) le cause = cause_err le cause
 
@@ -63,6 +64,24 @@ look_then {result = result} one two = record {
   looked = looked_more one.looked two.looked;
   cause = cause_then result one.cause.later two.cause;
   names = two.names;
+}
+
+-- what was read, and done
+pub look_of : {T : Type 0} {x : T} {part : Part} {f g : Option Files} {r s : Reads} {m n : ℕ} → Looked part f g r s m n → LookStep part (Ok x) f g r s m n
+look_of looked = record { looked = looked; cause = cause_ok looked.faults; names = tt }
+
+-- ---- bits in memory
+
+pub refuses_ok : {T : Type 0} {x : T} {part : Part} {at : ℕ} → RefusesAt part at (Ok x)
+refuses_ok = record { caused = λ f g. tt; memory = tt; names = tt; bit = tt }
+
+pub refuses_bad : {U : Type 0} (e : PartErr) {part : Part} {at : ℕ} → ((f g : ℕ) → IsCaused {T = ℕ} f g (Err e)) → NoMemory {T = ℕ} (Err e) → NamesPart part e → TellsBit at e →
+    RefusesAt {T = U} part at (Err e)
+refuses_bad {U} e caused memory names bit = record {
+  caused = λ f g. caused_as ℕ U f f g e (omega arith) (caused f g);
+  memory = memory_as ℕ U e memory;
+  names = names;
+  bit = bit;
 }
 
 -- ---- looks at a group

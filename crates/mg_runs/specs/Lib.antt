@@ -17,3 +17,4 @@ pub mod Stays
 pub mod PostingOrder
 pub mod FinishedRuns
 pub mod Steps
+pub mod Merged

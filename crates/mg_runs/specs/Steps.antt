@@ -4,18 +4,19 @@ use Rattle.std.specs.declared.option.Option.{Option}
 use Rattle.std.specs.declared.result.Result.{Result}
 use Rattle.mg_dev.specs.Files.{Files, Reads}
 use Rattle.mg_dev.specs.Names.{full_name}
-use Rattle.mg_dev.specs.PartCauses.{HasPartCause}
+use Rattle.mg_dev.specs.PartCauses.{HasPartCause, IsCaused}
 use Rattle.mg_dev.specs.declared.file_ref.FileRef.{FileRef}
 use Rattle.mg_dev.specs.declared.part.Part.{Part}
 use Rattle.mg_dev.specs.declared.part_err.PartErr.{PartErr}
 use Rattle.mg_bits.specs.BitWriting.{BitWriting, Holds}
 use Rattle.mg_bits.specs.Pages.{Looked}
 use Rattle.mg_runs.specs.Cursors.{NoMemory}
-use Rattle.mg_runs.specs.Damages.{NamesItsPart, NamesPart, TellsBitOf}
+use Rattle.mg_runs.specs.Damages.{NamesItsPart, NamesPart, TellsBit, TellsBitOf}
 use Rattle.mg_runs.specs.Joins.{Passed, Worked}
 use Rattle.mg_runs.specs.Merging.{left_together}
 use Rattle.mg_runs.specs.Pooled.{Pooled, SamePool}
 use Rattle.mg_runs.specs.Reading.{GroupShaped}
+use Rattle.mg_runs.specs.Slots.{ChangesOneSlot}
 use Rattle.mg_runs.specs.declared.group.Group.{Group}
 
 -- ---- what a step starts from
@@ -43,6 +44,28 @@ pub record LookStep {T : Type 0} (part : Part) (result : Result T PartErr) (file
   pub cause : HasPartCause faults_before faults_now result
   -- a damage names the part
   pub names : IfErr result (NamesPart part)
+
+-- a step that reads bytes of this part into one slot of a pool
+pub record SlotStep {T : Type 0} (slot : ℕ) (part : Part) (old new : Pooled) (result : Result T PartErr) (files_before files_now : Option Files)
+    (reads_before reads_now : Reads) (faults_before faults_now : ℕ) : Type 0 where
+  -- no other slot has changed
+  pub slots : ChangesOneSlot slot old.slots new.slots
+  -- nor has the rest of the pool
+  pub pool : SamePool old new
+  -- it takes no memory
+  pub memory : NoMemory result
+  -- nothing else was read
+  pub look : LookStep part result files_before files_now reads_before reads_now faults_before faults_now
+
+-- bits in memory that are read: where they are refused, it is as no posting of a run at this bit of the part
+pub record RefusesAt {T : Type 0} (part : Part) (at : ℕ) (result : Result T PartErr) : Type 0 where
+  -- no device is the cause
+  pub caused : (f g : ℕ) → IsCaused f g result
+  -- it takes no memory
+  pub memory : NoMemory result
+  -- a damage names the part and the bit
+  pub names : IfErr result (NamesPart part)
+  pub bit : IfErr result (TellsBit at)
 
 -- a step that reads the runs of a group
 pub record GroupLook {T : Type 0} (old new : Group) (result : Result T PartErr) (files_before files_now : Option Files)

@@ -15,10 +15,11 @@ ghost use Rattle.mg_bits.specs.BitWriting.{Holds, WroteBits};
 ghost use Rattle.mg_runs.specs.Bytes.{AreEntries};
 ghost use Rattle.mg_runs.specs.Cursors.{NoDamage};
 ghost use Rattle.mg_runs.specs.Damages.{NamesItsPart};
-ghost use Rattle.mg_runs.specs.Fed.{IsFed, cap_of, starts, ForFed, TookOne, HasRunBits, HasRunBytes, peak_of};
+ghost use Rattle.mg_runs.specs.Fed.{IsFed, cap_of, starts, ForFed, TookOne, HasRunBits, HasRunBytes};
 ghost use Rattle.mg_runs.specs.Joins.{Worked};
 ghost use Rattle.mg_runs.specs.Left.{IsMerging, postings_left};
 ghost use Rattle.mg_runs.specs.Stays.{SameButRuns};
+ghost use Rattle.mg_runs.specs.Merged.{RunsMerged};
 ghost use Rattle.mg_dev.specs.Moments.{Between};
 
 use crate::join::refused;
@@ -155,7 +156,8 @@ impl<'a> Runs<'a> {
     /// gives no run.
     fn finish<S: Store>(self, store: &mut S) -> Result<Round<'a>, PartErr>
         requires fed { (fed : List (ℕ × ℕ)) × IsFed self (S.files store.old) fed }
-        ensures run { IsSome (S.files store.old) → ForFed self.entry (S.files store.old) (λ fed. OnOk result (HasRunBits self.entry (S.files store.new) fed)) }
+        ensures run { IsSome (S.files store.old) → ForFed self.entry (S.files store.old)
+            (λ fed. OnOk result (HasRunBits self.entry (S.files store.new) fed)) }
         ensures bytes { IsSome (S.files store.old) → OnOk result (AreBytes (bytes_at (S.files store.new) (full_name self.entry.base Part.Run))) }
         ensures places { ForFed self.entry (S.files store.old)
             (λ fed. IfOk result (λ round. round.places.items ≡ starts 0 (runs_of (cap_of self.entry.pool) fed))) }
@@ -208,18 +210,8 @@ impl<'a> Runs<'a> {
         requires fed { (fed : List (ℕ × ℕ)) × IsFed self (S.files store.old) fed }
         requires some { 2 ≤ width }
         requires room { width ≤ self.pool.limit / 64 }
-        ensures left { ForFed self.entry (S.files store.old) (λ fed. IfOk result (λ merge. IsMerging merge (S.files store.new) (term_postings fed))) }
-        ensures run { IsSome (S.files store.old) → ForFed self.entry (S.files store.old) (λ fed. OnOk result (HasRunBits self.entry (S.files store.new) fed)) }
-        ensures run_bytes { IsSome (S.files store.old) → ForFed self.entry (S.files store.old)
-            (λ fed. OnOk result (HasRunBytes self.entry (S.files store.new) fed)) }
-        ensures runs { ForFed self.entry (S.files store.old) (λ fed. IfOk result (λ merge. merge.runs ≡ run_count (length fed) (cap_of self.entry.pool))) }
-        ensures peak { ForFed self.entry (S.files store.old) (λ fed. IfOk result (λ merge. merge.peak ≡ peak_of (length fed) (cap_of self.entry.pool) width)) }
-        ensures few { IfOk result (λ merge. postings_left merge ≤ 2 ^ 56) }
-        ensures base { IfOk result (λ merge. merge.base ≡ self.entry.base) }
-        ensures undamaged { IsSome (S.files store.old) → NoDamage result }
-        ensures worked { Between S.files S.reads S.faults store.old store.new (Worked self.entry.base) }
-        ensures cause { HasPartCause (S.faults store.old) (S.faults store.new) result }
-        ensures names { IfErr result NamesItsPart }
+        ensures { Between S.files S.reads S.faults store.old store.new
+            (RunsMerged width self.entry result) }
     {
         let alloc = self.alloc;
         let first = match self.finish(store) {
@@ -240,12 +232,16 @@ impl<'a> Runs<'a> {
     /// merge part and writes the other.
     pub fn merge<S: Store>(self, store: &mut S) -> Result<Merge<'a>, PartErr>
         requires fed { (fed : List (ℕ × ℕ)) × IsFed self (S.files store.old) fed }
-        ensures left { ForFed self.entry (S.files store.old) (λ fed. IfOk result (λ merge. IsMerging merge (S.files store.new) (term_postings fed))) }
-        ensures run { IsSome (S.files store.old) → ForFed self.entry (S.files store.old) (λ fed. OnOk result (HasRunBits self.entry (S.files store.new) fed)) }
+        ensures left { ForFed self.entry (S.files store.old)
+            (λ fed. IfOk result (λ merge. IsMerging merge (S.files store.new) (term_postings fed))) }
+        ensures run { IsSome (S.files store.old) → ForFed self.entry (S.files store.old)
+            (λ fed. OnOk result (HasRunBits self.entry (S.files store.new) fed)) }
         ensures run_bytes { IsSome (S.files store.old) → ForFed self.entry (S.files store.old)
             (λ fed. OnOk result (HasRunBytes self.entry (S.files store.new) fed)) }
-        ensures runs { ForFed self.entry (S.files store.old) (λ fed. IfOk result (λ merge. merge.runs ≡ run_count (length fed) (cap_of self.entry.pool))) }
-        ensures peak { ForFed self.entry (S.files store.old) (λ fed. IfOk result (λ merge. merge.peak ≡ pool_peak (length fed) self.entry.pool.limit)) }
+        ensures runs { ForFed self.entry (S.files store.old)
+            (λ fed. IfOk result (λ merge. merge.runs ≡ run_count (length fed) (cap_of self.entry.pool))) }
+        ensures peak { ForFed self.entry (S.files store.old)
+            (λ fed. IfOk result (λ merge. merge.peak ≡ pool_peak (length fed) self.entry.pool.limit)) }
         ensures few { IfOk result (λ merge. postings_left merge ≤ 2 ^ 56) }
         ensures base { IfOk result (λ merge. merge.base ≡ self.entry.base) }
         ensures undamaged { IsSome (S.files store.old) → NoDamage result }

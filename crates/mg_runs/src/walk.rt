@@ -1,15 +1,13 @@
 //! The postings of a run, one after the other.
-ghost use Rattle.std.specs.Prelude.{◌≡◌, ◌≤◌, ◌<◌, ◌+◌, ◌-◌, ◌*◌, ◌/◌, ◌^◌, ℕ, Err, IfErr, IfOk, IsOkAnd, length};
-ghost use Rattle.mg_dev.specs.PartCauses.{HasPartCause, IsCaused};
-ghost use Rattle.mg_bits.specs.Pages.{Looked};
+ghost use Rattle.std.specs.Prelude.{◌≡◌, ◌≤◌, ◌<◌, ◌+◌, ◌^◌, ℕ, Err, IfErr, IfOk, IsOkAnd, length};
+ghost use Rattle.mg_dev.specs.Moments.{Between};
+ghost use Rattle.mg_dev.specs.PartCauses.{IsCaused};
 ghost use Rattle.mg_defs.specs.RunBits.{before_first};
-ghost use Rattle.mg_defs.specs.declared.TermPosting.{TermPosting};
-ghost use Rattle.mg_runs.specs.Pooled.{SamePool, slot_bytes};
+ghost use Rattle.mg_runs.specs.Pooled.{slot_bytes};
 ghost use Rattle.mg_runs.specs.Damages.{NamesPart, TellsBit};
 ghost use Rattle.mg_runs.specs.Cursors.{HasPosting, IsNear, NoDamage, NoMemory, ForNextAt, ForHeader, IsAtPostingBy, IsAtBy};
-ghost use Rattle.mg_runs.specs.Slots.{ChangesOneSlot};
 ghost use Rattle.mg_runs.specs.Reading.{ForPosting, ForRun};
-ghost use Rattle.mg_dev.specs.Moments.{Between};
+ghost use Rattle.mg_runs.specs.Steps.{RefusesAt, SlotStep};
 
 use crate::Pool;
 use crate::cursor::Cursor;
@@ -42,17 +40,14 @@ fn refreshed<S: Store>(
     cursor: &Cursor,
 ) -> Result<Cursor, PartErr>
     requires { slot < length pool.old.slots }
-    ensures at { ForPosting cursor.now pool.old slot file.now (S.files store.old) (λ bytes x xs. IfOk result (IsAtPostingBy pool.new slot bytes x xs)) }
+    ensures at { ForPosting cursor.now pool.old slot file.now (S.files store.old)
+        (λ bytes x xs. IfOk result (IsAtPostingBy pool.new slot bytes x xs)) }
     ensures undamaged { NoDamage result }
     ensures near { IfOk result (λ c. IsNear c) }
     ensures left { IfOk result (λ c. c.left ≡ cursor.now.left) }
     ensures place { IfOk result (λ c. c.place ≡ cursor.now.place) }
-    ensures slots { ChangesOneSlot slot pool.old.slots pool.new.slots }
-    ensures pool { SamePool pool.old pool.new }
-    ensures looked { Between S.files S.reads S.faults store.old store.new (Looked file.now.part) }
-    ensures cause { HasPartCause (S.faults store.old) (S.faults store.new) result }
-    ensures memory { NoMemory result }
-    ensures names { IfErr result (NamesPart file.now.part) }
+    ensures step { Between S.files S.reads S.faults store.old store.new
+        (SlotStep slot file.now.part pool.old pool.new result) }
     ensures bit { IfErr result (TellsBit cursor.now.place) }
 {
     let byte = cursor.place / 8;
@@ -76,13 +71,11 @@ fn read_behind(pool: &Pool, part: Part, slot: usize, cursor: &Cursor) -> Result<
     requires slot { slot < length pool.now.slots }
     requires near { IsNear cursor.now }
     requires left { 1 ≤ cursor.now.left }
-    ensures told { ForNextAt cursor.now (slot_bytes pool.now slot) (λ file y ys. IsOkAnd result (IsAtPostingBy pool.now slot file y ys)) }
+    ensures told { ForNextAt cursor.now (slot_bytes pool.now slot)
+        (λ file y ys. IsOkAnd result (IsAtPostingBy pool.now slot file y ys)) }
     ensures left { IfOk result (λ c. c.left + 1 ≡ cursor.now.left) }
     ensures posting { IfOk result (λ c. HasPosting c) }
-    ensures caused { (f g : ℕ) → IsCaused f g result }
-    ensures memory { NoMemory result }
-    ensures names { IfErr result (NamesPart part) }
-    ensures bit { IfErr result (TellsBit cursor.now.place) }
+    ensures refuses { RefusesAt part cursor.now.place result }
 {
     let all = pool.slot(slot);
     let bytes = &all[..cursor.count.min(all.len())];
@@ -112,16 +105,14 @@ pub fn advanced<S: Store>(
 ) -> Result<Cursor, PartErr>
     requires slot { slot < length pool.old.slots }
     requires left { 1 ≤ cursor.now.left }
-    ensures told { ForPosting cursor.now pool.old slot file.now (S.files store.old) (λ bytes _ xs. IfOk result (IsAtBy pool.new slot bytes xs)) }
-    ensures undamaged { ForPosting cursor.now pool.old slot file.now (S.files store.old) (λ _ _ _. NoDamage result) }
+    ensures told { ForPosting cursor.now pool.old slot file.now (S.files store.old)
+        (λ bytes _ xs. IfOk result (IsAtBy pool.new slot bytes xs)) }
+    ensures undamaged { ForPosting cursor.now pool.old slot file.now (S.files store.old)
+        (λ _ _ _. NoDamage result) }
     ensures left { IfOk result (λ c. c.left + 1 ≡ cursor.now.left) }
     ensures posting { IfOk result (λ c. HasPosting c) }
-    ensures slots { ChangesOneSlot slot pool.old.slots pool.new.slots }
-    ensures pool { SamePool pool.old pool.new }
-    ensures looked { Between S.files S.reads S.faults store.old store.new (Looked file.now.part) }
-    ensures cause { HasPartCause (S.faults store.old) (S.faults store.new) result }
-    ensures memory { NoMemory result }
-    ensures names { IfErr result (NamesPart file.now.part) }
+    ensures step { Between S.files S.reads S.faults store.old store.new
+        (SlotStep slot file.now.part pool.old pool.new result) }
     ensures bit { IfErr result (TellsBit cursor.now.place) }
 {
     if cursor.left == 1 {
@@ -148,13 +139,11 @@ fn read_header(
     count: usize,
 ) -> Result<Cursor, PartErr>
     requires slot { slot < length pool.now.slots }
-    ensures told { ForHeader place count (slot_bytes pool.now slot) (λ file xs. IsOkAnd result (IsAtPostingBy pool.now slot file before_first xs)) }
+    ensures told { ForHeader place count (slot_bytes pool.now slot)
+        (λ file xs. IsOkAnd result (IsAtPostingBy pool.now slot file before_first xs)) }
     ensures left { IfOk result (λ c. 1 ≤ c.left) }
     ensures left_below { IfOk result (λ c. c.left < 2 ^ 32) }
-    ensures caused { (f g : ℕ) → IsCaused f g result }
-    ensures memory { NoMemory result }
-    ensures names { IfErr result (NamesPart part) }
-    ensures bit { IfErr result (TellsBit place) }
+    ensures refuses { RefusesAt part place result }
 {
     let all = pool.slot(slot);
     let bytes = &all[..count.min(all.len())];
@@ -187,16 +176,13 @@ pub fn opened<S: Store>(
     place: u64,
 ) -> Result<Cursor, PartErr>
     requires slot { slot < length pool.old.slots }
-    ensures told { ForRun place file.now (S.files store.old) (λ bytes xs. IfOk result (IsAtBy pool.new slot bytes xs)) }
+    ensures told { ForRun place file.now (S.files store.old)
+        (λ bytes xs. IfOk result (IsAtBy pool.new slot bytes xs)) }
     ensures undamaged { ForRun place file.now (S.files store.old) (λ _ _. NoDamage result) }
     ensures left { IfOk result (λ c. c.left < 2 ^ 32) }
     ensures posting { IfOk result (λ c. HasPosting c) }
-    ensures slots { ChangesOneSlot slot pool.old.slots pool.new.slots }
-    ensures pool { SamePool pool.old pool.new }
-    ensures looked { Between S.files S.reads S.faults store.old store.new (Looked file.now.part) }
-    ensures cause { HasPartCause (S.faults store.old) (S.faults store.new) result }
-    ensures memory { NoMemory result }
-    ensures names { IfErr result (NamesPart file.now.part) }
+    ensures step { Between S.files S.reads S.faults store.old store.new
+        (SlotStep slot file.now.part pool.old pool.new result) }
 {
     match pool.fill(store, file, place / 8, slot) {
         Ok(count) => match read_header(pool, file.part, slot, place, count) {

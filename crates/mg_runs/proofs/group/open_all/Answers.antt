@@ -32,14 +32,14 @@ returns-in-Err-clause-read g c = look_bad {x = tt} Memory (look_none {T = Unit {
 
 pub returns-in-Err-push-clause-read : goal.returns-in-Err-push-clause-read
 returns-in-Err-push-clause-read g c =
-    let looked = looked_more c.loop-k.invariant.looked c.opened.ensures.looked in
+    let looked = looked_more c.loop-k.invariant.looked c.opened.ensures.step.look.looked in
     record { looked = looked; cause = record { later = looked.faults; device = tt }; names = tt }
 
 pub returns-in-Err-opened-clause-read : goal.returns-in-Err-opened-clause-read
 returns-in-Err-opened-clause-read g c = record {
-  looked = looked_more c.loop-k.invariant.looked c.opened.ensures.looked;
-  cause = cause_err {T = Cursor} c.loop-k.invariant.looked.faults c.in-Err-opened.ensures.cause;
-  names = c.in-Err-opened.ensures.names;
+  looked = looked_more c.loop-k.invariant.looked c.opened.ensures.step.look.looked;
+  cause = cause_err {T = Cursor} c.loop-k.invariant.looked.faults c.in-Err-opened.ensures.step.look.cause;
+  names = c.in-Err-opened.ensures.step.look.names;
 }
 
 pub returns-clause-read : goal.returns-clause-read

@@ -1,6 +1,7 @@
 use Rattle.std.proofs.Common.{ℕ, List, [], ap, refl, get_or}
 use Rattle.mg_runs.proofs.CursorLaws.{stands, moved, first_bytes}
 use Rattle.mg_runs.proofs.Decoding.{none_or_some, one_some}
+use Rattle.mg_runs.proofs.StepLaws.{refuses_bad, refuses_ok}
 use Rattle.mg_runs.proofs.walk.read_behind.Goals as goal
 
 pub returns-in-Some-clause-told : goal.returns-in-Some-clause-told
@@ -17,3 +18,9 @@ returns-in-None-clause-told c = λ file x y ys at.
     let told = rw at.posting at c.posting_in.ensures.told in
     let s = stands c.args.cursor.now slot file _ x y ys _ at c.requires.near (first_bytes c.min.result c.args.cursor.now.count c.slot-all.result.now slot c.min.ensures c.slot-all.ensures) refl in
     none_or_some _ _ c.in-None.is (told y at.after.0 at.run.small.0 s.0 s.1)
+
+pub returns-in-Some-clause-refuses : goal.returns-in-Some-clause-refuses
+returns-in-Some-clause-refuses c = refuses_ok
+
+pub returns-in-None-clause-refuses : goal.returns-in-None-clause-refuses
+returns-in-None-clause-refuses c = let d = c.damage-in-None.ensures in refuses_bad c.damage-in-None.result d.caused d.memory d.names d.bit

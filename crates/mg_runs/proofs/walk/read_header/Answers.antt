@@ -1,6 +1,7 @@
 use Rattle.std.proofs.Common.{ℕ, List, [], ap, length, get_or, arith}
 use Rattle.mg_runs.proofs.CursorLaws.{header_stands, header_read, first_bytes}
 use Rattle.mg_runs.proofs.Decoding.{none_or_some, one_some}
+use Rattle.mg_runs.proofs.StepLaws.{refuses_bad, refuses_ok}
 use Rattle.mg_runs.proofs.walk.read_header.Goals as goal
 
 pub returns-in-Some-clause-told : goal.returns-in-Some-clause-told
@@ -17,3 +18,9 @@ returns-in-None-clause-told c = λ file xs at within window.
     let few = at.few in
     let s = header_stands slot file _ c.args.place c.args.count xs at window (first_bytes c.min.result c.args.count c.slot-all.result.now slot c.min.ensures c.slot-all.ensures) in
     none_or_some _ _ c.in-None.is (c.number_in.ensures.told (length xs) s.0 (at.some, omega arith) s.1)
+
+pub returns-in-Some-clause-refuses : goal.returns-in-Some-clause-refuses
+returns-in-Some-clause-refuses c = refuses_ok
+
+pub returns-in-None-clause-refuses : goal.returns-in-None-clause-refuses
+returns-in-None-clause-refuses c = let d = c.damage-in-None.ensures in refuses_bad c.damage-in-None.result d.caused d.memory d.names d.bit

@@ -19,9 +19,9 @@ returns-in-Ok-clause-step g c =
       memory = tt;
       bit = tt;
       read = record {
-        pool = c.advanced.ensures.pool;
+        pool = c.advanced.ensures.step.pool;
         file = refl;
-        look = record { looked = c.advanced.ensures.looked; cause = cause_ok c.advanced.ensures.looked.faults; names = tt };
+        look = record { looked = c.advanced.ensures.step.look.looked; cause = cause_ok c.advanced.ensures.step.look.looked.faults; names = tt };
       };
     }
 
@@ -32,12 +32,12 @@ returns-in-Err-clause-step g c =
     record {
       shape = tt;
       rest = omega arith;
-      memory = memory_as Cursor (Unit {0}) e c.in-Err.ensures.memory;
+      memory = memory_as Cursor (Unit {0}) e c.in-Err.ensures.step.memory;
       bit = bit_of_cursor cursors c.args.run c.index.result.now e c.requires.within
           (c.index.ensures ∙ get_or_default cursors c.args.run c.index.result.now no_cursor c.requires.within) c.in-Err.ensures.bit;
       read = record {
-        pool = c.advanced.ensures.pool;
+        pool = c.advanced.ensures.step.pool;
         file = refl;
-        look = record { looked = c.advanced.ensures.looked; cause = cause_err {T = Cursor} (omega arith) c.in-Err.ensures.cause; names = c.in-Err.ensures.names };
+        look = record { looked = c.advanced.ensures.step.look.looked; cause = cause_err {T = Cursor} (omega arith) c.in-Err.ensures.step.look.cause; names = c.in-Err.ensures.step.look.names };
       };
     }

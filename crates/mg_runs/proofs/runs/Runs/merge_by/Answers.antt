@@ -1,4 +1,4 @@
-use Rattle.std.proofs.Common.{◌≡◌, [], length, sym, ◌∙◌, ap, subst, arith, unwrap_or}
+use Rattle.std.proofs.Common.{rules, ◌≡◌, [], length, sym, ◌∙◌, ap, subst, arith, unwrap_or}
 use Rattle.std.specs.Prelude.{IfOk}
 use Rattle.mg_dev.specs.Files.{bytes_at}
 use Rattle.mg_dev.specs.Names.{full_name}
@@ -13,6 +13,7 @@ use Rattle.mg_runs.proofs.LastRun.{on_ok, run_made, runs_fit, peak_all}
 use Rattle.mg_runs.proofs.RoundsLoop.{fed_count}
 use Rattle.mg_runs.proofs.RoundsFirst.{fed_cap, fed_stored}
 use Rattle.mg_runs.proofs.Naming.{refusal_names_its}
+use Rattle.mg_runs.proofs.StepLaws.{cause_err, cause_then}
 use Rattle.mg_runs.proofs.Steps.{undamaged_as}
 use Rattle.mg_runs.proofs.Working.{worked_wrote, worked_more, worked_looked}
 use Rattle.mg_runs.proofs.runs.Runs.merge_by.Goals as goal
@@ -25,68 +26,85 @@ overflow_cast-runs g c =
     let few = runs_fit _ _ (fed_cap _ _ fed is).0 is.few in
     omega (arith, c.len-runs.ensures, count, few)
 
-pub returns-in-Ok-rounds-clause-left : goal.returns-in-Ok-rounds-clause-left
-returns-in-Ok-rounds-clause-left g c = λ fed is.
-    c.open.ensures.left (term_postings fed) (λ told.
-    let now = sym c.rounds.ensures.step.worked.told ∙ told in
-    let was = sym c.finish.ensures.wrote.told ∙ now in
-    let stored = fed_stored _ _ fed _ _ is (c.in-Ok.ensures.run was fed is) (c.in-Ok.ensures.places fed is) in
-    let next = rw (c.in-Ok.ensures.base, c.in-Ok.ensures.part) at c.in-Ok-rounds.ensures.told in
-    next now (term_postings fed) stored)
-
-pub returns-in-Ok-rounds-clause-run : goal.returns-in-Ok-rounds-clause-run
-returns-in-Ok-rounds-clause-run g c = λ told fed is.
+pub returns-in-Ok-rounds : goal.returns-in-Ok-rounds
+returns-in-Ok-rounds g c =
+    let name = full_name c.args.self.base Run in
     let run = rw c.in-Ok.ensures.base at c.rounds.ensures.run in
-    let same : bytes_at (g.S.Store.files c.open.new.store) (full_name c.args.self.base Run) ≡ bytes_at (g.S.Store.files c.finish.new.store) (full_name c.args.self.base Run)
-    = ap (λ f. bytes_at f (full_name c.args.self.base Run)) c.open.ensures.read.looked.files ∙ ap (λ b. unwrap_or b []) run in
-    on_ok _ c.open.result (ap (λ b. bits_of b) same ∙ c.in-Ok.ensures.run told fed is)
-
-pub returns-in-Ok-rounds-clause-run_bytes : goal.returns-in-Ok-rounds-clause-run_bytes
-returns-in-Ok-rounds-clause-run_bytes g c = λ told fed is.
-    let run = rw c.in-Ok.ensures.base at c.rounds.ensures.run in
-    let same : bytes_at (g.S.Store.files c.open.new.store) (full_name c.args.self.base Run) ≡ bytes_at (g.S.Store.files c.finish.new.store) (full_name c.args.self.base Run)
-    = ap (λ f. bytes_at f (full_name c.args.self.base Run)) c.open.ensures.read.looked.files ∙ ap (λ b. unwrap_or b []) run in
-    run_made c.open.result _ _ (subst AreBytes (sym same) (c.in-Ok.ensures.bytes told)) (ap (λ b. bits_of b) same ∙ c.in-Ok.ensures.run told fed is)
-
-pub returns-in-Ok-rounds-clause-runs : goal.returns-in-Ok-rounds-clause-runs
-returns-in-Ok-rounds-clause-runs g c = λ fed is.
-    let size : c.len-runs.result ≡ length c.in-Ok.first.places.items = omega (arith, c.len-runs.ensures) in
-    subst (λ k. IfOk c.open.result (λ (m : Merging). m.runs ≡ k)) (size ∙ fed_count _ _ fed (fed_cap _ _ fed is).0 (c.in-Ok.ensures.places fed is)) c.open.ensures.runs
-
-pub returns-in-Ok-rounds-clause-peak : goal.returns-in-Ok-rounds-clause-peak
-returns-in-Ok-rounds-clause-peak g c = λ fed is.
-    let count = fed_count _ _ fed (fed_cap _ _ fed is).0 (c.in-Ok.ensures.places fed is) in
-    subst (λ k. IfOk c.open.result (λ (m : Merging). m.peak ≡ k))
-    (peak_all (length fed) _ c.args.width _ _ c.in-Ok.first.pool.peak _ (c.in-Ok.ensures.peak ∙ is.peak) count c.in-Ok-rounds.ensures.peak c.in-Ok-rounds.ensures.few)
-    c.open.ensures.peak
-
-pub returns-in-Ok-rounds-clause-undamaged : goal.returns-in-Ok-rounds-clause-undamaged
-returns-in-Ok-rounds-clause-undamaged g c = λ told.
-    let fed = c.requires.fed.0 in
-    let is = c.requires.fed.1 in
-    let now = c.finish.ensures.wrote.told ∙ told in
-    let stored = fed_stored _ _ fed _ _ is (c.in-Ok.ensures.run told fed is) (c.in-Ok.ensures.places fed is) in
-    let next = rw (c.in-Ok.ensures.base, c.in-Ok.ensures.part) at c.in-Ok-rounds.ensures.told in
-    c.open.ensures.undamaged (c.rounds.ensures.step.worked.told ∙ now) (term_postings fed) (next now (term_postings fed) stored)
-
-pub returns-in-Ok-rounds-clause-worked : goal.returns-in-Ok-rounds-clause-worked
-returns-in-Ok-rounds-clause-worked g c =
     let rounds = rw c.in-Ok.ensures.base at c.rounds.ensures.step.worked in
-    worked_more (worked_wrote c.finish.ensures.wrote c.finish.ensures.cause.later) (worked_more rounds (worked_looked c.in-Ok-rounds.ensures.part c.open.ensures.read.looked))
+    let told_by = rw (c.in-Ok.ensures.base, c.in-Ok.ensures.part) at c.in-Ok-rounds.ensures.told in
+    let same : bytes_at (g.S.Store.files c.open.new.store) name ≡ bytes_at (g.S.Store.files c.finish.new.store) name
+    = ap (λ f. bytes_at f name) c.open.ensures.read.looked.files ∙ ap (λ b. unwrap_or b []) run in
+    let worked = worked_more (worked_wrote c.finish.ensures.wrote c.finish.ensures.cause.later) (worked_more rounds (worked_looked c.in-Ok-rounds.ensures.part c.open.ensures.read.looked)) in
+    record {
+      left = λ fed is.
+          c.open.ensures.left (term_postings fed) (λ told.
+          let now = sym c.rounds.ensures.step.worked.told ∙ told in
+          let was = sym c.finish.ensures.wrote.told ∙ now in
+          let stored = fed_stored _ _ fed _ _ is (c.in-Ok.ensures.run was fed is) (c.in-Ok.ensures.places fed is) in
+          told_by now (term_postings fed) stored);
+      run = λ told fed is. on_ok _ c.open.result (ap (λ b. bits_of b) same ∙ c.in-Ok.ensures.run told fed is);
+      run_bytes = λ told fed is.
+          run_made c.open.result _ _ (subst AreBytes (sym same) (c.in-Ok.ensures.bytes told)) (ap (λ b. bits_of b) same ∙ c.in-Ok.ensures.run told fed is);
+      runs = λ fed is.
+          let size : c.len-runs.result ≡ length c.in-Ok.first.places.items = omega (arith, c.len-runs.ensures) in
+          subst (λ k. IfOk c.open.result (λ (m : Merging). m.runs ≡ k)) (size ∙ fed_count _ _ fed (fed_cap _ _ fed is).0 (c.in-Ok.ensures.places fed is)) c.open.ensures.runs;
+      peak = λ fed is.
+          let count = fed_count _ _ fed (fed_cap _ _ fed is).0 (c.in-Ok.ensures.places fed is) in
+          let top = peak_all (length fed) _ c.args.width _ _ c.in-Ok.first.pool.peak _ (c.in-Ok.ensures.peak ∙ is.peak) count c.in-Ok-rounds.ensures.peak c.in-Ok-rounds.ensures.few in
+          subst (λ k. IfOk c.open.result (λ (m : Merging). m.peak ≡ k)) top c.open.ensures.peak;
+      few = c.open.ensures.few;
+      base = search rules;
+      undamaged = λ told.
+          let fed = c.requires.fed.0 in
+          let is = c.requires.fed.1 in
+          let now = c.finish.ensures.wrote.told ∙ told in
+          let stored = fed_stored _ _ fed _ _ is (c.in-Ok.ensures.run told fed is) (c.in-Ok.ensures.places fed is) in
+          c.open.ensures.undamaged (c.rounds.ensures.step.worked.told ∙ now) (term_postings fed) (told_by now (term_postings fed) stored);
+      step = record {
+        worked = worked;
+        cause = cause_then c.open.result (omega (arith, c.finish.ensures.cause.later, c.rounds.ensures.step.worked.faults)) c.open.ensures.read.cause;
+        names = refusal_names_its c.in-Ok-rounds.last.file.part c.open.result c.in-Ok-rounds.ensures.part c.open.ensures.read.names;
+      };
+    }
 
-pub returns-in-Err-rounds-clause-worked : goal.returns-in-Err-rounds-clause-worked
-returns-in-Err-rounds-clause-worked g c =
+pub returns-in-Err-rounds : goal.returns-in-Err-rounds
+returns-in-Err-rounds g c =
     let rounds = rw c.in-Ok.ensures.base at c.rounds.ensures.step.worked in
-    worked_more (worked_wrote c.finish.ensures.wrote c.finish.ensures.cause.later) rounds
+    let damage = rw (c.in-Ok.ensures.base, c.in-Ok.ensures.part) at c.in-Err-rounds.ensures.undamaged in
+    record {
+      left = λ fed is. tt;
+      run = λ told fed is. tt;
+      run_bytes = λ told fed is. tt;
+      runs = λ fed is. tt;
+      peak = λ fed is. tt;
+      few = tt;
+      base = tt;
+      undamaged = λ told.
+          let fed = c.requires.fed.0 in
+          let is = c.requires.fed.1 in
+          let now = c.finish.ensures.wrote.told ∙ told in
+          let stored = fed_stored _ _ fed _ _ is (c.in-Ok.ensures.run told fed is) (c.in-Ok.ensures.places fed is) in
+          undamaged_as Round Merge c.in-Err-rounds.refusal (damage now (term_postings fed) stored);
+      step = record {
+        worked = worked_more (worked_wrote c.finish.ensures.wrote c.finish.ensures.cause.later) rounds;
+        cause = cause_err {T = Round} c.finish.ensures.cause.later c.in-Err-rounds.ensures.step.cause;
+        names = c.in-Err-rounds.ensures.step.names;
+      };
+    }
 
-pub returns-in-Err-rounds-clause-undamaged : goal.returns-in-Err-rounds-clause-undamaged
-returns-in-Err-rounds-clause-undamaged g c = λ told.
-    let fed = c.requires.fed.0 in
-    let is = c.requires.fed.1 in
-    let now = c.finish.ensures.wrote.told ∙ told in
-    let stored = fed_stored _ _ fed _ _ is (c.in-Ok.ensures.run told fed is) (c.in-Ok.ensures.places fed is) in
-    let next = rw (c.in-Ok.ensures.base, c.in-Ok.ensures.part) at c.in-Err-rounds.ensures.undamaged in
-    undamaged_as Round Merge c.in-Err-rounds.refusal (next now (term_postings fed) stored)
-
-pub returns-in-Ok-rounds-clause-names : goal.returns-in-Ok-rounds-clause-names
-returns-in-Ok-rounds-clause-names g c = refusal_names_its c.in-Ok-rounds.last.file.part c.open.result c.in-Ok-rounds.ensures.part c.open.ensures.read.names
+pub returns-in-Err : goal.returns-in-Err
+returns-in-Err g c = record {
+  left = λ fed is. tt;
+  run = λ told fed is. tt;
+  run_bytes = λ told fed is. tt;
+  runs = λ fed is. tt;
+  peak = λ fed is. tt;
+  few = tt;
+  base = tt;
+  undamaged = λ told. undamaged_as Round Merge c.in-Err.refusal c.in-Err.ensures.undamaged;
+  step = record {
+    worked = worked_wrote c.finish.ensures.wrote c.finish.ensures.cause.later;
+    cause = cause_err {T = Round} (omega arith) c.in-Err.ensures.cause;
+    names = c.in-Err.ensures.names;
+  };
+}
