@@ -37,9 +37,9 @@ pub fn serve_phrase<S: Store, I: Source, O: Sink>(
         Ok(head) => head,
         Err(fault) => return Err(fault),
     };
-    let mut searcher = match PhraseSearcher::open(alloc, store, base, &head) {
+    let searcher = match PhraseSearcher::open(alloc, store, base, &head) {
         Ok(searcher) => searcher,
         Err(fault) => return Err(fault),
     };
-    answer_lines(Hearing::Questions, &mut searcher, store, input, out)
+    answer_lines(Hearing::Questions, searcher, store, input, out)
 }

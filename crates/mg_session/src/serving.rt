@@ -27,22 +27,24 @@ pub(crate) fn load_head<S: Store>(store: &mut S, base: &str) -> Result<Head, Fau
     }
 }
 
-/// Answers the lines of an input in turn, to its end or to a line `.quit`.
-pub(crate) fn answer_lines<I: Source, O: Sink, A: Answerer>(
+/// Answers the lines of an input in turn, to its end or to a line `.quit`. The answerer is dropped here,
+/// so that who opened it has nothing of its parts to drop.
+pub(crate) fn answer_lines<I: Source, O: Sink, A: Answerer + Drop>(
     hearing: Hearing,
-    answerer: &mut A,
+    answerer: A,
     dev: &mut A::Dev,
     input: &mut I,
     out: &mut O,
 ) -> Result<(), Fault>
-    requires fits { A.fits (A.state answerer.old dev.old) }
-    ensures served { LinesServed hearing A.answers A.after A.may_stop
-        (A.state answerer.old dev.old) (A.state answerer.new dev.new)
+    requires fits { A.fits (A.state answerer dev.old) }
+    ensures served { (after : A) × LinesServed hearing A.answers A.after A.may_stop
+        (A.state answerer dev.old) (A.state after dev.new)
         (source_at I.left I.faults input.old) (source_at I.left I.faults input.new)
         (sink_at O.written O.faults O.lacks out.old) (sink_at O.written O.faults O.lacks out.new)
         result }
 {
-    match serve_lines(hearing, answerer, dev, input, out) {
+    let mut answerer = answerer;
+    match serve_lines(hearing, &mut answerer, dev, input, out) {
         Ok(()) => Ok(()),
         Err(error) => Err(fault_of(error)),
     }

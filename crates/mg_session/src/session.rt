@@ -37,9 +37,9 @@ pub fn serve<S: Store, I: Source, O: Sink>(
         Ok(head) => head,
         Err(fault) => return Err(fault),
     };
-    let mut searcher = match Searcher::open(alloc, store, base, &head) {
+    let searcher = match Searcher::open(alloc, store, base, &head) {
         Ok(searcher) => searcher,
         Err(fault) => return Err(fault),
     };
-    answer_lines(Hearing::Commands, &mut searcher, store, input, out)
+    answer_lines(Hearing::Commands, searcher, store, input, out)
 }
