@@ -1,5 +1,5 @@
 -- What a merge answered is what it did.
-use Rattle.std.proofs.Common.{◌≡◌, ◌≢◌, ◌⊎◌, ◌<◌, ◌≤◌, ℕ, List, [], length, Some, IsSome, Err, Option, ap}
+use Rattle.std.proofs.Common.{◌≡◌, ◌≢◌, ◌⊎◌, ◌<◌, ◌≤◌, ℕ, List, [], length, Some, IsSome, Err, Option, ap, inl, inr, refl}
 use Rattle.std.specs.Prelude.{Result, OnOk, IfErr}
 use Rattle.mg_dev.specs.Files.{Files, file_at}
 use Rattle.mg_dev.specs.Moments.{StoreAt, StoreRose, KeptFiles}
@@ -18,6 +18,8 @@ use Rattle.mg_make.specs.Putting.{OthersSame}
 use Rattle.mg_merge.specs.Joined.{Joined}
 use Rattle.mg_make.specs.Outcomes.{IsEarly, Left, most_bytes}
 use Rattle.mg_merge.specs.Merging.{BothStand, IsSizeByHeads, MergeStops}
+use Rattle.mg_dev.specs.declared.status.Status.TheVariants.{Stopped}
+use Rattle.mg_merge.proofs.PassLaws.{others_none}
 use Rattle.mg_dev.proofs.CallerLemmas.{at_fault, done_or_lacks, stopped_by, stopped_for, when_ok}
 
 -- both sets stand
@@ -57,3 +59,31 @@ module _ {T : Type 0} (first second new : List ℕ) (store store_now : StoreAt) 
     pieces = λ a b stream word stand one two few passes. stopped_for r _ (pieces a b stream word stand one two few passes);
     complete = λ a b stand one two within never. done_or_lacks r (complete a b stand one two within never);
   }
+
+-- A refusal while no file has changed, where the new name is none of the two: each cause that comes before is told.
+module _ {T : Type 0} (first second new : List ℕ) (store store_now : StoreAt) (fault : Fault)
+    (kept : KeptFiles store store_now) (one : new ≢ first) (other : new ≢ second)
+    (cause : MergeStops (StoreRose store store_now) store.files first second new fault)
+    (missing : IsSome store.files → HasNoHead store.files first ⊎ HasNoHead store.files second → RefusedFor {T = T} (Err fault) NotBuilt)
+    (large : (size : ℕ) → IsSome store.files → IsSizeByHeads store.files first second size → most_bytes < size → RefusedFor {T = T} (Err fault) (TooLarge size most_bytes))
+    (documents : (a b : List ℕ) → BothStand store.files first second a b → length (join a b) ≤ most_bytes → RefusedFor {T = T} (Err fault) TooManyDocuments)
+    (pieces : (a b : List ℕ) (stream : Stream) → BothStand store.files first second a b → length (join a b) ≤ most_bytes → RefusedFor {T = T} (Err fault) (TooManyPieces stream))
+    (complete : (a b : List ℕ) → BothStand store.files first second a b → IsWithinLimits 2 (join a b) → ¬ StoreRose store store_now → IsDone {T = T} (Err fault)) where
+  pub refused_by : Joined first second new store store_now (Stopped fault)
+  refused_by = joined_by {T = T} first second new store store_now (Err fault)
+      (λ version cap a b is stands. tt) (λ a b both. tt) (λ a b both. tt) (others_none new store.files store_now.files kept) (λ a b both. inl kept)
+      (λ early. kept) cause (λ same. elim same [ inl is ↦ absurd (one is) | inr is ↦ absurd (other is) ])
+      (λ told new_one new_other. missing told) (λ size told new_one new_other. large size told)
+      (λ a b both new_one new_other few passes. documents a b both few) (λ a b stream word both new_one new_other few passes. pieces a b stream both few)
+      (λ a b both new_one new_other. complete a b both)
+
+-- the new name is one of the two
+pub same_by : (first second new : List ℕ) (store store_now : StoreAt) → KeptFiles store store_now → (new ≡ first) ⊎ (new ≡ second) →
+    Joined first second new store store_now (Stopped SameName)
+same_by first second new store store_now kept same = joined_by {T = Unit {0}} first second new store store_now (Err SameName)
+    (λ version cap a b is stands. tt) (λ a b both. tt) (λ a b both. tt) (others_none new store.files store_now.files kept) (λ a b both. inl kept)
+    (λ early. kept) same (λ is. refl) (λ told one other. never one other) (λ size told one other. never one other)
+    (λ a b both one other. never one other) (λ a b stream word both one other. never one other) (λ a b both one other. never one other)
+  where
+    never : {P : Type 0} → new ≢ first → new ≢ second → P
+    never one other = elim same [ inl is ↦ absurd (one is) | inr is ↦ absurd (other is) ]

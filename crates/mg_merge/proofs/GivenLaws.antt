@@ -1,10 +1,10 @@
 -- The documents of two texts, given one after the other.
-use Rattle.std.proofs.Common.{arith, ◌≡◌, ◌≤◌, ◌<◌, ◌+◌, ◌-◌, ◌^◌, ◌++◌, ◌∷◌, ◌∙◌, ℕ, List, [], length, take, drop, Option, sym, ap, append-nil}
+use Rattle.std.proofs.Common.{arith, ◌≡◌, ◌≤◌, ◌<◌, ◌+◌, ◌-◌, ◌^◌, ◌++◌, ◌∷◌, ◌∙◌, ℕ, List, [], length, take, drop, Option, refl, sym, ap, append-nil}
 use Rattle.std.proofs.lemmas.List.{append_assoc, length-append, take-append-drop}
 use Rattle.mg_dev.specs.Files.{Files}
-use Rattle.mg_defs.specs.Split.{documents, has_open_end, joined}
+use Rattle.mg_defs.specs.Split.{close, documents, has_open_end, is_closed, joined}
 use Rattle.mg_merge.specs.Passes.{AreAllGiven, AreGiven}
-use Rattle.mg_merge.specs.Texts.{AreFirst, TextsFit, TextsStand, TwoTexts, closed_document}
+use Rattle.mg_merge.specs.Texts.{AreFirst, TextsFit, TextsStand, TwoTexts, closed_document, numbered}
 use Rattle.mg_merge.proofs.JoinedLaws.{given_all, given_next, given_none}
 use Rattle.mg_merge.proofs.TextLaws.{documents_of_texts}
 
@@ -41,6 +41,15 @@ given_one_more t files fed held i left found fits more given is count within = r
   size = omega (arith, given.size, length-append fed held, count, within);
   told = λ collection stand. first_next t files collection fed held i left fits more given stand (is collection stand);
 }
+
+-- a document has no more bytes than are left
+pub short_next : (t : TwoTexts) (files : Option Files) (collection fed : List ℕ) (i left : ℕ) → TextsFit t files → i < t.all → AreGiven t files i left fed → TextsStand t files collection → length (numbered (i + 1) collection) ≤ left
+short_next t files collection fed i left fits more given stand =
+    let doc = numbered (i + 1) collection in
+    let closing = close (is_closed (i + 1) (length (documents collection)) (has_open_end collection)) in
+    let rest = joined (drop (i + 1) (documents collection)) (has_open_end collection) in
+    let whole : length ((fed ++ (doc ++ closing)) ++ rest) ≡ length collection = ap length (first_next t files collection fed (doc ++ closing) i left fits more given stand refl) in
+    omega (arith, whole, length-append (fed ++ (doc ++ closing)) rest, length-append fed (doc ++ closing), length-append doc closing, given.size, stand.size)
 
 -- a document is no longer than what is left
 pub too_much : (t : TwoTexts) (files : Option Files) (collection fed held : List ℕ) (i left : ℕ) → TextsFit t files → i < t.all → AreGiven t files i left fed → TextsStand t files collection → held ≡ closed_document (i + 1) collection → left < length held → ⊥

@@ -1,36 +1,24 @@
 -- Two texts that are read: what stands of them, and what their documents are.
 use Rattle.std.proofs.Common.{arith, ◌≡◌, ◌≢◌, ◌+◌, ◌-◌, ◌^◌, ◌≤◌, ◌<◌, ◌==◌, ℕ, Bool, true, false, not, if◌then◌else◌, List, [], ◌∷◌, ◌++◌, length, get_or, Option, None, Some, Ok, Err, IsSome, is_some, refl, sym, ◌∙◌, ap, subst, append-nil, append_assoc, inl, inr}
 use Rattle.std.specs.Prelude.{OnOk, Result}
-use Rattle.mg_dev.specs.Faults.{ReadStops, fault_of_part, fault_of_show}
+use Rattle.mg_dev.specs.Faults.{ReadStops, fault_of_part}
 use Rattle.mg_dev.specs.Files.{Files, bytes_at, file_at}
-use Rattle.mg_dev.specs.Names.{full_name}
 use Rattle.mg_dev.specs.PartCauses.{HasPartCause}
 use Rattle.mg_dev.specs.Causes.{Rose}
-use Rattle.mg_dev.specs.Streams.{AfterPut, appended}
-use Rattle.mg_dev.specs.declared.fault.Fault.{Fault}
-use Rattle.mg_dev.specs.declared.fault.Fault.TheVariants as fault
-use Rattle.mg_dev.specs.declared.part.Part.{Part}
-use Rattle.mg_dev.specs.declared.part.Part.TheVariants as part
 use Rattle.mg_dev.specs.declared.part_err.PartErr.{PartErr}
 use Rattle.mg_dev.specs.declared.part_err.PartErr.TheVariants.{Bad, Device, Memory}
-use Rattle.mg_dev.specs.declared.show_err.ShowErr.{ShowErr}
-use Rattle.mg_dev.specs.declared.show_err.ShowErr.TheVariants as show
 use Rattle.mg_dev.specs.Bads.{IsNotBad}
-use Rattle.mg_defs.specs.CodedText.{TextCode}
 use Rattle.mg_defs.specs.Join.{join}
 use Rattle.mg_defs.specs.Split.{close, documents, has_open_end, is_closed}
 use Rattle.mg_laws.proofs.JoinLaws.{count_joined, documents_joined, end_joined, size_joined}
 use Rattle.mg_layout.specs.HeadAnswers.{fields_of}
-use Rattle.mg_layout.specs.Stands.{IsSetBy, StandsBy}
-use Rattle.mg_layout.specs.declared.head.Head.{Head}
 use Rattle.mg_layout.specs.declared.head.Head as layout
 use Rattle.mg_defs.specs.Stands.{head_of}
-use Rattle.mg_text.specs.Decoding.{IsShowCaused}
-use Rattle.mg_text.specs.Reading.{IsTextReader, SameText, ShowIsNotBad, TextFits, TextReading, TextStands}
+use Rattle.mg_text.specs.Held.{HasShortDocument}
+use Rattle.mg_text.specs.Reading.{SameText, TextFits, TextReading, TextStands}
 use Rattle.mg_text.proofs.CallerLemmas.{text_stays}
 use Rattle.mg_merge.specs.Merging.{joined_size}
-use Rattle.mg_merge.specs.Stops.{IsDecodeCaused}
-use Rattle.mg_merge.specs.Texts.{AreSetsBy, AreTexts, SameTexts, TextsFit, TextsStand, TwoTexts, closed_document, numbered}
+use Rattle.mg_merge.specs.Texts.{AreSetsBy, HaveShort, SameTexts, TextsFit, TextsStand, TwoTexts, closed_document, numbered}
 use Rattle.mg_merge.proofs.JoinedLaws.{numbered_first, numbered_second}
 
 -- ---- one text
@@ -105,14 +93,29 @@ document_behind t files collection number fits high stand =
     let place : number ≡ length (documents stand.a) + (number - t.ahead) = omega (arith, high, fits.ahead, stand.first.documents) in
     sym (ap (numbered number) stand.joins ∙ numbered_second stand.a stand.b number (number - t.ahead) low place)
 
--- a sink that was empty holds what was put to it
-pub held_all : (r : Result (Unit {0}) ShowErr) (before now doc wanted : List ℕ) → before ≡ [] → doc ≡ wanted → AfterPut (Some before) (Some now) doc r → OnOk r (now ≡ wanted)
-unfolding appended
-held_all (Ok done) before now doc wanted empty is after = inside now (before ++ doc) after ∙ ap (λ b. b ++ doc) empty ∙ is
-  where
-    inside : (x y : List ℕ) → Some x ≡ Some y → x ≡ y
-    inside x y same = cc
-held_all (Err refusal) before now doc wanted empty is after = tt
+-- it has at most so many bytes
+pub short_ahead : (t : TwoTexts) (files : Option Files) (collection : List ℕ) (number most now : ℕ) → TextsFit t files →
+    1 ≤ number → number ≤ t.ahead → now ≡ most → (has : HaveShort t files number most collection) →
+    HasShortDocument t.first files number now has.stands.a
+short_ahead t files collection number most now fits low high same has =
+    let is = document_ahead t files collection number fits low high has.stands in
+    record { stands = has.stands.first; short = omega (arith, ap (λ (d : List ℕ). length d) is, has.short, same) }
+
+pub short_behind : (t : TwoTexts) (files : Option Files) (collection : List ℕ) (number most now : ℕ) → TextsFit t files →
+    t.ahead < number → now ≡ most → (has : HaveShort t files number most collection) →
+    HasShortDocument t.second files (number - t.ahead) now has.stands.b
+short_behind t files collection number most now fits high same has =
+    let is = document_behind t files collection number fits high has.stands in
+    record { stands = has.stands.second; short = omega (arith, ap (λ (d : List ℕ). length d) is, has.short, same) }
+
+-- it is no longer than the bound
+pub held_short : {E : Type 0} (r : Result (Unit {0}) E) (held bound most : ℕ) → bound ≡ most → OnOk r (held ≤ bound) → OnOk r (held ≤ most)
+held_short r held bound most is short = subst (λ n. OnOk r (held ≤ n)) is short
+
+-- what is held is the document
+pub held_is : {E : Type 0} (r : Result (Unit {0}) E) (now doc wanted : List ℕ) → doc ≡ wanted → OnOk r (now ≡ doc) → OnOk r (now ≡ wanted)
+held_is (Ok done) now doc wanted is held = held ∙ is
+held_is (Err refusal) now doc wanted is held = tt
 
 -- with the byte that closes it
 pub with_close : (closed : Bool) (doc : List ℕ) → closed ≡ true → doc ++ 2 ∷ [] ≡ doc ++ close closed
@@ -137,22 +140,7 @@ size_of_sets files first second a b one other sets =
 
 -- ---- causes
 
-pub decode_caused : (r : Result (Unit {0}) ShowErr) (s0 s t l m : ℕ) → s0 ≤ s → IsShowCaused r s t 0 0 l m → IsDecodeCaused r s0 t
-decode_caused (Ok done) s0 s t l m up cause = tt
-decode_caused (Err (show.Part Device)) s0 s t l m up cause = omega (arith, up, cause)
-decode_caused (Err (show.Part Memory)) s0 s t l m up cause = tt
-decode_caused (Err (show.Part (Bad bad))) s0 s t l m up cause = tt
-decode_caused (Err show.Write) s0 s t l m up cause = omega (arith, cause)
-decode_caused (Err show.Memory) s0 s t l m up cause = tt
-
-pub decode_stops : (refusal : ShowErr) (now : Type 0) (s t : ℕ) (texts : TwoTexts) (files : Option Files) → (Rose s t → now) → ((collection : List ℕ) → TextsStand texts files collection → ShowIsNotBad (Err refusal)) → IsDecodeCaused (Err refusal) s t → ReadStops now (AreTexts texts files) (fault_of_show refusal)
-decode_stops (show.Part Device) now s t texts files grows good cause = grows cause
-decode_stops (show.Part Memory) now s t texts files grows good cause = tt
-decode_stops (show.Part (Bad bad)) now s t texts files grows good cause = λ some. good some.0 some.1
-decode_stops show.Write now s t texts files grows good cause = absurd cause
-decode_stops show.Memory now s t texts files grows good cause = tt
-
-pub load_stops : {T : Type 0} (refusal : PartErr) (s t : ℕ) (head : Head) (files : Option Files) (base : List ℕ) → ((code : TextCode) (collection : List ℕ) → StandsBy head code files base collection → IsNotBad refusal) → HasPartCause {T = T} s t (Err refusal) → ReadStops (Rose s t) (IsSetBy head files base) (fault_of_part refusal)
-load_stops Device s t head files base good cause = cause.device
-load_stops Memory s t head files base good cause = tt
-load_stops (Bad bad) s t head files base good cause = λ set. good set.0 set.1 set.2
+pub part_stops : {T : Type 0} (refusal : PartErr) (s t : ℕ) (whole : Type 0) → (whole → IsNotBad refusal) → HasPartCause {T = T} s t (Err refusal) → ReadStops (Rose s t) whole (fault_of_part refusal)
+part_stops Device s t whole good cause = cause.device
+part_stops Memory s t whole good cause = tt
+part_stops (Bad bad) s t whole good cause = good

@@ -1,10 +1,8 @@
 -- What a merge makes, what it leaves, and why it stops.
-use Rattle.std.specs.Prelude.{◌≡◌, ◌≢◌, ◌⊎◌, ◌<◌, ◌+◌, ◌*◌, ℕ, List, max, if◌then◌else◌}
+use Rattle.std.specs.Prelude.{◌≡◌, ◌⊎◌, ◌<◌, ◌+◌, ◌*◌, ℕ, List, max, if◌then◌else◌}
 use Rattle.std.specs.Option.{IsSome}
 use Rattle.std.specs.declared.option.Option.{Option}
-use Rattle.std.specs.declared.result.Result.{Result}
 use Rattle.mg_dev.specs.Files.{Files}
-use Rattle.mg_dev.specs.Runs.{RefusedFor}
 use Rattle.mg_dev.specs.declared.fault.Fault.{Fault}
 use Rattle.mg_dev.specs.declared.fault.Fault.TheVariants.{Damaged, Memory, NotBuilt, SameName, StoreFault, TooLarge, TooManyDocuments, TooManyPieces}
 use Rattle.mg_defs.specs.declared.Stream.{Stream}
@@ -13,8 +11,8 @@ use Rattle.mg_defs.specs.Join.{join}
 use Rattle.mg_defs.specs.Limits.{version_2}
 use Rattle.mg_defs.specs.Marks.{PassesFirst, piece, start}
 use Rattle.mg_layout.specs.Stands.{HasNoHead, Stands, StandsIn}
-use Rattle.mg_merge.specs.Stops.{AreHeads, IsOneMissing}
-use Rattle.mg_make.specs.Outcomes.{RefusesSize, most_bytes}
+use Rattle.mg_merge.specs.Stops.{AreHeads}
+use Rattle.mg_make.specs.Outcomes.{most_bytes}
 
 -- ---- what it makes
 
@@ -45,8 +43,6 @@ pub record IsSizeByHeads (files : Option Files) (first second : List ℕ) (size 
   pub are : AreHeads files first second a b
   pub size_is : size ≡ joined_size a b
 
--- ---- what it leaves
-
 -- ---- why it stops
 
 -- the cause of each refusal, by the files as it began and the three bases
@@ -66,24 +62,3 @@ MergeStops store_rose files first second new _ = ⊥
 -- this is so of the cap and of the collections in one, for each two collections that the sets of these bases stand for
 abbrev pub ForBoth : Option Files → List ℕ → List ℕ → (ℕ → List ℕ → Type 0) → Type 0
 ForBoth files first second holds = (version cap : ℕ) (a b : List ℕ) → StandsIn version cap files first a → Stands files second b → holds cap (join a b)
-
--- where the store tells its files and the new base is none of the two, this is so
-abbrev pub IfNew : Option Files → List ℕ → List ℕ → List ℕ → Type 0 → Type 0
-IfNew files first second new holds = IsSome files → new ≢ first → new ≢ second → holds
-
--- refused where one of both heads is missing
-abbrev pub RefusesMissing : {T : Type 0} → Option Files → List ℕ → List ℕ → Result T Fault → Type 0
-RefusesMissing files first second result = IsOneMissing files first second → RefusedFor result NotBuilt
-
--- too many bytes by the heads are refused
-abbrev pub RefusesSizeByHeads : {T : Type 0} → Option Files → List ℕ → List ℕ → ℕ → Result T Fault → Type 0
-RefusesSizeByHeads files first second size result = IsSizeByHeads files first second size → RefusesSize result size
-
--- if the new base is none of the two, this is so of the collections in one, for each two collections that the sets stand for
-abbrev pub ForJoin : Option Files → List ℕ → List ℕ → List ℕ → (List ℕ → Type 0) → Type 0
-ForJoin files first second new holds = (a b : List ℕ) → BothStand files first second a b → new ≢ first → new ≢ second → holds (join a b)
-
--- and it is so with each piece
-abbrev pub ForJoinAndPiece : Option Files → List ℕ → List ℕ → List ℕ → (List ℕ → Stream → List ℕ → Type 0) → Type 0
-ForJoinAndPiece files first second new holds =
-    (a b : List ℕ) (stream : Stream) (word : List ℕ) → BothStand files first second a b → new ≢ first → new ≢ second → holds (join a b) stream word

@@ -1,9 +1,7 @@
 -- Why the steps of a merge stop.
-use Rattle.std.specs.Prelude.{◌≡◌, ◌≢◌, ◌⊎◌, ℕ, List, Ok, Err}
+use Rattle.std.specs.Prelude.{◌≡◌, ◌≢◌, ◌⊎◌, ℕ, List}
 use Rattle.std.specs.Option.{IsSome}
 use Rattle.std.specs.declared.option.Option.{Option}
-use Rattle.std.specs.declared.result.Result.{Result}
-use Rattle.mg_dev.specs.Causes.{Rose}
 use Rattle.mg_dev.specs.Faults.{IsDamagedPart}
 use Rattle.mg_dev.specs.Files.{Files, bytes_at}
 use Rattle.mg_dev.specs.Names.{full_name}
@@ -12,8 +10,6 @@ use Rattle.mg_dev.specs.declared.fault.Fault.TheVariants.{Changed, Damaged, Memo
 use Rattle.mg_dev.specs.declared.part.Part.TheVariants.{Head}
 use Rattle.mg_dev.specs.declared.part_err.PartErr.{PartErr}
 use Rattle.mg_dev.specs.declared.part_err.PartErr.TheVariants as part
-use Rattle.mg_dev.specs.declared.show_err.ShowErr.{ShowErr}
-use Rattle.mg_dev.specs.declared.show_err.ShowErr.TheVariants as show
 use Rattle.mg_defs.specs.Heads.{IsHead}
 use Rattle.mg_defs.specs.Heads as heads
 use Rattle.mg_defs.specs.Limits.{version_2}
@@ -51,17 +47,6 @@ IsToldFirst store_rose files second (part.Bad bad) NotBuilt = IsSome files → H
 IsToldFirst store_rose files second (part.Bad bad) (Damaged damage) = Unit {0}
 IsToldFirst store_rose files second (part.Bad bad) Memory = Unit {0}
 IsToldFirst store_rose files second (part.Bad bad) _ = ⊥
-
--- ---- texts
-
--- the store's failure has a cause, and the sink in memory only lacks memory
-abbrev pub IsDecodeCaused : Result (Unit {0}) ShowErr → ℕ → ℕ → Type 0
-IsDecodeCaused (Ok done) before now = Unit {0}
-IsDecodeCaused (Err (show.Part part.Device)) before now = Rose before now
-IsDecodeCaused (Err (show.Part part.Memory)) before now = Unit {0}
-IsDecodeCaused (Err (show.Part (part.Bad bad))) before now = Unit {0}
-IsDecodeCaused (Err show.Write) before now = ⊥
-IsDecodeCaused (Err show.Memory) before now = Unit {0}
 
 -- ---- passes
 

@@ -1,5 +1,5 @@
 -- The texts of two sets, whose documents are read one after the other.
-use Rattle.std.specs.Prelude.{◌≡◌, ◌<◌, ◌+◌, ◌-◌, ◌^◌, ℕ, Bool, List, [], ◌++◌, length, drop, get_or, IfOk}
+use Rattle.std.specs.Prelude.{◌≡◌, ◌<◌, ◌≤◌, ◌+◌, ◌-◌, ◌^◌, ℕ, Bool, List, [], ◌++◌, length, drop, get_or, IfOk}
 use Rattle.std.specs.declared.option.Option.{Option}
 use Rattle.std.specs.declared.result.Result.{Result}
 use Rattle.mg_dev.specs.Files.{Files}
@@ -80,6 +80,19 @@ numbered n collection = get_or (documents collection) (n - 1) []
 abbrev pub closed_document : ℕ → List ℕ → List ℕ
 closed_document n collection = numbered n collection ++ close (is_closed n (length (documents collection)) (has_open_end collection))
 
+-- the texts stand for this collection, whose document n has at most so many bytes
+pub record HaveShort (t : TwoTexts) (files : Option Files) (n most : ℕ) (collection : List ℕ) : Type 0 where
+  pub stands : TextsStand t files collection
+  pub short : length (numbered n collection) ≤ most
+
+-- they do so for some collection
+abbrev pub AreShort : TwoTexts → Option Files → ℕ → ℕ → Type 0
+AreShort t files n most = (collection : List ℕ) × HaveShort t files n most collection
+
+-- this is so of each such collection
+abbrev pub ForShort : TwoTexts → Option Files → ℕ → ℕ → (List ℕ → Type 0) → Type 0
+ForShort t files n most holds = (collection : List ℕ) → HaveShort t files n most collection → holds collection
+
 -- these bytes are the first n documents of a collection: the others follow
 abbrev pub AreFirst : ℕ → List ℕ → List ℕ → Type 0
 AreFirst n bytes collection = bytes ++ joined (drop n (documents collection)) (has_open_end collection) ≡ collection
@@ -97,7 +110,3 @@ ForSetsBy one other files first second holds = (a b : List ℕ) → AreSetsBy on
 -- the text of a collection is read by what was loaded
 abbrev pub LoadsText : {E : Type 0} → Option Files → Result TextReading E → TextCode → List ℕ → Type 0
 LoadsText files result code collection = IfOk result (λ (r : TextReading). TextStands r files collection)
-
--- the texts of a collection are read by what was loaded
-abbrev pub LoadsTexts : {E : Type 0} → Option Files → Result TwoTexts E → List ℕ → Type 0
-LoadsTexts files result collection = IfOk result (λ (t : TwoTexts). TextsStand t files collection)

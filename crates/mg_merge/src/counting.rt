@@ -7,17 +7,20 @@ ghost use Rattle.mg_merge.specs.Stops.{CountingStops};
 ghost use Rattle.mg_merge.specs.Passes.{AreAllGiven};
 ghost use Rattle.mg_merge.specs.Texts.{SameTexts, TextsFit, TextsStand};
 
+use crate::documents::Documents;
 use crate::retelling::{too_long, too_short};
-use crate::texts::Texts;
 use mg_dev::{Fault, Store};
 use mg_make::{Count, Plan, Room};
 use std::alloc::Global;
 
 // Counts the bytes of one document.
 fn count_document(count: &mut Count, bytes: &[u8]) -> Result<(), Fault>
-    requires given { (fed : List ℕ) × HasCounted count.old fed × (length fed + length bytes.now < 2 ^ 32) }
-    ensures given { OnOk result ((fed : List ℕ) → HasCounted count.old fed → HasCounted count.new (fed ++ bytes.now)) }
-    ensures refused { IfErr result (λ fault. (fed : List ℕ) → HasCounted count.old fed → CountStops (fed ++ bytes.now) fault) }
+    requires given { (fed : List ℕ) × HasCounted count.old fed ×
+        (length fed + length bytes.now < 2 ^ 32) }
+    ensures given { OnOk result ((fed : List ℕ) → HasCounted count.old fed → HasCounted count.new
+        (fed ++ bytes.now)) }
+    ensures refused { IfErr result (λ fault. (fed : List ℕ) → HasCounted count.old fed → CountStops
+        (fed ++ bytes.now) fault) }
 {
     for byte in bytes {
         match count.take(*byte) {
@@ -29,24 +32,26 @@ fn count_document(count: &mut Count, bytes: &[u8]) -> Result<(), Fault>
 }
 
 // Counts each document of the texts.
-fn count_documents<S: Store>(
+fn count_documents<'a, S: Store, D: Documents<'a, S>>(
     store: &mut S,
-    texts: &mut Texts<'_, S>,
+    texts: &mut D,
     count: &mut Count,
 ) -> Result<(), Fault>
-    requires fits { TextsFit texts.old (S.files store.old) }
+    requires fits { TextsFit (D.texts texts.old) (S.files store.old) }
     requires nothing { HasCounted count.old [] }
-    ensures counted { OnOk result ((fed : List ℕ) × AreAllGiven texts.old (S.files store.old) fed × HasCounted count.new fed) }
-    ensures fits { TextsFit texts.new (S.files store.new) }
-    ensures same { SameTexts texts.old texts.new }
+    ensures counted { OnOk result ((fed : List ℕ) × AreAllGiven (D.texts texts.old)
+        (S.files store.old) fed × HasCounted count.new fed) }
+    ensures fits { TextsFit (D.texts texts.new) (S.files store.new) }
+    ensures same { SameTexts (D.texts texts.old) (D.texts texts.new) }
     ensures files { S.files store.new ≡ S.files store.old }
     ensures later { S.faults store.old ≤ S.faults store.new }
-    ensures refused { IfErr result (CountingStops (Rose (S.faults store.old) (S.faults store.new)) (TextsStand texts.old (S.files store.old))) }
+    ensures refused { IfErr result (CountingStops (Rose (S.faults store.old) (S.faults store.new))
+        (TextsStand (D.texts texts.old) (S.files store.old))) }
 {
     let size = texts.size();
     let mut left = size;
     for index in 0..texts.documents() {
-        match texts.read(store, index + 1) {
+        match texts.read(store, index + 1, left) {
             Ok(()) => {}
             Err(refusal) => return Err(refusal),
         }
@@ -67,23 +72,25 @@ fn count_documents<S: Store>(
 }
 
 /// Counts two texts, and makes all that the second pass takes of memory, with a pool of so many bytes.
-pub(crate) fn count_all<S: Store>(
+pub(crate) fn count_all<'a, S: Store, D: Documents<'a, S>>(
     alloc: Global,
     store: &mut S,
-    texts: &mut Texts<'_, S>,
+    texts: &mut D,
     budget: u64,
 ) -> Result<(Plan, Room), Fault>
     requires least { 4096 ≤ budget }
     requires most { budget ≤ 2 ^ 30 }
-    requires fits { TextsFit texts.old (S.files store.old) }
+    requires fits { TextsFit (D.texts texts.old) (S.files store.old) }
     ensures plan { IfOk result (λ made. IsPlan made.0) }
     ensures room { IfOk result (λ made. IsRoomFor made.1 made.0 budget) }
-    ensures of { (collection : List ℕ) → TextsStand texts.old (S.files store.old) collection → IfOk result (λ made. IsPlanOf made.0 collection) }
-    ensures fits { TextsFit texts.new (S.files store.new) }
-    ensures same { SameTexts texts.old texts.new }
+    ensures of { (collection : List ℕ) → TextsStand (D.texts texts.old)
+        (S.files store.old) collection → IfOk result (λ made. IsPlanOf made.0 collection) }
+    ensures fits { TextsFit (D.texts texts.new) (S.files store.new) }
+    ensures same { SameTexts (D.texts texts.old) (D.texts texts.new) }
     ensures files { S.files store.new ≡ S.files store.old }
     ensures later { S.faults store.old ≤ S.faults store.new }
-    ensures refused { IfErr result (CountingStops (Rose (S.faults store.old) (S.faults store.new)) (TextsStand texts.old (S.files store.old))) }
+    ensures refused { IfErr result (CountingStops (Rose (S.faults store.old) (S.faults store.new))
+        (TextsStand (D.texts texts.old) (S.files store.old))) }
 {
     let mut count = Count::new(alloc);
     match count_documents(store, texts, &mut count) {

@@ -23,8 +23,10 @@ pub(crate) fn load_heads<S: Store>(
         IfOk result (λ heads. AreHeads (S.files store.old) first.now second.now (fields_of heads.0) (fields_of heads.1)) }
     ensures first { IfOk result (λ heads. IsWithin (fields_of heads.0)) }
     ensures second { IfOk result (λ heads. IsWithin (fields_of heads.1)) }
-    ensures missing { IsSome (S.files store.old) → IsOneMissing (S.files store.old) first.now second.now → RefusedFor result fault.NotBuilt }
-    ensures refused { IfErr result (HeadStops (Rose (S.faults store.old) (S.faults store.new)) (S.files store.old) first.now second.now) }
+    ensures missing { IsSome (S.files store.old) → IsOneMissing
+        (S.files store.old) first.now second.now → RefusedFor result fault.NotBuilt }
+    ensures refused { IfErr result (HeadStops (Rose (S.faults store.old) (S.faults store.new))
+        (S.files store.old) first.now second.now) }
     ensures files { S.files store.new ≡ S.files store.old }
     ensures later { S.faults store.old ≤ S.faults store.new }
 {
@@ -48,8 +50,10 @@ pub(crate) fn load_heads<S: Store>(
 
 // What is told where the first head was not loaded: before damage, whether the second one is missing.
 fn refused_first<S: Store>(store: &mut S, second: &str, refusal: PartErr) -> Fault
-    ensures missing { IsSome (S.files store.old) → HasNoHead (S.files store.old) second.now → IsRefusedFirst result }
-    ensures cause { IsToldFirst (Rose (S.faults store.old) (S.faults store.new)) (S.files store.old) second.now refusal result }
+    ensures missing { IsSome (S.files store.old) → HasNoHead (S.files store.old) second.now →
+        IsRefusedFirst result }
+    ensures cause { IsToldFirst (Rose (S.faults store.old) (S.faults store.new))
+        (S.files store.old) second.now refusal result }
     ensures files { S.files store.new ≡ S.files store.old }
     ensures later { S.faults store.old ≤ S.faults store.new }
 {

@@ -9,7 +9,7 @@
 #![tactic(auto)]
 
 mod counting;
-mod document;
+mod documents;
 mod heads;
 mod merging;
 mod retelling;

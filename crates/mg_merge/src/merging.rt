@@ -1,22 +1,20 @@
 //! The merge of two sets.
-ghost use Rattle.std.specs.Prelude.{◌≡◌, ◌⊎◌, ◌<◌, ◌≤◌, ◌^◌, ℕ, List, IfErr, OnOk, Err};
+ghost use Rattle.std.specs.Prelude.{◌≡◌, ◌≢◌, ◌≤◌, ◌^◌, ℕ, List, IfErr, OnOk};
 ghost use Rattle.mg_dev.specs.Causes.{Rose};
 ghost use Rattle.mg_dev.specs.Each.{ForEach};
 ghost use Rattle.mg_dev.specs.Runs.{status_of};
 ghost use Rattle.mg_dev.specs.declared.part.Part.TheVariants as part;
-ghost use Rattle.mg_dev.specs.declared.fault.Fault.TheVariants as fault;
-ghost use Rattle.mg_defs.specs.Join.{join};
 ghost use Rattle.mg_defs.specs.WithinLimits.{IsWithinLimits};
-ghost use Rattle.mg_layout.specs.Stands.{StandsIn};
 ghost use Rattle.mg_make.specs.Putting.{IsEmptied, OthersSame};
 ghost use Rattle.mg_merge.specs.Joined.{Joined};
-ghost use Rattle.mg_make.specs.Outcomes.{BetweenMoments, Completes, HasSummaryOf, IsEarly, Left, MakesSet, RefusesDocuments, RefusesPieces};
-ghost use Rattle.mg_merge.specs.Merging.{BothStand, ForBoth, ForJoin, ForJoinAndPiece, IfNew, MergeStops, RefusesMissing, RefusesSizeByHeads, budget_of};
+ghost use Rattle.mg_make.specs.Outcomes.{BetweenMoments, HasSummaryOf, IsEarly, Left, MakesSet};
+ghost use Rattle.mg_merge.specs.Merging.{ForBoth, budget_of};
 ghost use Rattle.mg_merge.specs.Stops.{CountingStops};
 ghost use Rattle.mg_merge.specs.Passes.{AreApart};
 ghost use Rattle.mg_merge.specs.Texts.{AreTexts, TextsFit, TextsStand};
 
 use crate::counting::count_all;
+use crate::documents::Documents;
 use crate::heads::{budget_of, joined_size, load_heads};
 use crate::texts::Texts;
 use crate::writing::write_set;
@@ -48,44 +46,9 @@ pub fn merge<S: Store>(
     ensures joined { BetweenMoments S.files S.reads S.faults store.old store.new
         (λ before now. Joined first.now second.now new.now before now (status_of result)) }
     // At `Ok` the summary has the numbers of both collections in one.
-    ensures summary { ForBoth (S.files store.old) first.now second.now (λ cap joined. HasSummaryOf (budget_of cap) result joined) }
+    ensures summary { ForBoth (S.files store.old) first.now second.now
+        (λ cap joined. HasSummaryOf (budget_of cap) result joined) }
     ensures later { S.faults store.old ≤ S.faults store.new }
-{
-    merge_files(alloc, store, first, second, new)
-}
-
-// Makes the set of the documents of two sets under a third base, and tells how the store stands then.
-fn merge_files<S: Store>(
-    alloc: Global,
-    store: &mut S,
-    first: &str,
-    second: &str,
-    new: &str,
-) -> Result<Summary, Fault>
-    // At `Ok` the new set stands for both collections in one, with as many occurrences to a run as the first one has.
-    ensures stands { ForBoth (S.files store.old) first.now second.now (λ cap joined. OnOk result (StandsIn 2 cap (S.files store.new) new.now joined)) }
-    ensures summary { ForBoth (S.files store.old) first.now second.now (λ cap joined. HasSummaryOf (budget_of cap) result joined) }
-    ensures merge_a { (a b : List ℕ) → BothStand (S.files store.old) first.now second.now a b →
-        OnOk result (IsEmptied (S.files store.new) new.now part.MergeA) }
-    ensures merge_b { (a b : List ℕ) → BothStand (S.files store.old) first.now second.now a b →
-        OnOk result (IsEmptied (S.files store.new) new.now part.MergeB) }
-    // Whatever it answers: files of other names are as before, and the new set is as before, or stands for no
-    // collection, or for this one; after an early refusal all files are as before.
-    ensures others { OthersSame new.now (S.files store.old) (S.files store.new) }
-    ensures left { (a b : List ℕ) → BothStand (S.files store.old) first.now second.now a b → Left new.now (S.files store.old) (S.files store.new) (join a b) }
-    ensures early { IfErr result (λ fault. IsEarly fault → S.files store.new ≡ S.files store.old) }
-    // The cause of each refusal.
-    ensures cause { IfErr result (MergeStops (Rose (S.faults store.old) (S.faults store.new)) (S.files store.old) first.now second.now new.now) }
-    ensures later { S.faults store.old ≤ S.faults store.new }
-    // Each cause is refused, in this order.
-    ensures same_name { (new.now ≡ first.now) ⊎ (new.now ≡ second.now) → result ≡ Err fault.SameName }
-    ensures missing { IfNew (S.files store.old) first.now second.now new.now (RefusesMissing (S.files store.old) first.now second.now result) }
-    ensures large { (size : ℕ) → IfNew (S.files store.old) first.now second.now new.now
-        (RefusesSizeByHeads (S.files store.old) first.now second.now size result) }
-    ensures documents { ForJoin (S.files store.old) first.now second.now new.now (RefusesDocuments result) }
-    ensures pieces { ForJoinAndPiece (S.files store.old) first.now second.now new.now (RefusesPieces result) }
-    // With no such cause it is done, or memory lacks.
-    ensures complete { ForJoin (S.files store.old) first.now second.now new.now (Completes S.faults store.old store.new result) }
 {
     if new == first {
         return Err(Fault::SameName);
@@ -93,6 +56,26 @@ fn merge_files<S: Store>(
     if new == second {
         return Err(Fault::SameName);
     }
+    merge_apart::<S, Texts<'_, S>>(alloc, store, first, second, new)
+}
+
+// Makes the set of the documents of two sets under a base that is none of theirs. What reads the documents is a
+// parameter, so that nothing is seen of it here but what it promises.
+fn merge_apart<'a, S: Store, D: Documents<'a, S> + Drop>(
+    alloc: Global,
+    store: &mut S,
+    first: &'a str,
+    second: &'a str,
+    new: &str,
+) -> Result<Summary, Fault>
+    requires one { new.now ≢ first.now }
+    requires other { new.now ≢ second.now }
+    ensures joined { BetweenMoments S.files S.reads S.faults store.old store.new
+        (λ before now. Joined first.now second.now new.now before now (status_of result)) }
+    ensures summary { ForBoth (S.files store.old) first.now second.now
+        (λ cap joined. HasSummaryOf (budget_of cap) result joined) }
+    ensures later { S.faults store.old ≤ S.faults store.new }
+{
     let heads = match load_heads(store, first, second) {
         Ok(heads) => heads,
         Err(refusal) => return Err(refusal),
@@ -106,7 +89,7 @@ fn merge_files<S: Store>(
     }
     // By this law no part of the new set is one that is read.
     names_apart();
-    let mut texts = match Texts::load(alloc, store, first, second, &heads) {
+    let mut texts = match D::load(alloc, store, first, second, &heads) {
         Ok(texts) => texts,
         Err(refusal) => return Err(refusal),
     };
@@ -115,27 +98,34 @@ fn merge_files<S: Store>(
 }
 
 // Makes the set of two texts, by a pool of so many bytes.
-fn merge_texts<S: Store>(
+fn merge_texts<'a, S: Store, D: Documents<'a, S>>(
     alloc: Global,
     store: &mut S,
-    texts: &mut Texts<'_, S>,
+    texts: &mut D,
     new: &str,
     budget: u64,
 ) -> Result<Summary, Fault>
     requires least { 4096 ≤ budget }
     requires most { budget ≤ 2 ^ 30 }
-    requires fits { TextsFit texts.old (S.files store.old) }
-    requires apart { AreApart new.now texts.old }
-    ensures stands { ForEach (TextsStand texts.old (S.files store.old)) (MakesSet budget (S.files store.new) new.now result) }
-    ensures summary { ForEach (TextsStand texts.old (S.files store.old)) (HasSummaryOf budget result) }
-    ensures limits { (collection : List ℕ) → TextsStand texts.old (S.files store.old) collection → OnOk result (IsWithinLimits 2 collection) }
-    ensures merge_a { AreTexts texts.old (S.files store.old) → OnOk result (IsEmptied (S.files store.new) new.now part.MergeA) }
-    ensures merge_b { AreTexts texts.old (S.files store.old) → OnOk result (IsEmptied (S.files store.new) new.now part.MergeB) }
-    ensures left { (collection : List ℕ) → TextsStand texts.old (S.files store.old) collection →
+    requires fits { TextsFit (D.texts texts.old) (S.files store.old) }
+    requires apart { AreApart new.now (D.texts texts.old) }
+    ensures stands { ForEach (TextsStand (D.texts texts.old) (S.files store.old))
+        (MakesSet budget (S.files store.new) new.now result) }
+    ensures summary { ForEach (TextsStand (D.texts texts.old) (S.files store.old))
+        (HasSummaryOf budget result) }
+    ensures limits { (collection : List ℕ) → TextsStand (D.texts texts.old)
+        (S.files store.old) collection → OnOk result (IsWithinLimits 2 collection) }
+    ensures merge_a { AreTexts (D.texts texts.old) (S.files store.old) → OnOk result
+        (IsEmptied (S.files store.new) new.now part.MergeA) }
+    ensures merge_b { AreTexts (D.texts texts.old) (S.files store.old) → OnOk result
+        (IsEmptied (S.files store.new) new.now part.MergeB) }
+    ensures left { (collection : List ℕ) → TextsStand (D.texts texts.old)
+        (S.files store.old) collection →
         Left new.now (S.files store.old) (S.files store.new) collection }
     ensures others { OthersSame new.now (S.files store.old) (S.files store.new) }
     ensures early { IfErr result (λ fault. IsEarly fault → S.files store.new ≡ S.files store.old) }
-    ensures refused { IfErr result (CountingStops (Rose (S.faults store.old) (S.faults store.new)) (TextsStand texts.old (S.files store.old))) }
+    ensures refused { IfErr result (CountingStops (Rose (S.faults store.old) (S.faults store.new))
+        (TextsStand (D.texts texts.old) (S.files store.old))) }
     ensures later { S.faults store.old ≤ S.faults store.new }
 {
     let (plan, room) = match count_all(alloc, store, texts, budget) {

@@ -12,8 +12,8 @@ ghost use Rattle.mg_make.specs.Outcomes.{HasSummaryOf, Left, MakesSet};
 ghost use Rattle.mg_merge.specs.Passes.{AreAllGiven, AreApart, ArePlanned, ForPlanned};
 ghost use Rattle.mg_merge.specs.Texts.{TextsFit};
 
+use crate::documents::Documents;
 use crate::retelling::{retold, too_long};
-use crate::texts::Texts;
 use mg_dev::{Fault, Store};
 use mg_make::{Plan, Room, SetWriter, Summary, empty_heads_stand_for_none};
 use std::alloc::Global;
@@ -24,16 +24,21 @@ fn put_document<S: Store>(
     writer: &mut SetWriter<'_>,
     bytes: &[u8],
 ) -> Result<(), Fault>
-    requires put { (fed : List ℕ) × HasPut writer.old (S.files store.old) fed × (length fed + length bytes.now < 2 ^ 32) }
-    requires head { IsSome (S.files store.old) → file_at (S.files store.old) (full_name writer.old.base part.Head) ≡ Some [] }
-    ensures put { OnOk result ((fed : List ℕ) → HasPut writer.old (S.files store.old) fed → HasPut writer.new (S.files store.new) (fed ++ bytes.now)) }
+    requires put { (fed : List ℕ) × HasPut writer.old (S.files store.old) fed ×
+        (length fed + length bytes.now < 2 ^ 32) }
+    requires head { IsSome (S.files store.old) →
+        file_at (S.files store.old) (full_name writer.old.base part.Head) ≡ Some [] }
+    ensures put { OnOk result ((fed : List ℕ) → HasPut writer.old (S.files store.old) fed →
+        HasPut writer.new (S.files store.new) (fed ++ bytes.now)) }
     ensures base { writer.new.base ≡ writer.old.base }
     ensures plan { writer.new.plan ≡ writer.old.plan }
     ensures limit { writer.new.limit ≡ writer.old.limit }
-    ensures head { IsSome (S.files store.old) → file_at (S.files store.new) (full_name writer.old.base part.Head) ≡ Some [] }
+    ensures head { IsSome (S.files store.old) →
+        file_at (S.files store.new) (full_name writer.old.base part.Head) ≡ Some [] }
     ensures others { OthersSame writer.old.base (S.files store.old) (S.files store.new) }
     ensures later { S.faults store.old ≤ S.faults store.new }
-    ensures refused { NextRefused writer.old (λ more. bytes.now ++ more) S.files S.faults store.old store.new result }
+    ensures refused { NextRefused writer.old (λ more. bytes.now ++ more)
+        S.files S.faults store.old store.new result }
 {
     for byte in bytes {
         match writer.take(store, *byte) {
@@ -45,29 +50,33 @@ fn put_document<S: Store>(
 }
 
 // Gives each document of the texts to the writer of their set.
-fn put_documents<S: Store>(
+fn put_documents<'a, S: Store, D: Documents<'a, S>>(
     store: &mut S,
-    texts: &mut Texts<'_, S>,
+    texts: &mut D,
     writer: &mut SetWriter<'_>,
 ) -> Result<(), Fault>
-    requires fits { TextsFit texts.old (S.files store.old) }
-    requires apart { AreApart writer.old.base texts.old }
+    requires fits { TextsFit (D.texts texts.old) (S.files store.old) }
+    requires apart { AreApart writer.old.base (D.texts texts.old) }
     requires nothing { HasPut writer.old (S.files store.old) [] }
-    requires head { IsSome (S.files store.old) → file_at (S.files store.old) (full_name writer.old.base part.Head) ≡ Some [] }
-    ensures put { OnOk result ((fed : List ℕ) × AreAllGiven texts.old (S.files store.old) fed × HasPut writer.new (S.files store.new) fed) }
-    ensures few { texts.old.size < 2 ^ 32 }
+    requires head { IsSome (S.files store.old) →
+        file_at (S.files store.old) (full_name writer.old.base part.Head) ≡ Some [] }
+    ensures put { OnOk result ((fed : List ℕ) × AreAllGiven (D.texts texts.old)
+        (S.files store.old) fed × HasPut writer.new (S.files store.new) fed) }
+    ensures few { (D.texts texts.old).size < 2 ^ 32 }
     ensures base { writer.new.base ≡ writer.old.base }
     ensures plan { writer.new.plan ≡ writer.old.plan }
     ensures limit { writer.new.limit ≡ writer.old.limit }
-    ensures head { IsSome (S.files store.old) → file_at (S.files store.new) (full_name writer.old.base part.Head) ≡ Some [] }
+    ensures head { IsSome (S.files store.old) →
+        file_at (S.files store.new) (full_name writer.old.base part.Head) ≡ Some [] }
     ensures others { OthersSame writer.old.base (S.files store.old) (S.files store.new) }
     ensures later { S.faults store.old ≤ S.faults store.new }
-    ensures refused { IfErr result (ReadStops (Rose (S.faults store.old) (S.faults store.new)) (ArePlanned writer.old.plan texts.old (S.files store.old))) }
+    ensures refused { IfErr result (ReadStops (Rose (S.faults store.old) (S.faults store.new))
+        (ArePlanned writer.old.plan (D.texts texts.old) (S.files store.old))) }
 {
     let size = texts.size();
     let mut left = size;
     for index in 0..texts.documents() {
-        match texts.read(store, index + 1) {
+        match texts.read(store, index + 1, left) {
             Ok(()) => {}
             Err(refusal) => return Err(refusal),
         }
@@ -85,26 +94,32 @@ fn put_documents<S: Store>(
 }
 
 /// Writes the set of two texts by a plan: the head is emptied first and appended last.
-pub(crate) fn write_set<'a, S: Store>(
+pub(crate) fn write_set<'a, 'b, S: Store, D: Documents<'b, S>>(
     alloc: Global,
     store: &mut S,
-    texts: &mut Texts<'_, S>,
+    texts: &mut D,
     base: &'a str,
     plan: &'a Plan,
     room: Room,
 ) -> Result<Summary, Fault>
     requires plan { IsPlan plan.now }
     requires room { IsRoomFor room plan.now room.pool.limit }
-    requires fits { TextsFit texts.old (S.files store.old) }
-    requires apart { AreApart base.now texts.old }
-    ensures stands { ForPlanned plan.entry.now texts.old (S.files store.old) (MakesSet room.pool.limit (S.files store.new) base.entry.now result) }
-    ensures summary { ForPlanned plan.entry.now texts.old (S.files store.old) (HasSummaryOf room.pool.limit result) }
-    ensures merge_a { ArePlanned plan.entry.now texts.old (S.files store.old) → OnOk result (IsEmptied (S.files store.new) base.entry.now part.MergeA) }
-    ensures merge_b { ArePlanned plan.entry.now texts.old (S.files store.old) → OnOk result (IsEmptied (S.files store.new) base.entry.now part.MergeB) }
-    ensures left { ForPlanned plan.entry.now texts.old (S.files store.old) (Left base.entry.now (S.files store.old) (S.files store.new)) }
+    requires fits { TextsFit (D.texts texts.old) (S.files store.old) }
+    requires apart { AreApart base.now (D.texts texts.old) }
+    ensures stands { ForPlanned plan.entry.now (D.texts texts.old) (S.files store.old)
+        (MakesSet room.pool.limit (S.files store.new) base.entry.now result) }
+    ensures summary { ForPlanned plan.entry.now (D.texts texts.old) (S.files store.old)
+        (HasSummaryOf room.pool.limit result) }
+    ensures merge_a { ArePlanned plan.entry.now (D.texts texts.old) (S.files store.old) →
+        OnOk result (IsEmptied (S.files store.new) base.entry.now part.MergeA) }
+    ensures merge_b { ArePlanned plan.entry.now (D.texts texts.old) (S.files store.old) →
+        OnOk result (IsEmptied (S.files store.new) base.entry.now part.MergeB) }
+    ensures left { ForPlanned plan.entry.now (D.texts texts.old) (S.files store.old)
+        (Left base.entry.now (S.files store.old) (S.files store.new)) }
     ensures others { OthersSame base.entry.now (S.files store.old) (S.files store.new) }
     ensures later { S.faults store.old ≤ S.faults store.new }
-    ensures refused { IfErr result (ReadStops (Rose (S.faults store.old) (S.faults store.new)) (ArePlanned plan.entry.now texts.old (S.files store.old))) }
+    ensures refused { IfErr result (ReadStops (Rose (S.faults store.old) (S.faults store.new))
+        (ArePlanned plan.entry.now (D.texts texts.old) (S.files store.old))) }
 {
     empty_heads_stand_for_none();
     let mut writer = match SetWriter::start(alloc, store, base, plan, room) {

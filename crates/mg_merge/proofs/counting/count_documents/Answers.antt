@@ -2,7 +2,7 @@ use Rattle.std.proofs.Common.{arith, ◌≡◌, ◌<◌, ◌≤◌, ◌+◌, ◌
 use Rattle.mg_defs.specs.Split.{documents, has_open_end, joined}
 use Rattle.mg_merge.specs.Passes.{AreGiven}
 use Rattle.mg_merge.specs.Texts.{TextsStand, closed_document}
-use Rattle.mg_merge.proofs.GivenLaws.{first_next, given_each, given_nothing, given_one_more, too_little, too_much}
+use Rattle.mg_merge.proofs.GivenLaws.{first_next, given_each, given_nothing, given_one_more, short_next, too_little, too_much}
 use Rattle.mg_merge.proofs.PassLaws.{counting_stops, rose_behind}
 use Rattle.mg_merge.proofs.StopLaws.{read_counts}
 use Rattle.mg_merge.proofs.TextLaws.{texts_more, texts_none, texts_stand_on}
@@ -21,7 +21,13 @@ pub returns-in-Err-clause-refused : goal.returns-in-Err-clause-refused
 returns-in-Err-clause-refused g c =
     let so_far = c.loop-index.invariant in
     read_counts _ _ _ _ c.in-Err.refusal (λ rose. rose_behind _ _ _ so_far.later rose)
-    (λ collection stand. (collection, texts_stand_on c.args.texts.now c.loop-index.texts (g.S.Store.files c.args.store.now) (g.S.Store.files c.loop-index.store) collection so_far.same so_far.files stand))
+    (λ collection stand. (
+      collection,
+      record {
+        stands = texts_stand_on (g.D.Documents.texts c.args.texts.now) (g.D.Documents.texts c.loop-index.texts) (g.S.Store.files c.args.store.now) (g.S.Store.files c.loop-index.store) collection so_far.same so_far.files stand;
+        short = short_next (g.D.Documents.texts c.args.texts.now) (g.S.Store.files c.args.store.now) collection so_far.counted.0 c.loop-index.index c.loop-index.left c.requires.fits (omega (arith, c.loop-index-test.true, c.documents-index-end.ensures)) so_far.counted.1 stand;
+      },
+    ))
     c.in-Err.ensures.refused
 
 -- ---- a document is longer than what is left
@@ -29,15 +35,15 @@ returns-in-Err-clause-refused g c =
 pub returns-then-found-left-clause-refused : goal.returns-then-found-left-clause-refused
 returns-then-found-left-clause-refused g c = λ collection stand.
     let so_far = c.loop-index.invariant in
-    let texts = c.args.texts.now in
+    let texts = g.D.Documents.texts c.args.texts.now in
     let before = g.S.Store.files c.args.store.now in
     let middle = g.S.Store.files c.loop-index.store in
     let fed = so_far.counted.0 in
     let given : AreGiven texts before c.loop-index.index c.loop-index.left fed = so_far.counted.1 in
     let held = c.bytes.result.now in
-    let is : ((collection : List ℕ) → TextsStand texts before collection → held ≡ closed_document (c.loop-index.index + 1) collection)
-    = λ collection stand. c.bytes.ensures ∙ c.in-Ok.ensures.held collection (texts_stand_on texts c.loop-index.texts before middle collection so_far.same so_far.files stand) in
     let more : c.loop-index.index < texts.all = omega (arith, c.loop-index-test.true, c.documents-index-end.ensures) in
+    let is : ((collection : List ℕ) → TextsStand texts before collection → held ≡ closed_document (c.loop-index.index + 1) collection)
+    = λ collection stand. c.bytes.ensures ∙ c.in-Ok.ensures.held collection (record { stands = texts_stand_on texts (g.D.Documents.texts c.loop-index.texts) before middle collection so_far.same so_far.files stand; short = short_next texts before collection fed c.loop-index.index c.loop-index.left c.requires.fits more given stand }) in
     too_much texts before collection fed held c.loop-index.index c.loop-index.left c.requires.fits more given stand (is collection stand) (omega (arith, c.if-found-left.true))
 
 -- ---- a document is counted
@@ -45,15 +51,15 @@ returns-then-found-left-clause-refused g c = λ collection stand.
 pub count_document-requires : goal.count_document-requires
 count_document-requires g c =
     let so_far = c.loop-index.invariant in
-    let texts = c.args.texts.now in
+    let texts = g.D.Documents.texts c.args.texts.now in
     let before = g.S.Store.files c.args.store.now in
     let middle = g.S.Store.files c.loop-index.store in
     let fed = so_far.counted.0 in
     let given : AreGiven texts before c.loop-index.index c.loop-index.left fed = so_far.counted.1 in
     let held = c.bytes-in-loop-index.result.now in
-    let is : ((collection : List ℕ) → TextsStand texts before collection → held ≡ closed_document (c.loop-index.index + 1) collection)
-    = λ collection stand. c.bytes-in-loop-index.ensures ∙ c.in-Ok.ensures.held collection (texts_stand_on texts c.loop-index.texts before middle collection so_far.same so_far.files stand) in
     let more : c.loop-index.index < texts.all = omega (arith, c.loop-index-test.true, c.documents-index-end.ensures) in
+    let is : ((collection : List ℕ) → TextsStand texts before collection → held ≡ closed_document (c.loop-index.index + 1) collection)
+    = λ collection stand. c.bytes-in-loop-index.ensures ∙ c.in-Ok.ensures.held collection (record { stands = texts_stand_on texts (g.D.Documents.texts c.loop-index.texts) before middle collection so_far.same so_far.files stand; short = short_next texts before collection fed c.loop-index.index c.loop-index.left c.requires.fits more given stand }) in
     let count : length c.bytes.result.now ≡ length held = ap (λ (bytes : List ℕ). length bytes) (c.bytes.ensures ∙ sym c.bytes-in-loop-index.ensures) in
     let within : length c.bytes.result.now ≤ c.loop-index.left = omega (arith, c.if-found-left.false) in
     record { given = (fed, so_far.counted.2, omega (arith, given.size, c.requires.fits.few, count, within)) }
@@ -61,15 +67,15 @@ count_document-requires g c =
 pub returns-in-Err-count_document-clause-refused : goal.returns-in-Err-count_document-clause-refused
 returns-in-Err-count_document-clause-refused g c =
     let so_far = c.loop-index.invariant in
-    let texts = c.args.texts.now in
+    let texts = g.D.Documents.texts c.args.texts.now in
     let before = g.S.Store.files c.args.store.now in
     let middle = g.S.Store.files c.loop-index.store in
     let fed = so_far.counted.0 in
     let given : AreGiven texts before c.loop-index.index c.loop-index.left fed = so_far.counted.1 in
     let held = c.bytes-in-loop-index.result.now in
-    let is : ((collection : List ℕ) → TextsStand texts before collection → held ≡ closed_document (c.loop-index.index + 1) collection)
-    = λ collection stand. c.bytes-in-loop-index.ensures ∙ c.in-Ok.ensures.held collection (texts_stand_on texts c.loop-index.texts before middle collection so_far.same so_far.files stand) in
     let more : c.loop-index.index < texts.all = omega (arith, c.loop-index-test.true, c.documents-index-end.ensures) in
+    let is : ((collection : List ℕ) → TextsStand texts before collection → held ≡ closed_document (c.loop-index.index + 1) collection)
+    = λ collection stand. c.bytes-in-loop-index.ensures ∙ c.in-Ok.ensures.held collection (record { stands = texts_stand_on texts (g.D.Documents.texts c.loop-index.texts) before middle collection so_far.same so_far.files stand; short = short_next texts before collection fed c.loop-index.index c.loop-index.left c.requires.fits more given stand }) in
     counting_stops _ _ (fed ++ held) c.in-Err-count_document.refusal
     (λ collection stand. (joined (drop (c.loop-index.index + 1) (documents collection)) (has_open_end collection), first_next texts before collection fed held c.loop-index.index c.loop-index.left c.requires.fits more given stand (is collection stand)))
     (c.in-Err-count_document.ensures.refused fed so_far.counted.2)
@@ -77,20 +83,20 @@ returns-in-Err-count_document-clause-refused g c =
 pub loop-index-preserved : goal.loop-index-preserved
 loop-index-preserved g c =
     let so_far = c.loop-index.invariant in
-    let texts = c.args.texts.now in
+    let texts = g.D.Documents.texts c.args.texts.now in
     let before = g.S.Store.files c.args.store.now in
     let middle = g.S.Store.files c.loop-index.store in
     let fed = so_far.counted.0 in
     let given : AreGiven texts before c.loop-index.index c.loop-index.left fed = so_far.counted.1 in
     let held = c.bytes-in-loop-index.result.now in
-    let is : ((collection : List ℕ) → TextsStand texts before collection → held ≡ closed_document (c.loop-index.index + 1) collection)
-    = λ collection stand. c.bytes-in-loop-index.ensures ∙ c.in-Ok.ensures.held collection (texts_stand_on texts c.loop-index.texts before middle collection so_far.same so_far.files stand) in
     let more : c.loop-index.index < texts.all = omega (arith, c.loop-index-test.true, c.documents-index-end.ensures) in
+    let is : ((collection : List ℕ) → TextsStand texts before collection → held ≡ closed_document (c.loop-index.index + 1) collection)
+    = λ collection stand. c.bytes-in-loop-index.ensures ∙ c.in-Ok.ensures.held collection (record { stands = texts_stand_on texts (g.D.Documents.texts c.loop-index.texts) before middle collection so_far.same so_far.files stand; short = short_next texts before collection fed c.loop-index.index c.loop-index.left c.requires.fits more given stand }) in
     let count : length c.bytes.result.now ≡ length held = ap (λ (bytes : List ℕ). length bytes) (c.bytes.ensures ∙ sym c.bytes-in-loop-index.ensures) in
     let within : length c.bytes.result.now ≤ c.loop-index.left = omega (arith, c.if-found-left.false) in
     record {
       fits = c.in-Ok.ensures.fits;
-      same = texts_more texts c.loop-index.texts c.read.new.self so_far.same c.in-Ok.ensures.same;
+      same = texts_more texts (g.D.Documents.texts c.loop-index.texts) (g.D.Documents.texts c.read.new.self) so_far.same c.in-Ok.ensures.same;
       files = c.in-Ok.ensures.files ∙ so_far.files;
       later = omega (arith, so_far.later, c.in-Ok.ensures.later);
       counted = (
@@ -105,10 +111,10 @@ loop-index-preserved g c =
 pub returns-then-left-gt0-clause-refused : goal.returns-then-left-gt0-clause-refused
 returns-then-left-gt0-clause-refused g c = λ collection stand.
     let so_far = c.loop-index.invariant in
-    too_little c.args.texts.now (g.S.Store.files c.args.store.now) collection so_far.counted.0 c.loop-index.index c.loop-index.left c.requires.fits (omega (arith, c.loop-index-test.false, c.documents-index-end.ensures)) so_far.counted.1 stand
+    too_little (g.D.Documents.texts c.args.texts.now) (g.S.Store.files c.args.store.now) collection so_far.counted.0 c.loop-index.index c.loop-index.left c.requires.fits (omega (arith, c.loop-index-test.false, c.documents-index-end.ensures)) so_far.counted.1 stand
     (omega (arith, c.if-left-gt0.true))
 
 pub returns-clause-counted : goal.returns-clause-counted
 returns-clause-counted g c =
     let so_far = c.loop-index.invariant in
-    (so_far.counted.0, given_each c.args.texts.now (g.S.Store.files c.args.store.now) so_far.counted.0 c.loop-index.index c.loop-index.left c.requires.fits (omega (arith, c.loop-index-test.false, c.documents-index-end.ensures)) so_far.counted.1, so_far.counted.2)
+    (so_far.counted.0, given_each (g.D.Documents.texts c.args.texts.now) (g.S.Store.files c.args.store.now) so_far.counted.0 c.loop-index.index c.loop-index.left c.requires.fits (omega (arith, c.loop-index-test.false, c.documents-index-end.ensures)) so_far.counted.1, so_far.counted.2)

@@ -6,9 +6,9 @@ use Rattle.mg_merge.proofs.counting.count_documents.Given as goal
 
 abbrev pub invariant-loop-index : goal.invariant-loop-index
 invariant-loop-index g l = record {
-  fits : TextsFit l.texts (g.S.Store.files l.store);
-  same : SameTexts l.fn.texts l.texts;
+  fits : TextsFit (g.D.Documents.texts l.texts) (g.S.Store.files l.store);
+  same : SameTexts (g.D.Documents.texts l.fn.texts) (g.D.Documents.texts l.texts);
   files : g.S.Store.files l.store ≡ g.S.Store.files l.fn.store;
   later : g.S.Store.faults l.fn.store ≤ g.S.Store.faults l.store;
-  counted : (fed : List ℕ) × AreGiven l.fn.texts (g.S.Store.files l.fn.store) l.index l.left fed × HasCounted l.count fed;
+  counted : (fed : List ℕ) × AreGiven (g.D.Documents.texts l.fn.texts) (g.S.Store.files l.fn.store) l.index l.left fed × HasCounted l.count fed;
 }

@@ -1,7 +1,13 @@
-use Rattle.mg_merge.proofs.AnswerLaws.{joined_by}
+use Rattle.std.proofs.Common.{◌≡◌, inl, inr, refl, rules}
+use Rattle.mg_merge.proofs.AnswerLaws.{same_by}
 use Rattle.mg_merge.proofs.merging.merge.Goals as goal
 
-pub returns-clause-joined : goal.returns-clause-joined
-returns-clause-joined g c = joined_by _ _ _ _ _ c.merge_files.result
-    c.merge_files.ensures.stands c.merge_files.ensures.merge_a c.merge_files.ensures.merge_b c.merge_files.ensures.others c.merge_files.ensures.left c.merge_files.ensures.early
-    c.merge_files.ensures.cause c.merge_files.ensures.same_name c.merge_files.ensures.missing c.merge_files.ensures.large c.merge_files.ensures.documents c.merge_files.ensures.pieces c.merge_files.ensures.complete
+pub returns-then-eq-clause-joined : goal.returns-then-eq-clause-joined
+returns-then-eq-clause-joined g c =
+    let same : c.args.new.now ≡ c.args.first.now = search rules in
+    same_by _ _ _ _ _ refl (inl same)
+
+pub returns-then-eq-2-clause-joined : goal.returns-then-eq-2-clause-joined
+returns-then-eq-2-clause-joined g c =
+    let same : c.args.new.now ≡ c.args.second.now = search rules in
+    same_by _ _ _ _ _ refl (inr same)

@@ -10,7 +10,7 @@ use Rattle.mg_make.specs.Putting.{HasPut, OthersSame}
 use Rattle.mg_make.specs.Written.{SecondStops}
 use Rattle.mg_merge.specs.Passes.{AreGiven}
 use Rattle.mg_merge.specs.Texts.{TextsStand, closed_document}
-use Rattle.mg_merge.proofs.GivenLaws.{first_next, given_each, given_nothing, given_one_more, too_much}
+use Rattle.mg_merge.proofs.GivenLaws.{first_next, given_each, given_nothing, given_one_more, short_next, too_much}
 use Rattle.mg_merge.proofs.PassLaws.{others_more, others_none, put_stops, rose_behind, second_differs, still_put, still_told}
 use Rattle.mg_merge.proofs.StayLaws.{apart_still, fits_stay, texts_stay}
 use Rattle.mg_merge.proofs.StopLaws.{read_wider}
@@ -38,7 +38,13 @@ returns-in-Err-clause-refused g c =
     let before = g.S.Store.files c.args.store.now in
     let middle = g.S.Store.files c.loop-index.store in
     read_wider _ _ _ _ c.in-Err.refusal (λ rose. rose_behind _ _ _ so_far.later rose)
-    (λ some. (some.0, texts_stay c.args.writer.now.base c.args.texts.now c.loop-index.texts before middle some.0 c.requires.apart so_far.same so_far.others some.1))
+    (λ some. (
+      some.0,
+      record {
+        stands = texts_stay c.args.writer.now.base (g.D.Documents.texts c.args.texts.now) (g.D.Documents.texts c.loop-index.texts) before middle some.0 c.requires.apart so_far.same so_far.others some.1;
+        short = short_next (g.D.Documents.texts c.args.texts.now) before some.0 so_far.put.0 c.loop-index.index c.loop-index.left c.requires.fits (omega (arith, c.loop-index-test.true, c.documents-index-end.ensures)) so_far.put.1 some.1;
+      },
+    ))
     c.in-Err.ensures.refused
 
 pub returns-in-Err-clause-others : goal.returns-in-Err-clause-others
@@ -53,16 +59,16 @@ pub returns-then-found-left-clause-refused : goal.returns-then-found-left-clause
 returns-then-found-left-clause-refused g c = λ some.
     let so_far = c.loop-index.invariant in
     let base = c.args.writer.now.base in
-    let texts = c.args.texts.now in
+    let texts = g.D.Documents.texts c.args.texts.now in
     let before = g.S.Store.files c.args.store.now in
     let middle = g.S.Store.files c.loop-index.store in
     let read = g.S.Store.files c.read.new.store in
     let fed = so_far.put.0 in
     let given : AreGiven texts before c.loop-index.index c.loop-index.left fed = so_far.put.1 in
     let held = c.bytes.result.now in
-    let is : ((collection : List ℕ) → TextsStand texts before collection → held ≡ closed_document (c.loop-index.index + 1) collection)
-    = λ collection stand. c.bytes.ensures ∙ c.in-Ok.ensures.held collection (texts_stay base texts c.loop-index.texts before middle collection c.requires.apart so_far.same so_far.others stand) in
     let more : c.loop-index.index < texts.all = omega (arith, c.loop-index-test.true, c.documents-index-end.ensures) in
+    let is : ((collection : List ℕ) → TextsStand texts before collection → held ≡ closed_document (c.loop-index.index + 1) collection)
+    = λ collection stand. c.bytes.ensures ∙ c.in-Ok.ensures.held collection (record { stands = texts_stay base texts (g.D.Documents.texts c.loop-index.texts) before middle collection c.requires.apart so_far.same so_far.others stand; short = short_next texts before collection fed c.loop-index.index c.loop-index.left c.requires.fits more given stand }) in
     too_much texts before some.0 fed held c.loop-index.index c.loop-index.left c.requires.fits more given some.1 (is some.0 some.1) (omega (arith, c.if-found-left.true))
 
 pub returns-then-found-left-clause-others : goal.returns-then-found-left-clause-others
@@ -77,16 +83,16 @@ pub put_document-requires : goal.put_document-requires
 put_document-requires g c =
     let so_far = c.loop-index.invariant in
     let base = c.args.writer.now.base in
-    let texts = c.args.texts.now in
+    let texts = g.D.Documents.texts c.args.texts.now in
     let before = g.S.Store.files c.args.store.now in
     let middle = g.S.Store.files c.loop-index.store in
     let read = g.S.Store.files c.read.new.store in
     let fed = so_far.put.0 in
     let given : AreGiven texts before c.loop-index.index c.loop-index.left fed = so_far.put.1 in
     let held = c.bytes-in-loop-index.result.now in
-    let is : ((collection : List ℕ) → TextsStand texts before collection → held ≡ closed_document (c.loop-index.index + 1) collection)
-    = λ collection stand. c.bytes-in-loop-index.ensures ∙ c.in-Ok.ensures.held collection (texts_stay base texts c.loop-index.texts before middle collection c.requires.apart so_far.same so_far.others stand) in
     let more : c.loop-index.index < texts.all = omega (arith, c.loop-index-test.true, c.documents-index-end.ensures) in
+    let is : ((collection : List ℕ) → TextsStand texts before collection → held ≡ closed_document (c.loop-index.index + 1) collection)
+    = λ collection stand. c.bytes-in-loop-index.ensures ∙ c.in-Ok.ensures.held collection (record { stands = texts_stay base texts (g.D.Documents.texts c.loop-index.texts) before middle collection c.requires.apart so_far.same so_far.others stand; short = short_next texts before collection fed c.loop-index.index c.loop-index.left c.requires.fits more given stand }) in
     let count : length c.bytes.result.now ≡ length held = ap (λ (bytes : List ℕ). length bytes) (c.bytes.ensures ∙ sym c.bytes-in-loop-index.ensures) in
     let within : length c.bytes.result.now ≤ c.loop-index.left = omega (arith, c.if-found-left.false) in
     let has : HasPut c.loop-index.writer read fed = still_put c.loop-index.writer middle read fed c.in-Ok.ensures.files so_far.put.2 in
@@ -101,16 +107,16 @@ pub retold-requires : goal.retold-requires
 retold-requires g c =
     let so_far = c.loop-index.invariant in
     let base = c.args.writer.now.base in
-    let texts = c.args.texts.now in
+    let texts = g.D.Documents.texts c.args.texts.now in
     let before = g.S.Store.files c.args.store.now in
     let middle = g.S.Store.files c.loop-index.store in
     let read = g.S.Store.files c.read.new.store in
     let fed = so_far.put.0 in
     let given : AreGiven texts before c.loop-index.index c.loop-index.left fed = so_far.put.1 in
     let held = c.bytes-in-loop-index.result.now in
-    let is : ((collection : List ℕ) → TextsStand texts before collection → held ≡ closed_document (c.loop-index.index + 1) collection)
-    = λ collection stand. c.bytes-in-loop-index.ensures ∙ c.in-Ok.ensures.held collection (texts_stay base texts c.loop-index.texts before middle collection c.requires.apart so_far.same so_far.others stand) in
     let more : c.loop-index.index < texts.all = omega (arith, c.loop-index-test.true, c.documents-index-end.ensures) in
+    let is : ((collection : List ℕ) → TextsStand texts before collection → held ≡ closed_document (c.loop-index.index + 1) collection)
+    = λ collection stand. c.bytes-in-loop-index.ensures ∙ c.in-Ok.ensures.held collection (record { stands = texts_stay base texts (g.D.Documents.texts c.loop-index.texts) before middle collection c.requires.apart so_far.same so_far.others stand; short = short_next texts before collection fed c.loop-index.index c.loop-index.left c.requires.fits more given stand }) in
     let count : length c.bytes.result.now ≡ length held = ap (λ (bytes : List ℕ). length bytes) (c.bytes.ensures ∙ sym c.bytes-in-loop-index.ensures) in
     let within : length c.bytes.result.now ≤ c.loop-index.left = omega (arith, c.if-found-left.false) in
     let has : HasPut c.loop-index.writer read fed = still_put c.loop-index.writer middle read fed c.in-Ok.ensures.files so_far.put.2 in
@@ -121,16 +127,16 @@ pub returns-in-Err-put_document-clause-refused : goal.returns-in-Err-put_documen
 returns-in-Err-put_document-clause-refused g c =
     let so_far = c.loop-index.invariant in
     let base = c.args.writer.now.base in
-    let texts = c.args.texts.now in
+    let texts = g.D.Documents.texts c.args.texts.now in
     let before = g.S.Store.files c.args.store.now in
     let middle = g.S.Store.files c.loop-index.store in
     let read = g.S.Store.files c.read.new.store in
     let fed = so_far.put.0 in
     let given : AreGiven texts before c.loop-index.index c.loop-index.left fed = so_far.put.1 in
     let held = c.bytes-in-loop-index.result.now in
-    let is : ((collection : List ℕ) → TextsStand texts before collection → held ≡ closed_document (c.loop-index.index + 1) collection)
-    = λ collection stand. c.bytes-in-loop-index.ensures ∙ c.in-Ok.ensures.held collection (texts_stay base texts c.loop-index.texts before middle collection c.requires.apart so_far.same so_far.others stand) in
     let more : c.loop-index.index < texts.all = omega (arith, c.loop-index-test.true, c.documents-index-end.ensures) in
+    let is : ((collection : List ℕ) → TextsStand texts before collection → held ≡ closed_document (c.loop-index.index + 1) collection)
+    = λ collection stand. c.bytes-in-loop-index.ensures ∙ c.in-Ok.ensures.held collection (record { stands = texts_stay base texts (g.D.Documents.texts c.loop-index.texts) before middle collection c.requires.apart so_far.same so_far.others stand; short = short_next texts before collection fed c.loop-index.index c.loop-index.left c.requires.fits more given stand }) in
     let count : length c.bytes.result.now ≡ length held = ap (λ (bytes : List ℕ). length bytes) (c.bytes.ensures ∙ sym c.bytes-in-loop-index.ensures) in
     let within : length c.bytes.result.now ≤ c.loop-index.left = omega (arith, c.if-found-left.false) in
     let has : HasPut c.loop-index.writer read fed = still_put c.loop-index.writer middle read fed c.in-Ok.ensures.files so_far.put.2 in
@@ -149,7 +155,7 @@ pub returns-in-Err-put_document-clause-others : goal.returns-in-Err-put_document
 returns-in-Err-put_document-clause-others g c =
     let so_far = c.loop-index.invariant in
     let base = c.args.writer.now.base in
-    let texts = c.args.texts.now in
+    let texts = g.D.Documents.texts c.args.texts.now in
     let before = g.S.Store.files c.args.store.now in
     let middle = g.S.Store.files c.loop-index.store in
     let read = g.S.Store.files c.read.new.store in
@@ -164,7 +170,7 @@ pub returns-in-Err-put_document-clause-head : goal.returns-in-Err-put_document-c
 returns-in-Err-put_document-clause-head g c = λ told.
     let so_far = c.loop-index.invariant in
     let base = c.args.writer.now.base in
-    let texts = c.args.texts.now in
+    let texts = g.D.Documents.texts c.args.texts.now in
     let before = g.S.Store.files c.args.store.now in
     let middle = g.S.Store.files c.loop-index.store in
     let read = g.S.Store.files c.read.new.store in
@@ -177,25 +183,25 @@ pub loop-index-preserved : goal.loop-index-preserved
 loop-index-preserved g c =
     let so_far = c.loop-index.invariant in
     let base = c.args.writer.now.base in
-    let texts = c.args.texts.now in
+    let texts = g.D.Documents.texts c.args.texts.now in
     let before = g.S.Store.files c.args.store.now in
     let middle = g.S.Store.files c.loop-index.store in
     let read = g.S.Store.files c.read.new.store in
     let fed = so_far.put.0 in
     let given : AreGiven texts before c.loop-index.index c.loop-index.left fed = so_far.put.1 in
     let held = c.bytes-in-loop-index.result.now in
-    let is : ((collection : List ℕ) → TextsStand texts before collection → held ≡ closed_document (c.loop-index.index + 1) collection)
-    = λ collection stand. c.bytes-in-loop-index.ensures ∙ c.in-Ok.ensures.held collection (texts_stay base texts c.loop-index.texts before middle collection c.requires.apart so_far.same so_far.others stand) in
     let more : c.loop-index.index < texts.all = omega (arith, c.loop-index-test.true, c.documents-index-end.ensures) in
+    let is : ((collection : List ℕ) → TextsStand texts before collection → held ≡ closed_document (c.loop-index.index + 1) collection)
+    = λ collection stand. c.bytes-in-loop-index.ensures ∙ c.in-Ok.ensures.held collection (record { stands = texts_stay base texts (g.D.Documents.texts c.loop-index.texts) before middle collection c.requires.apart so_far.same so_far.others stand; short = short_next texts before collection fed c.loop-index.index c.loop-index.left c.requires.fits more given stand }) in
     let count : length c.bytes.result.now ≡ length held = ap (λ (bytes : List ℕ). length bytes) (c.bytes.ensures ∙ sym c.bytes-in-loop-index.ensures) in
     let within : length c.bytes.result.now ≤ c.loop-index.left = omega (arith, c.if-found-left.false) in
     let has : HasPut c.loop-index.writer read fed = still_put c.loop-index.writer middle read fed c.in-Ok.ensures.files so_far.put.2 in
     let read_others : OthersSame base before read = subst (λ f. OthersSame base before f) (sym c.in-Ok.ensures.files) so_far.others in
     let now = g.S.Store.files c.put_document.new.store in
     let put_others : OthersSame base read now = subst (λ b. OthersSame b read now) so_far.base c.in-Ok-put_document.ensures.others in
-    let same = texts_more texts c.loop-index.texts c.read.new.self so_far.same c.in-Ok.ensures.same in
+    let same = texts_more texts (g.D.Documents.texts c.loop-index.texts) (g.D.Documents.texts c.read.new.self) so_far.same c.in-Ok.ensures.same in
     record {
-      fits = fits_stay base c.read.new.self read now (apart_still base texts c.read.new.self same c.requires.apart) put_others c.in-Ok.ensures.fits;
+      fits = fits_stay base (g.D.Documents.texts c.read.new.self) read now (apart_still base texts (g.D.Documents.texts c.read.new.self) same c.requires.apart) put_others c.in-Ok.ensures.fits;
       same = same;
       base = c.in-Ok-put_document.ensures.base ∙ so_far.base;
       plan = c.in-Ok-put_document.ensures.plan ∙ so_far.plan;
@@ -215,4 +221,4 @@ loop-index-preserved g c =
 pub returns-clause-put : goal.returns-clause-put
 returns-clause-put g c =
     let so_far = c.loop-index.invariant in
-    (so_far.put.0, given_each c.args.texts.now (g.S.Store.files c.args.store.now) so_far.put.0 c.loop-index.index c.loop-index.left c.requires.fits (omega (arith, c.loop-index-test.false, c.documents-index-end.ensures)) so_far.put.1, so_far.put.2)
+    (so_far.put.0, given_each (g.D.Documents.texts c.args.texts.now) (g.S.Store.files c.args.store.now) so_far.put.0 c.loop-index.index c.loop-index.left c.requires.fits (omega (arith, c.loop-index-test.false, c.documents-index-end.ensures)) so_far.put.1, so_far.put.2)

@@ -9,13 +9,13 @@ use Rattle.mg_merge.proofs.writing.put_documents.Given as goal
 
 abbrev pub invariant-loop-index : goal.invariant-loop-index
 invariant-loop-index g l = record {
-  fits : TextsFit l.texts (g.S.Store.files l.store);
-  same : SameTexts l.fn.texts l.texts;
+  fits : TextsFit (g.D.Documents.texts l.texts) (g.S.Store.files l.store);
+  same : SameTexts (g.D.Documents.texts l.fn.texts) (g.D.Documents.texts l.texts);
   base : l.writer.base ≡ l.fn.writer.base;
   plan : l.writer.plan ≡ l.fn.writer.plan;
   limit : l.writer.limit ≡ l.fn.writer.limit;
   head : IsSome (g.S.Store.files l.fn.store) → file_at (g.S.Store.files l.store) (full_name l.fn.writer.base Head) ≡ Some [];
   others : OthersSame l.fn.writer.base (g.S.Store.files l.fn.store) (g.S.Store.files l.store);
   later : g.S.Store.faults l.fn.store ≤ g.S.Store.faults l.store;
-  put : (fed : List ℕ) × AreGiven l.fn.texts (g.S.Store.files l.fn.store) l.index l.left fed × HasPut l.writer (g.S.Store.files l.store) fed;
+  put : (fed : List ℕ) × AreGiven (g.D.Documents.texts l.fn.texts) (g.S.Store.files l.fn.store) l.index l.left fed × HasPut l.writer (g.S.Store.files l.store) fed;
 }

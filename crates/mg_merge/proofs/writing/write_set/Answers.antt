@@ -10,7 +10,7 @@ use Rattle.mg_layout.specs.Stands.{Stands, StandsForNone, StandsIn}
 use Rattle.mg_make.specs.Plans.{IsPlanOf}
 use Rattle.mg_make.specs.Putting.{HasPut, OthersSame}
 use Rattle.mg_make.specs.Summaries.{summary_of}
-use Rattle.mg_merge.specs.Passes.{AreAllGiven, ArePlanned}
+use Rattle.mg_merge.specs.Passes.{AreAllGiven, AreApart, ArePlanned}
 use Rattle.mg_merge.specs.Texts.{TextsStand}
 use Rattle.mg_merge.proofs.PassLaws.{finish_stops, left_by_start, list_differs, others_more, rose_behind, still_told}
 use Rattle.mg_merge.proofs.StayLaws.{fits_stay, texts_stay}
@@ -25,8 +25,12 @@ returns-in-Err-clause-left g c = λ collection stand is. left_by_start _ _ _ _ s
 
 -- ---- the texts, once the writer was started
 
-pub put_documents-requires-clause-fits : goal.put_documents-requires-clause-fits
-put_documents-requires-clause-fits g c = fits_stay c.args.base.now c.args.texts.now (g.S.Store.files c.args.store.now) (g.S.Store.files c.start.new.store) c.requires.apart c.in-Ok.ensures.others c.requires.fits
+pub put_documents-requires : goal.put_documents-requires
+put_documents-requires g c =
+    let texts = g.D.Documents.texts c.args.texts.now in
+    let fits = fits_stay c.args.base.now texts (g.S.Store.files c.args.store.now) (g.S.Store.files c.start.new.store) c.requires.apart c.in-Ok.ensures.others c.requires.fits in
+    let apart = subst (λ base. AreApart base (g.D.Documents.texts c.args.texts.now)) (sym c.in-Ok.ensures.base) c.requires.apart in
+    λ k. ((refl, tt), (fits, (apart, (c.in-Ok.ensures.put, c.in-Ok.ensures.put.head))))
 
 -- ---- not all documents were put
 
@@ -43,7 +47,7 @@ pub returns-in-Err-put_documents-clause-refused : goal.returns-in-Err-put_docume
 returns-in-Err-put_documents-clause-refused g c = read_wider _ _ _ _ c.in-Err-put_documents.refusal (λ rose. rose_behind _ _ _ c.in-Ok.ensures.cause.later rose)
     (λ some. (
       some.0,
-      texts_stay c.args.base.now c.args.texts.now c.args.texts.now (g.S.Store.files c.args.store.now) (g.S.Store.files c.start.new.store) some.0 c.requires.apart (texts_none c.args.texts.now) c.in-Ok.ensures.others some.1,
+      texts_stay c.args.base.now (g.D.Documents.texts c.args.texts.now) (g.D.Documents.texts c.args.texts.now) (g.S.Store.files c.args.store.now) (g.S.Store.files c.start.new.store) some.0 c.requires.apart (texts_none (g.D.Documents.texts c.args.texts.now)) c.in-Ok.ensures.others some.1,
       subst (λ plan. IsPlanOf plan some.0) (sym c.in-Ok.ensures.plan) some.2,
     ))
     c.in-Err-put_documents.ensures.refused
@@ -53,10 +57,10 @@ returns-in-Err-put_documents-clause-refused g c = read_wider _ _ _ _ c.in-Err-pu
 pub returns-in-Ok-finish-clause-stands : goal.returns-in-Ok-finish-clause-stands
 returns-in-Ok-finish-clause-stands g c = λ collection stand is.
     let fed = c.in-Ok-put_documents.ensures.put.0 in
-    let given : AreAllGiven c.args.texts.now (g.S.Store.files c.start.new.store) fed = c.in-Ok-put_documents.ensures.put.1 in
+    let given : AreAllGiven (g.D.Documents.texts c.args.texts.now) (g.S.Store.files c.start.new.store) fed = c.in-Ok-put_documents.ensures.put.1 in
     let has : HasPut c.put_documents.new.writer (g.S.Store.files c.put_documents.new.store) fed = c.in-Ok-put_documents.ensures.put.2 in
-    let later : TextsStand c.args.texts.now (g.S.Store.files c.start.new.store) collection
-    = texts_stay c.args.base.now c.args.texts.now c.args.texts.now (g.S.Store.files c.args.store.now) (g.S.Store.files c.start.new.store) collection c.requires.apart (texts_none c.args.texts.now) c.in-Ok.ensures.others stand in
+    let later : TextsStand (g.D.Documents.texts c.args.texts.now) (g.S.Store.files c.start.new.store) collection
+    = texts_stay c.args.base.now (g.D.Documents.texts c.args.texts.now) (g.D.Documents.texts c.args.texts.now) (g.S.Store.files c.args.store.now) (g.S.Store.files c.start.new.store) collection c.requires.apart (texts_none (g.D.Documents.texts c.args.texts.now)) c.in-Ok.ensures.others stand in
     let all : fed ≡ collection = given.told collection later in
     let told : IsSome (g.S.Store.files c.put_documents.new.store)
     = still_told (g.S.Store.files c.start.new.store) _ c.in-Ok-put_documents.ensures.others.told (still_told (g.S.Store.files c.args.store.now) _ c.in-Ok.ensures.others.told stand.first.told) in
@@ -71,10 +75,10 @@ returns-in-Ok-finish-clause-stands g c = λ collection stand is.
 pub returns-in-Ok-finish-clause-summary : goal.returns-in-Ok-finish-clause-summary
 returns-in-Ok-finish-clause-summary g c = λ collection stand is.
     let fed = c.in-Ok-put_documents.ensures.put.0 in
-    let given : AreAllGiven c.args.texts.now (g.S.Store.files c.start.new.store) fed = c.in-Ok-put_documents.ensures.put.1 in
+    let given : AreAllGiven (g.D.Documents.texts c.args.texts.now) (g.S.Store.files c.start.new.store) fed = c.in-Ok-put_documents.ensures.put.1 in
     let has : HasPut c.put_documents.new.writer (g.S.Store.files c.put_documents.new.store) fed = c.in-Ok-put_documents.ensures.put.2 in
-    let later : TextsStand c.args.texts.now (g.S.Store.files c.start.new.store) collection
-    = texts_stay c.args.base.now c.args.texts.now c.args.texts.now (g.S.Store.files c.args.store.now) (g.S.Store.files c.start.new.store) collection c.requires.apart (texts_none c.args.texts.now) c.in-Ok.ensures.others stand in
+    let later : TextsStand (g.D.Documents.texts c.args.texts.now) (g.S.Store.files c.start.new.store) collection
+    = texts_stay c.args.base.now (g.D.Documents.texts c.args.texts.now) (g.D.Documents.texts c.args.texts.now) (g.S.Store.files c.args.store.now) (g.S.Store.files c.start.new.store) collection c.requires.apart (texts_none (g.D.Documents.texts c.args.texts.now)) c.in-Ok.ensures.others stand in
     let all : fed ≡ collection = given.told collection later in
     let told : IsSome (g.S.Store.files c.put_documents.new.store)
     = still_told (g.S.Store.files c.start.new.store) _ c.in-Ok-put_documents.ensures.others.told (still_told (g.S.Store.files c.args.store.now) _ c.in-Ok.ensures.others.told stand.first.told) in
@@ -87,10 +91,10 @@ returns-in-Ok-finish-clause-summary g c = λ collection stand is.
 pub returns-in-Ok-finish-clause-merge_a : goal.returns-in-Ok-finish-clause-merge_a
 returns-in-Ok-finish-clause-merge_a g c = λ some.
     let fed = c.in-Ok-put_documents.ensures.put.0 in
-    let given : AreAllGiven c.args.texts.now (g.S.Store.files c.start.new.store) fed = c.in-Ok-put_documents.ensures.put.1 in
+    let given : AreAllGiven (g.D.Documents.texts c.args.texts.now) (g.S.Store.files c.start.new.store) fed = c.in-Ok-put_documents.ensures.put.1 in
     let has : HasPut c.put_documents.new.writer (g.S.Store.files c.put_documents.new.store) fed = c.in-Ok-put_documents.ensures.put.2 in
-    let later : TextsStand c.args.texts.now (g.S.Store.files c.start.new.store) some.0
-    = texts_stay c.args.base.now c.args.texts.now c.args.texts.now (g.S.Store.files c.args.store.now) (g.S.Store.files c.start.new.store) some.0 c.requires.apart (texts_none c.args.texts.now) c.in-Ok.ensures.others some.1 in
+    let later : TextsStand (g.D.Documents.texts c.args.texts.now) (g.S.Store.files c.start.new.store) some.0
+    = texts_stay c.args.base.now (g.D.Documents.texts c.args.texts.now) (g.D.Documents.texts c.args.texts.now) (g.S.Store.files c.args.store.now) (g.S.Store.files c.start.new.store) some.0 c.requires.apart (texts_none (g.D.Documents.texts c.args.texts.now)) c.in-Ok.ensures.others some.1 in
     let all : fed ≡ some.0 = given.told some.0 later in
     let told : IsSome (g.S.Store.files c.put_documents.new.store)
     = still_told (g.S.Store.files c.start.new.store) _ c.in-Ok-put_documents.ensures.others.told (still_told (g.S.Store.files c.args.store.now) _ c.in-Ok.ensures.others.told some.1.first.told) in
@@ -103,10 +107,10 @@ returns-in-Ok-finish-clause-merge_a g c = λ some.
 pub returns-in-Ok-finish-clause-merge_b : goal.returns-in-Ok-finish-clause-merge_b
 returns-in-Ok-finish-clause-merge_b g c = λ some.
     let fed = c.in-Ok-put_documents.ensures.put.0 in
-    let given : AreAllGiven c.args.texts.now (g.S.Store.files c.start.new.store) fed = c.in-Ok-put_documents.ensures.put.1 in
+    let given : AreAllGiven (g.D.Documents.texts c.args.texts.now) (g.S.Store.files c.start.new.store) fed = c.in-Ok-put_documents.ensures.put.1 in
     let has : HasPut c.put_documents.new.writer (g.S.Store.files c.put_documents.new.store) fed = c.in-Ok-put_documents.ensures.put.2 in
-    let later : TextsStand c.args.texts.now (g.S.Store.files c.start.new.store) some.0
-    = texts_stay c.args.base.now c.args.texts.now c.args.texts.now (g.S.Store.files c.args.store.now) (g.S.Store.files c.start.new.store) some.0 c.requires.apart (texts_none c.args.texts.now) c.in-Ok.ensures.others some.1 in
+    let later : TextsStand (g.D.Documents.texts c.args.texts.now) (g.S.Store.files c.start.new.store) some.0
+    = texts_stay c.args.base.now (g.D.Documents.texts c.args.texts.now) (g.D.Documents.texts c.args.texts.now) (g.S.Store.files c.args.store.now) (g.S.Store.files c.start.new.store) some.0 c.requires.apart (texts_none (g.D.Documents.texts c.args.texts.now)) c.in-Ok.ensures.others some.1 in
     let all : fed ≡ some.0 = given.told some.0 later in
     let told : IsSome (g.S.Store.files c.put_documents.new.store)
     = still_told (g.S.Store.files c.start.new.store) _ c.in-Ok-put_documents.ensures.others.told (still_told (g.S.Store.files c.args.store.now) _ c.in-Ok.ensures.others.told some.1.first.told) in
@@ -119,10 +123,10 @@ returns-in-Ok-finish-clause-merge_b g c = λ some.
 pub returns-in-Ok-finish-clause-left : goal.returns-in-Ok-finish-clause-left
 returns-in-Ok-finish-clause-left g c = λ collection stand is.
     let fed = c.in-Ok-put_documents.ensures.put.0 in
-    let given : AreAllGiven c.args.texts.now (g.S.Store.files c.start.new.store) fed = c.in-Ok-put_documents.ensures.put.1 in
+    let given : AreAllGiven (g.D.Documents.texts c.args.texts.now) (g.S.Store.files c.start.new.store) fed = c.in-Ok-put_documents.ensures.put.1 in
     let has : HasPut c.put_documents.new.writer (g.S.Store.files c.put_documents.new.store) fed = c.in-Ok-put_documents.ensures.put.2 in
-    let later : TextsStand c.args.texts.now (g.S.Store.files c.start.new.store) collection
-    = texts_stay c.args.base.now c.args.texts.now c.args.texts.now (g.S.Store.files c.args.store.now) (g.S.Store.files c.start.new.store) collection c.requires.apart (texts_none c.args.texts.now) c.in-Ok.ensures.others stand in
+    let later : TextsStand (g.D.Documents.texts c.args.texts.now) (g.S.Store.files c.start.new.store) collection
+    = texts_stay c.args.base.now (g.D.Documents.texts c.args.texts.now) (g.D.Documents.texts c.args.texts.now) (g.S.Store.files c.args.store.now) (g.S.Store.files c.start.new.store) collection c.requires.apart (texts_none (g.D.Documents.texts c.args.texts.now)) c.in-Ok.ensures.others stand in
     let all : fed ≡ collection = given.told collection later in
     let told : IsSome (g.S.Store.files c.put_documents.new.store)
     = still_told (g.S.Store.files c.start.new.store) _ c.in-Ok-put_documents.ensures.others.told (still_told (g.S.Store.files c.args.store.now) _ c.in-Ok.ensures.others.told stand.first.told) in
@@ -148,10 +152,10 @@ retold-requires g c =
 pub returns-in-Err-finish-clause-left : goal.returns-in-Err-finish-clause-left
 returns-in-Err-finish-clause-left g c = λ collection stand is.
     let fed = c.in-Ok-put_documents.ensures.put.0 in
-    let given : AreAllGiven c.args.texts.now (g.S.Store.files c.start.new.store) fed = c.in-Ok-put_documents.ensures.put.1 in
+    let given : AreAllGiven (g.D.Documents.texts c.args.texts.now) (g.S.Store.files c.start.new.store) fed = c.in-Ok-put_documents.ensures.put.1 in
     let has : HasPut c.put_documents.new.writer (g.S.Store.files c.put_documents.new.store) fed = c.in-Ok-put_documents.ensures.put.2 in
-    let later : TextsStand c.args.texts.now (g.S.Store.files c.start.new.store) collection
-    = texts_stay c.args.base.now c.args.texts.now c.args.texts.now (g.S.Store.files c.args.store.now) (g.S.Store.files c.start.new.store) collection c.requires.apart (texts_none c.args.texts.now) c.in-Ok.ensures.others stand in
+    let later : TextsStand (g.D.Documents.texts c.args.texts.now) (g.S.Store.files c.start.new.store) collection
+    = texts_stay c.args.base.now (g.D.Documents.texts c.args.texts.now) (g.D.Documents.texts c.args.texts.now) (g.S.Store.files c.args.store.now) (g.S.Store.files c.start.new.store) collection c.requires.apart (texts_none (g.D.Documents.texts c.args.texts.now)) c.in-Ok.ensures.others stand in
     let all : fed ≡ collection = given.told collection later in
     let told : IsSome (g.S.Store.files c.put_documents.new.store)
     = still_told (g.S.Store.files c.start.new.store) _ c.in-Ok-put_documents.ensures.others.told (still_told (g.S.Store.files c.args.store.now) _ c.in-Ok.ensures.others.told stand.first.told) in
@@ -174,10 +178,10 @@ returns-in-Err-finish-clause-refused g c =
     (λ rose. rose_behind _ _ _ (omega (arith, c.in-Ok.ensures.cause.later, c.in-Ok-put_documents.ensures.later)) rose)
     (λ some.
     let fed = c.in-Ok-put_documents.ensures.put.0 in
-    let given : AreAllGiven c.args.texts.now (g.S.Store.files c.start.new.store) fed = c.in-Ok-put_documents.ensures.put.1 in
+    let given : AreAllGiven (g.D.Documents.texts c.args.texts.now) (g.S.Store.files c.start.new.store) fed = c.in-Ok-put_documents.ensures.put.1 in
     let has : HasPut c.put_documents.new.writer (g.S.Store.files c.put_documents.new.store) fed = c.in-Ok-put_documents.ensures.put.2 in
-    let later : TextsStand c.args.texts.now (g.S.Store.files c.start.new.store) some.0
-    = texts_stay c.args.base.now c.args.texts.now c.args.texts.now (g.S.Store.files c.args.store.now) (g.S.Store.files c.start.new.store) some.0 c.requires.apart (texts_none c.args.texts.now) c.in-Ok.ensures.others some.1 in
+    let later : TextsStand (g.D.Documents.texts c.args.texts.now) (g.S.Store.files c.start.new.store) some.0
+    = texts_stay c.args.base.now (g.D.Documents.texts c.args.texts.now) (g.D.Documents.texts c.args.texts.now) (g.S.Store.files c.args.store.now) (g.S.Store.files c.start.new.store) some.0 c.requires.apart (texts_none (g.D.Documents.texts c.args.texts.now)) c.in-Ok.ensures.others some.1 in
     let all : fed ≡ some.0 = given.told some.0 later in
     let told : IsSome (g.S.Store.files c.put_documents.new.store)
     = still_told (g.S.Store.files c.start.new.store) _ c.in-Ok-put_documents.ensures.others.told (still_told (g.S.Store.files c.args.store.now) _ c.in-Ok.ensures.others.told some.1.first.told) in

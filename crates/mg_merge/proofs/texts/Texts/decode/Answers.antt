@@ -1,25 +1,45 @@
-use Rattle.std.proofs.Common.{◌-◌, get_or, []}
-use Rattle.mg_defs.specs.Split.{documents}
+use Rattle.std.proofs.Common.{◌-◌}
+use Rattle.mg_defs.specs.Terms.{document}
 use Rattle.mg_merge.specs.Texts.{numbered}
-use Rattle.mg_merge.proofs.TextLaws.{document_ahead, document_behind, held_all}
+use Rattle.mg_merge.proofs.TextLaws.{document_ahead, document_behind, held_is, held_short, short_ahead, short_behind}
 use Rattle.mg_merge.proofs.texts.Texts.decode.Goals as goal
 
 pub returns-then-number-self-clause-held : goal.returns-then-number-self-clause-held
 returns-then-number-self-clause-held g c =
     let fits = rw (← c.self.view_is) at c.requires.fits in
     rw (← c.self.view_is)
-    (λ collection stand. held_all c.doc.result c.clear.new.self.bytes.items c.doc.new.out.bytes.items (get_or (documents stand.a) (c.args.number - 1) []) (numbered c.args.number collection) c.clear.ensures
-    (document_ahead _ (g.S.Store.files c.args.store.now) collection c.args.number fits c.requires.some c.if-number-self.true stand) (c.doc.ensures.content stand.a stand.first))
+    (λ collection has.
+    let short = short_ahead _ (g.S.Store.files c.args.store.now) collection c.args.number c.args.most c.set_most.new.self.most fits c.requires.some c.if-number-self.true c.set_most.ensures.most has in
+    let is = document_ahead _ (g.S.Store.files c.args.store.now) collection c.args.number fits c.requires.some c.if-number-self.true has.stands in
+    held_is c.read.result c.read.new.self.bytes.items (document has.stands.a c.args.number) (numbered c.args.number collection) is (c.read.ensures.content has.stands.a short))
 
 pub returns-then-number-self-clause-never_bad : goal.returns-then-number-self-clause-never_bad
-returns-then-number-self-clause-never_bad g c = rw (← c.self.view_is) (λ collection stand. c.doc.ensures.never_bad stand.a stand.first)
+returns-then-number-self-clause-never_bad g c =
+    let fits = rw (← c.self.view_is) at c.requires.fits in
+    rw (← c.self.view_is)
+    (λ collection has.
+    let short = short_ahead _ (g.S.Store.files c.args.store.now) collection c.args.number c.args.most c.set_most.new.self.most fits c.requires.some c.if-number-self.true c.set_most.ensures.most has in
+    c.read.ensures.never_bad has.stands.a short)
 
 pub returns-clause-held : goal.returns-clause-held
 returns-clause-held g c =
     let fits = rw (← c.self.view_is) at c.requires.fits in
     rw (← c.self.view_is)
-    (λ collection stand. held_all c.doc-2.result c.clear.new.self.bytes.items c.doc-2.new.out.bytes.items (get_or (documents stand.b) (c.args.number - c.self.inside.ahead - 1) []) (numbered c.args.number collection) c.clear.ensures
-    (document_behind _ (g.S.Store.files c.args.store.now) collection c.args.number fits c.if-number-self.false stand) (c.doc-2.ensures.content stand.b stand.second))
+    (λ collection has.
+    let short = short_behind _ (g.S.Store.files c.args.store.now) collection c.args.number c.args.most c.set_most.new.self.most fits c.if-number-self.false c.set_most.ensures.most has in
+    let is = document_behind _ (g.S.Store.files c.args.store.now) collection c.args.number fits c.if-number-self.false has.stands in
+    held_is c.read-2.result c.read-2.new.self.bytes.items (document has.stands.b (c.args.number - c.self.inside.ahead)) (numbered c.args.number collection) is (c.read-2.ensures.content has.stands.b short))
 
 pub returns-clause-never_bad : goal.returns-clause-never_bad
-returns-clause-never_bad g c = rw (← c.self.view_is) (λ collection stand. c.doc-2.ensures.never_bad stand.b stand.second)
+returns-clause-never_bad g c =
+    let fits = rw (← c.self.view_is) at c.requires.fits in
+    rw (← c.self.view_is)
+    (λ collection has.
+    let short = short_behind _ (g.S.Store.files c.args.store.now) collection c.args.number c.args.most c.set_most.new.self.most fits c.if-number-self.false c.set_most.ensures.most has in
+    c.read-2.ensures.never_bad has.stands.b short)
+
+pub returns-then-number-self-clause-short : goal.returns-then-number-self-clause-short
+returns-then-number-self-clause-short g c = held_short c.read.result _ _ _ c.set_most.ensures.most c.read.ensures.short
+
+pub returns-clause-short : goal.returns-clause-short
+returns-clause-short g c = held_short c.read-2.result _ _ _ c.set_most.ensures.most c.read-2.ensures.short

@@ -6,7 +6,7 @@ use Rattle.mg_layout.specs.Stands.{StandsBy}
 use Rattle.mg_merge.proofs.PassLaws.{rose_behind}
 use Rattle.mg_merge.proofs.StopLaws.{read_wider}
 use Rattle.mg_merge.proofs.TextLaws.{fits_on, same_text, size_of_sets, stands_on}
-use Rattle.mg_merge.proofs.texts.Texts.load.Goals as goal
+use Rattle.mg_merge.proofs.texts.TextsDocuments.load.Goals as goal
 
 pub returns-in-Err-clause-refused : goal.returns-in-Err-clause-refused
 returns-in-Err-clause-refused g c = read_wider _ _ _ _ c.in-Err.refusal (λ rose. rose) (λ some. (some.2.first_code, some.0, some.2.first_stands)) c.in-Err.ensures.refused

@@ -1,0 +1,70 @@
+//! Documents that are read one after the other, with the bytes that close them.
+//!
+//! Both passes take whatever reads them: they see no more of it than this trait tells.
+ghost use Rattle.std.specs.Prelude.{◌≡◌, ◌<◌, ◌≤◌, ◌+◌, ◌^◌, IfErr, IfOk, OnOk, length};
+ghost use Rattle.mg_dev.specs.Causes.{Rose};
+ghost use Rattle.mg_dev.specs.Faults.{ReadStops};
+ghost use Rattle.mg_defs.specs.Heads.{IsWithin};
+ghost use Rattle.mg_layout.specs.HeadAnswers.{fields_of};
+ghost use Rattle.mg_make.specs.Outcomes.{Fails};
+ghost use Rattle.mg_merge.specs.Merging.{joined_size};
+ghost use Rattle.mg_merge.specs.Texts.{AreShort, AreSomeSets, AreTextsOf, ForSetsBy, ForShort, SameTexts, TextsFit, TextsStand, TwoTexts, closed_document};
+
+use mg_dev::{Fault, Store};
+use mg_layout::Head;
+use std::alloc::Global;
+
+/// The documents of one set, and behind them those of another, each with the byte that closes it.
+pub(crate) trait Documents<'a, S: Store> {
+    /// What contracts see of them.
+    ghost texts: { Self → TwoTexts };
+
+    /// The documents of two sets with these heads, of fewer than 2^32 bytes together.
+    fn load(
+        alloc: Global,
+        store: &mut S,
+        first: &'a str,
+        second: &'a str,
+        heads: &(Head, Head),
+    ) -> Result<Self, Fault>
+        requires first { IsWithin (fields_of heads.now.0) }
+        requires second { IsWithin (fields_of heads.now.1) }
+        requires few { joined_size (fields_of heads.now.0) (fields_of heads.now.1) < 2 ^ 32 }
+        ensures fits { IfOk result (λ d. TextsFit (texts d) (S.files store.new)) }
+        ensures of { IfOk result (λ d. AreTextsOf (texts d) first.entry.now second.entry.now) }
+        ensures stands { ForSetsBy heads.now.0 heads.now.1
+            (S.files store.old) first.entry.now second.entry.now
+            (λ collection. IfOk result (λ d. TextsStand (texts d) (S.files store.new) collection)) }
+        ensures files { S.files store.new ≡ S.files store.old }
+        ensures later { S.faults store.old ≤ S.faults store.new }
+        ensures refused { IfErr result (ReadStops (Fails S.faults store.old store.new)
+            (AreSomeSets heads.now (S.files store.old) first.entry.now second.entry.now)) };
+
+    /// How many documents there are.
+    fn documents(&self) -> u32
+        ensures { result ≡ (texts self.now).all };
+
+    /// How many bytes all documents have with those that close them, by the heads.
+    fn size(&self) -> u64
+        ensures { result ≡ (texts self.now).size };
+
+    /// The document that was read last, with the byte that closes it.
+    fn bytes(&self) -> &[u8]
+        ensures { result.now ≡ (texts self.now).held };
+
+    /// Reads a document, from 1 to their number, and closes it; but not the last one of an open end. A document of more
+    /// than `most` bytes before the one that closes it is refused as damaged, as soon as one more is met.
+    fn read(&mut self, store: &mut S, number: u32, most: u64) -> Result<(), Fault>
+        requires fits { TextsFit (texts self.old) (S.files store.old) }
+        requires some { 1 ≤ number }
+        requires within { number ≤ (texts self.old).all }
+        ensures fits { TextsFit (texts self.new) (S.files store.new) }
+        ensures same { SameTexts (texts self.old) (texts self.new) }
+        ensures held { ForShort (texts self.old) (S.files store.old) number most
+            (λ collection. OnOk result ((texts self.new).held ≡ closed_document number collection)) }
+        ensures short { OnOk result (length (texts self.new).held ≤ most + 1) }
+        ensures files { S.files store.new ≡ S.files store.old }
+        ensures later { S.faults store.old ≤ S.faults store.new }
+        ensures refused { IfErr result (ReadStops (Rose (S.faults store.old) (S.faults store.new))
+            (AreShort (texts self.old) (S.files store.old) number most)) };
+}
