@@ -167,7 +167,10 @@ fn a_held_codeword_is_read_where_eight_bytes_are_there(rt: HostRuntime) -> Resul
     // 000 01 10 001 11, and zero-bits behind
     let bytes = [0x0c, 0x70, 0, 0, 0, 0, 0, 0, 0];
     for (place, symbol, end) in [(0, 0, 3), (3, 1, 5), (5, 2, 7), (7, 3, 10), (10, 4, 12)] {
-        assert!(rt; held(&code, &bytes, place) == (Some(symbol), end), "at {place}");
+        assert!(rt;
+            held(&code, &bytes, place) == (Some(symbol), end),
+            "at {place}"
+        );
     }
     assert!(rt; held(&code, &bytes, 16) == (None, 16));
     Ok(())

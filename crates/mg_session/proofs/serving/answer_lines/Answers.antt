@@ -3,24 +3,30 @@ use Rattle.mg_session.proofs.serving.answer_lines.Goals as goal
 
 pub returns-in-Ok : goal.returns-in-Ok
 returns-in-Ok g c = record {
-  served = (c.serve_lines.new.answerer, record {
-    all = λ reply given answers told. c.in-Ok.ensures.all reply answers given told;
-    prefix = λ reply given answers told. c.in-Ok.ensures.prefix reply answers given told;
-    left = λ given told. c.in-Ok.ensures.left given told;
-    within = λ given told. c.in-Ok.ensures.within given told;
-    answered = c.in-Ok.ensures.answered;
-    cause = tt;
-  });
+  served = (
+    c.serve_lines.new.answerer,
+    record {
+      all = λ reply given answers told. c.in-Ok.ensures.all reply answers given told;
+      prefix = λ reply given answers told. c.in-Ok.ensures.prefix reply answers given told;
+      left = λ given told. c.in-Ok.ensures.left given told;
+      within = λ given told. c.in-Ok.ensures.within given told;
+      answered = c.in-Ok.ensures.answered;
+      cause = tt;
+    },
+  );
 }
 
 pub returns : goal.returns
 returns g c = record {
-  served = (c.serve_lines.new.answerer, record {
-    all = λ reply given answers told. tt;
-    prefix = λ reply given answers told. c.in-Err.ensures.prefix reply answers given told;
-    left = λ given told. tt;
-    within = λ given told. tt;
-    answered = c.in-Err.ensures.answered;
-    cause = rw c.fault_of.ensures (ended c.in-Err.error _ _ _ _ c.in-Err.ensures.cause);
-  });
+  served = (
+    c.serve_lines.new.answerer,
+    record {
+      all = λ reply given answers told. tt;
+      prefix = λ reply given answers told. c.in-Err.ensures.prefix reply answers given told;
+      left = λ given told. tt;
+      within = λ given told. tt;
+      answered = c.in-Err.ensures.answered;
+      cause = rw c.fault_of.ensures (ended c.in-Err.error _ _ _ _ c.in-Err.ensures.cause);
+    },
+  );
 }
