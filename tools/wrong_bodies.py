@@ -35,7 +35,7 @@ from wrong_bodies_page import GATE, LEFT_OUT, PAGE, ROOT, crates_of, edits_of, f
 
 MEMORY = 4 << 30
 # What the kit's rt must have: `rt must-fail` prints neither the clause that refuses an edit nor the seconds.
-NEEDED = ("checked", "edits_of", "free", "in_lanes", "must_fail", "must_fail_all", "need", "processors", "rtlib")
+NEEDED = ("AT_LIMIT", "REFUSED", "checked", "edits_of", "free", "in_lanes", "linked", "must_fail", "need", "processors", "rtlib", "seeded")
 ROW = "| {:<12} | {:<60} | {:<44} | {:<24} | {:>5} |"
 
 
@@ -146,12 +146,12 @@ def watch(rt, watched):
 
     def watched_edit(crate, edit, flags, kept=None):
         here.output, here.edited, start = "", [], time.monotonic()
-        is_refused, said = must_fail(crate, edit, flags, kept)
+        kind, said = must_fail(crate, edit, flags, kept)
         function, clause = refused_at(here.output, here.edited)
         name = pathlib.Path(edit).stem
-        end = Tried(crate.name, name, is_refused, said, function, clause, time.monotonic() - start)
+        end = Tried(crate.name, name, kind in (rt.REFUSED, rt.AT_LIMIT), said, function, clause, time.monotonic() - start)
         watched[crate.name].append(end)
-        return is_refused, said
+        return kind, said
 
     rt.checked, rt.must_fail = watched_check, watched_edit
 
@@ -168,20 +168,30 @@ def library(crate):
 
 
 def edits(rt, crate, watched, given):
-    """Tries a crate's edits, and prints their rows; whether all were refused."""
+    """Tries a crate's edits over a proof of the crate as it stands, and prints their rows; whether all were refused."""
     if not all(given[dep.name, "lib"] for dep in crate.below()):
         return False
     good, bad = rt.edits_of(crate)
-    tried = rt.must_fail_all(crate, good, ["--jobs", "1"])
-    # An edit that was tried twice, over kept work and from nothing, is told by its last check.
-    last = {end.edit: end for end in watched[crate.name]}
-    watched[crate.name] = [last[pathlib.Path(edit).stem] for edit in good]
-    for end, (is_refused, said) in zip(watched[crate.name], tried):
-        end.is_refused, end.said = is_refused, said
-        print(end.row() if is_refused else f"{end.row()}\n{said}", flush=True)
+    flags = ["--jobs", "1"]
+    room = rt.seeded(crate, flags)
+    if not room:
+        print(f"wrong_bodies: {crate.name} is not proved, so none of its edits was tried", flush=True)
+        return False
+    for number, edit in enumerate(good):
+        over = f"{room}/{number}"
+        rt.linked(f"{room}/seed", over)
+        rt.must_fail(crate, edit, flags, over)
+        shutil.rmtree(over)
+        if not watched[crate.name][-1].is_refused:
+            # As in the gate, what is still proved over kept work is tried from nothing.
+            del watched[crate.name][-1]
+            rt.must_fail(crate, edit, flags)
+        end = watched[crate.name][-1]
+        print(end.row() if end.is_refused else f"{end.row()}\n{end.said}", flush=True)
+    shutil.rmtree(room)
     for name in bad:
         print(f"wrong_bodies: {name} is no edit", flush=True)
-    return not bad and all(is_refused for is_refused, _ in tried)
+    return not bad and all(end.is_refused for end in watched[crate.name])
 
 
 def tasks_of(rt, crates, chosen, watched):
