@@ -88,10 +88,10 @@ def pool_of(head):
 
 
 class Measured:
-    """Runs of the program by a small process that tells their peaks."""
+    """Runs of the program by a small process that tells their peaks; what they print goes to a file."""
 
-    def __init__(self, suite):
-        self.suite = suite
+    def __init__(self, suite, printed="printed"):
+        self.suite, self.printed = suite, printed
         script = str(pathlib.Path(__file__).parent / "measured.py")
         self.runner = subprocess.Popen([sys.executable, "-S", "-E", script], stdin=subprocess.PIPE, stdout=subprocess.PIPE)
 
@@ -99,7 +99,7 @@ class Measured:
         """The status, the error output and the peak."""
         order = {
             "words": [str(self.suite.program), *words], "folder": str(self.suite.folder), "stdin": "asked",
-            "stdout": "printed", "stderr": "told", "seconds": SECONDS,
+            "stdout": self.printed, "stderr": "told", "seconds": SECONDS,
         }
         self.runner.stdin.write(json.dumps(order).encode() + b"\n")
         self.runner.stdin.flush()

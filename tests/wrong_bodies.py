@@ -67,10 +67,10 @@ def edits_are_named(suite):
 
 
 def contract_of(crate, function):
-    """The clauses of the functions of this name: their names, and an empty one for a clause that has none."""
+    """The clauses of the functions of this name, a trait's among them: their names, and an empty one for a clause that has none."""
     found = []
     for path in (ROOT / "crates" / crate / "src").rglob("*.rt"):
-        for head in re.findall(rf"\bfn {function}\b(?:<.*?>)?\(.*?\n *\{{\n", path.read_text(), re.S):
+        for head in re.findall(rf"\bfn {function}\b(?:<.*?>)?\(.*?(?:\n *\{{\n|\}};\n)", path.read_text(), re.S):
             found.append(re.findall(r"^\s*(?:ensures|requires) ?(\w*) ?\{", head, re.M))
     return found
 
