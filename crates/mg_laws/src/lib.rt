@@ -29,5 +29,7 @@ pub use patterns::{
     cuts_are_rotations, cuts_stand_together, matches_are_cuts, matches_are_in_lists,
     matches_decides, one_pattern,
 };
-pub use phrases::{candidates_are_enough, one_pass_counts, phrase_is, places_of_one_word};
+pub use phrases::{
+    candidates_are_enough, one_pass_counts, one_phrase, phrase_is, places_of_one_word,
+};
 pub use sizes::{few_of_each, parts_are_small, runs_in_one_form, weights_fit};

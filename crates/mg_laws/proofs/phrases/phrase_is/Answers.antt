@@ -6,3 +6,9 @@ returns-clause-reads c = laws.reads_phrase
 
 pub returns-clause-refuses : goal.returns-clause-refuses
 returns-clause-refuses c = laws.refuses_phrase
+
+pub returns-clause-computed : goal.returns-clause-computed
+returns-clause-computed c = laws.phrase_computes
+
+pub returns-clause-stops : goal.returns-clause-stops
+returns-clause-stops c = laws.phrase_refusal_computes
