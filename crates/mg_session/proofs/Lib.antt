@@ -26,3 +26,4 @@ pub mod WildPageLaws
 mod QueriedLaws
 mod PhrasedLaws
 mod MatchedLaws
+pub mod PhraseExamples
