@@ -12,17 +12,17 @@ use Rattle.mg_defs.specs.declared.session.Settings.{Settings}
 use Rattle.mg_defs.specs.declared.session.Command.{Command}
 use Rattle.mg_defs.specs.declared.session.Command.TheVariants.{Skip, Ask, Quit, Wrong, Set}
 use Rattle.mg_defs.specs.Commands.{first_settings, command, command_text, settings_after, stops}
-use Rattle.mg_defs.specs.Texts.{bad_command}
+use Rattle.mg_defs.specs.Texts.{bad_command, line_too_long}
 use Rattle.mg_defs.specs.Lines.{lines, HasNoEnd, without_return}
 use Rattle.mg_defs.specs.declared.session.Hearing.{Hearing}
 use Rattle.mg_defs.specs.declared.session.Hearing.TheVariants.{Commands, Questions}
-use Rattle.mg_defs.specs.Session.{hears, replies, heard_session, read, Question, questions, heard_questions, asked_by}
+use Rattle.mg_defs.specs.Session.{hears, replies, heard_session, read, Question, questions, heard_questions, asked, asked_by, line_text}
 use Rattle.mg_defs.specs.InputLimit.{is_quit, ended_lines, has_quit, is_too_much}
 use Rattle.mg_defs.specs.Limits.{input_limit}
 use Rattle.mg_defs.proofs.SessionLaws.{Gives, gives_end, gives_line, ends_long, ends_short}
 use Rattle.mg_defs.proofs.LimitLaws.{ends_always, ended-line, ended-none}
 use Rattle.mg_reply.specs.Reading.{IsFirst, RunsOn}
-use Rattle.mg_reply.specs.Served.{Served, Counted, AnsweredSome, LeftEnough}
+use Rattle.mg_reply.specs.Served.{Served, Counted, AnsweredSome, LeftEnough, RepliedInTurn}
 use Rattle.mg_reply.proofs.ReadingLaws.{first_line, left_now, empty}
 
 -- ---- what was printed and answered
@@ -192,6 +192,70 @@ answered_asked hearing After old new next reply answering before left left2 w0 w
             let gives = answered_gives hearing reply answering now line cut a goes in
             (questions hearing (settings_after now (heard hearing now cut)) (lines f.0), whole ∙ ap (λ x. s.answered ++ x) (gives.asks (lines f.0)) ∙ sym (append_assoc s.answered (asked_by now cut (heard hearing now cut)) (questions hearing (settings_after now (heard hearing now cut)) (lines f.0))))
       ];
+}
+
+-- ---- replies are written in turn
+
+-- no line was taken up since
+pub turn_rests : {A : Type 0} {hearing : Hearing} {After : A → A → List Question → Type 0} {old new : A}
+    {reply : Settings → List ℕ → List ℕ} {before left w0 w1 : Option (List ℕ)} {now : Settings} →
+    After new new [] → Served hearing After old new reply before left w0 w1 now →
+    RepliedInTurn hearing After old new reply before w0 w1
+turn_rests {new} {left} {w1} {now} none s = record {
+  then = new;
+  now = now;
+  left = left;
+  printed = w1;
+  whole = s;
+  last = inr (none, refl);
+}
+
+line_next : (line : List ℕ) (size : ℕ) (left after : Option (List ℕ)) → IsFirst line size left after →
+    (rest : List ℕ) → left ≡ Some rest → (more : List (List ℕ)) × (lines rest ≡ line ∷ more)
+line_next line size left after first rest told =
+    let f = first_line line rest size left after first told in
+    (lines f.0, f.2)
+
+-- a line that is too long
+pub turn_long : {A : Type 0} {hearing : Hearing} {After : A → A → List Question → Type 0} {old new : A}
+    {reply : Settings → List ℕ → List ℕ} {before left after w0 w1 w2 : Option (List ℕ)} {now : Settings} {line : List ℕ} {size : ℕ} →
+    After new new [] → Served hearing After old new reply before left w0 w1 now → IsFirst line size left after →
+    1024 < length line → GrewByPrefix w1 w2 line_too_long → RepliedInTurn hearing After old new reply before w0 w2
+unfolding asked line_text
+turn_long {new} {left} {after} {w1} {now} {line} {size} none s first long grew = record {
+  then = new;
+  now = now;
+  left = left;
+  printed = w1;
+  whole = s;
+  last = inl (record {
+    line = line;
+    next = line_next line size left after first;
+    answered = rw (lt-ltb 1024 (length line) long) none;
+    front = rw (lt-ltb 1024 (length line) long) grew;
+  });
+}
+
+-- a line that was answered, in part or whole
+pub turn_answers : {A : Type 0} {hearing : Hearing} {After : A → A → List Question → Type 0} {old then new : A}
+    {reply answering : Settings → List ℕ → List ℕ} {before left after w0 w1 w2 : Option (List ℕ)} {now : Settings} {line cut : List ℕ} {size : ℕ} →
+    Served hearing After old then reply before left w0 w1 now → IsFirst line size left after → Answered reply answering now line cut →
+    After then new (asked_by now cut (heard hearing now cut)) → GrewByPrefix w1 w2 (answer hearing answering now cut) →
+    RepliedInTurn hearing After old new reply before w0 w2
+unfolding asked line_text
+turn_answers {hearing} {After} {then} {new} {reply} {answering} {left} {after} {w1} {w2} {now} {line} {cut} {size} s first a step grew = record {
+  then = then;
+  now = now;
+  left = left;
+  printed = w1;
+  whole = s;
+  last = inl (record {
+    line = line;
+    next = line_next line size left after first;
+    answered = rw (le-ltb 1024 (length line) a.short) (subst (λ l. After then new (asked_by now l (heard hearing now l))) a.cut_is step);
+    front = rw (le-ltb 1024 (length line) a.short) (subst (λ l. GrewByPrefix w1 w2 (answer hearing reply now l)) a.cut_is
+        (subst (λ r. GrewByPrefix w1 w2 (answer hearing r now cut)) a.same grew));
+  });
 }
 
 -- ---- how many bytes were used

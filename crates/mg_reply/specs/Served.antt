@@ -1,9 +1,9 @@
 -- A session that is under way, and one that is over.
-use Rattle.std.specs.Prelude.{◌≡◌, ℕ, ◌<◌, false, List, [], ◌++◌, length, Some}
+use Rattle.std.specs.Prelude.{◌≡◌, ◌⊎◌, ℕ, ◌<◌, false, List, [], ◌∷◌, ◌++◌, length, Some}
 use Rattle.std.specs.List.{list_any}
 use Rattle.std.specs.declared.option.Option.{Option}
 use Rattle.mg_dev.specs.Faults.{fault_of_show}
-use Rattle.mg_dev.specs.Streams.{appended}
+use Rattle.mg_dev.specs.Streams.{appended, GrewByPrefix}
 use Rattle.mg_dev.specs.declared.fault.Fault.{Fault}
 use Rattle.mg_dev.specs.declared.fault.Fault.TheVariants.{InputTooLong, ReadFault}
 use Rattle.mg_dev.specs.declared.part_err.PartErr.{PartErr}
@@ -13,7 +13,7 @@ use Rattle.mg_defs.specs.declared.session.Settings.{Settings}
 use Rattle.mg_defs.specs.Commands.{first_settings}
 use Rattle.mg_defs.specs.Lines.{lines}
 use Rattle.mg_defs.specs.declared.session.Hearing.{Hearing}
-use Rattle.mg_defs.specs.Session.{replies, Question, questions, heard_questions}
+use Rattle.mg_defs.specs.Session.{replies, Question, questions, heard_questions, asked, line_text}
 use Rattle.mg_defs.specs.InputLimit.{is_quit, ended_lines, IsReadEnough}
 use Rattle.mg_reply.specs.declared.serve.ServeErr.{ServeErr}
 use Rattle.mg_reply.specs.declared.serve.ServeErr.TheVariants as serve
@@ -60,6 +60,25 @@ pub record Served {A : Type 0} (hearing : Hearing) (After : A → A → List Que
   pub given : written ≡ appended written_old done
   pub after : After old new answered
   pub goes_on : (all : List ℕ) → before ≡ Some all → Rests hearing reply now done answered all left
+
+-- A line was taken up: it is the next one of what was told to be left, its query alone was answered, and of what it prints a front was written.
+pub record TookUp {A : Type 0} (hearing : Hearing) (After : A → A → List Question → Type 0) (old new : A)
+    (reply : Settings → List ℕ → List ℕ) (now : Settings) (left written_old written : Option (List ℕ)) : Type 0 where
+  pub line : List ℕ
+  pub next : (rest : List ℕ) → left ≡ Some rest → (more : List (List ℕ)) × (lines rest ≡ line ∷ more)
+  pub answered : After old new (asked hearing now line)
+  pub front : GrewByPrefix written_old written (line_text hearing reply now line)
+
+-- No reply is held back: those to the first lines were written whole when a line more was taken up, or none was.
+pub record RepliedInTurn {A : Type 0} (hearing : Hearing) (After : A → A → List Question → Type 0) (old new : A)
+    (reply : Settings → List ℕ → List ℕ) (input written_old written : Option (List ℕ)) : Type 0 where
+  -- the moment at which that line was taken up
+  pub then : A
+  pub now : Settings
+  pub left : Option (List ℕ)
+  pub printed : Option (List ℕ)
+  pub whole : Served hearing After old then reply input left written_old printed now
+  pub last : TookUp hearing After then new reply now left printed written ⊎ (After then new [] × (written ≡ printed))
 
 -- So many bytes were used of what was told, the rest is left, and no line among the first ended the session.
 pub record Used (left : Option (List ℕ)) (used : ℕ) (all : List ℕ) : Type 0 where

@@ -10,7 +10,7 @@ ghost use Rattle.mg_defs.specs.Commands.{command, settings_after, stops as stops
 ghost use Rattle.mg_defs.specs.Session.{heard_session, hears, Question, asked_by};
 ghost use Rattle.mg_defs.specs.InputLimit.{is_too_much};
 ghost use Rattle.mg_defs.specs.Limits.{input_limit};
-ghost use Rattle.mg_reply.specs.Served.{AnsweredSome, LeftEnough, PartStops, fault_of_serve};
+ghost use Rattle.mg_reply.specs.Served.{AnsweredSome, LeftEnough, PartStops, RepliedInTurn, fault_of_serve};
 ghost use Rattle.mg_reply.specs.Printed.{EndsWhere, PrintsAll, PrintsPrefix, Puts, heard_text};
 
 use crate::{LineErr, LineEvent, LineReader, put_too_long, put_wrong, read_command};
@@ -133,7 +133,8 @@ fn serve_line<O: Sink, A: Answerer>(
 /// It reads ahead, so bytes of the input behind a line `.quit` may be taken too. Where the input is
 /// told, it is too long exactly where it has more than 2^32 bytes and no line `.quit` ends within
 /// the first 2^32; the lines up to there are answered. Nothing else ends a session, however its
-/// lines are heard.
+/// lines are heard. No reply is held back: whatever ends the session, the replies to the lines before
+/// the last that was taken up were written whole.
 pub fn serve_lines<I: Source, O: Sink, A: Answerer>(
     hearing: Hearing,
     answerer: &mut A,
@@ -149,6 +150,9 @@ pub fn serve_lines<I: Source, O: Sink, A: Answerer>(
     ensures left { ForSome (I.left input.old) (λ bytes. OnOk result (LeftEnough bytes (I.left input.new))) }
     ensures within { ForSome (I.left input.old) (λ bytes. OnOk result (is_too_much input_limit bytes ≡ false)) }
     ensures answered { AnsweredSome hearing A.after (A.state answerer.old dev.old) (A.state answerer.new dev.new) (I.left input.old) }
+    ensures in_turn { ForEach (A.answers (A.state answerer.old dev.old))
+        (λ reply. RepliedInTurn hearing A.after (A.state answerer.old dev.old) (A.state answerer.new dev.new)
+        reply (I.left input.old) (O.written out.old) (O.written out.new)) }
     ensures read_later { I.faults input.old ≤ I.faults input.new }
     ensures write_later { O.faults out.old ≤ O.faults out.new }
     ensures cause { EndsWhere I.left I.faults O.faults A.state A.may_stop input.old input.new out.old out.new
