@@ -10,6 +10,7 @@ sys.path.insert(0, str(pathlib.Path(__file__).parent / "reference"))
 
 from files import BUDGET, K, remove
 from parts import build
+from sessions import session
 from standing import write_parts
 from texts import Collection
 
@@ -182,6 +183,60 @@ def stops(suite, name, tool, lines, printed):
     suite.check(f"{tool}: {name}", (status, out, line.startswith(b"mg: damaged: part ")), (6, printed, True))
 
 
+# Two hundred documents with one word; the list of it is of four blocks, and those of the two others are of one.
+MANY = b"".join(b"x%s\n\x02" % {0: b" rare", 189: b" late"}.get(number, b"") for number in range(200))
+# What a session begins with, by the kind of its lines: each begins with a line that no document answers.
+KINDS = {
+    "Boolean": b"zebra\n",
+    "ranked": b"zebra\n.set query ranked\n",
+    "shown": b"zebra\n.set mode text\n.set maxdocs 1\n",
+    "shown by rank": b"zebra\n.set query ranked\n.set mode text\n.set maxdocs 1\n",
+}
+
+
+def half(content):
+    return content[: len(content) // 2]
+
+
+def zeros(content):
+    return bytes(len(content))
+
+
+def ones(content):
+    return b"\xff" * len(content)
+
+
+# Parts damaged so, and a line of each kind that needs what is damaged.
+OVER_DAMAGE = [
+    ("post", half, "x", KINDS),
+    ("post", half, "late & x", ["Boolean", "shown"]),
+    ("post", ones, "x", KINDS),
+    ("skip", half, "x", KINDS),
+    ("skip", half, "late & x", ["Boolean", "shown"]),
+    ("skip", ones, "x", KINDS),
+    ("weights", zeros, "late", ["ranked", "shown by rank"]),
+    ("weights", half, "late", ["ranked", "shown by rank"]),
+    ("text", ones, "late", ["shown", "shown by rank"]),
+    ("text", half, "late", ["shown", "shown by rank"]),
+]
+
+
+def lines_over_damage(suite):
+    """A damage that a line meets is told, whatever kind of line it is: it is no answer of fewer documents."""
+    sound = build(Collection(MANY), BUDGET, 2)
+    for ending, change, line, kinds in OVER_DAMAGE:
+        write_parts(suite.folder / "set", sound | {ending: change(sound[ending])})
+        for kind in kinds:
+            first, asked = KINDS[kind], KINDS[kind] + line.encode() + b"\n"
+            whole = session(Collection(MANY), asked)
+            status, out, told = suite.run(["query", "set"], asked)
+            name = f"{line}, {kind}, over {change.__name__} of {ending}"
+            suite.check(f"{name}: status and part", (status, told.split(b" at ")[0]), (6, b"mg: damaged: part " + ending.encode()))
+            suite.check(f"{name}: the line before is answered", out.startswith(session(Collection(MANY), first)), True)
+            suite.check(f"{name}: a front of the answer", whole.startswith(out) and len(out) < len(whole), True)
+    remove(suite, "set")
+
+
 def sessions(suite):
     """What was answered before the damage stays, and what no line asks for is not looked at."""
     sound = build(Collection(K), BUDGET, 2)
@@ -200,4 +255,4 @@ def sessions(suite):
     remove(suite, "set")
 
 
-PARTS = [heads, parts, models, sessions]
+PARTS = [heads, parts, models, sessions, lines_over_damage]
