@@ -5,8 +5,6 @@
 #![tactic(auto)]
 
 #[cfg(test)]
-mod callers;
-#[cfg(test)]
-mod host_tests;
+mod stores;
 #[cfg(test)]
 mod tests;
