@@ -2,8 +2,9 @@
 use mg_fixed::{doc_term_weight, isqrt, lg, score, term_weight};
 use std::test::Fail;
 
-/// A number, its logarithm and its root, as an independent reference gives them.
-const LOGARITHMS_AND_ROOTS: [(u64, u32, u32); 148] = [
+/// A number, its logarithm and its root, as an independent reference gives them. The rows are lent to
+/// what reads them: a constant would be copied there, which is dear to prove.
+static LOGARITHMS_AND_ROOTS: [(u64, u32, u32); 148] = [
     (1, 0, 1),
     (2, 256, 1),
     (3, 405, 1),
@@ -154,18 +155,24 @@ const LOGARITHMS_AND_ROOTS: [(u64, u32, u32); 148] = [
     (18446744073709551615, 16383, 4294967295),
 ];
 
+/// The first number whose logarithm or root is another, if there is one.
+fn other_root(rows: &[(u64, u32, u32)]) -> Option<u64> {
+    for (x, logarithm, root) in rows {
+        if *x < 1 || lg(*x) != *logarithm || isqrt(*x) != *root {
+            return Some(*x);
+        }
+    }
+    None
+}
+
 #[test]
 fn logarithms_and_roots_are_those_of_the_reference(rt: HostRuntime) {
-    for (x, logarithm, root) in LOGARITHMS_AND_ROOTS {
-        assert!(rt; x >= 1);
-        assert!(rt; lg(x) == logarithm, "logarithm of {x}");
-        assert!(rt; isqrt(x) == root, "root of {x}");
-    }
+    assert!(rt; other_root(&LOGARITHMS_AND_ROOTS).is_none());
     assert!(rt; isqrt(0) == 0);
 }
 
 /// The documents that have a term, all documents, and the term's weight.
-const TERM_WEIGHTS: [(u32, u32, u32); 15] = [
+static TERM_WEIGHTS: [(u32, u32, u32); 15] = [
     (1, 1, 256),
     (2, 3, 338),
     (1, 3, 512),
@@ -184,7 +191,7 @@ const TERM_WEIGHTS: [(u32, u32, u32); 15] = [
 ];
 
 /// How often a term comes in a document, and its weight there.
-const WEIGHTS_IN_DOCUMENT: [(u32, u32); 11] = [
+static WEIGHTS_IN_DOCUMENT: [(u32, u32); 11] = [
     (1, 256),
     (2, 512),
     (3, 661),
@@ -198,28 +205,38 @@ const WEIGHTS_IN_DOCUMENT: [(u32, u32); 11] = [
     (4294967295, 8447),
 ];
 
+/// The first row with another weight of the term, if there is one.
+fn other_weight(rows: &[(u32, u32, u32)]) -> Option<(u32, u32)> {
+    for (docs, all, weight) in rows {
+        if *docs < 1 || *docs > *all || term_weight(*docs, *all) != *weight {
+            return Some((*docs, *all));
+        }
+    }
+    None
+}
+
+/// The first frequency with another weight, if there is one.
+fn other_weight_in_document(rows: &[(u32, u32)]) -> Option<u32> {
+    for (freq, weight) in rows {
+        if *freq < 1 || doc_term_weight(*freq) != *weight {
+            return Some(*freq);
+        }
+    }
+    None
+}
+
 #[test]
 fn weights_are_those_of_the_reference(rt: HostRuntime) {
-    for (docs, all, weight) in TERM_WEIGHTS {
-        assert!(rt; 1 <= docs && docs <= all);
-        assert!(rt; term_weight(docs, all) == weight, "{docs} of {all}");
-    }
-    for (freq, weight) in WEIGHTS_IN_DOCUMENT {
-        assert!(rt; freq >= 1);
-        assert!(rt; doc_term_weight(freq) == weight, "{freq} times");
-    }
+    assert!(rt; other_weight(&TERM_WEIGHTS).is_none());
+    assert!(rt; other_weight_in_document(&WEIGHTS_IN_DOCUMENT).is_none());
 }
 
 #[test]
 fn scores_of_three_documents(rt: HostRuntime) {
     // The cat sat. The dog. Cat, cat and dog.
-    for (x, root) in [
-        (3 * 256 * 256, 443),
-        (2 * 256 * 256, 362),
-        (512 * 512 + 256 * 256, 572),
-    ] {
-        assert!(rt; isqrt(x) == root);
-    }
+    assert!(rt; isqrt(3 * 256 * 256) == 443);
+    assert!(rt; isqrt(2 * 256 * 256) == 362);
+    assert!(rt; isqrt(512 * 512 + 256 * 256) == 572);
     assert!(rt; term_weight(2, 3) == 338);
     assert!(rt; score(512 * 338, 572) == 77451);
     assert!(rt; score(256 * 338, 443) == 50002);
