@@ -6,20 +6,41 @@ use mg_huff::lengths;
 use std::alloc::{AllocError, Global};
 use std::test::Fail;
 
+/// Whether these counts have codewords of these lengths.
+fn are_lengths(alloc: Global, counts: &[u64], wanted: &[u8]) -> bool
+    requires counted { All (λ c. 1 ≤ c) counts.now }
+    requires total { sum counts.now < 2 ^ 32 }
+{
+    let mut out = Vec::new(alloc);
+    lengths(alloc, counts, &mut out).is_ok() && out.as_slice() == wanted
+}
+
 #[test]
-fn worked_counts_have_their_lengths(rt: HostRuntime) -> Result<(), Fail> {
-    let mut out = Vec::new(rt.alloc());
-    lengths(rt.alloc(), &[1, 2, 2, 1, 2], &mut out)?;
-    assert!(rt; out.as_slice() == [3, 2, 2, 3, 2].as_slice());
-    lengths(rt.alloc(), &[7], &mut out)?;
-    assert!(rt; out.as_slice() == [1].as_slice());
-    lengths(rt.alloc(), &[9, 9, 9, 9], &mut out)?;
-    assert!(rt; out.as_slice() == [2, 2, 2, 2].as_slice());
-    lengths(rt.alloc(), &[1, 4_294_967_294], &mut out)?;
-    assert!(rt; out.as_slice() == [1, 1].as_slice());
-    lengths(rt.alloc(), &[], &mut out)?;
-    assert!(rt; out.is_empty());
-    Ok(())
+fn worked_counts_have_their_lengths(rt: HostRuntime) {
+    assert!(rt; are_lengths(rt.alloc(), &[1, 2, 2, 1, 2], &[3, 2, 2, 3, 2]));
+    assert!(rt; are_lengths(rt.alloc(), &[7], &[1]));
+    assert!(rt; are_lengths(rt.alloc(), &[9, 9, 9, 9], &[2, 2, 2, 2]));
+    assert!(rt; are_lengths(rt.alloc(), &[1, 4_294_967_294], &[1, 1]));
+    assert!(rt; are_lengths(rt.alloc(), &[], &[]));
+}
+
+/// The least and the greatest of some lengths, and the last one.
+fn spread(lengths: &[u8]) -> (u8, u8, u8) {
+    let mut found = (255, 0, 0);
+    for length in lengths {
+        found = (found.0.min(*length), found.1.max(*length), *length);
+    }
+    found
+}
+
+/// How many lengths these counts have, the least and the greatest, and the last one.
+fn lengths_of(alloc: Global, counts: &[u64]) -> Result<(usize, (u8, u8, u8)), AllocError>
+    requires counted { All (λ c. 1 ≤ c) counts.now }
+    requires total { sum counts.now < 2 ^ 32 }
+{
+    let mut out = Vec::new(alloc);
+    lengths(alloc, counts, &mut out)?;
+    Ok((out.len(), spread(&out)))
 }
 
 /// The first 45 Fibonacci numbers, whose sum is 2,971,215,072.
@@ -32,10 +53,7 @@ const FIBONACCI: [u64; 45] = [
 
 #[test]
 fn the_deepest_tree_has_44_levels(rt: HostRuntime) -> Result<(), Fail> {
-    let mut out = Vec::new(rt.alloc());
-    lengths(rt.alloc(), &FIBONACCI, &mut out)?;
-    assert!(rt; out.iter().copied().max() == Some(44));
-    assert!(rt; out.last().copied() == Some(1));
+    assert!(rt; lengths_of(rt.alloc(), &FIBONACCI)? == (45, (1, 44, 1)));
     Ok(())
 }
 
@@ -48,12 +66,16 @@ fn ones(alloc: Global, many: usize) -> Result<Vec<u64>, AllocError>
     vec![in alloc; 1; many]
 }
 
+/// What lengths_of tells of so many counts of one.
+fn lengths_of_ones(alloc: Global, many: usize) -> Result<(usize, (u8, u8, u8)), AllocError>
+    requires { many < 2 ^ 32 }
+{
+    let counts = ones(alloc, many)?;
+    lengths_of(alloc, &counts)
+}
+
 #[test]
 fn four_million_equal_counts_have_22_bits_each(rt: HostRuntime) -> Result<(), Fail> {
-    let counts = ones(rt.alloc(), 4_194_304)?;
-    let mut out = Vec::new(rt.alloc());
-    lengths(rt.alloc(), &counts, &mut out)?;
-    assert!(rt; out.len() == 4_194_304);
-    assert!(rt; out.iter().all(|l| *l == 22));
+    assert!(rt; lengths_of_ones(rt.alloc(), 4_194_304)? == (4_194_304, (22, 22, 22)));
     Ok(())
 }

@@ -1,5 +1,5 @@
 //! Codewords that are written and read back, and what is refused, through public calls.
-ghost use Rattle.std.specs.Prelude.{◌≡◌, ◌<◌, ◌≤◌, length, IfOk, OnOk};
+ghost use Rattle.std.specs.Prelude.{◌≡◌, ◌<◌, ◌≤◌, length, IfOk, IfSome, OnOk};
 ghost use Rattle.mg_bits.specs.BitWriting.{Holds};
 
 use mg_bits::{BitReader, BitWriter, CodeErr, Feed, NoDev, PageFeed, SliceFeed};
@@ -14,18 +14,35 @@ const TEXT: FileRef<'static> = FileRef {
     part: Part::Text,
 };
 
-/// Writes so many symbols in their order, and tells whether all were written.
+/// The code of these lengths, if they have one.
+fn code_of(alloc: Global, lengths: &[u8]) -> Option<Canon> {
+    if lengths.len() > 1 << 22 {
+        return None;
+    }
+    Canon::new(alloc, lengths).ok()
+}
+
+/// Symbols from one on and before another, and their codewords as a file: how many bits and which bytes.
+struct Coded {
+    from: u32,
+    to: u32,
+    bits: u64,
+    bytes: &'static [u8],
+}
+
+/// Writes the symbols from one on and before another, and tells whether all were written.
 fn put_each<S: Store>(
     code: &Canon,
     writer: &mut BitWriter,
     store: &mut S,
-    symbols: u32,
+    from: u32,
+    to: u32,
 ) -> Result<bool, PutErr>
-    requires symbols { symbols ≤ length code.now }
+    requires symbols { to ≤ length code.now }
     requires holds { Holds writer.old (S.files store.old) }
     ensures { OnOk result (Holds writer.new (S.files store.new)) }
 {
-    for symbol in 0..symbols {
+    for symbol in from..to {
         if writer.place() > 1 << 40 {
             return Ok(false);
         }
@@ -34,17 +51,38 @@ fn put_each<S: Store>(
     Ok(true)
 }
 
-/// Whether so many symbols stand from the reader's place on in their order.
+/// Whether the symbols are written as the text, and end behind their bits.
+fn writes(
+    alloc: Global,
+    code: &Canon,
+    store: &mut SureStore,
+    coded: &Coded,
+) -> Result<bool, PutErr> {
+    if coded.to > code.count() {
+        return Ok(false);
+    }
+    let mut writer = BitWriter::start(alloc, store, TEXT)?;
+    let whole = put_each(code, &mut writer, store, coded.from, coded.to)?;
+    let end = writer.place();
+    if end > 1 << 40 {
+        return Ok(false);
+    }
+    writer.finish(store)?;
+    Ok(whole && end == coded.bits)
+}
+
+/// Whether the symbols from one on and before another stand from the reader's place on.
 fn reads_each<F: Feed>(
     code: &Canon,
     reader: &mut BitReader<F>,
     dev: &mut F::Dev,
-    symbols: u32,
+    from: u32,
+    to: u32,
 ) -> bool
     requires some { 0 < length code.now }
     requires fits { F.fits reader.old.feed (F.device dev.old).files }
 {
-    for symbol in 0..symbols {
+    for symbol in from..to {
         if reader.place() > 1 << 40 || code.get(reader, dev) != Ok(symbol) {
             return false;
         }
@@ -52,141 +90,191 @@ fn reads_each<F: Feed>(
     true
 }
 
-/// Whether so many symbols are written in their order as the text, and end at this place.
-fn writes_each(
+/// Whether the symbols stand at the start of the text, and end behind their bits.
+fn reads(
     alloc: Global,
     code: &Canon,
     store: &mut SureStore,
-    symbols: u32,
-    place: u64,
-) -> Result<bool, PutErr>
-    requires { symbols ≤ length code.now }
-{
-    let mut writer = BitWriter::start(alloc, store, TEXT)?;
-    let whole = put_each(code, &mut writer, store, symbols)?;
-    let end = writer.place();
-    if end > 1 << 40 {
+    coded: &Coded,
+) -> Result<bool, AllocError> {
+    if code.count() == 0 {
         return Ok(false);
     }
-    writer.finish(store)?;
-    Ok(whole && end == place)
+    let mut reader = BitReader::new(PageFeed::new(alloc, TEXT)?, 0);
+    let are_read = reads_each(code, &mut reader, store, coded.from, coded.to);
+    Ok(are_read && reader.place() == coded.bits)
 }
 
-/// Whether so many symbols stand in their order at the start of the text, and end at this place.
-fn reads_back(
+/// Whether the text has the symbols' bytes once they are written, and they are read with one read.
+fn is_coded_in(
     alloc: Global,
     code: &Canon,
     store: &mut SureStore,
-    symbols: u32,
-    place: u64,
-) -> Result<bool, AllocError>
-    requires { 0 < length code.now }
-{
-    let mut reader = BitReader::new(PageFeed::new(alloc, TEXT)?, 0);
-    Ok(reads_each(code, &mut reader, store, symbols) && reader.place() == place)
+    coded: &Coded,
+) -> Result<bool, PutErr> {
+    let written = writes(alloc, code, store, coded)?;
+    let same = store.file("x.text") == Some(coded.bytes);
+    let read = reads(alloc, code, store, coded)?;
+    Ok(written && same && read && store.reads_of(Part::Text) == 1)
 }
+
+/// The same of a store that has no file yet.
+fn is_coded_by(alloc: Global, code: &Canon, coded: &Coded) -> Result<bool, PutErr> {
+    let mut store = SureStore::new(alloc);
+    is_coded_in(alloc, code, &mut store, coded)
+}
+
+/// The same by the code of these lengths.
+fn is_coded(alloc: Global, lengths: &[u8], coded: &Coded) -> Result<bool, PutErr> {
+    let Some(code) = code_of(alloc, lengths) else {
+        return Ok(false);
+    };
+    is_coded_by(alloc, &code, coded)
+}
+
+static FIVE: [u8; 5] = [3, 2, 2, 3, 2];
+
+/// 000 01 10 001 11
+static ALL_FIVE: Coded = Coded {
+    from: 0,
+    to: 5,
+    bits: 12,
+    bytes: b"\x0c\x70",
+};
+
+static TWELVE: [u8; 12] = [1, 2, 3, 4, 5, 6, 7, 8, 9, 10, 11, 11];
+
+/// 1, 01, 001 and so on up to 0000000001, then 00000000000 and 00000000001
+static ALL_TWELVE: Coded = Coded {
+    from: 0,
+    to: 12,
+    bits: 77,
+    bytes: b"\xa4\x42\x08\x10\x10\x08\x02\x00\x00\x08",
+};
 
 #[test]
 fn codewords_are_written_and_read(rt: HostRuntime) -> Result<(), Fail> {
-    let alloc = rt.alloc();
-    let code = Canon::new(alloc, &[3, 2, 2, 3, 2])?;
-    assert!(rt; code.count() == 5);
-    assert!(rt; code.length(0) == 3 && code.length(1) == 2 && code.length(4) == 2);
-    let mut store = SureStore::new(alloc);
-    assert!(rt; writes_each(alloc, &code, &mut store, 5, 12)?);
-    // 000 01 10 001 11
-    let bytes: &[u8] = &[0x0c, 0x70];
-    assert!(rt; store.file("x.text") == Some(bytes));
-    assert!(rt; reads_back(alloc, &code, &mut store, 5, 12)?);
-    assert!(rt; store.reads_of(Part::Text) == 1);
+    assert!(rt; is_coded(rt.alloc(), &FIVE, &ALL_FIVE)?);
+    assert!(rt; is_coded(rt.alloc(), &TWELVE, &ALL_TWELVE)?);
     Ok(())
+}
+
+static LAST_OF_FOUR_MILLION: Coded = Coded {
+    from: 4_194_303,
+    to: 4_194_304,
+    bits: 22,
+    bytes: b"\xff\xff\xfc",
+};
+
+/// Whether the last of so many symbols of 22 bits is coded so.
+fn is_last_coded(alloc: Global, many: usize, coded: &Coded) -> Result<bool, PutErr> {
+    let lengths = vec![in alloc; 22u8; many]?;
+    is_coded(alloc, &lengths, coded)
 }
 
 #[test]
-fn codewords_up_to_eleven_bits_are_read(rt: HostRuntime) -> Result<(), Fail> {
-    let alloc = rt.alloc();
-    let code = Canon::new(alloc, &[1, 2, 3, 4, 5, 6, 7, 8, 9, 10, 11, 11])?;
-    let mut store = SureStore::new(alloc);
-    assert!(rt; writes_each(alloc, &code, &mut store, 12, 77)?);
-    // 1, 01, 001 and so on up to 0000000001, then 00000000000 and 00000000001
-    let bytes: &[u8] = &[0xa4, 0x42, 0x08, 0x10, 0x10, 0x08, 0x02, 0x00, 0x00, 0x08];
-    assert!(rt; store.file("x.text") == Some(bytes));
-    assert!(rt; reads_back(alloc, &code, &mut store, 12, 77)?);
+fn four_million_symbols_have_a_code(rt: HostRuntime) -> Result<(), Fail> {
+    assert!(rt; is_last_coded(rt.alloc(), 4_194_304, &LAST_OF_FOUR_MILLION)?);
     Ok(())
 }
 
-/// What is read where so many bits, the last of a byte, stand before the end of the file, and the
+/// How many bits, the last of a byte, stand before the end of the file, what is read of them, and the
 /// place afterwards.
-fn answer(code: &Canon, byte: u8, bits: u64) -> (Result<u32, CodeErr>, u64)
-    requires { 0 < length code.now }
-{
-    let bytes = [byte];
-    let mut reader = BitReader::new(SliceFeed::new(&bytes), 8 - bits.min(8));
-    let answer = code.get(&mut reader, &mut NoDev);
-    (answer, reader.place())
+type Last = (u8, u64, Result<u32, CodeErr>, u64);
+
+/// Of the code of five symbols.
+static LAST_OF_FIVE: [Last; 10] = [
+    (0b000, 3, Ok(0), 8),
+    (0b01, 2, Ok(1), 8),
+    (0b10, 2, Ok(2), 8),
+    (0b001, 3, Ok(3), 8),
+    (0b11, 2, Ok(4), 8),
+    (0b0111_1111, 8, Ok(1), 2),
+    (0, 0, Err(CodeErr::End { at: 8 }), 8),
+    (0b0, 1, Err(CodeErr::End { at: 7 }), 7),
+    (0b1, 1, Err(CodeErr::End { at: 7 }), 7),
+    (0b00, 2, Err(CodeErr::End { at: 6 }), 6),
+];
+
+/// Of the code of a single symbol, which is a zero-bit.
+static LAST_OF_ONE: [Last; 3] = [
+    (0b01, 2, Ok(0), 7),
+    (0b01, 1, Err(CodeErr::Over { at: 7, limit: 1 }), 7),
+    (0b01, 0, Err(CodeErr::End { at: 8 }), 8),
+];
+
+/// Whether this is read of the last bits of a byte.
+fn reads_last(code: &Canon, last: &Last) -> bool {
+    if code.count() == 0 {
+        return false;
+    }
+    let bytes = [last.0];
+    let mut reader = BitReader::new(SliceFeed::new(&bytes), 8 - last.1.min(8));
+    code.get(&mut reader, &mut NoDev) == last.2 && reader.place() == last.3
+}
+
+/// Whether each of these is read by the code of these lengths.
+fn reads_all_last(alloc: Global, lengths: &[u8], rows: &[Last]) -> bool {
+    let Some(code) = code_of(alloc, lengths) else {
+        return false;
+    };
+    for last in rows {
+        if !reads_last(&code, last) {
+            return false;
+        }
+    }
+    true
 }
 
 #[test]
-fn a_codeword_cut_at_any_bit_ends(rt: HostRuntime) -> Result<(), Fail> {
-    let code = Canon::new(rt.alloc(), &[3, 2, 2, 3, 2])?;
-    for (byte, bits, symbol, place) in [
-        (0b000, 3, 0, 8),
-        (0b01, 2, 1, 8),
-        (0b10, 2, 2, 8),
-        (0b001, 3, 3, 8),
-        (0b11, 2, 4, 8),
-        (0b0111_1111, 8, 1, 2),
-    ] {
-        assert!(rt;
-            answer(&code, byte, bits) == (Ok(symbol), place),
-            "{bits} bits of {byte}"
-        );
-    }
-    for (byte, bits, at) in [(0, 0, 8), (0b0, 1, 7), (0b1, 1, 7), (0b00, 2, 6)] {
-        let end = Err(CodeErr::End { at });
-        assert!(rt;
-            answer(&code, byte, bits) == (end, at),
-            "{bits} bits of {byte}"
-        );
-    }
-    Ok(())
+fn a_codeword_cut_at_any_bit_ends(rt: HostRuntime) {
+    assert!(rt; reads_all_last(rt.alloc(), &FIVE, &LAST_OF_FIVE));
+    assert!(rt; reads_all_last(rt.alloc(), &[1], &LAST_OF_ONE));
 }
 
-/// What is read of held bits from a place of nine bytes on, and the place afterwards.
-fn held(code: &Canon, bytes: &[u8; 9], place: u64) -> (Option<u32>, u64)
-    requires { 0 < length code.now }
-{
-    let mut reader = BitReader::new(SliceFeed::new(bytes), place.min(72));
-    let answer = code.get_held(&mut reader);
-    (answer, reader.place())
-}
+const HALF: u128 = 1 << 47;
 
-#[test]
-fn a_held_codeword_is_read_where_eight_bytes_are_there(rt: HostRuntime) -> Result<(), Fail> {
-    let code = Canon::new(rt.alloc(), &[3, 2, 2, 3, 2])?;
-    // 000 01 10 001 11, and zero-bits behind
-    let bytes = [0x0c, 0x70, 0, 0, 0, 0, 0, 0, 0];
-    for (place, symbol, end) in [(0, 0, 3), (3, 1, 5), (5, 2, 7), (7, 3, 10), (10, 4, 12)] {
-        assert!(rt;
-            held(&code, &bytes, place) == (Some(symbol), end),
-            "at {place}"
-        );
-    }
-    assert!(rt; held(&code, &bytes, 16) == (None, 16));
-    Ok(())
-}
-
-#[test]
-fn a_single_symbol_is_a_zero_bit(rt: HostRuntime) -> Result<(), Fail> {
-    let code = Canon::new(rt.alloc(), &[1])?;
-    assert!(rt; code.count() == 1);
-    assert!(rt; answer(&code, 0b01, 2) == (Ok(0), 7));
-    let over = Err(CodeErr::Over { at: 7, limit: 1 });
-    assert!(rt; answer(&code, 0b01, 1) == (over, 7));
-    let end = Err(CodeErr::End { at: 8 });
-    assert!(rt; answer(&code, 0b01, 0) == (end, 8));
-    Ok(())
-}
+/// Lengths that have no code, and why.
+static REFUSED: [(&[u8], CanonErr); 8] = [
+    (
+        &[0],
+        CanonErr::BadLength {
+            symbol: 0,
+            length: 0,
+        },
+    ),
+    (
+        &[2],
+        CanonErr::BadLength {
+            symbol: 0,
+            length: 2,
+        },
+    ),
+    (
+        &[1, 49],
+        CanonErr::BadLength {
+            symbol: 1,
+            length: 49,
+        },
+    ),
+    (
+        &[1, 0, 49],
+        CanonErr::BadLength {
+            symbol: 1,
+            length: 0,
+        },
+    ),
+    (
+        &[255, 1, 1, 0],
+        CanonErr::BadLength {
+            symbol: 0,
+            length: 255,
+        },
+    ),
+    (&[2, 2], CanonErr::Kraft { sum: HALF }),
+    (&[1, 1, 1], CanonErr::Kraft { sum: 3 * HALF }),
+    (&[1, 48], CanonErr::Kraft { sum: HALF + 1 }),
+];
 
 /// Why these lengths have no code, if they have none.
 fn refusal(alloc: Global, lengths: &[u8]) -> Option<CanonErr> {
@@ -196,89 +284,18 @@ fn refusal(alloc: Global, lengths: &[u8]) -> Option<CanonErr> {
     Canon::new(alloc, lengths).err()
 }
 
-#[test]
-fn lengths_of_no_code_are_refused(rt: HostRuntime) -> Result<(), Fail> {
-    let alloc = rt.alloc();
-    assert!(rt; refusal(alloc, &[]).is_none());
-    let cases: [(&[u8], u32, u8); 5] = [
-        (&[0], 0, 0),
-        (&[2], 0, 2),
-        (&[1, 49], 1, 49),
-        (&[1, 0, 49], 1, 0),
-        (&[255, 1, 1, 0], 0, 255),
-    ];
-    for (lengths, symbol, length) in cases {
-        assert!(rt;
-            refusal(alloc, lengths) == Some(CanonErr::BadLength { symbol, length }),
-            "symbol {symbol} of {length} bits"
-        );
+/// Whether each of these is refused so.
+fn are_refused(alloc: Global, rows: &[(&[u8], CanonErr)]) -> bool {
+    for row in rows {
+        if refusal(alloc, row.0) != Some(row.1) {
+            return false;
+        }
     }
-    let half = 1u128 << 47;
-    let cases: [(&[u8], u128); 3] = [
-        (&[2, 2], half),
-        (&[1, 1, 1], 3 * half),
-        (&[1, 48], half + 1),
-    ];
-    for (lengths, sum) in cases {
-        assert!(rt;
-            refusal(alloc, lengths) == Some(CanonErr::Kraft { sum }),
-            "{sum}"
-        );
-    }
-    Ok(())
-}
-
-/// So many lengths of 22 bits.
-fn equal_lengths(alloc: Global, many: usize) -> Result<Vec<u8>, AllocError>
-    ensures { IfOk result (λ lengths. length lengths.items ≡ many) }
-{
-    vec![in alloc; 22; many]
-}
-
-/// Whether the symbol is written alone as the text, in so many bits.
-fn writes_one(
-    alloc: Global,
-    code: &Canon,
-    store: &mut SureStore,
-    symbol: u32,
-    bits: u64,
-) -> Result<bool, PutErr>
-    requires { symbol < length code.now }
-{
-    let mut writer = BitWriter::start(alloc, store, TEXT)?;
-    code.put(&mut writer, store, symbol)?;
-    let end = writer.place();
-    if end > 1 << 40 {
-        return Ok(false);
-    }
-    writer.finish(store)?;
-    Ok(end == bits)
-}
-
-/// Whether this symbol stands at the start of the text.
-fn reads_one(
-    alloc: Global,
-    code: &Canon,
-    store: &mut SureStore,
-    symbol: u32,
-) -> Result<bool, AllocError>
-    requires { 0 < length code.now }
-{
-    let mut reader = BitReader::new(PageFeed::new(alloc, TEXT)?, 0);
-    Ok(code.get(&mut reader, store) == Ok(symbol))
+    true
 }
 
 #[test]
-fn four_million_symbols_have_a_code(rt: HostRuntime) -> Result<(), Fail> {
-    let alloc = rt.alloc();
-    let lengths = equal_lengths(alloc, 4_194_304)?;
-    let code = Canon::new(alloc, &lengths)?;
-    drop(lengths);
-    assert!(rt; code.count() == 4_194_304);
-    let mut store = SureStore::new(alloc);
-    assert!(rt; writes_one(alloc, &code, &mut store, 4_194_303, 22)?);
-    let bytes: &[u8] = &[0xff, 0xff, 0xfc];
-    assert!(rt; store.file("x.text") == Some(bytes));
-    assert!(rt; reads_one(alloc, &code, &mut store, 4_194_303)?);
-    Ok(())
+fn lengths_of_no_code_are_refused(rt: HostRuntime) {
+    assert!(rt; refusal(rt.alloc(), &[]).is_none());
+    assert!(rt; are_refused(rt.alloc(), &REFUSED));
 }
