@@ -54,7 +54,9 @@ unary_first next q ones =
 unary_one_more : (q : ℕ) → unary (1 + q) ≡ unary (q + 1)
 unary_one_more q = let e : 1 + q ≡ q + 1 = omega arith in ap unary e
 
-pub golomb_first : (b next q value s : ℕ) → 1 ≤ b → IsOnesBeforeZero next q → value < b → short b value ≡ digits s (next % 2 ^ (57 - (q + 1)) * 2 ^ (q + 1) / 2 ^ (57 - s)) → q + 1 + s ≤ 57 → IsFirstCode (golomb b (q * b + value + 1)) next (q + 1 + s)
+pub golomb_first : (b next q value s : ℕ) → 1 ≤ b → IsOnesBeforeZero next q → value < b →
+    short b value ≡ digits s (next % 2 ^ (57 - (q + 1)) * 2 ^ (q + 1) / 2 ^ (57 - s)) → q + 1 + s ≤ 57 →
+    IsFirstCode (golomb b (q * b + value + 1)) next (q + 1 + s)
 golomb_first b next q value s some ones below code within = record {
   some = omega arith;
   within = within;

@@ -7,8 +7,13 @@ use Rattle.std.proofs.Math.Nat.{two-pow-succ}
 use Rattle.mg_defs.specs.Bits.{Begins, Bits, FromPlace, digits}
 use Rattle.mg_defs.specs.Codes.{unary, short}
 use Rattle.mg_defs.proofs.CodeLaws.{length_unary, unary_next}
-use Rattle.mg_bits.proofs.CallerLemmas.{told_first}
-use Rattle.mg_codes.specs.Held.{IsOnesBeforeZero}
+use Rattle.mg_defs.proofs.BitLaws.{length_digits}
+use Rattle.mg_dev.specs.Files.{Files}
+use Rattle.mg_bits.specs.Feed.{Feeding, HoldsBits}
+use Rattle.mg_bits.specs.Reading.{Reading}
+use Rattle.mg_bits.proofs.CallerLemmas.{holds_inside, told_first}
+use Rattle.mg_codes.specs.Held.{IsFirstCode, IsOnesBeforeZero}
+use Rattle.mg_codes.specs.Readers.{IsHeldCode}
 use Rattle.mg_codes.proofs.ShortWalk.{IsShort, high_code, low_code}
 use Rattle.mg_codes.proofs.Written.{unary_digits}
 
@@ -45,7 +50,8 @@ told_unary told place next n ones begins =
 
 -- ---- short codes
 
-pub short_low_first : (b size few next high : ℕ) → IsShort b size few → 1 ≤ size → size ≤ 48 → high ≡ next / 2 ^ (58 - size) → high < few → short b high ≡ digits (size - 1) (next / 2 ^ (57 - (size - 1)))
+pub short_low_first : (b size few next high : ℕ) → IsShort b size few → 1 ≤ size → size ≤ 48 → high ≡ next / 2 ^ (58 - size) → high < few →
+    short b high ≡ digits (size - 1) (next / 2 ^ (57 - (size - 1)))
 short_low_first b size few next high is some small at lt =
     let e : 58 - size ≡ 57 - (size - 1) = omega arith in
     low_code b size few high is lt ∙ ap (digits (size - 1)) (at ∙ ap (λ k. next / 2 ^ k) e)
@@ -87,6 +93,21 @@ rest_is_below b size few next is some small within =
     omega (arith, is.sum, high, some)
 
 -- a code that 57 bits begin with
-pub told_code : (told : Option (List ℕ)) (place next size : ℕ) (code : Bits) → size ≤ 57 → code ≡ digits size (next / 2 ^ (57 - size)) → FromPlace told place (Begins (digits 57 next)) → FromPlace told place (Begins code)
+pub told_code : (told : Option (List ℕ)) (place next size : ℕ) (code : Bits) → size ≤ 57 → code ≡ digits size (next / 2 ^ (57 - size)) →
+    FromPlace told place (Begins (digits 57 next)) → FromPlace told place (Begins code)
 told_code told place next size code small is begins =
     subst (λ d. FromPlace told place (Begins d)) (sym is) (told_first told place 57 size (57 - size) next (omega arith) begins)
+
+-- a code that 57 bits of the held page begin with
+pub first_is_held : {Fed : Type 0} {taken : ℕ → ℕ → Type 0} {limit : ℕ} {code : ℕ → Bits} {agrees : Fed → Option Files → Type 0} {feeding : Fed → Feeding} {r : Reading Fed}
+    {number size : ℕ} (next : ℕ) → 0 < (feeding r.feed).page → IsFirstCode (code number) next size → taken limit number → HoldsBits (feeding r.feed) r.place 57 →
+    ((files : Option Files) → agrees r.feed files → FromPlace ((feeding r.feed).source files) r.place (Begins (digits 57 next))) →
+    IsHeldCode taken limit code agrees feeding r number size
+first_is_held {Fed} {taken} {limit} {code} {agrees} {feeding} {r} {number} {size} next some first within held told = record {
+  range = within;
+  some = first.some;
+  small = first.within;
+  size = ap length first.bits ∙ length_digits size (next / 2 ^ (57 - size));
+  held = holds_inside (feeding r.feed) r.place r.place 57 size some (omega arith) first.some (omega (arith, first.within)) held;
+  told = λ files fits. told_code _ r.place next size (code number) first.within first.bits (told files fits);
+}

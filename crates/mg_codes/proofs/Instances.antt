@@ -146,12 +146,15 @@ gamma_second limit top q bound small is bounds within short_q = record {
       record {
         v = x - 2 ^ q;
         below = remainder_below x taken log;
-        is = ap (λ n. digits n x) same ∙ ap (digits q) (let e : x ≡ 2 ^ q + (x - 2 ^ q) = omega (arith, log.low) in e) ∙ with_highest q (x - 2 ^ q) (omega (arith, log.high, two-pow-succ q)) ∙ sym (short_of_power q (x - 2 ^ q) short_q);
+        is = ap (λ n. digits n x) same ∙ ap (digits q) (let e : x ≡ 2 ^ q + (x - 2 ^ q) = omega (arith, log.low) in e)
+            ∙ with_highest q (x - 2 ^ q) (omega (arith, log.high, two-pow-succ q)) ∙ sym (short_of_power q (x - 2 ^ q) short_q);
       };
 }
   where
     leads : (v : ℕ) → v < bound → log2 (2 ^ q + v) ≡ q
-    leads v below = one_log (2 ^ q + v) _ _ (is_log (2 ^ q + v) (omega (arith, pow_pos q)) (omega (arith, gamma_joined_below limit top q v bound is bounds below, small))) (joined_log q v (omega (arith, below, within)))
+    leads v below =
+        one_log (2 ^ q + v) _ _ (is_log (2 ^ q + v) (omega (arith, pow_pos q)) (omega (arith, gamma_joined_below limit top q v bound is bounds below, small)))
+        (joined_log q v (omega (arith, below, within)))
 
     remainder_below : (x : ℕ) → UpTo limit x → IsLog x q → x - 2 ^ q < bound
     remainder_below x taken log =
@@ -167,13 +170,6 @@ top_small n b some =
     let up : 1 * (n / b) ≤ b * (n / b) = mul-le-mul_right (n / b) some in
     omega (arith, whole, up)
 
-pub gamma_second_at : (limit top q bound p w : ℕ) → limit < 2 ^ 48 → IsLog limit top → p ≡ 2 ^ q → w ≡ 2 ^ top → IsBound p top (limit - w) q bound → bound ≤ p → q ≤ 64 →
-    Second (UpTo limit) log2 lower_of q bound (short p) (λ v. p + v)
-gamma_second_at limit top q bound p w small is ep ew bounds within short_q =
-    let bounds : IsBound (2 ^ q) top (limit - w) q bound = subst (λ n. IsBound n top (limit - w) q bound) ep bounds in
-    let bounds : IsBound (2 ^ q) top (limit - 2 ^ top) q bound = subst (λ n. IsBound (2 ^ q) top (limit - n) q bound) ew bounds in
-    subst (λ n. Second (UpTo limit) log2 lower_of q bound (short n) (λ v. n + v)) (sym ep) (gamma_second limit top q bound small is bounds (subst (λ n. bound ≤ n) ep within) short_q)
-
 pub as_log : (x e : ℕ) → 2 ^ e ≤ x → x < 2 * 2 ^ e → IsLog x e
 as_log x e low high = record { low = low; high = omega (arith, two-pow-succ e, high) }
 
@@ -182,6 +178,15 @@ below_power x e k below low = elim (cases_lt e k) [ inl lt ↦ lt | inr ge ↦ a
 
 pub log_small : (x e : ℕ) → x < 2 ^ 48 → 2 ^ e ≤ x → e < 48
 log_small x e small low = below_power x e 48 small low
+
+pub gamma_second_at : {limit top q bound p w : ℕ} → limit < 2 ^ 48 → IsLog limit top → p ≡ 2 ^ q → w ≡ 2 ^ top →
+    IsBound p top (limit - w) q bound → bound ≤ p → Second (UpTo limit) log2 lower_of q bound (short p) (λ v. p + v)
+gamma_second_at {limit} {top} {q} {bound} {p} {w} small is ep ew bounds within =
+    let few : q ≤ 64 = omega (arith, bounds.most, log_small limit top small is.low) in
+    let bounds : IsBound (2 ^ q) top (limit - w) q bound = subst (λ n. IsBound n top (limit - w) q bound) ep bounds in
+    let bounds : IsBound (2 ^ q) top (limit - 2 ^ top) q bound = subst (λ n. IsBound (2 ^ q) top (limit - n) q bound) ew bounds in
+    subst (λ n. Second (UpTo limit) log2 lower_of q bound (short n) (λ v. n + v)) (sym ep)
+    (gamma_second limit top q bound small is bounds (subst (λ n. bound ≤ n) ep within) few)
 
 pub last_below : (limit top q p w : ℕ) → limit < 2 * 2 ^ top → p ≡ 2 ^ q → w ≡ 2 ^ top → q ≡ top → limit - w < p
 last_below limit top q p w high ep ew same = omega (arith, high, ep, ew, ap (λ n. 2 ^ n) same, pow_pos top)

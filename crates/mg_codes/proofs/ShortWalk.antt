@@ -1,17 +1,21 @@
 -- Short codes that are read bit by bit.
-use Rattle.std.proofs.Common.{arith, suc, zero, ◌≡◌, ◌+◌, ◌*◌, ◌/◌, ◌%◌, ◌^◌, ◌≤◌, ◌<◌, ◌-◌, ℕ, Bool, true, false, List, [], ◌∷◌, ◌++◌, length, take, refl, sym, ◌∙◌, ap, subst, nat_eq, inl, inr, append-nil, add-zero, one-mul, if◌then◌else◌}
+use Rattle.std.proofs.Common.{◌≡◌, ◌+◌, ◌*◌, ◌/◌, ◌%◌, ◌^◌, ◌≤◌, ◌<◌, ◌-◌, [], ◌∷◌, ◌++◌, ◌∙◌, if◌then◌else◌}
+use Rattle.std.proofs.Common.{arith, suc, zero, ℕ, Bool, true, false, length, take, refl, sym, ap, subst, nat_eq, inl, inr, append-nil, add-zero, one-mul}
 use Rattle.std.specs.declared.option.Option.{Option}
 use Rattle.std.proofs.lemmas.Bool.{cases_lt, cond-true, cond-false, lt-ltb, le-ltb, eq-eqb, eqb-true}
 use Rattle.std.proofs.Math.Pow.{pow_mono}
 use Rattle.std.proofs.lemmas.Nat.{pow_pos, pow-add, shr_below}
 use Rattle.std.proofs.Math.Nat.{two-pow-succ, div-mul-le_self, mod-eq_of_lt, mul-le-mul_right}
-use Rattle.mg_defs.specs.Bits.{Begins, FromPlace, digits}
+use Rattle.mg_defs.specs.Bits.{Begins, digits}
 use Rattle.mg_defs.specs.Codes.{short, shorter, ceil_log2}
 use Rattle.mg_defs.specs.Answers.{Below, CutShort, IsNone, IsPrefixFree}
 use Rattle.mg_defs.proofs.BitLaws.{length_digits, digits_append, take_digits}
 use Rattle.mg_defs.proofs.FrontLaws.{begins_append, begins_self, begins_whole}
 use Rattle.mg_defs.proofs.CodeLaws.{IsCeil, is_ceil, one_ceil, short_low, short_high, length_short, short_free, small_digits}
-use Rattle.mg_bits.proofs.CallerLemmas.{walk_bit}
+use Rattle.mg_dev.specs.Files.{Files}
+use Rattle.mg_bits.specs.Feed.{Device, Feeding}
+use Rattle.mg_bits.specs.Reading.{Reading}
+use Rattle.mg_codes.proofs.ReadLaws.{GotBit, HasRead, read_a_bit}
 use Rattle.mg_codes.specs.Remainders.{IsWholeAt, IsOpenAt, least_from, least_of}
 
 -- the greatest length of a short code, and how many have one bit less
@@ -139,7 +143,8 @@ whole_least size few done high v (inr whole) =
 twice_power : (h e : ℕ) → h * 2 ^ suc e ≡ 2 * (h * 2 ^ e)
 twice_power h e = rw (two-pow-succ e) (omega arith)
 
-pub open_cut : (b size few done high bound : ℕ) → IsShort b size few → Walked size few done high → IsOpenAt size few done high → least_of size few done high < bound → CutShort (Below bound) (short b) (digits done high)
+pub open_cut : (b size few done high bound : ℕ) → IsShort b size few → Walked size few done high → IsOpenAt size few done high →
+    least_of size few done high < bound → CutShort (Below bound) (short b) (digits done high)
 open_cut b size few done high bound is w opened below =
     let e : ℕ = size - 1 - done in
     let sum : done + e ≡ size - 1 = omega (arith, opened.more) in
@@ -176,7 +181,8 @@ open_cut b size few done high bound is w opened below =
           agrees = subst (Begins (digits done high)) (sym code) (zeros_behind done (suc e) high);
         }
 
-pub walked_none : (b size few done high bound : ℕ) → 1 ≤ b → b ≤ 2 ^ 64 → IsShort b size few → Walked size few done high → bound ≤ least_of size few done high → bound ≤ b → IsNone (Below bound) (short b) (digits done high)
+pub walked_none : (b size few done high bound : ℕ) → 1 ≤ b → b ≤ 2 ^ 64 → IsShort b size few → Walked size few done high →
+    bound ≤ least_of size few done high → bound ≤ b → IsNone (Below bound) (short b) (digits done high)
 walked_none b size few done high bound some small is w above within =
     elim (cases_lt done size) [
       | inl lt ↦ none_before lt
@@ -268,7 +274,8 @@ pub shifted_small : (high done more : ℕ) → high < 2 ^ done → done + more <
 shifted_small high done more below sum =
     let p : 2 ^ (done + more) ≡ 2 ^ done * 2 ^ more = pow-add 2 done more in
     let q : 0 < 2 ^ more = pow_pos more in
-    let up : high * 2 ^ more + 2 ^ more ≤ 2 ^ done * 2 ^ more = (let le : high + 1 ≤ 2 ^ done = omega (arith, below) in let m : (high + 1) * 2 ^ more ≤ 2 ^ done * 2 ^ more = mul-le-mul_right (2 ^ more) le in omega (arith, m)) in
+    let le : high + 1 ≤ 2 ^ done = omega (arith, below) in
+    let up : (high + 1) * 2 ^ more ≤ 2 ^ done * 2 ^ more = mul-le-mul_right (2 ^ more) le in
     let le : done + more ≤ 48 = omega (arith, sum) in
     let m : 2 ^ (done + more) ≤ 2 ^ 48 = pow_mono le in
     omega (arith, up, m, p, q)
@@ -281,10 +288,12 @@ below_free b bound some within small = record {
   one = λ x y tx ty h. (short_free b (omega (arith, some, within)) (omega (arith, small))).one x y (omega (arith, tx, within)) (omega (arith, ty, within)) h;
 }
 
-pub next_told : (told : Option (List ℕ)) (start place done high v : ℕ) (b : Bool) → place ≡ start + done → v ≡ 2 * high + (if b then 1 else 0) →
-    FromPlace told start (Begins (digits done high)) → FromPlace told place (Begins (b ∷ [])) → FromPlace told start (Begins (digits (done + 1) v))
-next_told told start place done high v b here is one two =
-    rw (digits_bit done high v b is) (walk_bit told start place (digits done high) (b ∷ []) (omega (arith, here, length_digits done high)) one two)
+-- one bit more of a number
+pub read_a_digit : {Fed Dev : Type 0} {agrees : Fed → Option Files → Type 0} {feeding : Fed → Feeding} {device : Dev → Device}
+    {old mid new : Reading Fed} {d0 d1 d2 : Dev} {bit : Bool} (done high v : ℕ) → 0 < (feeding old.feed).page → v ≡ 2 * high + (if bit then 1 else 0) →
+    HasRead agrees feeding device old mid d0 d1 (digits done high) → GotBit agrees feeding device mid new d1 d2 bit →
+    HasRead agrees feeding device old new d0 d2 (digits (done + 1) v)
+read_a_digit {bit = bit} done high v some is one two = rw (digits_bit done high v bit is) (read_a_bit some one two)
 
 -- the least remainder is one
 pub least_below : (b size few done high : ℕ) → 1 ≤ b → IsShort b size few → Walked size few done high → least_of size few done high < b

@@ -1,9 +1,6 @@
 -- Refusals of a part of a code as those of the whole.
-use Rattle.std.specs.Prelude.{◌≡◌, ℕ, ◌<◌, Ok, Err}
+use Rattle.std.specs.Prelude.{ℕ, ◌<◌, Ok, Err}
 use Rattle.std.specs.declared.result.Result.{Result}
-use Rattle.mg_defs.specs.Bits.{Bits}
-use Rattle.mg_defs.specs.Codes.{short}
-use Rattle.mg_defs.specs.Answers.{value, end, Answers, Below}
 use Rattle.mg_bits.specs.declared.bit_err.BitErr.{BitErr}
 use Rattle.mg_bits.specs.declared.bit_err.BitErr.TheVariants.{Device as BitDevice, End as BitEnd}
 use Rattle.mg_bits.specs.declared.code_err.CodeErr.{CodeErr}
@@ -33,8 +30,8 @@ as_bits Device = BitDevice
 as_bits (End at) = BitEnd at
 as_bits (Over at most) = BitDevice
 
--- the remainder whose short code stands first, or that the file ends within one
-abbrev pub AnswersShort : Result ℕ BitErr → ℕ → ℕ → Bits → Type 0
-AnswersShort (Ok r) b place bits = Answers (Below b) (short b) bits (value r)
-AnswersShort (Err BitDevice) b place bits = Unit {0}
-AnswersShort (Err (BitEnd at)) b place bits = (at ≡ place) × Answers (Below b) (short b) bits end
+-- what a code without a limit answers, as that of a code with one
+abbrev pub as_code : Result ℕ BitErr → Result ℕ CodeErr
+as_code (Ok r) = Ok r
+as_code (Err BitDevice) = Err Device
+as_code (Err (BitEnd at)) = Err (End at)

@@ -1,13 +1,10 @@
 //! The gamma code.
-ghost use Rattle.std.specs.Prelude.{◌≡◌, ◌+◌, ◌-◌, ◌*◌, ◌≤◌, ◌<◌, ◌^◌, IfOk, OnOk, OnErr, MatchResult, length};
+ghost use Rattle.std.specs.Prelude.{◌≡◌, ◌+◌, ◌*◌, ◌≤◌, ◌<◌, ◌^◌};
 ghost use Rattle.mg_defs.specs.Codes.{gamma};
 ghost use Rattle.mg_defs.specs.Answers.{UpTo};
-ghost use Rattle.mg_bits.specs.Feed.{Calm};
-ghost use Rattle.mg_bits.specs.CodeAnswers.{AnswersCode, CodeCause, OnlyCodePages};
-ghost use Rattle.mg_dev.specs.Causes.{HasPutCause};
-ghost use Rattle.mg_bits.specs.Writer.{WroteTo};
-ghost use Rattle.mg_bits.specs.BitWriting.{Holds, WroteBits};
-ghost use Rattle.mg_bits.specs.NextBits.{FromNext, ReadNext};
+ghost use Rattle.mg_bits.specs.BitWriting.{Holds};
+ghost use Rattle.mg_codes.specs.Readers.{CanRead, ReadsCode};
+ghost use Rattle.mg_codes.specs.Writers.{PutsBits};
 
 use crate::held::gamma_here;
 use crate::refusals::refused_whole;
@@ -49,11 +46,7 @@ pub fn put_gamma<S: Store>(w: &mut BitWriter<'_>, store: &mut S, x: u64) -> Resu
     requires holds { Holds w.old (S.files store.old) }
     requires place { w.old.place ≤ 2 ^ 63 + 2 ^ 49 }
     requires some { 1 ≤ x }
-    ensures holds { OnOk result (Holds w.new (S.files store.new)) }
-    ensures bits { OnOk result (WroteBits w.old w.new (S.files store.old) (S.files store.new) (gamma x)) }
-    ensures name { w.new.name ≡ w.old.name }
-    ensures wrote { WroteTo w.old.name (S.files store.old) (S.files store.new) (S.reads store.old) (S.reads store.new) }
-    ensures cause { HasPutCause (S.faults store.old) (S.faults store.new) result }
+    ensures { PutsBits (gamma x) S.files S.reads S.faults w.old w.new store.old store.new result }
 {
     let size = x.ilog2();
     w.put(store, ones_and_zero(size), size + 1)?;
@@ -67,18 +60,9 @@ pub fn get_gamma<F: Feed>(
     dev: &mut F::Dev,
     limit: u64,
 ) -> Result<u64, CodeErr>
-    requires fits { F.fits r.old.feed (F.device dev.old).files }
-    requires place { r.old.place ≤ 2 ^ 63 }
-    requires some { 1 ≤ limit }
-    requires limit { limit < 2 ^ 48 }
-    ensures fits { F.fits r.new.feed (F.device dev.new).files }
-    ensures calm { Calm (F.feeding r.old.feed) (F.feeding r.new.feed) (F.device dev.old) (F.device dev.new) }
-    ensures read { IfOk result (λ x. ReadNext F.feeding F.device r.old r.new dev.old dev.new (length (gamma x))) }
-    ensures pages { OnErr result (OnlyCodePages F.feeding F.device r.old r.new dev.old dev.new (UpTo limit) gamma) }
-    ensures place { MatchResult result (λ x. r.new.place ≡ r.old.place + length (gamma x)) (λ _. r.new.place ≡ r.old.place) }
-    ensures told { FromNext F.feeding F.device r.old dev.old (AnswersCode result (UpTo limit) gamma limit r.old.place) }
-    ensures range { IfOk result (λ x. UpTo limit x) }
-    ensures cause { CodeCause result (F.device dev.old).faults (F.device dev.new).faults }
+    requires { CanRead (2 ^ 63) limit F.fits F.device r.old dev.old }
+    ensures { ReadsCode UpTo limit gamma F.fits F.feeding F.device
+        r.old r.new dev.old dev.new result }
 {
     if let Some(code) = gamma_here(r, limit) {
         r.seek(r.place() + u64::from(code.size));
@@ -95,18 +79,9 @@ fn gamma_by_parts<F: Feed>(
     dev: &mut F::Dev,
     limit: u64,
 ) -> Result<u64, CodeErr>
-    requires fits { F.fits r.old.feed (F.device dev.old).files }
-    requires place { r.old.place ≤ 2 ^ 63 }
-    requires some { 1 ≤ limit }
-    requires limit { limit < 2 ^ 48 }
-    ensures fits { F.fits r.new.feed (F.device dev.new).files }
-    ensures calm { Calm (F.feeding r.old.feed) (F.feeding r.new.feed) (F.device dev.old) (F.device dev.new) }
-    ensures read { IfOk result (λ x. ReadNext F.feeding F.device r.old r.new dev.old dev.new (length (gamma x))) }
-    ensures pages { OnErr result (OnlyCodePages F.feeding F.device r.old r.new dev.old dev.new (UpTo limit) gamma) }
-    ensures place { MatchResult result (λ x. r.new.place ≡ r.old.place + length (gamma x)) (λ _. r.new.place ≡ r.old.place) }
-    ensures told { FromNext F.feeding F.device r.old dev.old (AnswersCode result (UpTo limit) gamma limit r.old.place) }
-    ensures range { IfOk result (λ x. UpTo limit x) }
-    ensures cause { CodeCause result (F.device dev.old).faults (F.device dev.new).faults }
+    requires { CanRead (2 ^ 63) limit F.fits F.device r.old dev.old }
+    ensures { ReadsCode UpTo limit gamma F.fits F.feeding F.device
+        r.old r.new dev.old dev.new result }
 {
     let start = r.place();
     let top = log_of(limit);

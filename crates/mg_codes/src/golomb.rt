@@ -1,13 +1,10 @@
 //! The Golomb code.
-ghost use Rattle.std.specs.Prelude.{◌≡◌, ◌+◌, ◌-◌, ◌*◌, ◌≤◌, ◌<◌, ◌^◌, ◌/◌, ◌%◌, IfOk, OnOk, OnErr, MatchResult, length};
+ghost use Rattle.std.specs.Prelude.{◌≡◌, ◌+◌, ◌*◌, ◌≤◌, ◌<◌, ◌^◌};
 ghost use Rattle.mg_defs.specs.Codes.{golomb};
 ghost use Rattle.mg_defs.specs.Answers.{UpTo};
-ghost use Rattle.mg_bits.specs.Feed.{Calm};
-ghost use Rattle.mg_bits.specs.CodeAnswers.{AnswersCode, CodeCause, OnlyCodePages};
-ghost use Rattle.mg_dev.specs.Causes.{HasPutCause};
-ghost use Rattle.mg_bits.specs.Writer.{WroteTo};
-ghost use Rattle.mg_bits.specs.BitWriting.{Holds, WroteBits};
-ghost use Rattle.mg_bits.specs.NextBits.{FromNext, ReadNext};
+ghost use Rattle.mg_bits.specs.BitWriting.{Holds};
+ghost use Rattle.mg_codes.specs.Readers.{CanRead, IsParameter, ReadsCode};
+ghost use Rattle.mg_codes.specs.Writers.{PutsBits};
 
 use crate::held::golomb_here;
 use crate::refusals::refused_whole;
@@ -56,11 +53,7 @@ pub fn put_golomb<S: Store>(
     requires limit { b < 2 ^ 48 }
     requires some { 1 ≤ x }
     requires small { x < 2 ^ 48 }
-    ensures holds { OnOk result (Holds w.new (S.files store.new)) }
-    ensures bits { OnOk result (WroteBits w.old w.new (S.files store.old) (S.files store.new) (golomb b x)) }
-    ensures name { w.new.name ≡ w.old.name }
-    ensures wrote { WroteTo w.old.name (S.files store.old) (S.files store.new) (S.reads store.old) (S.reads store.new) }
-    ensures cause { HasPutCause (S.faults store.old) (S.faults store.new) result }
+    ensures { PutsBits (golomb b x) S.files S.reads S.faults w.old w.new store.old store.new result }
 {
     let (quotient, rest) = parted(x - 1, b);
     put_unary(w, store, 1 + quotient)?;
@@ -75,20 +68,10 @@ pub fn get_golomb<F: Feed>(
     b: u64,
     limit: u64,
 ) -> Result<u64, CodeErr>
-    requires fits { F.fits r.old.feed (F.device dev.old).files }
-    requires place { r.old.place ≤ 2 ^ 63 }
-    requires parameter { 1 ≤ b }
-    requires small { b < 2 ^ 48 }
-    requires some { 1 ≤ limit }
-    requires limit { limit < 2 ^ 48 }
-    ensures fits { F.fits r.new.feed (F.device dev.new).files }
-    ensures calm { Calm (F.feeding r.old.feed) (F.feeding r.new.feed) (F.device dev.old) (F.device dev.new) }
-    ensures read { IfOk result (λ x. ReadNext F.feeding F.device r.old r.new dev.old dev.new (length (golomb b x))) }
-    ensures pages { OnErr result (OnlyCodePages F.feeding F.device r.old r.new dev.old dev.new (UpTo limit) (golomb b)) }
-    ensures place { MatchResult result (λ x. r.new.place ≡ r.old.place + length (golomb b x)) (λ _. r.new.place ≡ r.old.place) }
-    ensures told { FromNext F.feeding F.device r.old dev.old (AnswersCode result (UpTo limit) (golomb b) limit r.old.place) }
-    ensures range { IfOk result (λ x. UpTo limit x) }
-    ensures cause { CodeCause result (F.device dev.old).faults (F.device dev.new).faults }
+    requires reader { CanRead (2 ^ 63) limit F.fits F.device r.old dev.old }
+    requires parameter { IsParameter b }
+    ensures { ReadsCode UpTo limit (golomb b) F.fits F.feeding F.device
+        r.old r.new dev.old dev.new result }
 {
     if let Some(code) = golomb_here(r, b, limit) {
         r.seek(r.place() + u64::from(code.size));
@@ -106,20 +89,10 @@ fn golomb_by_parts<F: Feed>(
     b: u64,
     limit: u64,
 ) -> Result<u64, CodeErr>
-    requires fits { F.fits r.old.feed (F.device dev.old).files }
-    requires place { r.old.place ≤ 2 ^ 63 }
-    requires parameter { 1 ≤ b }
-    requires small { b < 2 ^ 48 }
-    requires some { 1 ≤ limit }
-    requires limit { limit < 2 ^ 48 }
-    ensures fits { F.fits r.new.feed (F.device dev.new).files }
-    ensures calm { Calm (F.feeding r.old.feed) (F.feeding r.new.feed) (F.device dev.old) (F.device dev.new) }
-    ensures read { IfOk result (λ x. ReadNext F.feeding F.device r.old r.new dev.old dev.new (length (golomb b x))) }
-    ensures pages { OnErr result (OnlyCodePages F.feeding F.device r.old r.new dev.old dev.new (UpTo limit) (golomb b)) }
-    ensures place { MatchResult result (λ x. r.new.place ≡ r.old.place + length (golomb b x)) (λ _. r.new.place ≡ r.old.place) }
-    ensures told { FromNext F.feeding F.device r.old dev.old (AnswersCode result (UpTo limit) (golomb b) limit r.old.place) }
-    ensures range { IfOk result (λ x. UpTo limit x) }
-    ensures cause { CodeCause result (F.device dev.old).faults (F.device dev.new).faults }
+    requires reader { CanRead (2 ^ 63) limit F.fits F.device r.old dev.old }
+    requires parameter { IsParameter b }
+    ensures { ReadsCode UpTo limit (golomb b) F.fits F.feeding F.device
+        r.old r.new dev.old dev.new result }
 {
     let start = r.place();
     let top = (limit - 1) / b;

@@ -2,12 +2,11 @@
 //!
 //! A code of two parts is read from 57 bits at once, with no division: a value's quotient is counted,
 //! and the value is compared with the limit.
-ghost use Rattle.std.specs.Prelude.{◌≡◌, ◌+◌, ◌-◌, ◌*◌, ◌≤◌, ◌<◌, ◌^◌, ◌%◌, Option, IfSome, length};
-ghost use Rattle.mg_defs.specs.Bits.{Begins};
+ghost use Rattle.std.specs.Prelude.{◌≡◌, ◌-◌, ◌*◌, ◌≤◌, ◌<◌, ◌^◌, ◌%◌, Option, IfSome};
 ghost use Rattle.mg_defs.specs.Codes.{gamma, golomb};
 ghost use Rattle.mg_defs.specs.Answers.{UpTo};
-ghost use Rattle.mg_bits.specs.Feed.{HoldsBits, ToldBits};
 ghost use Rattle.mg_codes.specs.Held.{IsFirstCode};
+ghost use Rattle.mg_codes.specs.Readers.{IsHeldCode, IsParameter};
 
 use crate::remainder::{code_size, first_short, shorter_codes};
 use crate::unary::ones_before_zero;
@@ -43,8 +42,7 @@ fn behind(next: u64, size: u32) -> u64
 #[inline]
 fn first_golomb(next: u64, b: u64) -> Option<HeldCode>
     requires next { next < 2 ^ 57 }
-    requires parameter { 1 ≤ b }
-    requires small { b < 2 ^ 48 }
+    requires parameter { IsParameter b }
     ensures code { IfSome result (λ code. IsFirstCode (golomb b code.value) next code.size) }
     ensures some { IfSome result (λ code. 1 ≤ code.value) }
 {
@@ -95,14 +93,9 @@ fn first_gamma(next: u64) -> Option<HeldCode>
 #[inline]
 pub fn golomb_here<F: Feed>(r: &BitReader<F>, b: u64, limit: u64) -> Option<HeldCode>
     requires place { r.now.place ≤ 2 ^ 63 }
-    requires parameter { 1 ≤ b }
-    requires small { b < 2 ^ 48 }
-    ensures range { IfSome result (λ code. UpTo limit code.value) }
-    ensures some { IfSome result (λ code. 1 ≤ code.size) }
-    ensures small { IfSome result (λ code. code.size ≤ 57) }
-    ensures size { IfSome result (λ code. length (golomb b code.value) ≡ code.size) }
-    ensures held { IfSome result (λ code. HoldsBits (F.feeding r.now.feed) r.now.place code.size) }
-    ensures told { ToldBits (F.feeding r.now.feed) (F.fits r.now.feed) r.now.place result (λ code. Begins (golomb b code.value)) }
+    requires parameter { IsParameter b }
+    ensures { IfSome result
+        (λ code. IsHeldCode UpTo limit (golomb b) F.fits F.feeding r.now code.value code.size) }
 {
     let Some(next) = r.peek() else {
         return None;
@@ -118,12 +111,8 @@ pub fn golomb_here<F: Feed>(r: &BitReader<F>, b: u64, limit: u64) -> Option<Held
 #[inline]
 pub fn gamma_here<F: Feed>(r: &BitReader<F>, limit: u64) -> Option<HeldCode>
     requires place { r.now.place ≤ 2 ^ 63 }
-    ensures range { IfSome result (λ code. UpTo limit code.value) }
-    ensures some { IfSome result (λ code. 1 ≤ code.size) }
-    ensures small { IfSome result (λ code. code.size ≤ 57) }
-    ensures size { IfSome result (λ code. length (gamma code.value) ≡ code.size) }
-    ensures held { IfSome result (λ code. HoldsBits (F.feeding r.now.feed) r.now.place code.size) }
-    ensures told { ToldBits (F.feeding r.now.feed) (F.fits r.now.feed) r.now.place result (λ code. Begins (gamma code.value)) }
+    ensures { IfSome result
+        (λ code. IsHeldCode UpTo limit gamma F.fits F.feeding r.now code.value code.size) }
 {
     let Some(next) = r.peek() else {
         return None;

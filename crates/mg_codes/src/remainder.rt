@@ -1,21 +1,18 @@
 //! Short codes up to a bound, which are the second part of the gamma and Golomb codes.
-ghost use Rattle.std.specs.Prelude.{◌≡◌, ◌+◌, ◌-◌, ◌*◌, ◌≤◌, ◌<◌, ◌^◌, ◌/◌, Option, IfOk, IfSome, OnErr, MatchResult, MatchOption, length, if◌then◌else◌};
-ghost use Rattle.mg_defs.specs.Bits.{Begins, digits};
+ghost use Rattle.std.specs.Prelude.{◌≡◌, ◌+◌, ◌*◌, ◌≤◌, ◌<◌, ◌^◌, Option, IfSome, MatchOption, if◌then◌else◌};
 ghost use Rattle.mg_defs.specs.Codes.{short, shorter, ceil_log2};
 ghost use Rattle.mg_defs.specs.Answers.{Below};
-ghost use Rattle.mg_bits.specs.Feed.{Calm, HoldsBits, ToldBits};
-ghost use Rattle.mg_bits.specs.CodeAnswers.{AnswersCode, CodeCause, OnlyCodePages};
+ghost use Rattle.mg_codes.specs.Held.{IsFirstCode};
+ghost use Rattle.mg_codes.specs.Readers.{CanRead, IsHeldCode, IsParameter, ReadsCode};
 ghost use Rattle.mg_codes.specs.Remainders.{IsBound, IsWholeAt, IsOpenAt, least_of};
 ghost use Rattle.mg_codes.specs.Refusals.{OverBelow};
-ghost use Rattle.mg_bits.specs.NextBits.{FromNext, ReadNext};
 
 use crate::held::HeldCode;
 use mg_bits::{BitReader, CodeErr, Feed, refused};
 
 /// The greatest length of a short code.
 pub fn code_size(b: u64) -> u32
-    requires some { 1 ≤ b }
-    requires small { b < 2 ^ 48 }
+    requires parameter { IsParameter b }
     ensures size { result ≡ ceil_log2 b }
     ensures small { result ≤ 48 }
 {
@@ -24,8 +21,7 @@ pub fn code_size(b: u64) -> u32
 
 /// How many remainders have a code of one bit less.
 pub fn shorter_codes(b: u64, size: u32) -> u64
-    requires some { 1 ≤ b }
-    requires small { b < 2 ^ 48 }
+    requires parameter { IsParameter b }
     requires size { size ≡ ceil_log2 b }
     ensures few { result ≡ shorter b }
     ensures small { result < 2 ^ 48 }
@@ -90,19 +86,11 @@ pub fn get_below<F: Feed>(
     b: u64,
     bound: u64,
 ) -> Result<u64, CodeErr>
-    requires fits { F.fits r.old.feed (F.device dev.old).files }
-    requires place { r.old.place ≤ 2 ^ 63 + 2 ^ 49 }
-    requires some { 1 ≤ bound }
+    requires reader { CanRead (2 ^ 63 + 2 ^ 49) bound F.fits F.device r.old dev.old }
     requires within { bound ≤ b }
     requires small { b < 2 ^ 48 }
-    ensures fits { F.fits r.new.feed (F.device dev.new).files }
-    ensures calm { Calm (F.feeding r.old.feed) (F.feeding r.new.feed) (F.device dev.old) (F.device dev.new) }
-    ensures read { IfOk result (λ x. ReadNext F.feeding F.device r.old r.new dev.old dev.new (length (short b x))) }
-    ensures pages { OnErr result (OnlyCodePages F.feeding F.device r.old r.new dev.old dev.new (Below bound) (short b)) }
-    ensures place { MatchResult result (λ x. r.new.place ≡ r.old.place + length (short b x)) (λ _. r.new.place ≡ r.old.place) }
-    ensures told { FromNext F.feeding F.device r.old dev.old (AnswersCode result (Below bound) (short b) bound r.old.place) }
-    ensures range { IfOk result (λ x. x < bound) }
-    ensures cause { CodeCause result (F.device dev.old).faults (F.device dev.new).faults }
+    ensures code { ReadsCode Below bound (short b) F.fits F.feeding F.device
+        r.old r.new dev.old dev.new result }
     ensures over { OverBelow result bound b }
 {
     if let Some(code) = short_here(r, b, bound) {
@@ -117,14 +105,9 @@ pub fn get_below<F: Feed>(
 #[inline]
 fn short_here<F: Feed>(r: &BitReader<F>, b: u64, bound: u64) -> Option<HeldCode>
     requires place { r.now.place ≤ 2 ^ 63 + 2 ^ 49 }
-    requires some { 1 ≤ b }
-    requires small { b < 2 ^ 48 }
-    ensures range { IfSome result (λ code. code.value < bound) }
-    ensures some { IfSome result (λ code. 1 ≤ code.size) }
-    ensures size { IfSome result (λ code. length (short b code.value) ≡ code.size) }
-    ensures small { IfSome result (λ code. code.size ≤ 48) }
-    ensures held { IfSome result (λ code. HoldsBits (F.feeding r.now.feed) r.now.place code.size) }
-    ensures told { ToldBits (F.feeding r.now.feed) (F.fits r.now.feed) r.now.place result (λ code. Begins (short b code.value)) }
+    requires parameter { IsParameter b }
+    ensures { IfSome result
+        (λ code. IsHeldCode Below bound (short b) F.fits F.feeding r.now code.value code.size) }
 {
     let size = code_size(b);
     if size == 0 {
@@ -143,16 +126,13 @@ fn short_here<F: Feed>(r: &BitReader<F>, b: u64, bound: u64) -> Option<HeldCode>
 #[inline]
 pub fn first_short(next: u64, b: u64, size: u32, few: u64) -> HeldCode
     requires next { next < 2 ^ 57 }
-    requires parameter { 1 ≤ b }
-    requires small { b < 2 ^ 48 }
+    requires parameter { IsParameter b }
     requires size { size ≡ ceil_log2 b }
     requires few { few ≡ shorter b }
     requires some { 1 ≤ size }
     requires most { size ≤ 48 }
-    ensures code { short b result.value ≡ digits result.size (next / 2 ^ (57 - result.size)) }
+    ensures code { IsFirstCode (short b result.value) next result.size }
     ensures below { result.value < b }
-    ensures least { 1 ≤ result.size }
-    ensures most { result.size ≤ 48 }
 {
     let high = next >> (58 - size);
     if high < few {
@@ -174,19 +154,11 @@ fn below_by_bits<F: Feed>(
     b: u64,
     bound: u64,
 ) -> Result<u64, CodeErr>
-    requires fits { F.fits r.old.feed (F.device dev.old).files }
-    requires place { r.old.place ≤ 2 ^ 63 + 2 ^ 49 }
-    requires some { 1 ≤ bound }
+    requires reader { CanRead (2 ^ 63 + 2 ^ 49) bound F.fits F.device r.old dev.old }
     requires within { bound ≤ b }
     requires small { b < 2 ^ 48 }
-    ensures fits { F.fits r.new.feed (F.device dev.new).files }
-    ensures calm { Calm (F.feeding r.old.feed) (F.feeding r.new.feed) (F.device dev.old) (F.device dev.new) }
-    ensures read { IfOk result (λ x. ReadNext F.feeding F.device r.old r.new dev.old dev.new (length (short b x))) }
-    ensures pages { OnErr result (OnlyCodePages F.feeding F.device r.old r.new dev.old dev.new (Below bound) (short b)) }
-    ensures place { MatchResult result (λ x. r.new.place ≡ r.old.place + length (short b x)) (λ _. r.new.place ≡ r.old.place) }
-    ensures told { FromNext F.feeding F.device r.old dev.old (AnswersCode result (Below bound) (short b) bound r.old.place) }
-    ensures range { IfOk result (λ x. x < bound) }
-    ensures cause { CodeCause result (F.device dev.old).faults (F.device dev.new).faults }
+    ensures code { ReadsCode Below bound (short b) F.fits F.feeding F.device
+        r.old r.new dev.old dev.new result }
     ensures over { OverBelow result bound b }
 {
     let start = r.place();

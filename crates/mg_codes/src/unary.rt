@@ -1,15 +1,11 @@
 //! The unary code.
-ghost use Rattle.std.specs.Prelude.{◌≡◌, ◌+◌, ◌≤◌, ◌<◌, ◌^◌, ◌-◌, ◌*◌, Option, IfOk, IfSome, OnOk, OnErr, MatchResult, length};
-ghost use Rattle.mg_defs.specs.Bits.{Begins};
+ghost use Rattle.std.specs.Prelude.{◌≡◌, ◌+◌, ◌≤◌, ◌<◌, ◌^◌, ◌-◌, ◌*◌, Option, IfSome};
 ghost use Rattle.mg_defs.specs.Codes.{unary};
 ghost use Rattle.mg_defs.specs.Answers.{UpTo};
-ghost use Rattle.mg_bits.specs.Feed.{Calm, HoldsBits, ToldBits};
 ghost use Rattle.mg_codes.specs.Held.{IsOnesBeforeZero};
-ghost use Rattle.mg_bits.specs.CodeAnswers.{AnswersCode, CodeCause, OnlyCodePages};
-ghost use Rattle.mg_dev.specs.Causes.{HasPutCause};
-ghost use Rattle.mg_bits.specs.Writer.{WroteTo};
-ghost use Rattle.mg_bits.specs.BitWriting.{Holds, WroteBits};
-ghost use Rattle.mg_bits.specs.NextBits.{FromNext, ReadNext};
+ghost use Rattle.mg_codes.specs.Readers.{CanRead, IsHeldCode, ReadsCode};
+ghost use Rattle.mg_codes.specs.Writers.{PutsBits};
+ghost use Rattle.mg_bits.specs.BitWriting.{Holds};
 
 use mg_bits::{BitReader, BitWriter, CodeErr, Feed, refused};
 use mg_dev::{PutErr, Store};
@@ -28,11 +24,7 @@ pub fn put_unary<S: Store>(w: &mut BitWriter<'_>, store: &mut S, x: u64) -> Resu
     requires place { w.old.place ≤ 2 ^ 63 }
     requires some { 1 ≤ x }
     requires small { x < 2 ^ 48 }
-    ensures holds { OnOk result (Holds w.new (S.files store.new)) }
-    ensures bits { OnOk result (WroteBits w.old w.new (S.files store.old) (S.files store.new) (unary x)) }
-    ensures name { w.new.name ≡ w.old.name }
-    ensures wrote { WroteTo w.old.name (S.files store.old) (S.files store.new) (S.reads store.old) (S.reads store.new) }
-    ensures cause { HasPutCause (S.faults store.old) (S.faults store.new) result }
+    ensures { PutsBits (unary x) S.files S.reads S.faults w.old w.new store.old store.new result }
 {
     let mut left = x - 1;
     while left >= 32 {
@@ -49,18 +41,9 @@ pub fn get_unary<F: Feed>(
     dev: &mut F::Dev,
     limit: u64,
 ) -> Result<u64, CodeErr>
-    requires fits { F.fits r.old.feed (F.device dev.old).files }
-    requires place { r.old.place ≤ 2 ^ 63 }
-    requires some { 1 ≤ limit }
-    requires limit { limit < 2 ^ 48 }
-    ensures fits { F.fits r.new.feed (F.device dev.new).files }
-    ensures calm { Calm (F.feeding r.old.feed) (F.feeding r.new.feed) (F.device dev.old) (F.device dev.new) }
-    ensures read { IfOk result (λ x. ReadNext F.feeding F.device r.old r.new dev.old dev.new (length (unary x))) }
-    ensures pages { OnErr result (OnlyCodePages F.feeding F.device r.old r.new dev.old dev.new (UpTo limit) unary) }
-    ensures place { MatchResult result (λ x. r.new.place ≡ r.old.place + length (unary x)) (λ _. r.new.place ≡ r.old.place) }
-    ensures told { FromNext F.feeding F.device r.old dev.old (AnswersCode result (UpTo limit) unary limit r.old.place) }
-    ensures range { IfOk result (λ x. UpTo limit x) }
-    ensures cause { CodeCause result (F.device dev.old).faults (F.device dev.new).faults }
+    requires { CanRead (2 ^ 63) limit F.fits F.device r.old dev.old }
+    ensures { ReadsCode UpTo limit unary F.fits F.feeding F.device
+        r.old r.new dev.old dev.new result }
 {
     if let Some(x) = unary_here(r, limit) {
         r.seek(r.place() + x);
@@ -74,10 +57,7 @@ pub fn get_unary<F: Feed>(
 #[inline]
 fn unary_here<F: Feed>(r: &BitReader<F>, limit: u64) -> Option<u64>
     requires { r.now.place ≤ 2 ^ 63 }
-    ensures range { IfSome result (λ x. UpTo limit x) }
-    ensures small { IfSome result (λ x. x ≤ 57) }
-    ensures held { IfSome result (λ x. HoldsBits (F.feeding r.now.feed) r.now.place x) }
-    ensures told { ToldBits (F.feeding r.now.feed) (F.fits r.now.feed) r.now.place result (λ x. Begins (unary x)) }
+    ensures { IfSome result (λ x. IsHeldCode UpTo limit unary F.fits F.feeding r.now x x) }
 {
     let next = match r.peek() {
         Some(next) => next,
@@ -108,18 +88,9 @@ fn unary_by_bits<F: Feed>(
     dev: &mut F::Dev,
     limit: u64,
 ) -> Result<u64, CodeErr>
-    requires fits { F.fits r.old.feed (F.device dev.old).files }
-    requires place { r.old.place ≤ 2 ^ 63 }
-    requires some { 1 ≤ limit }
-    requires limit { limit < 2 ^ 48 }
-    ensures fits { F.fits r.new.feed (F.device dev.new).files }
-    ensures calm { Calm (F.feeding r.old.feed) (F.feeding r.new.feed) (F.device dev.old) (F.device dev.new) }
-    ensures read { IfOk result (λ x. ReadNext F.feeding F.device r.old r.new dev.old dev.new (length (unary x))) }
-    ensures pages { OnErr result (OnlyCodePages F.feeding F.device r.old r.new dev.old dev.new (UpTo limit) unary) }
-    ensures place { MatchResult result (λ x. r.new.place ≡ r.old.place + length (unary x)) (λ _. r.new.place ≡ r.old.place) }
-    ensures told { FromNext F.feeding F.device r.old dev.old (AnswersCode result (UpTo limit) unary limit r.old.place) }
-    ensures range { IfOk result (λ x. UpTo limit x) }
-    ensures cause { CodeCause result (F.device dev.old).faults (F.device dev.new).faults }
+    requires { CanRead (2 ^ 63) limit F.fits F.device r.old dev.old }
+    ensures { ReadsCode UpTo limit unary F.fits F.feeding F.device
+        r.old r.new dev.old dev.new result }
 {
     let start = r.place();
     let mut ones = 0u64;

@@ -1,7 +1,8 @@
-use Rattle.mg_bits.proofs.CallerLemmas.{read_held}
+use Rattle.std.proofs.Common.{arith}
+use Rattle.mg_codes.proofs.ReadLaws.{held_is_read}
 use Rattle.mg_codes.proofs.gamma.get_gamma.Goals as goal
 
-pub returns-in-Some-clause-read : goal.returns-in-Some-clause-read
-returns-in-Some-clause-read g c =
-    rw (c.in-Some.ensures.size, c.seek.ensures.feed)
-    (read_held (g.F.Feed.feeding c.args.r.now.feed) (g.F.Feed.device c.args.dev.now) c.args.r.now.place c.in-Some.code.size c.in-Some.ensures.some c.in-Some.ensures.held)
+pub returns-in-Some : goal.returns-in-Some
+returns-in-Some g c =
+    held_is_read c.in-Some.code.value c.in-Some.code.size c.requires.fits c.in-Some.ensures
+    c.seek.ensures.feed (omega (arith, c.seek.ensures.place, c.place.ensures))

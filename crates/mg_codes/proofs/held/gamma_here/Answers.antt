@@ -1,10 +1,8 @@
-use Rattle.std.proofs.Common.{ap, length, ◌∙◌}
-use Rattle.mg_defs.proofs.BitLaws.{length_digits}
-use Rattle.mg_codes.proofs.HeldCodes.{told_code}
+use Rattle.std.proofs.Common.{arith}
+use Rattle.mg_codes.proofs.HeldCodes.{first_is_held}
 use Rattle.mg_codes.proofs.held.gamma_here.Goals as goal
 
-pub returns-in-Some-first_gamma-clause-size : goal.returns-in-Some-first_gamma-clause-size
-returns-in-Some-first_gamma-clause-size g c = ap length c.in-Some-first_gamma.ensures.code.bits ∙ length_digits c.in-Some-first_gamma.code.size _
-
-pub returns-in-Some-first_gamma-clause-told : goal.returns-in-Some-first_gamma-clause-told
-returns-in-Some-first_gamma-clause-told g c = λ files fits. told_code _ c.args.r.now.place c.in-Some.next c.in-Some-first_gamma.code.size _ c.in-Some-first_gamma.ensures.code.within c.in-Some-first_gamma.ensures.code.bits (c.in-Some.ensures.told files fits)
+pub returns-in-Some-first_gamma : goal.returns-in-Some-first_gamma
+returns-in-Some-first_gamma g c =
+    first_is_held c.in-Some.next (g.met.F.Feed.whole_pages c.args.r.now.feed).some c.in-Some-first_gamma.ensures.code
+    (omega (arith, c.in-Some-first_gamma.ensures.some), omega arith) c.in-Some.ensures.held c.in-Some.ensures.told

@@ -1,10 +1,8 @@
-use Rattle.std.proofs.Common.{ap, length, ◌∙◌}
-use Rattle.mg_defs.proofs.BitLaws.{length_digits}
-use Rattle.mg_codes.proofs.HeldCodes.{told_code}
+use Rattle.std.proofs.Common.{arith}
+use Rattle.mg_codes.proofs.HeldCodes.{first_is_held}
 use Rattle.mg_codes.proofs.held.golomb_here.Goals as goal
 
-pub returns-in-Some-first_golomb-clause-size : goal.returns-in-Some-first_golomb-clause-size
-returns-in-Some-first_golomb-clause-size g c = ap length c.in-Some-first_golomb.ensures.code.bits ∙ length_digits c.in-Some-first_golomb.code.size _
-
-pub returns-in-Some-first_golomb-clause-told : goal.returns-in-Some-first_golomb-clause-told
-returns-in-Some-first_golomb-clause-told g c = λ files fits. told_code _ c.args.r.now.place c.in-Some.next c.in-Some-first_golomb.code.size _ c.in-Some-first_golomb.ensures.code.within c.in-Some-first_golomb.ensures.code.bits (c.in-Some.ensures.told files fits)
+pub returns-in-Some-first_golomb : goal.returns-in-Some-first_golomb
+returns-in-Some-first_golomb g c =
+    first_is_held c.in-Some.next (g.met.F.Feed.whole_pages c.args.r.now.feed).some c.in-Some-first_golomb.ensures.code
+    (omega (arith, c.in-Some-first_golomb.ensures.some), omega arith) c.in-Some.ensures.held c.in-Some.ensures.told

@@ -1,0 +1,8 @@
+use Rattle.std.proofs.Common.{arith}
+use Rattle.mg_codes.proofs.ReadLaws.{held_is_read}
+use Rattle.mg_codes.proofs.remainder.get_below.Goals as goal
+
+pub returns-in-Some-clause-code : goal.returns-in-Some-clause-code
+returns-in-Some-clause-code g c =
+    held_is_read c.in-Some.code.value c.in-Some.code.size c.requires.reader.fits c.in-Some.ensures
+    c.seek.ensures.feed (omega (arith, c.seek.ensures.place, c.place.ensures))
