@@ -1,4 +1,5 @@
 pub mod CallerLemmas
+mod HeadFacts
 mod ReadFacts
 mod WalkLaws
 mod WriterLaws

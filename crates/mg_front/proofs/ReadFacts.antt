@@ -52,12 +52,8 @@ module _ (width i : ℕ) (before bytes : List ℕ) (at : ℕ) where
   pub whole_no_head : None ≡ slice_get bytes at → read_whole width i before (drop at bytes) ≡ None
   whole_no_head e = ap (read_whole width i before) (no_head bytes at e)
 
-  pub whole_no_string : (n : ℕ) → Some n ≡ slice_get bytes at → length (drop (at + 1) bytes) < n → read_whole width i before (drop at bytes) ≡ None
-  whole_no_string n e short = ap (read_whole width i before) (head_is bytes at n e) ∙ fails _ _ (then_false _ _ (first_false _ _ (le_false (n + width) (length (drop (at + 1) bytes)) (omega arith))))
-
-  pub whole_no_field : (n : ℕ) → Some n ≡ slice_get bytes at → n ≤ length (drop (at + 1) bytes) → length (drop (at + 1 + n) bytes) < width → read_whole width i before (drop at bytes) ≡ None
-  whole_no_field n e enough short =
-      ap (read_whole width i before) (head_is bytes at n e) ∙ fails _ _ (then_false _ _ (first_false _ _ (le_false (n + width) (length (drop (at + 1) bytes)) (omega (arith, length-drop (at + 1 + n) bytes, length-drop (at + 1) bytes)))))
+  pub whole_short : (n : ℕ) → Some n ≡ slice_get bytes at → length (drop (at + 1) bytes) < n + width → read_whole width i before (drop at bytes) ≡ None
+  whole_short n e short = ap (read_whole width i before) (head_is bytes at n e) ∙ fails _ _ (then_false _ _ (first_false _ _ (le_false (n + width) (length (drop (at + 1) bytes)) short)))
 
   pub whole_no_follow : (n : ℕ) (s : List ℕ) → Some n ≡ slice_get bytes at → s ≡ take n (drop (at + 1) bytes) → (i == 0 || is_below before s) ≡ false → read_whole width i before (drop at bytes) ≡ None
   whole_no_follow n s e is above =
@@ -76,14 +72,6 @@ module _ (width i : ℕ) (before bytes : List ℕ) (at : ℕ) where
 -- what was put at the front of a buffer
 pub put_first : (old new : List ℕ) (count n at : ℕ) (bytes : List ℕ) → count ≡ n → IsPut true old new 0 count at bytes → (take n new ≡ take n (drop at bytes)) × (n ≤ length (drop at bytes))
 put_first old new count n at bytes e put = (ap (λ m. take m new) (omega arith) ∙ put.0 ∙ ap (λ m. take m (drop at bytes)) e, omega (arith, put.1))
-
-pub put_short : (whole : Bool) (old new : List ℕ) (count n at : ℕ) (bytes : List ℕ) → whole ≡ false → count ≡ n → IsPut whole old new 0 count at bytes → length (drop at bytes) < n
-put_short true old new count n at bytes b e put = absurd cc
-put_short false old new count n at bytes b e put = omega (arith, put)
-
-pub put_whole : (whole : Bool) (old new : List ℕ) (count n at : ℕ) (bytes : List ℕ) → whole ≡ true → count ≡ n → IsPut whole old new 0 count at bytes → (take n new ≡ take n (drop at bytes)) × (n ≤ length (drop at bytes))
-put_whole true old new count n at bytes b e put = put_first old new count n at bytes e put
-put_whole false old new count n at bytes b e put = absurd cc
 
 pub was_true : (b : Bool) → not b ≡ true → b ≡ false
 was_true true h = absurd cc
@@ -109,13 +97,8 @@ module _ (width : ℕ) (before bytes : List ℕ) (at : ℕ) where
   pub cut_over : (k n : ℕ) → Some k ≡ slice_get bytes at → Some n ≡ slice_get bytes (at + 1) → 255 < k + n → read_cut width before (drop at bytes) ≡ None
   cut_over k n e f long = ap (read_cut width before) (heads k n e f) ∙ fails _ _ (then_false _ _ (first_false _ _ (le_false (k + n) 255 long)))
 
-  pub cut_no_string : (k n : ℕ) → Some k ≡ slice_get bytes at → Some n ≡ slice_get bytes (at + 1) → length (drop (at + 2) bytes) < n → read_cut width before (drop at bytes) ≡ None
-  cut_no_string k n e f short = ap (read_cut width before) (heads k n e f) ∙ fails _ _ (then_false _ _ (then_false _ _ (first_false _ _ (le_false (n + width) (length (drop (at + 2) bytes)) (omega arith)))))
-
-  pub cut_no_field : (k n : ℕ) → Some k ≡ slice_get bytes at → Some n ≡ slice_get bytes (at + 1) → n ≤ length (drop (at + 2) bytes) → length (drop (at + 2 + n) bytes) < width → read_cut width before (drop at bytes) ≡ None
-  cut_no_field k n e f enough short =
-      ap (read_cut width before) (heads k n e f)
-      ∙ fails _ _ (then_false _ _ (then_false _ _ (first_false _ _ (le_false (n + width) (length (drop (at + 2) bytes)) (omega (arith, length-drop (at + 2 + n) bytes, length-drop (at + 2) bytes))))))
+  pub cut_short : (k n : ℕ) → Some k ≡ slice_get bytes at → Some n ≡ slice_get bytes (at + 1) → length (drop (at + 2) bytes) < n + width → read_cut width before (drop at bytes) ≡ None
+  cut_short k n e f short = ap (read_cut width before) (heads k n e f) ∙ fails _ _ (then_false _ _ (then_false _ _ (first_false _ _ (le_false (n + width) (length (drop (at + 2) bytes)) short))))
 
   pub cut_no_rise : (k n : ℕ) (s : List ℕ) → Some k ≡ slice_get bytes at → Some n ≡ slice_get bytes (at + 1) → s ≡ take n (drop (at + 2) bytes) → rises_after_prefix (drop k before) s ≡ false → read_cut width before (drop at bytes) ≡ None
   cut_no_rise k n s e f is above =
@@ -136,16 +119,11 @@ module _ (width : ℕ) (before bytes : List ℕ) (at : ℕ) where
       string_is = ap (λ t. take k before ++ t) (sym is) ∙ sym all
 
 -- a suffix put behind a prefix of the string before
-pub put_after : (whole : Bool) (old new : List ℕ) (length_before from count k n total at : ℕ) (bytes : List ℕ) → whole ≡ true → from ≡ k → count ≡ n → total ≡ k + n → k ≤ length (take length_before old) → IsPut whole old new from count at bytes →
+pub put_after : (old new : List ℕ) (length_before k n total at : ℕ) (bytes : List ℕ) → total ≡ k + n → k ≤ length (take length_before old) → IsPut true old new k n at bytes →
     (take total new ≡ take k (take length_before old) ++ take n (drop at bytes)) × (drop k (take total new) ≡ take n (drop at bytes)) × (n ≤ length (drop at bytes))
-put_after false old new l from count k n total at bytes b e d t within put = absurd cc
-put_after true old new l from count k n total at bytes b e d t within put =
+put_after old new l k n total at bytes t within put =
     let small : k ≤ l = omega (arith, length-take l old) in
     let cut : take k (take l old) ≡ take k old = take-take k l old small in
-    let all : take total new ≡ take k old ++ take n (drop at bytes) = ap (λ m. take m new) (omega arith) ∙ put.0 ∙ ap (λ m. take m old ++ take count (drop at bytes)) e ∙ ap (λ m. take k old ++ take m (drop at bytes)) d in
+    let all : take total new ≡ take k old ++ take n (drop at bytes) = ap (λ m. take m new) t ∙ put.0 in
     let long : length (take k old) ≡ k = simp length-take (omega (arith, length-take l old)) in
     (all ∙ ap (λ u. u ++ take n (drop at bytes)) (sym cut), ap (drop k) all ∙ drop_at (take k old) (take n (drop at bytes)) k long, omega (arith, put.1))
-
-pub put_none : (whole : Bool) (old new : List ℕ) (from count n at : ℕ) (bytes : List ℕ) → whole ≡ false → count ≡ n → IsPut whole old new from count at bytes → length (drop at bytes) < n
-put_none true old new from count n at bytes b e put = absurd cc
-put_none false old new from count n at bytes b e put = omega (arith, put)

@@ -1,12 +1,13 @@
 -- What contracts see of an entry that was read.
-use Rattle.std.specs.Prelude.{◌≡◌, ◌≤◌, ◌<◌, ◌+◌, ◌-◌, ◌++◌, ◌∷◌, ℕ, Bool, true, false, List, length, take, drop, None, Some, IfOk}
+use Rattle.std.specs.Prelude.{◌≡◌, ◌≤◌, ◌<◌, ◌+◌, ◌-◌, ◌++◌, ◌∷◌, ◌⊎◌, ℕ, Bool, true, false, List, length, take, drop, slice_get, None, Some, IfOk}
 use Rattle.std.specs.Option.{IsSome}
 use Rattle.std.specs.declared.option.Option.{Option}
 use Rattle.std.specs.declared.result.Result.{Result}
 use Rattle.mg_dev.specs.Files.{Files, bytes_at}
 use Rattle.mg_bits.specs.Pages.{Paging}
 use Rattle.mg_front.specs.declared.entry.FrontEntry.{FrontEntry}
-use Rattle.mg_defs.specs.Front.{Entry, Found, entry_bytes}
+use Rattle.mg_front.specs.declared.entry.Head.{Head}
+use Rattle.mg_defs.specs.Front.{Entry, Found, entry_bytes, read_cut}
 
 abbrev pub string_of : FrontEntry → List ℕ
 string_of e = take e.length e.string
@@ -36,3 +37,35 @@ coded_entry number before string field = entry_bytes number before (record { str
 abbrev pub IsPut : Bool → List ℕ → List ℕ → ℕ → ℕ → ℕ → List ℕ → Type 0
 IsPut true old new from count at bytes = (take (from + count) new ≡ take from old ++ take count (drop at bytes)) × (count ≤ length (drop at bytes))
 IsPut false old new from count at bytes = length (drop at bytes) < count
+
+-- a head shares no more than the string before has, and the entry's string is no longer than 255 bytes
+pub record HasRoom (head : Head) (before : List ℕ) : Type 0 where
+  pub shared : head.shared ≤ length before
+  pub all : head.shared + head.more ≤ 255
+
+-- a head of two bytes behind a string, where they have room
+abbrev pub HeadAfter : Option Head → List ℕ → ℕ → ℕ → Type 0
+HeadAfter (Some head) before shared more = (head.shared ≡ shared) × (head.more ≡ more) × HasRoom head before
+HeadAfter None before shared more = (length before < shared) ⊎ (255 < shared + more)
+
+-- the two bytes from a place on are a head, or no entry that is not whole stands there
+abbrev pub HeadAt : Option Head → List ℕ → ℕ → List ℕ → Type 0
+HeadAt (Some head) before at bytes = (Some head.shared ≡ slice_get bytes at) × (Some head.more ≡ slice_get bytes (at + 1))
+HeadAt None before at bytes = (width : ℕ) → read_cut width before (drop at bytes) ≡ None
+
+-- the entry's string is as long as its head tells
+pub record IsAsLong (head : Head) (e : FrontEntry) : Type 0 where
+  pub length_is : e.length ≡ head.shared + head.more
+  pub shared_there : head.shared ≤ length (string_of e)
+
+-- the bytes behind a head were put into an entry: those of its string behind the bytes of the old one that are shared, and then those of its field
+pub record PutBehind (head : Head) (width : ℕ) (old string field : List ℕ) (at : ℕ) (bytes : List ℕ) : Type 0 where
+  pub string_is : take (head.shared + head.more) string ≡ take head.shared old ++ take head.more (drop at bytes)
+  pub string_there : head.more ≤ length (drop at bytes)
+  pub field_is : take width field ≡ take width (drop (at + head.more) bytes)
+  pub field_there : width ≤ length (drop (at + head.more) bytes)
+
+-- they were put there, or the bytes end before
+abbrev pub IsBehind : Bool → Head → ℕ → List ℕ → List ℕ → List ℕ → ℕ → List ℕ → Type 0
+IsBehind true head width old string field at bytes = PutBehind head width old string field at bytes
+IsBehind false head width old string field at bytes = length (drop at bytes) < head.more + width

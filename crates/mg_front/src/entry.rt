@@ -4,7 +4,7 @@ ghost use Rattle.mg_dev.specs.Files.{bytes_at};
 ghost use Rattle.mg_dev.specs.Causes.{HasCause};
 ghost use Rattle.mg_bits.specs.Pages.{Fits, SameFile, Looked};
 ghost use Rattle.mg_defs.specs.Front.{is_below, rises_after_prefix, read_entry, read_whole, read_cut};
-ghost use Rattle.mg_front.specs.Entries.{string_of, found_of, IsPut, FoundFrom};
+ghost use Rattle.mg_front.specs.Entries.{string_of, found_of, HeadAfter, HeadAt, HasRoom, IsAsLong, IsBehind, IsPut, FoundFrom};
 ghost use Rattle.mg_front.specs.Looks.{ReadOn, ReadTo};
 ghost use Rattle.mg_dev.specs.Moments.{Between};
 
@@ -110,6 +110,87 @@ pub fn may_follow(number: u32, before: &FrontEntry, entry: &FrontEntry) -> bool
     number == 0 || is_below(before.bytes(), entry.bytes())
 }
 
+/// What an entry begins with: how many bytes its string shares with the one before, and how many
+/// follow. A whole entry shares none.
+#[derive(Clone, Copy)]
+pub(crate) struct Head {
+    shared: u8,
+    more: u8,
+}
+
+/// A head of these two bytes; None where the string before is shorter than what is shared, or the
+/// entry's string would be longer than 255 bytes.
+fn head_after(before: &FrontEntry, shared: u8, more: u8) -> Option<Head>
+    ensures { HeadAfter result (string_of before.now) shared more }
+{
+    if usize::from(shared) > before.bytes().len() {
+        return None;
+    }
+    if shared > 255 - more {
+        return None;
+    }
+    Some(Head { shared, more })
+}
+
+/// Reads the head of an entry that is not whole; None where no such entry stands there.
+fn read_head<S: Store>(
+    feed: &mut PageFeed<'_, S>,
+    store: &mut S,
+    at: u64,
+    before: &FrontEntry,
+) -> Result<Option<Head>, Failed>
+    requires fits { Fits feed.old (S.files store.old) }
+    requires place { at < 2 ^ 62 }
+    ensures fits { Fits feed.new (S.files store.new) }
+    ensures file { SameFile feed.old feed.new }
+    ensures looked { Between S.files S.reads S.faults store.old store.new (Looked feed.old.part) }
+    ensures told { IsSome (S.files store.old) → IfOk result (λ head. HeadAt head (string_of before.now) at (bytes_at (S.files store.old) feed.old.name)) }
+    ensures room { IfOk result (λ head. IfSome head (λ h. HasRoom h (string_of before.now))) }
+    ensures read_on { IfOk result (λ head. OnSome head (ReadOn feed.old feed.new (S.reads store.old) (S.reads store.new) at (at + 2))) }
+    ensures read_to { ReadTo feed.old (S.reads store.old) (S.reads store.new) at (at + 2) }
+    ensures cause { HasCause (S.faults store.old) (S.faults store.new) result }
+{
+    let Some(shared) = read_byte(feed, store, at)? else {
+        return Ok(None);
+    };
+    let Some(more) = read_byte(feed, store, at + 1)? else {
+        return Ok(None);
+    };
+    Ok(head_after(before, shared, more))
+}
+
+/// Reads what stands behind a head: the bytes of the string that follow, and the field. False where
+/// the bytes end before.
+fn read_behind<S: Store>(
+    feed: &mut PageFeed<'_, S>,
+    store: &mut S,
+    at: u64,
+    head: Head,
+    width: usize,
+    out: &mut FrontEntry,
+) -> Result<bool, Failed>
+    requires fits { Fits feed.old (S.files store.old) }
+    requires width { width ≤ 24 }
+    requires place { at < 2 ^ 62 + 2 }
+    requires room { head.shared + head.more ≤ 255 }
+    ensures fits { Fits feed.new (S.files store.new) }
+    ensures file { SameFile feed.old feed.new }
+    ensures looked { Between S.files S.reads S.faults store.old store.new (Looked feed.old.part) }
+    ensures told { IsSome (S.files store.old) → IfOk result (λ whole. IsBehind whole head width out.old.string out.new.string out.new.field at (bytes_at (S.files store.old) feed.old.name)) }
+    ensures length { IfOk result (λ whole. whole ≡ true → IsAsLong head out.new) }
+    ensures read_on { IfOk result (λ whole. whole ≡ true → ReadOn feed.old feed.new (S.reads store.old) (S.reads store.new) at (at + head.more + width)) }
+    ensures read_to { ReadTo feed.old (S.reads store.old) (S.reads store.new) at (at + head.more + width) }
+    ensures cause { HasCause (S.faults store.old) (S.faults store.new) result }
+{
+    let from = usize::from(head.shared);
+    let count = usize::from(head.more);
+    if !read_bytes(feed, store, at, &mut out.string, from, count)? {
+        return Ok(false);
+    }
+    out.length = head.shared + head.more;
+    read_bytes(feed, store, at + count as u64, &mut out.field, 0, width)
+}
+
 /// Reads a whole entry; None where none stands there.
 pub fn read_whole<S: Store>(
     feed: &mut PageFeed<'_, S>,
@@ -132,21 +213,16 @@ pub fn read_whole<S: Store>(
     ensures read_to { ReadTo feed.old (S.reads store.old) (S.reads store.new) at (at + 281) }
     ensures cause { HasCause (S.faults store.old) (S.faults store.new) result }
 {
-    let Some(length) = read_byte(feed, store, at)? else {
+    let Some(more) = read_byte(feed, store, at)? else {
         return Ok(None);
     };
-    let count = usize::from(length);
-    if !read_bytes(feed, store, at + 1, &mut out.string, 0, count)? {
-        return Ok(None);
-    }
-    out.length = length;
-    if !read_bytes(feed, store, at + 1 + count as u64, &mut out.field, 0, width)? {
+    if !read_behind(feed, store, at + 1, Head { shared: 0, more }, width, out)? {
         return Ok(None);
     }
     if !may_follow(number, before, out) {
         return Ok(None);
     }
-    Ok(Some((count + width + 1) as u64))
+    Ok(Some((usize::from(more) + width + 1) as u64))
 }
 
 /// Whether the entry's string rises above the one before, from a shared prefix on.
@@ -182,33 +258,17 @@ pub fn read_cut<S: Store>(
     ensures read_to { ReadTo feed.old (S.reads store.old) (S.reads store.new) at (at + 281) }
     ensures cause { HasCause (S.faults store.old) (S.faults store.new) result }
 {
-    let Some(shared) = read_byte(feed, store, at)? else {
+    let Some(head) = read_head(feed, store, at, before)? else {
         return Ok(None);
     };
-    let Some(more) = read_byte(feed, store, at + 1)? else {
-        return Ok(None);
-    };
-    let length = before.bytes().len();
-    if usize::from(shared) > length {
-        return Ok(None);
-    }
-    if shared > 255 - more {
-        return Ok(None);
-    }
     out.string = before.string;
-    let from = usize::from(shared);
-    let count = usize::from(more);
-    if !read_bytes(feed, store, at + 2, &mut out.string, from, count)? {
+    if !read_behind(feed, store, at + 2, head, width, out)? {
         return Ok(None);
     }
-    out.length = shared + more;
-    if !read_bytes(feed, store, at + 2 + count as u64, &mut out.field, 0, width)? {
+    if !suffix_rises(before, out, head.shared) {
         return Ok(None);
     }
-    if !suffix_rises(before, out, shared) {
-        return Ok(None);
-    }
-    Ok(Some((count + width + 2) as u64))
+    Ok(Some((usize::from(head.more) + width + 2) as u64))
 }
 
 /// Reads the entry of a number, after the one before; None where none stands there.

@@ -7,7 +7,8 @@ use Rattle.mg_front.specs.Entries.{IsPut}
 use Rattle.mg_front.proofs.ReadPages.{bytes_to_as, bytes_on_as}
 use Rattle.mg_front.proofs.entry.read_bytes.Goals as goal
 
-put_told : (whole : Bool) (old buf bytes : List ℕ) (from count at : ℕ) → length buf ≡ length (take (from + count - from) (drop from old)) → from + count ≤ length old → IsFilled whole buf at bytes → IsPut whole old (put_mid from (from + count - from) old buf) from count at bytes
+put_told : (whole : Bool) (old buf bytes : List ℕ) (from count at : ℕ) → length buf ≡ length (take (from + count - from) (drop from old)) → from + count ≤ length old → IsFilled whole buf at
+    bytes → IsPut whole old (put_mid from (from + count - from) old buf) from count at bytes
 put_told true old buf bytes from count at long room filled =
     let n : length buf ≡ count = omega (arith, long, length-take (from + count - from) (drop from old), length-drop from old) in (
       take-put_mid from (from + count - from) old buf (from + count) (omega arith) (omega arith) ∙ ap (λ t. take from old ++ t) (filled ∙ ap (λ m. take m (drop at bytes)) n),
@@ -18,7 +19,8 @@ put_told false old buf bytes from count at long room filled =
     omega arith
 
 pub returns-clause-told : goal.returns-clause-told
-returns-clause-told g c = λ told. put_told c.in_ok-whole.whole _ _ (bytes_at (g.S.Store.files c.args.store.now) c.args.feed.now.name) c.args.from c.args.count c.args.at c.fill.auto.buf c.requires.room (c.in_ok-whole.ensures.told told)
+returns-clause-told g c = λ told. put_told c.in_ok-whole.whole _ _ (bytes_at (g.S.Store.files c.args.store.now) c.args.feed.now.name) c.args.from c.args.count c.args.at c.fill.auto.buf
+    c.requires.room (c.in_ok-whole.ensures.told told)
 
 long : (from count : ℕ) (old : List ℕ) → from + count ≤ length old → length (take (from + count - from) (drop from old)) ≡ count
 long from count old room = omega (arith, length-take (from + count - from) (drop from old), length-drop from old)
@@ -30,4 +32,5 @@ pub returns-clause-read_to : goal.returns-clause-read_to
 returns-clause-read_to g c = bytes_to_as c.args.feed.now c.fill.new.self _ _ c.args.at _ _ (long c.args.from c.args.count c.args.out.now c.requires.room) c.in_ok-whole.ensures.part.pages
 
 pub returns-clause-read_on : goal.returns-clause-read_on
-returns-clause-read_on g c = λ whole. bytes_on_as c.args.feed.now c.fill.new.self _ _ c.args.at _ _ (long c.args.from c.args.count c.args.out.now c.requires.room) c.in_ok-whole.ensures.part.pages (c.in_ok-whole.ensures.held whole)
+returns-clause-read_on g c = λ whole. bytes_on_as c.args.feed.now c.fill.new.self _ _ c.args.at _ _ (long c.args.from c.args.count c.args.out.now c.requires.room)
+    c.in_ok-whole.ensures.part.pages (c.in_ok-whole.ensures.held whole)
