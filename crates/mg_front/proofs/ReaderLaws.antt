@@ -13,7 +13,7 @@ use Rattle.mg_bits.specs.Pages.{Looked}
 use Rattle.mg_dev.specs.declared.part_err.PartErr.{PartErr}
 use Rattle.mg_dev.specs.declared.part_err.PartErr.TheVariants.{Device, Memory, Bad}
 use Rattle.std.specs.Prelude.{Err}
-use Rattle.mg_front.specs.Reading.{AnswersPlaces, Fronted, FrontStands, IsNotBad, LookedAt, NoneAmong, places_size}
+use Rattle.mg_front.specs.Reading.{AnswersPlaces, Fronted, FrontStands, IsLost, IsNotBad, LacksPlace, LookedAt, NoneAmong, places_size}
 use Rattle.std.proofs.lemmas.Bool.{cases_lt}
 use Rattle.std.proofs.lemmas.Option.{same_Some}
 use Rattle.mg_front.specs.Entries.{entry_of, found_of}
@@ -116,6 +116,18 @@ block_place r files es block place stands within small here =
 -- and there is such a place
 pub block_there : (r : Fronted) (files : Option Files) (es : List Entry) (block : ℕ) → FrontStands r files es → 4 * block < length es → length (bytes_at files r.places.name) < 4 * block + 4 → ⊥
 block_there r files es block stands within short = absurd (omega (arith, places_long 0 [] 0 es, ap length stands.places))
+
+-- so where the parts stand, only the store is a reason that the place is not told
+pub only_device : (P : PartErr → Type 0) (r : Fronted) (files : Option Files) (es : List Entry) (block : ℕ) (refusal : PartErr) → P Device → FrontStands r files es → 4 * block < length es → LacksPlace refusal r.places files block → P refusal
+only_device P r files es block Device device stands within lacks = device
+only_device P r files es block Memory device stands within lacks = absurd lacks
+only_device P r files es block (Bad bad) device stands within lacks = absurd (block_there r files es block stands within (lacks.short stands.told))
+
+-- a reader tells why it has not the place
+pub lost_place : (r : Fronted) (files : Option Files) (block : ℕ) (refusal : PartErr) → LacksPlace refusal r.places files block → IsLost refusal r files block
+lost_place r files block Device lacks = tt
+lost_place r files block Memory lacks = tt
+lost_place r files block (Bad bad) lacks = inl lacks
 
 -- ---- calls that look at two parts
 

@@ -65,27 +65,32 @@ pub record SameParts (old new : Fronted) : Type 0 where
   pub width : new.width ≡ old.width
   pub count : new.count ≡ old.count
 
--- the place of a whole entry, where the places stand
-abbrev pub AnswersPlace : Option ℕ → ℕ → List ℕ → Type 0
-AnswersPlace None block bytes = length bytes < 4 * block + 4
-AnswersPlace (Some place) block bytes = take 4 (drop (4 * block) bytes) ≡ four place
+-- four bytes of the places are the place of a block's whole entry
+abbrev pub HasPlace : List ℕ → ℕ → ℕ → Type 0
+HasPlace bytes block place = take 4 (drop (4 * block) bytes) ≡ four place
 
 -- the places end before that of this block
-pub record NoPlace (bad : declared.Bad.Bad) (r : Fronted) (files : Option Files) (block : ℕ) : Type 0 where
-  pub is : IsBad bad r.places.part (4 * block) 1 1 0
-  pub short : IsSome files → length (bytes_at files r.places.name) < 4 * block + 4
+pub record NoPlace (bad : declared.Bad.Bad) (places : Paging) (files : Option Files) (block : ℕ) : Type 0 where
+  pub is : IsBad bad places.part (4 * block) 1 1 0
+  pub short : IsSome files → length (bytes_at files places.name) < 4 * block + 4
+
+-- why the place of this block is not told
+abbrev pub LacksPlace : PartErr → Paging → Option Files → ℕ → Type 0
+LacksPlace Device places files block = Unit {0}
+LacksPlace Memory places files block = ⊥
+LacksPlace (Bad bad) places files block = NoPlace bad places files block
 
 -- an entry is missing from the place on that is told of this block
 pub record NoEntries (bad : declared.Bad.Bad) (r : Fronted) (files : Option Files) (block : ℕ) : Type 0 where
   pub is : IsBad bad r.strings.part bad.at 1 1 0
   pub small : bad.at < 2 ^ 32
-  pub told : IsSome files → take 4 (drop (4 * block) (bytes_at files r.places.name)) ≡ four bad.at
+  pub told : IsSome files → HasPlace (bytes_at files r.places.name) block bad.at
 
 -- what a refusal tells of this block, where it says that a part is bad
 abbrev pub IsLost : PartErr → Fronted → Option Files → ℕ → Type 0
 IsLost Device r files block = Unit {0}
 IsLost Memory r files block = Unit {0}
-IsLost (Bad bad) r files block = NoPlace bad r files block ⊎ NoEntries bad r files block
+IsLost (Bad bad) r files block = NoPlace bad r.places files block ⊎ NoEntries bad r files block
 
 -- and of one of the blocks that the reader knows of
 abbrev pub IsLostAmong : PartErr → Fronted → Option Files → Type 0

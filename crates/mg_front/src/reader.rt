@@ -6,7 +6,7 @@ ghost use Rattle.mg_bits.specs.Pages.{Fits, SameFile, Looked};
 ghost use Rattle.mg_defs.specs.Numbers.{four};
 ghost use Rattle.mg_defs.specs.Front.{Entry};
 ghost use Rattle.mg_front.specs.Entries.{string_of};
-ghost use Rattle.mg_front.specs.Reading.{AnswersPlace, Fronted, FrontFits, FrontStands, AnswersAt, AnswersBlock, AnswersFind, AnswersIn, IsNotBad, IsInBlock, IsLost, IsLostAmong, IsReader, LookedAt, SameParts, GivesEntry, ScansBlock, AnswersPlacesOf, AtBlock, WherePlacesStand, ReaderLooks};
+ghost use Rattle.mg_front.specs.Reading.{Fronted, FrontFits, HasPlace, LacksPlace, FrontStands, AnswersAt, AnswersBlock, AnswersFind, AnswersIn, IsNotBad, IsInBlock, IsLost, IsLostAmong, IsReader, LookedAt, SameParts, GivesEntry, ScansBlock, AnswersPlacesOf, AtBlock, WherePlacesStand, ReaderLooks};
 ghost use Rattle.mg_dev.specs.Files.{SameReads};
 ghost use Rattle.mg_front.specs.Looks.{ReadTo, halvings, looks};
 ghost use Rattle.std.specs.Bool.{OnTrue, OnFalse};
@@ -30,26 +30,38 @@ fn number_of(bytes: &[u8; 4]) -> u32
     four_at(bytes, 0)
 }
 
-/// The place of the whole entry of a block; None where the part has no such place.
+/// The place of the whole entry of a block. The places are bad where they end before it.
 pub fn place_of<S: Store>(
     places: &mut PageFeed<'_, S>,
     store: &mut S,
     block: u32,
-) -> Result<Option<u64>, Failed>
+) -> Result<u64, PartErr>
     requires fits { Fits places.old (S.files store.old) }
     ensures fits { Fits places.new (S.files store.new) }
     ensures file { SameFile places.old places.new }
     ensures looked { Between S.files S.reads S.faults store.old store.new (Looked places.old.part) }
-    ensures told { IsSome (S.files store.old) → IfOk result (λ place. AnswersPlace place block (bytes_at (S.files store.old) places.old.name)) }
-    ensures small { IfOk result (λ place. IfSome place (λ at. at < 2 ^ 32)) }
+    ensures told { IsSome (S.files store.old) → IfOk result (λ place. HasPlace (bytes_at (S.files store.old) places.old.name) block place) }
+    ensures small { IfOk result (λ place. place < 2 ^ 32) }
+    ensures bad { IfErr result (λ refusal. LacksPlace refusal places.old (S.files store.old) block) }
+    ensures memory { result ≢ Err PartErr.Memory }
     ensures page { S.reads store.new places.old.part ≤ S.reads store.old places.old.part + 1 }
-    ensures cause { HasCause (S.faults store.old) (S.faults store.new) result }
+    ensures cause { HasPartCause (S.faults store.old) (S.faults store.new) result }
 {
     let mut four = [0u8; 4];
-    if !places.fill(store, 4 * u64::from(block), &mut four)? {
-        return Ok(None);
+    match places.fill(store, 4 * u64::from(block), &mut four) {
+        Ok(true) => {}
+        Ok(false) => {
+            return Err(PartErr::Bad(Bad {
+                part: places.part(),
+                at: 4 * u64::from(block),
+                low: 1,
+                high: 1,
+                found: 0,
+            }));
+        }
+        Err(_) => return Err(PartErr::Device),
     }
-    Ok(Some(u64::from(number_of(&four))))
+    Ok(u64::from(number_of(&four)))
 }
 
 /// Reads the entry behind others of its block, from the block's place on; None where none stands there.
@@ -247,17 +259,8 @@ impl<'a, S: Store> FrontReader<'a, S> {
         ensures cause { HasPartCause (S.faults store.old) (S.faults store.new) result }
     {
         let place = match place_of(&mut self.places, store, i / 4) {
-            Ok(Some(place)) => place,
-            Ok(None) => {
-                return Err(PartErr::Bad(Bad {
-                    part: self.places.part(),
-                    at: 4 * u64::from(i / 4),
-                    low: 1,
-                    high: 1,
-                    found: 0,
-                }));
-            }
-            Err(_) => return Err(PartErr::Device),
+            Ok(place) => place,
+            Err(refusal) => return Err(refusal),
         };
         match read_block(&mut self.strings, store, place, self.width, i % 4, out) {
             Ok(true) => Ok(()),
@@ -356,17 +359,8 @@ impl<'a, S: Store> FrontReader<'a, S> {
         ensures cause { HasPartCause (S.faults store.old) (S.faults store.new) result }
     {
         let place = match place_of(&mut self.places, store, block) {
-            Ok(Some(place)) => place,
-            Ok(None) => {
-                return Err(PartErr::Bad(Bad {
-                    part: self.places.part(),
-                    at: 4 * u64::from(block),
-                    low: 1,
-                    high: 1,
-                    found: 0,
-                }));
-            }
-            Err(_) => return Err(PartErr::Device),
+            Ok(place) => place,
+            Err(refusal) => return Err(refusal),
         };
         let most = (self.count - 4 * block).min(4);
         let scan = match scan_block(

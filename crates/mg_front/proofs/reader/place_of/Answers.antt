@@ -1,4 +1,4 @@
-use Rattle.std.proofs.Common.{sym, ◌∙◌, ◌≡◌, ℕ, Bool, true, false, List, length, take, drop, ap, ◌*◌}
+use Rattle.std.proofs.Common.{arith, refl, sym, ◌∙◌, ◌≡◌, ◌<◌, ◌+◌, ◌*◌, ℕ, Bool, true, false, List, length, take, drop, ap, length-drop}
 use Rattle.mg_defs.specs.Numbers.{four}
 use Rattle.mg_dev.specs.Files.{bytes_at}
 use Rattle.mg_bits.specs.Pages.{IsFilled}
@@ -9,14 +9,27 @@ read_four : (whole : Bool) (buf bytes : List ℕ) (at place n m : ℕ) → whole
 read_four false buf bytes at place n m yes_whole long filled is same here = absurd cc
 read_four true buf bytes at place n m yes_whole long filled is same here = ap (λ p. take 4 (drop p bytes)) (sym here) ∙ ap (λ k. take k (drop at bytes)) (sym long) ∙ sym filled ∙ sym is ∙ ap four (sym same)
 
+no_four : (whole : Bool) (buf bytes : List ℕ) (at place : ℕ) → whole ≡ false → length buf ≡ 4 → IsFilled whole buf at bytes → at ≡ place → length bytes < place + 4
+no_four true buf bytes at place ends long filled here = absurd cc
+no_four false buf bytes at place ends long filled here = omega (arith, filled, long, here, length-drop at bytes)
+
 pub returns-clause-told : goal.returns-clause-told
-returns-clause-told g c = λ told. read_four c.in_ok-fill.field-0 c.fill.new.buf (bytes_at (g.S.Store.files c.args.store.now) c.args.places.now.name) (4 * c.from.result) (4 * c.args.block) c.number_of.result c.from-2.result c.if-not-branch.false c.fill.auto.buf (c.in_ok-fill.ensures.told told) c.number_of.ensures c.from-2.ensures (ap (λ n. 4 * n) c.from.ensures)
+returns-clause-told g c = λ told.
+    read_four c.in-Ok-true.field-0 c.fill.new.buf (bytes_at (g.S.Store.files c.args.store.now) c.args.places.now.name) (4 * c.from.result) (4 * c.args.block) c.number_of.result c.from-2.result
+    c.in-Ok-true.field-0-test c.fill.auto.buf (c.in-Ok-true.ensures.told told) c.number_of.ensures c.from-2.ensures (ap (λ n. 4 * n) c.from.ensures)
 
-pub returns-in_err-fill-clause-page : goal.returns-in_err-fill-clause-page
-returns-in_err-fill-clause-page g c = four_page c.args.places.now c.fill.new.self _ _ c.from.result c.fill.ensures.part.pages
+pub returns-in-Ok-false-clause-bad : goal.returns-in-Ok-false-clause-bad
+returns-in-Ok-false-clause-bad g c = record {
+  is = record { part_is = c.part.ensures ∙ c.in-Ok-false.ensures.file.part; at_is = ap (λ n. 4 * n) c.from-in-Ok-false.ensures; low_is = refl; high_is = refl; found_is = refl };
+  short = λ told. no_four c.in-Ok-false.field-0 c.fill.new.buf (bytes_at (g.S.Store.files c.args.store.now) c.args.places.now.name) (4 * c.from.result) (4 * c.args.block)
+      c.in-Ok-false.field-0-test c.fill.auto.buf (c.in-Ok-false.ensures.told told) (ap (λ n. 4 * n) c.from.ensures);
+}
 
-pub returns-then-not-branch-clause-page : goal.returns-then-not-branch-clause-page
-returns-then-not-branch-clause-page g c = four_page c.args.places.now c.fill.new.self _ _ c.from.result c.fill.ensures.part.pages
+pub returns-in-Ok-false-clause-page : goal.returns-in-Ok-false-clause-page
+returns-in-Ok-false-clause-page g c = four_page c.args.places.now c.fill.new.self _ _ c.from.result c.in-Ok-false.ensures.part.pages
+
+pub returns-in-Err-clause-page : goal.returns-in-Err-clause-page
+returns-in-Err-clause-page g c = four_page c.args.places.now c.fill.new.self _ _ c.from.result c.in-Err.ensures.part.pages
 
 pub returns-clause-page : goal.returns-clause-page
-returns-clause-page g c = four_page c.args.places.now c.fill.new.self _ _ c.from.result c.fill.ensures.part.pages
+returns-clause-page g c = four_page c.args.places.now c.fill.new.self _ _ c.from.result c.in-Ok-true.ensures.part.pages
