@@ -5,6 +5,4 @@
 #![tactic(auto)]
 
 #[cfg(test)]
-mod held_tests;
-#[cfg(test)]
-mod reader_tests;
+mod tests;

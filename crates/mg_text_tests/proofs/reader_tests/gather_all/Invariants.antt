@@ -1,9 +1,0 @@
-use Rattle.std.proofs.Common.{◌≡◌}
-use Rattle.mg_text.specs.Reading.{TextFits}
-use Rattle.mg_text_tests.proofs.reader_tests.gather_all.Given as goal
-
-abbrev pub invariant-loop-index : goal.invariant-loop-index
-invariant-loop-index g l = record {
-  fits : TextFits l.reader (g.S.Store.files l.store);
-  documents : l.reader.documents ≡ l.documents;
-}
