@@ -1,10 +1,9 @@
 //! Codes written and read back, over a slice, a page and a slot.
-ghost use Rattle.std.specs.Prelude.{◌<◌};
+ghost use Rattle.std.specs.Prelude.{OnOk};
+ghost use Rattle.mg_bits.specs.BitWriting.{Holds};
 
 use mg_bits::{BitReader, BitWriter, CodeErr, Feed, NoDev, PageFeed, SliceFeed, SmallFeed};
-use mg_codes::{
-    get_gamma, get_golomb, get_short, get_unary, put_gamma, put_golomb, put_short, put_unary,
-};
+use mg_codes::{get_gamma, get_golomb, get_unary, put_gamma, put_golomb, put_unary};
 use mg_dev::{FileRef, Part, PutErr, Store};
 use mg_mem::SureStore;
 use std::alloc::{AllocError, Global};
@@ -21,10 +20,41 @@ enum Kind {
     Unary,
     Gamma,
     Golomb(u64),
-    Short(u64),
 }
 
-/// Writes the codes of the numbers into a file; those that have none are left out.
+/// Writes the code of a number, if it has one.
+fn put_one<S: Store>(w: &mut BitWriter, store: &mut S, kind: Kind, x: u64) -> Result<(), PutErr>
+    requires holds { Holds w.old (S.files store.old) }
+    ensures { OnOk result (Holds w.new (S.files store.new)) }
+{
+    if x < 1 || x >= 1 << 48 || w.place() > 1 << 60 {
+        return Err(PutErr::Failed);
+    }
+    match kind {
+        Kind::Unary => put_unary(w, store, x),
+        Kind::Gamma => put_gamma(w, store, x),
+        Kind::Golomb(b) if b >= 1 && b < 1 << 48 => put_golomb(w, store, b, x),
+        Kind::Golomb(_) => Err(PutErr::Failed),
+    }
+}
+
+/// Writes the codes of the numbers.
+fn put_all<S: Store>(
+    w: &mut BitWriter,
+    store: &mut S,
+    kind: Kind,
+    numbers: &[u64],
+) -> Result<(), PutErr>
+    requires holds { Holds w.old (S.files store.old) }
+    ensures { OnOk result (Holds w.new (S.files store.new)) }
+{
+    for number in numbers {
+        put_one(w, store, kind, *number)?;
+    }
+    Ok(())
+}
+
+/// Writes the codes of the numbers into a file.
 fn write_all<S: Store>(
     alloc: Global,
     store: &mut S,
@@ -32,26 +62,11 @@ fn write_all<S: Store>(
     numbers: &[u64],
 ) -> Result<(), PutErr> {
     let mut w = BitWriter::start(alloc, store, TEXT)?;
-    for number in numbers {
-        let x = *number;
-        if x >= 1 << 48 || w.place() > 1 << 60 {
-            return Err(PutErr::Failed);
-        }
-        match kind {
-            Kind::Unary if x >= 1 => put_unary(&mut w, store, x)?,
-            Kind::Gamma if x >= 1 => put_gamma(&mut w, store, x)?,
-            Kind::Golomb(b) if x >= 1 && b >= 1 && b < 1 << 48 => {
-                put_golomb(&mut w, store, b, x)?
-            }
-            Kind::Short(b) if x < b && b < 1 << 48 => put_short(&mut w, store, b, x)?,
-            _ => {}
-        }
-    }
+    put_all(&mut w, store, kind, numbers)?;
     if w.place() > 1 << 60 {
         return Err(PutErr::Failed);
     }
-    w.finish(store)?;
-    Ok(())
+    w.finish(store)
 }
 
 /// Whether the codes of the numbers stand at the reader's place.
@@ -69,7 +84,6 @@ fn reads_all<F: Feed>(r: &mut BitReader<F>, dev: &mut F::Dev, kind: Kind, number
             Kind::Golomb(b) if b >= 1 && b < 1 << 48 => {
                 get_golomb(r, dev, b, most) == Ok(*number)
             }
-            Kind::Short(b) if b >= 1 && b < 1 << 48 => get_short(r, dev, b) == Ok(*number),
             _ => false,
         };
         if !same {
@@ -103,154 +117,74 @@ fn slots_read(store: &mut SureStore, kind: Kind, numbers: &[u64]) -> bool {
     reads_all(&mut small, store, kind, numbers)
 }
 
-#[test]
-fn codes_are_those_of_the_book(rt: HostRuntime) -> Result<(), Fail> {
-    let alloc = rt.alloc();
-    let mut store = SureStore::new(alloc);
-    let ten: &[u64] = &[1, 2, 3, 4, 5, 6, 7, 8, 9, 10];
-    let ones: &[u8] = &[0x5b, 0xbd, 0xf7, 0xef, 0xef, 0xf7, 0xfc];
-    let cases: [(Kind, &[u64], &[u8]); 5] = [
-        (Kind::Unary, ten, ones),
-        (Kind::Golomb(1), ten, ones),
-        (Kind::Golomb(3), ten, &[0x13, 0x95, 0x79, 0xad, 0xf0]),
-        (Kind::Golomb(6), ten, &[0x05, 0x15, 0x9e, 0x26, 0x95]),
-        (Kind::Gamma, &[1, 2, 3, 4, 5, 10], &[0x4b, 0x8c, 0xf2]),
-    ];
-    for (kind, numbers, wanted) in cases {
-        write_all(alloc, &mut store, kind, numbers)?;
-        assert!(rt; store.file("x.text") == Some(wanted));
-        assert!(rt; slice_reads(wanted, kind, numbers));
-        assert!(rt; pages_read(alloc, &mut store, kind, numbers)?);
-        assert!(rt; slots_read(&mut store, kind, numbers));
-    }
-    Ok(())
-}
-
-/// A number or why there is none; None where no code is read at all.
-type Answer = Option<Result<u64, CodeErr>>;
-
-/// The number at the reader's place, of at most `limit`.
-fn get_one<F: Feed>(r: &mut BitReader<F>, dev: &mut F::Dev, kind: Kind, limit: u64) -> Answer
-    requires fits { F.fits r.old.feed (F.device dev.old).files }
-{
-    if r.place() > 1 << 60 || limit < 1 || limit >= 1 << 48 {
-        return None;
-    }
-    match kind {
-        Kind::Unary => Some(get_unary(r, dev, limit)),
-        Kind::Gamma => Some(get_gamma(r, dev, limit)),
-        Kind::Golomb(b) if b >= 1 && b < 1 << 48 => Some(get_golomb(r, dev, b, limit)),
-        _ => None,
-    }
-}
-
-/// The gamma code at a place of a slice.
-fn gamma_of_slice(bytes: &[u8], place: u64, limit: u64) -> Answer {
-    let mut slice = BitReader::new(SliceFeed::new(bytes), place);
-    get_one(&mut slice, &mut NoDev, Kind::Gamma, limit)
-}
-
-/// The number at a place of the text, read from its pages, and the reader's place afterwards.
-fn number_of_pages(
+/// Whether these bytes are written for the numbers, and read through each feed.
+fn is_coded(
     alloc: Global,
     store: &mut SureStore,
     kind: Kind,
-    place: u64,
-    limit: u64,
-) -> Result<(Answer, u64), AllocError> {
-    let mut paged = BitReader::new(PageFeed::new(alloc, TEXT)?, place);
-    let answer = get_one(&mut paged, store, kind, limit);
-    Ok((answer, paged.place()))
+    numbers: &[u64],
+    bytes: &[u8],
+) -> Result<bool, PutErr> {
+    write_all(alloc, store, kind, numbers)?;
+    let written = store.file("x.text") == Some(bytes);
+    let paged = pages_read(alloc, store, kind, numbers)?;
+    Ok(written && paged && slots_read(store, kind, numbers) && slice_reads(bytes, kind, numbers))
 }
 
-/// The gamma code at a place of the text, read from its slots.
-fn gamma_of_slots(store: &mut SureStore, place: u64, limit: u64) -> Answer {
-    let mut slot = [0; 64];
-    let mut small = BitReader::new(SmallFeed::new(TEXT, &mut slot), place);
-    get_one(&mut small, store, Kind::Gamma, limit)
+/// Whether this is so of each row.
+fn are_coded(alloc: Global, rows: &[(Kind, &[u64], &[u8])]) -> Result<bool, PutErr> {
+    let mut store = SureStore::new(alloc);
+    for (kind, numbers, bytes) in rows {
+        if !is_coded(alloc, &mut store, *kind, numbers, bytes)? {
+            return Ok(false);
+        }
+    }
+    Ok(true)
 }
+
+static BOOK: [(Kind, &[u64], &[u8]); 5] = [
+    (
+        Kind::Unary,
+        &[1, 2, 3, 4, 5, 6, 7, 8, 9, 10],
+        b"\x5b\xbd\xf7\xef\xef\xf7\xfc",
+    ),
+    (
+        Kind::Golomb(1),
+        &[1, 2, 3, 4, 5, 6, 7, 8, 9, 10],
+        b"\x5b\xbd\xf7\xef\xef\xf7\xfc",
+    ),
+    (
+        Kind::Golomb(3),
+        &[1, 2, 3, 4, 5, 6, 7, 8, 9, 10],
+        b"\x13\x95\x79\xad\xf0",
+    ),
+    (
+        Kind::Golomb(6),
+        &[1, 2, 3, 4, 5, 6, 7, 8, 9, 10],
+        b"\x05\x15\x9e\x26\x95",
+    ),
+    (Kind::Gamma, &[1, 2, 3, 4, 5, 10], b"\x4b\x8c\xf2"),
+];
 
 #[test]
-fn a_limit_tells_an_end_from_a_number_too_large(rt: HostRuntime) -> Result<(), Fail> {
-    let alloc = rt.alloc();
-    let mut store = SureStore::new(alloc);
-    let cases = [
-        (0b0111_0010, 1, Ok(10)),
-        (0b0111_0011, 1, Err(CodeErr::Over { at: 1, limit: 10 })),
-        (0b0001_1110, 3, Err(CodeErr::Over { at: 3, limit: 10 })),
-        (0b0011_1001, 2, Err(CodeErr::End { at: 2 })),
-    ];
-    for (byte, place, wanted) in cases {
-        let bytes = [byte];
-        store.put_file("x.text", &bytes)?;
-        let stays = wanted.is_err();
-        let wanted = Some(wanted);
-        assert!(rt; gamma_of_slice(&bytes, place, 10) == wanted);
-        let (paged, end) = number_of_pages(alloc, &mut store, Kind::Gamma, place, 10)?;
-        assert!(rt; paged == wanted);
-        assert!(rt; (end == place) == stays);
-        assert!(rt; gamma_of_slots(&mut store, place, 10) == wanted);
-    }
+fn codes_are_those_of_the_book(rt: HostRuntime) -> Result<(), Fail> {
+    assert!(rt; are_coded(rt.alloc(), &BOOK)?);
     Ok(())
 }
 
-#[test]
-fn remainders_near_powers_of_two_are_read_back(rt: HostRuntime) -> Result<(), Fail> {
-    let alloc = rt.alloc();
-    let mut store = SureStore::new(alloc);
-    let numbers = [0, 1, 2, 3, 4, 5, 6, 7, 8];
-    for b in 1..10 {
-        let kind = Kind::Short(b as u64);
-        write_all(alloc, &mut store, kind, &numbers[..b])?;
-        let read = pages_read(alloc, &mut store, kind, &numbers[..b])?;
-        assert!(rt; read, "parameter {b}");
-    }
-    Ok(())
+/// The gamma code at a place of a byte that is the whole file, of a number of at most ten.
+fn gamma_of_byte(byte: u8, place: u64) -> Result<u64, CodeErr> {
+    let bytes = [byte];
+    let mut reader = BitReader::new(SliceFeed::new(&bytes), place.min(8));
+    get_gamma(&mut reader, &mut NoDev, 10)
 }
 
 #[test]
-fn a_number_at_the_limit_is_read_and_one_above_it_is_not(rt: HostRuntime) -> Result<(), Fail> {
-    let alloc = rt.alloc();
-    let mut store = SureStore::new(alloc);
-    let most = (1 << 48) - 1;
-    let half = 1 << 47;
-    let cases = [
-        (Kind::Unary, 2),
-        (Kind::Unary, 10_000),
-        (Kind::Gamma, 2),
-        (Kind::Gamma, half - 1),
-        (Kind::Gamma, half),
-        (Kind::Gamma, most),
-        (Kind::Golomb(1), 10_000),
-        (Kind::Golomb(7), 10_000),
-        (Kind::Golomb(8), 10_000),
-        (Kind::Golomb(9), 10_000),
-        (Kind::Golomb(half - 1), most),
-        (Kind::Golomb(half), half),
-        (Kind::Golomb(half), half + 1),
-        (Kind::Golomb(half), most),
-        (Kind::Golomb(half + 1), half + 1),
-        (Kind::Golomb(half + 1), half + 2),
-        (Kind::Golomb(half + 1), most),
-        (Kind::Golomb(most), 2),
-        (Kind::Golomb(most), most),
-    ];
-    for (kind, number) in cases {
-        write_all(alloc, &mut store, kind, &[number])?;
-        let (whole, _end) = number_of_pages(alloc, &mut store, kind, 0, number)?;
-        assert!(rt; whole == Some(Ok(number)));
-        let limit = number.saturating_sub(1);
-        let (less, place) = number_of_pages(alloc, &mut store, kind, 0, limit)?;
-        assert!(rt; less == Some(Err(CodeErr::Over { at: 0, limit })));
-        assert!(rt; place == 0);
-    }
-    for b in [half - 1, half, half + 1, most] {
-        let kind = Kind::Short(b);
-        let numbers = [0, 1, b / 2, b - 2, b - 1];
-        write_all(alloc, &mut store, kind, &numbers)?;
-        assert!(rt; pages_read(alloc, &mut store, kind, &numbers)?);
-    }
-    Ok(())
+fn a_limit_tells_an_end_from_a_number_too_large(rt: HostRuntime) {
+    assert!(rt; gamma_of_byte(0b0111_0010, 1) == Ok(10));
+    assert!(rt; gamma_of_byte(0b0111_0011, 1) == Err(CodeErr::Over { at: 1, limit: 10 }));
+    assert!(rt; gamma_of_byte(0b0001_1110, 3) == Err(CodeErr::Over { at: 3, limit: 10 }));
+    assert!(rt; gamma_of_byte(0b0011_1001, 2) == Err(CodeErr::End { at: 2 }));
 }
 
 /// Ten thousand numbers from 1 to 4,096.
@@ -274,23 +208,39 @@ fn checksum(bytes: &[u8]) -> u64 {
     sum
 }
 
+/// The checksum of the codes of ten thousand numbers, if they are written and read back.
+fn sum_of_codes(alloc: Global, kind: Kind, numbers: &[u64]) -> Result<Option<u64>, PutErr> {
+    let mut store = SureStore::new(alloc);
+    write_all(alloc, &mut store, kind, numbers)?;
+    if !slots_read(&mut store, kind, numbers) {
+        return Ok(None);
+    }
+    match store.file("x.text") {
+        Some(bytes) => Ok(Some(checksum(bytes))),
+        None => Ok(None),
+    }
+}
+
+static SUMS: [(Kind, u64); 4] = [
+    (Kind::Gamma, 10344095689174709969),
+    (Kind::Golomb(100), 10475281718320723322),
+    (Kind::Golomb(128), 7683416317338617407),
+    (Kind::Golomb(1000), 3300435713251683687),
+];
+
+/// Whether the codes of ten thousand numbers have these checksums.
+fn have_sums(alloc: Global, rows: &[(Kind, u64)]) -> Result<bool, PutErr> {
+    let numbers = noise(alloc)?;
+    for (kind, sum) in rows {
+        if sum_of_codes(alloc, *kind, &numbers)? != Some(*sum) {
+            return Ok(false);
+        }
+    }
+    Ok(true)
+}
+
 #[test]
 fn ten_thousand_numbers_have_the_codes_of_the_reference(rt: HostRuntime) -> Result<(), Fail> {
-    let alloc = rt.alloc();
-    let numbers = noise(alloc)?;
-    let mut store = SureStore::new(alloc);
-    let cases = [
-        (Kind::Gamma, 10344095689174709969),
-        (Kind::Golomb(100), 10475281718320723322),
-        (Kind::Golomb(128), 7683416317338617407),
-        (Kind::Golomb(1000), 3300435713251683687),
-    ];
-    for (kind, sum) in cases {
-        let put = write_all(alloc, &mut store, kind, &numbers);
-        assert!(rt; put == Ok(()));
-        let written = store.file("x.text").map(checksum);
-        assert!(rt; written == Some(sum));
-        assert!(rt; slots_read(&mut store, kind, &numbers));
-    }
+    assert!(rt; have_sums(rt.alloc(), &SUMS)?);
     Ok(())
 }
