@@ -7,8 +7,6 @@
 #[cfg(test)]
 mod building_tests;
 #[cfg(test)]
-mod counting;
-#[cfg(test)]
 mod decoding_tests;
 #[cfg(test)]
 mod migrating_tests;

@@ -1,8 +1,8 @@
-//! What no clause says: that sets are made anew where memory is there, the parts of one, and what a store that lies is told.
+//! What no clause says: what a store that lies is told. Sets of both versions that are made anew stand in the black-box suite.
 use crate::other_store::OtherStore;
 use mg_build::migrate;
 use mg_dev::{Bad, Fault, Part};
-use mg_mem::{MemStore, SureStore};
+use mg_mem::SureStore;
 use std::alloc::{AllocError, Global};
 use std::test::Fail;
 
@@ -37,62 +37,6 @@ const WIDE_HEAD: &[u8] =
     b"MGROWv2\n\0\0\0\x01\0\0\0\x01\0\0\0\x01\0\0\0\x01\0\x15UU\0\0\0\x01\0\0\0\0\0\0\0\x08\0\0\0\0\0\0\0\x04\0\0\0\x01\0\0\0\0\0\0\0\0\0\0\0\x02\0\0\0\0\0\0\0\x01\0\0\0\0\0\0\0\x01";
 
 const WIDE_PLACES: &[u8] = b"\0\0\0\0\0\0\0\0\0\0\0\0\0\0\0\x02";
-
-// The set under `old`, with this head and these places.
-fn old_set(alloc: Global, head: &[u8], places: &[u8]) -> Result<MemStore, AllocError> {
-    let mut store = MemStore::new(alloc);
-    for (name, _, bytes) in COPIED {
-        store.put_file(name, bytes)?;
-    }
-    store.put_file("old.head", head)?;
-    store.put_file("old.places", places)?;
-    Ok(store)
-}
-
-// What else stands in a store whose set was made anew.
-const MADE: [(&str, &[u8]); 4] = [
-    ("new.head", WIDE_HEAD),
-    ("new.places", WIDE_PLACES),
-    ("new.mergea", b""),
-    ("new.mergeb", b""),
-];
-
-// The first file that has other bytes than a set made anew; no name where none has.
-fn first_other(store: &MemStore) -> &'static str {
-    for (_, name, bytes) in COPIED {
-        if store.file(name) != Some(bytes) {
-            return name;
-        }
-    }
-    for (name, bytes) in MADE {
-        if store.file(name) != Some(bytes) {
-            return name;
-        }
-    }
-    ""
-}
-
-// How making the set anew ends, and the first file that has other bytes.
-fn made_anew(
-    alloc: Global,
-    head: &[u8],
-    places: &[u8],
-) -> Result<(Result<u32, Fault>, &'static str), AllocError> {
-    let mut store = old_set(alloc, head, places)?;
-    store.put_file("new.text", b"what was there before")?;
-    let told = migrate(alloc, &mut store, "old", "new");
-    Ok((told, first_other(&store)))
-}
-
-#[test]
-fn both_versions_become_version_2(rt: HostRuntime) -> Result<(), Fail> {
-    for (head, places) in [(HEAD, PLACES), (WIDE_HEAD, WIDE_PLACES)] {
-        let (told, other) = made_anew(rt.alloc(), head, places)?;
-        assert!(rt; told == Ok(1));
-        assert!(rt; other.is_empty(), "{other}");
-    }
-    Ok(())
-}
 
 // A store with the set under `old` that gives, of the file of one part, the bytes of another file.
 fn giving_less(

@@ -5,8 +5,6 @@
 #![tactic(auto)]
 
 #[cfg(test)]
-mod places;
-#[cfg(test)]
 mod sessions;
 #[cfg(test)]
 mod tests;

@@ -123,25 +123,6 @@ fn each_tool_answers(rt: HostRuntime) -> Result<(), Fail> {
     Ok(())
 }
 
-#[test]
-fn refusals_are_told(rt: HostRuntime) -> Result<(), Fail> {
-    let alloc = rt.alloc();
-    let mut store = letters(alloc)?;
-    let usage: &[u8] = b"mg: the words are not understood\n";
-    let left = ended(alloc, &mut store, (&["index"], b"cat\n", b""), NONE, usage)?;
-    assert!(rt; left == (Status::Stopped(Fault::Usage), true, true));
-    let unbuilt: &[u8] = b"mg: nothing is built under this name\n";
-    let left = ended(
-        alloc,
-        &mut store,
-        (&["query", "set"], b"cat\n", b""),
-        NONE,
-        unbuilt,
-    )?;
-    assert!(rt; left == (Status::Stopped(Fault::NotBuilt), true, true));
-    Ok(())
-}
-
 /// How often a row's words stop for the store, each call of which fails in turn, until they end well. None where
 /// they end in another way.
 fn failures(alloc: Global, store: &mut MemStore, row: Run<'_>) -> Result<Option<u64>, AllocError> {
