@@ -145,10 +145,6 @@ fn answers<S: Store>(
     answers_all(&mut cursor, store, steps)
 }
 
-fn posting(doc: u32, freq: u32) -> Posting {
-    Posting { doc, freq }
-}
-
 // Whether each list stands at the byte and at the skip entry of its own number.
 fn at_their_numbers(infos: &[TermInfo]) -> bool {
     let mut number = 0u32;
@@ -161,25 +157,32 @@ fn at_their_numbers(infos: &[TermInfo]) -> bool {
     true
 }
 
+// The lists of cat, dog, sat and the.
+static SMALL: [&[Posting]; 4] = [
+    &[Posting { doc: 1, freq: 1 }, Posting { doc: 3, freq: 2 }],
+    &[Posting { doc: 2, freq: 1 }, Posting { doc: 3, freq: 1 }],
+    &[Posting { doc: 1, freq: 1 }],
+    &[Posting { doc: 1, freq: 1 }, Posting { doc: 2, freq: 1 }],
+];
+
 // Whether the lists of three small documents have these sizes, and stand at their numbers.
 fn puts_small(alloc: Global, store: &mut SureStore) -> Result<bool, PutErr> {
-    let cat = [posting(1, 1), posting(3, 2)];
-    let dog = [posting(2, 1), posting(3, 1)];
-    let sat = [posting(1, 1)];
-    let the = [posting(1, 1), posting(2, 1)];
-    let lists = [cat.as_slice(), &dog, &sat, &the];
     let mut infos = Vec::new(alloc);
-    let sizes = put_lists(alloc, store, 3, &lists, &mut infos)?;
+    let sizes = put_lists(alloc, store, 3, &SMALL, &mut infos)?;
     Ok(sizes == Some((4, 4)) && at_their_numbers(infos.as_slice()))
+}
+
+// Whether they have their bytes.
+fn are_small(alloc: Global) -> Result<bool, PutErr> {
+    let mut store = SureStore::new(alloc);
+    let put = puts_small(alloc, &mut store)?;
+    let post = store.file("set.post") == Some(b"\x28\x80\x00\x00".as_slice());
+    Ok(put && post && store.file("set.skip") == Some(K_SKIP))
 }
 
 #[test]
 fn the_lists_of_a_small_collection_have_their_bytes(rt: HostRuntime) -> Result<(), Fail> {
-    let alloc = rt.alloc();
-    let mut store = SureStore::new(alloc);
-    assert!(rt; puts_small(alloc, &mut store)?);
-    assert!(rt; store.file("set.post") == Some(b"\x28\x80\x00\x00".as_slice()));
-    assert!(rt; store.file("set.skip") == Some(K_SKIP));
+    assert!(rt; are_small(rt.alloc())?);
     Ok(())
 }
 
@@ -192,25 +195,52 @@ fn put_all(alloc: Global, store: &mut SureStore, all: u32) -> Result<TermInfo, P
     one_list(alloc, store, all, list.as_slice())
 }
 
+static MIDDLE: [(Step, Option<Posting>); 1] = [(
+    Step::To(150_000),
+    Some(Posting {
+        doc: 150_000,
+        freq: 1,
+    }),
+)];
+
+static PAST: [(Step, Option<Posting>); 4] = [
+    (Step::To(200_001), None),
+    (Step::Next, None),
+    (Step::To(1), None),
+    (Step::Next, None),
+];
+
+// Whether a cursor gives a document in the middle, and none past the last, and how many pages of Post
+// and of Skip were read after each.
+fn skips(
+    alloc: Global,
+    store: &mut SureStore,
+    info: &TermInfo,
+) -> Result<(bool, [u64; 4]), PartErr> {
+    let middle = answers(alloc, store, info, 200_000, &MIDDLE)?;
+    let (post, skip) = (store.reads_of(Part::Post), store.reads_of(Part::Skip));
+    let past = answers(alloc, store, info, 200_000, &PAST)?;
+    let more = [
+        post,
+        skip,
+        store.reads_of(Part::Post),
+        store.reads_of(Part::Skip),
+    ];
+    Ok((middle && past, more))
+}
+
+// The same of the list of 200,000 documents.
+fn skips_long(alloc: Global) -> Result<(bool, [u64; 4]), PartErr> {
+    let mut store = SureStore::new(alloc);
+    match put_all(alloc, &mut store, 200_000) {
+        Ok(info) => skips(alloc, &mut store, &info),
+        Err(_) => Err(PartErr::Device),
+    }
+}
+
 #[test]
 fn a_long_list_is_skipped(rt: HostRuntime) -> Result<(), Fail> {
-    let alloc = rt.alloc();
-    let mut store = SureStore::new(alloc);
-    let info = put_all(alloc, &mut store, 200_000)?;
     // A block in the middle costs one page of Post. Entry 2,343 is the one; a page has 256.
-    let steps = [(Step::To(150_000), Some(posting(150_000, 1)))];
-    assert!(rt; answers(alloc, &mut store, &info, 200_000, &steps)?);
-    assert!(rt; store.reads_of(Part::Post) == 1);
-    assert!(rt; store.reads_of(Part::Skip) == 10);
-
-    let past = [
-        (Step::To(200_001), None),
-        (Step::Next, None),
-        (Step::To(1), None),
-        (Step::Next, None),
-    ];
-    assert!(rt; answers(alloc, &mut store, &info, 200_000, &past)?);
-    assert!(rt; store.reads_of(Part::Post) == 1);
-    assert!(rt; store.reads_of(Part::Skip) == 23);
+    assert!(rt; skips_long(rt.alloc())? == (true, [1, 10, 1, 23]));
     Ok(())
 }
