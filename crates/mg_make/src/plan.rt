@@ -69,13 +69,15 @@ impl Plan {
     ) -> Result<Self, AllocError>
         ensures { IfOk result (λ plan. plan ≡ plan_by model pairs.items open_end) }
     {
-        let table = TermTable::of(alloc, &model)?;
-        Ok(Plan {
-            model,
-            table,
-            pairs,
-            open_end,
-        })
+        match TermTable::of(alloc, &model) {
+            Ok(table) => Ok(Plan {
+                model,
+                table,
+                pairs,
+                open_end,
+            }),
+            Err(refusal) => Err(refusal),
+        }
     }
 }
 
@@ -131,7 +133,12 @@ pub(crate) fn plan_of(
     ensures of { (collection : List ℕ) → IsCountOf counts open_end collection → IfOk result (λ r. IsPlanOf r.0 collection) }
     ensures room { IfOk result (λ r. IsRoomFor r.1 r.0 budget) }
 {
-    let plan = Plan::of(alloc, counts, open_end)?;
-    let room = Room::new(alloc, &plan, budget)?;
-    Ok((plan, room))
+    let plan = match Plan::of(alloc, counts, open_end) {
+        Ok(plan) => plan,
+        Err(refusal) => return Err(refusal),
+    };
+    match Room::new(alloc, &plan, budget) {
+        Ok(room) => Ok((plan, room)),
+        Err(refusal) => Err(refusal),
+    }
 }

@@ -246,11 +246,18 @@ impl<'a> SecondPass<'a> {
             Ok(size) => size,
             Err(refusal) => return Err(refusal),
         };
-        let SecondPass { index, .. } = pass;
-        match index.merge(store, text_bytes) {
+        match pass.into_index().merge(store, text_bytes) {
             Ok(inverted) => Ok(inverted),
             Err(refusal) => Err(Fault::from(refusal)),
         }
+    }
+
+    // The occurrences, without the text.
+    fn into_index(self) -> Inverter<'a>
+        ensures { result ≡ self.entry.index }
+    {
+        let SecondPass { index, .. } = self;
+        index
     }
 
     // Ends the text, and answers its size. Refused where the plan has more documents.
