@@ -5,7 +5,7 @@ ghost use Rattle.mg_defs.specs.Front.{IsEntry, is_below};
 
 use mg_dev::{FileRef, Part, PartErr, PutErr, Store};
 use mg_front::{FrontEntry, FrontReader, FrontWalk, FrontWriter};
-use mg_mem::MemStore;
+use mg_mem::SureStore;
 use std::alloc::Global;
 use std::test::Fail;
 
@@ -24,15 +24,15 @@ const WORDS: &[u8] = b"\x03car\x03\x01d\x03\x01e\x02\x01t\x03dog";
 
 const WHOLE_AT: &[u8] = b"\x00\x00\x00\x00\x00\x00\x00\x0d";
 
-fn store_of(alloc: Global, strings: &[u8], places: &[u8]) -> Result<MemStore, PartErr> {
-    let mut store = MemStore::new(alloc);
+fn store_of(alloc: Global, strings: &[u8], places: &[u8]) -> Result<SureStore, PartErr> {
+    let mut store = SureStore::new(alloc);
     store.put_file("set.lex", strings)?;
     store.put_file("set.lexat", places)?;
     Ok(store)
 }
 
 // Whether a reader of the five words tells care by its number, and then dog.
-fn tells_two(alloc: Global, store: &mut MemStore) -> Result<bool, PartErr> {
+fn tells_two(alloc: Global, store: &mut SureStore) -> Result<bool, PartErr> {
     let mut reader = FrontReader::load(alloc, store, STRINGS, PLACES, 0, 5)?;
     let mut entry = FrontEntry::new();
     reader.at(store, 2, &mut entry)?;
@@ -41,35 +41,43 @@ fn tells_two(alloc: Global, store: &mut MemStore) -> Result<bool, PartErr> {
     Ok(care && entry.bytes() == b"dog".as_slice())
 }
 
-#[test]
-fn entries_are_read_by_number(rt: HostRuntime) -> Result<(), Fail> {
-    let alloc = rt.alloc();
+// Whether entries are read by their numbers.
+fn are_read(alloc: Global) -> Result<bool, PartErr> {
     let mut store = store_of(alloc, WORDS, WHOLE_AT)?;
-    assert!(rt; tells_two(alloc, &mut store)?);
-    Ok(())
+    tells_two(alloc, &mut store)
 }
 
 // The number of a string among five without fields.
-fn number_in(alloc: Global, store: &mut MemStore, string: &[u8]) -> Result<Option<u32>, PartErr> {
+fn number_in(alloc: Global, store: &mut SureStore, string: &[u8]) -> Result<Option<u32>, PartErr> {
     let mut reader = FrontReader::load(alloc, store, STRINGS, PLACES, 0, 5)?;
     reader.find(store, string, &mut FrontEntry::new())
 }
 
-#[test]
-fn strings_are_found_and_others_are_not(rt: HostRuntime) -> Result<(), Fail> {
-    let alloc = rt.alloc();
+// Strings, and their numbers where they are among the five.
+static NUMBERS: [(&[u8], Option<u32>); 6] = [
+    (b"car", Some(0)),
+    (b"care", Some(2)),
+    (b"dog", Some(4)),
+    (b"", None),
+    (b"cards", None),
+    (b"dogs", None),
+];
+
+// Whether the strings have these numbers.
+fn are_found(alloc: Global, rows: &[(&[u8], Option<u32>)]) -> Result<bool, PartErr> {
     let mut store = store_of(alloc, WORDS, WHOLE_AT)?;
-    let rows: [(&[u8], Option<u32>); 6] = [
-        (b"car", Some(0)),
-        (b"care", Some(2)),
-        (b"dog", Some(4)),
-        (b"", None),
-        (b"cards", None),
-        (b"dogs", None),
-    ];
     for (string, number) in rows {
-        assert!(rt; number_in(alloc, &mut store, string)? == number);
+        if number_in(alloc, &mut store, string)? != *number {
+            return Ok(false);
+        }
     }
+    Ok(true)
+}
+
+#[test]
+fn entries_are_read_and_found(rt: HostRuntime) -> Result<(), Fail> {
+    assert!(rt; are_read(rt.alloc())?);
+    assert!(rt; are_found(rt.alloc(), &NUMBERS)?);
     Ok(())
 }
 
@@ -124,7 +132,7 @@ fn written<S: Store>(
 }
 
 // The terms of a collection with what stands of them.
-const TERMS: [(&[u8], &[u8]); 4] = [
+static TERMS: [(&[u8], &[u8]); 4] = [
     (b"cat", b"\0\0\0\x02\0\0\0\0\0\0\0\0\0\0\0\0"),
     (b"dog", b"\0\0\0\x02\0\0\0\0\0\0\0\x01\0\0\0\x01"),
     (b"sat", b"\0\0\0\x01\0\0\0\0\0\0\0\x02\0\0\0\x02"),
@@ -136,23 +144,33 @@ const LEX: &[u8] = b"\x03cat\0\0\0\x02\0\0\0\0\0\0\0\0\0\0\0\0\
     \0\x03sat\0\0\0\x01\0\0\0\0\0\0\0\x02\0\0\0\x02\
     \0\x03the\0\0\0\x02\0\0\0\0\0\0\0\x03\0\0\0\x03";
 
+static FIVE: [(&[u8], &[u8]); 5] = [
+    (b"car", b""),
+    (b"card", b""),
+    (b"care", b""),
+    (b"cat", b""),
+    (b"dog", b""),
+];
+
+// Whether the parts of these entries have these bytes.
+fn are_written(
+    alloc: Global,
+    width: usize,
+    items: &[(&[u8], &[u8])],
+    strings: &[u8],
+    places: &[u8],
+) -> Result<bool, PutErr>
+    requires { width ≤ 24 }
+{
+    let mut store = SureStore::new(alloc);
+    written(alloc, &mut store, width, items)?;
+    Ok(store.file("set.lex") == Some(strings) && store.file("set.lexat") == Some(places))
+}
+
 #[test]
 fn entries_are_written(rt: HostRuntime) -> Result<(), Fail> {
-    let alloc = rt.alloc();
-    let mut store = MemStore::new(alloc);
-    written(alloc, &mut store, 16, &TERMS)?;
-    assert!(rt; store.file("set.lex") == Some(LEX));
-    assert!(rt; store.file("set.lexat") == Some(b"\0\0\0\0".as_slice()));
-    let words: [(&[u8], &[u8]); 5] = [
-        (b"car", b""),
-        (b"card", b""),
-        (b"care", b""),
-        (b"cat", b""),
-        (b"dog", b""),
-    ];
-    written(alloc, &mut store, 0, &words)?;
-    assert!(rt; store.file("set.lex") == Some(WORDS));
-    assert!(rt; store.file("set.lexat") == Some(WHOLE_AT));
+    assert!(rt; are_written(rt.alloc(), 16, &TERMS, LEX, b"\0\0\0\0")?);
+    assert!(rt; are_written(rt.alloc(), 0, &FIVE, WORDS, WHOLE_AT)?);
     Ok(())
 }
 
@@ -188,7 +206,7 @@ fn walked<S: Store>(
 // damage.
 fn tells(
     alloc: Global,
-    store: &mut MemStore,
+    store: &mut SureStore,
     count: u32,
     strings: &[u8],
     damage: Option<Damage>,
@@ -198,16 +216,23 @@ fn tells(
     Ok(found == damage && told.as_slice() == strings)
 }
 
+// Whether a walk over so many entries of these bytes tells the strings and the damage.
+fn walk_tells(
+    alloc: Global,
+    bytes: &[u8],
+    count: u32,
+    strings: &[u8],
+    damage: Option<Damage>,
+) -> Result<bool, PartErr> {
+    let mut store = store_of(alloc, bytes, &[])?;
+    tells(alloc, &mut store, count, strings, damage)
+}
+
 #[test]
 fn a_walk_tells_entries_and_damage(rt: HostRuntime) -> Result<(), Fail> {
     let alloc = rt.alloc();
-    for (bytes, count, strings, damage) in [
-        (WORDS, 5, b"car.card.care.cat.dog.".as_slice(), None),
-        (WORDS, 4, b"car.card.care.cat.", Some((13, 0, 0, 4))),
-        (b"\x03car\x03\x00", 2, b"car.", Some((4, 1, 1, 0))),
-    ] {
-        let mut store = store_of(alloc, bytes, &[])?;
-        assert!(rt; tells(alloc, &mut store, count, strings, damage)?);
-    }
+    assert!(rt; walk_tells(alloc, WORDS, 5, b"car.card.care.cat.dog.", None)?);
+    assert!(rt; walk_tells(alloc, WORDS, 4, b"car.card.care.cat.", Some((13, 0, 0, 4)))?);
+    assert!(rt; walk_tells(alloc, b"\x03car\x03\x00", 2, b"car.", Some((4, 1, 1, 0)))?);
     Ok(())
 }
