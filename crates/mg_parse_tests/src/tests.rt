@@ -6,11 +6,7 @@ ghost use Rattle.mg_parse.specs.Told.{lists};
 
 use mg_parse::{Offer, Pairs, PieceReader, Splitter, fold, is_word_byte};
 use std::alloc::{AllocError, Global};
-use std::process::Abort;
 use std::test::Fail;
-
-/// Three documents in 39 bytes.
-const COLLECTION: &[u8] = b"the cat sat\n\x02the dog\n\x02Cat, cat & dog!\n\x02";
 
 /// Takes the reader's current piece, and turns to the next.
 fn take(alloc: Global, reader: &mut PieceReader, told: &mut Vec<Vec<u8>>) -> Result<(), AllocError>
@@ -85,68 +81,65 @@ fn run_before(alloc: Global, byte: u8, count: usize, end: &[u8]) -> Result<Vec<u
     Ok(doc)
 }
 
-/// Both ways to read a document give pieces of these lengths.
-fn expect_lengths(
-    rt: &impl Abort,
-    alloc: Global,
-    byte: u8,
-    count: usize,
-    end: &[u8],
-    want: &[usize],
-) -> Result<(), Fail> {
-    let doc = run_before(alloc, byte, count, end)?;
-    let read = lengths_by_reader(alloc, doc.as_slice())?;
-    assert!(rt; read.as_slice() == want, "by bytes: {count} of {byte}");
-    let paired = lengths_by_pairs(alloc, doc.as_slice())?;
-    assert!(rt; paired.as_slice() == want, "by pairs: {count} of {byte}");
-    Ok(())
+/// A byte, how often it comes, what follows, and the lengths of the pieces of all that.
+type Row = (u8, usize, &'static [u8], &'static [usize]);
+
+static LENGTHS: [Row; 19] = [
+    // Words and others alternate.
+    (b' ', 0, b"", &[]),
+    (b' ', 0, b"the cat sat\n", &[3, 1, 3, 1, 3, 1]),
+    (b' ', 0, b"the dog\n", &[3, 1, 3, 1]),
+    (b' ', 0, b"Cat, cat & dog!\n", &[3, 2, 3, 3, 3, 2]),
+    (b' ', 0, b"a b c", &[1, 1, 1, 1, 1, 0]),
+    (b' ', 1, b"a b", &[0, 1, 1, 1, 1, 0]),
+    (b' ', 0, b"\x80A\xff\x7f0", &[3, 1, 1, 0]),
+    // A word has at most 255 bytes.
+    (b'a', 255, b"", &[255, 0]),
+    (b'a', 256, b"", &[255, 0, 1, 0]),
+    (b'a', 510, b"", &[255, 0, 255, 0]),
+    (b'a', 511, b"", &[255, 0, 255, 0, 1, 0]),
+    (b'a', 255, b" ", &[255, 1]),
+    (b'a', 256, b" ", &[255, 0, 1, 1]),
+    // So has an other.
+    (b' ', 255, b"", &[0, 255]),
+    (b' ', 256, b"", &[0, 255, 0, 1]),
+    (b' ', 300, b"", &[0, 255, 0, 45]),
+    (b' ', 510, b"", &[0, 255, 0, 255]),
+    (b' ', 511, b"", &[0, 255, 0, 255, 0, 1]),
+    (b' ', 256, b"a", &[0, 255, 0, 1, 1, 0]),
+];
+
+/// Whether the reader tells pieces of these lengths.
+fn reader_gives(alloc: Global, doc: &[u8], wanted: &[usize]) -> Result<bool, AllocError> {
+    let read = lengths_by_reader(alloc, doc)?;
+    Ok(read.as_slice() == wanted)
+}
+
+/// Whether the pairs have pieces of these lengths.
+fn pairs_give(alloc: Global, doc: &[u8], wanted: &[usize]) -> Result<bool, AllocError> {
+    let paired = lengths_by_pairs(alloc, doc)?;
+    Ok(paired.as_slice() == wanted)
+}
+
+/// Whether both ways to read a document give pieces of a row's lengths.
+fn both_give(alloc: Global, row: &Row) -> Result<bool, AllocError> {
+    let doc = run_before(alloc, row.0, row.1, row.2)?;
+    Ok(reader_gives(alloc, &doc, row.3)? && pairs_give(alloc, &doc, row.3)?)
+}
+
+/// The number of the first row whose document has other pieces, if there is one.
+fn other(alloc: Global, rows: &[Row]) -> Result<Option<usize>, AllocError> {
+    for number in 0..rows.len() {
+        if !both_give(alloc, &rows[number])? {
+            return Ok(Some(number));
+        }
+    }
+    Ok(None)
 }
 
 #[test]
-fn words_and_others_alternate(rt: HostRuntime) -> Result<(), Fail> {
-    expect_lengths(&rt, rt.alloc(), b' ', 0, b"", &[])?;
-    expect_lengths(
-        &rt,
-        rt.alloc(),
-        b' ',
-        0,
-        b"the cat sat\n",
-        &[3, 1, 3, 1, 3, 1],
-    )?;
-    expect_lengths(&rt, rt.alloc(), b' ', 0, b"the dog\n", &[3, 1, 3, 1])?;
-    expect_lengths(
-        &rt,
-        rt.alloc(),
-        b' ',
-        0,
-        b"Cat, cat & dog!\n",
-        &[3, 2, 3, 3, 3, 2],
-    )?;
-    expect_lengths(&rt, rt.alloc(), b' ', 0, b"a b c", &[1, 1, 1, 1, 1, 0])?;
-    expect_lengths(&rt, rt.alloc(), b' ', 1, b"a b", &[0, 1, 1, 1, 1, 0])?;
-    expect_lengths(&rt, rt.alloc(), b' ', 0, b"\x80A\xff\x7f0", &[3, 1, 1, 0])?;
-    Ok(())
-}
-
-#[test]
-fn a_word_has_at_most_255_bytes(rt: HostRuntime) -> Result<(), Fail> {
-    expect_lengths(&rt, rt.alloc(), b'a', 255, b"", &[255, 0])?;
-    expect_lengths(&rt, rt.alloc(), b'a', 256, b"", &[255, 0, 1, 0])?;
-    expect_lengths(&rt, rt.alloc(), b'a', 510, b"", &[255, 0, 255, 0])?;
-    expect_lengths(&rt, rt.alloc(), b'a', 511, b"", &[255, 0, 255, 0, 1, 0])?;
-    expect_lengths(&rt, rt.alloc(), b'a', 255, b" ", &[255, 1])?;
-    expect_lengths(&rt, rt.alloc(), b'a', 256, b" ", &[255, 0, 1, 1])?;
-    Ok(())
-}
-
-#[test]
-fn an_other_has_at_most_255_bytes(rt: HostRuntime) -> Result<(), Fail> {
-    expect_lengths(&rt, rt.alloc(), b' ', 255, b"", &[0, 255])?;
-    expect_lengths(&rt, rt.alloc(), b' ', 256, b"", &[0, 255, 0, 1])?;
-    expect_lengths(&rt, rt.alloc(), b' ', 300, b"", &[0, 255, 0, 45])?;
-    expect_lengths(&rt, rt.alloc(), b' ', 510, b"", &[0, 255, 0, 255])?;
-    expect_lengths(&rt, rt.alloc(), b' ', 511, b"", &[0, 255, 0, 255, 0, 1])?;
-    expect_lengths(&rt, rt.alloc(), b' ', 256, b"a", &[0, 255, 0, 1, 1, 0])?;
+fn pieces_alternate_and_have_at_most_255_bytes(rt: HostRuntime) -> Result<(), Fail> {
+    assert!(rt; other(rt.alloc(), &LENGTHS)?.is_none());
     Ok(())
 }
 
@@ -164,15 +157,35 @@ fn split_counts(bytes: &[u8]) -> (u64, bool)
     (closed, splitter.finish())
 }
 
+/// Bytes, how many documents they close, and whether they end in an open one.
+static SPLITS: [(&[u8], u64, bool); 7] = [
+    (b"", 0, false),
+    (b"\x02", 1, false),
+    (b"\x02\x02", 2, false),
+    // Three documents in 39 bytes, and what is left without the last of them.
+    (
+        b"the cat sat\n\x02the dog\n\x02Cat, cat & dog!\n\x02",
+        3,
+        false,
+    ),
+    (b"the cat sat\n\x02the dog\n\x02Cat, cat & dog!\n", 2, true),
+    (b"a\x02b", 1, true),
+    (b"\x02a", 1, true),
+];
+
+/// Whether the bytes of each row are split so.
+fn are_split(rows: &[(&[u8], u64, bool)]) -> bool {
+    for (bytes, closed, is_open) in rows {
+        if bytes.len() > 100 || split_counts(bytes) != (*closed, *is_open) {
+            return false;
+        }
+    }
+    true
+}
+
 #[test]
 fn documents_end_at_control_b(rt: HostRuntime) {
-    assert!(rt; split_counts(b"") == (0, false));
-    assert!(rt; split_counts(b"\x02") == (1, false));
-    assert!(rt; split_counts(b"\x02\x02") == (2, false));
-    assert!(rt; split_counts(COLLECTION) == (3, false));
-    assert!(rt; split_counts(&COLLECTION[..38]) == (2, true));
-    assert!(rt; split_counts(b"a\x02b") == (1, true));
-    assert!(rt; split_counts(b"\x02a") == (1, true));
+    assert!(rt; are_split(&SPLITS));
 }
 
 #[test]
