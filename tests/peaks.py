@@ -3,9 +3,6 @@
 Each tool that reads a set runs over each hostile set. It ends by itself within some seconds with a status of its own, and takes
 at most 40 megabytes more than over a small sound set, and some bytes for each byte of the set. A merge may take the pool that
 the first head tells, since the new set is to have as many occurrences to a run.
-
-`phrase` holds a document of whatever length its code means, which docs/OPEN.md has as a gap. Where that is so it is asked to be
-so, and whoever closes the gap takes the exception out.
 """
 
 import dataclasses
@@ -26,8 +23,6 @@ MORE = 40 << 20
 # How many bytes of memory each byte of a set's files explains.
 EACH = 16
 LONG = b"a" * 255
-# The sets of which a tool is known to hold too much, by how their names begin.
-OPEN = {"phrase": ("a text that means ", "three documents with the same long text")}
 # A code of so many pairs and 2 bits for each take 262,149 bytes; the text that they mean has 534,773,250.
 PAIRS = (1 << 20) - 1
 ASKED = {
@@ -103,9 +98,6 @@ def peaks(suite):
             most = sound.setdefault(words[0], peak) + MORE + explained
             if words[0] == "merge":
                 most += pool_of(parts["head"])
-            if name.startswith(OPEN.get(words[0], ())):
-                suite.check(f"{name}: {words[0]} holds too much, as docs/OPEN.md says", peak > most, True)
-                continue
             worst = max(worst, peak - most + MORE)
             suite.check(f"{name}: memory of {words[0]}", peak <= most or peak, True)
     measured.end()

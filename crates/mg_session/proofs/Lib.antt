@@ -1,4 +1,5 @@
 pub mod StepLaws
+pub mod TotalLaws
 pub mod TextsLaws
 pub mod ShowLaws
 pub mod HitLaws

@@ -198,7 +198,7 @@ module _ (base : List ℕ) (s0 s1 s2 : StoreAt) (head : Head) (first : s1.files 
         (λ bad code collection is. bad (never_bad code collection (set_text base s0.files s1.files head code collection first is)));
   }
 
-  pub phrases_opened : (lex : Fronted) (text : TextReading) (parts : PhraseParts) → parts ≡ record { base = base; lex = lex; text = text; all = head.documents } →
+  pub phrases_opened : (lex : Fronted) (text : TextReading) (parts : PhraseParts) → parts ≡ record { base = base; lex = lex; text = text; all = head.documents; most = head.collection } →
       ((collection : List ℕ) → IsLexicon base s0.files head.terms collection → LexStands lex s1.files collection) →
       ((code : TextCode) (collection : List ℕ) → IsText base s1.files head code collection → TextStands text s2.files collection) →
       ((code : TextCode) (collection : List ℕ) → IsText base s1.files head code collection → text.code ≡ code) →

@@ -1,6 +1,7 @@
 -- The reply to a phrase.
-use Rattle.std.proofs.Common.{arith, ◌≡◌, ℕ, ◌+◌, ◌≤◌, true, List, [], ◌∷◌, ◌++◌, length, None, Some, Ok, Err, refl, sym, ◌∙◌, ap, subst, sum_by, length-append}
-use Rattle.std.specs.Prelude.{IfSome, IfErr, OnOk, map, nat_le, nat_lt}
+use Rattle.std.proofs.Common.{arith, ◌≡◌, ℕ, zero, suc, ◌+◌, ◌-◌, ◌≤◌, true, List, [], ◌∷◌, ◌++◌, length, None, Ok, Err, get_or, refl, sym, ◌∙◌, ap, subst, sum_by, length-append}
+use Rattle.std.specs.Prelude.{IfSome, IfErr, map, nat_le, nat_lt}
+use Rattle.std.specs.List.{AllByRecursion}
 use Rattle.std.specs.Option.{ForSome}
 use Rattle.std.specs.declared.option.Option.{Option}
 use Rattle.std.specs.declared.result.Result.{Result}
@@ -8,10 +9,12 @@ use Rattle.std.proofs.lemmas.Bool.{cond_both, leb-false}
 use Rattle.std.proofs.lemmas.Option.{IfSome_then}
 use Rattle.std.proofs.lemmas.List.Sums.{sum_by-append, sum_by-cons}
 use Rattle.mg_dev.specs.Causes.{Rose}
-use Rattle.mg_dev.specs.Files.{Reads}
-use Rattle.mg_dev.specs.Streams.{AfterPut, GrewByPrefix, appended}
+use Rattle.mg_dev.specs.Bads.{IsNotBad}
+use Rattle.mg_dev.specs.Files.{Files, Reads}
+use Rattle.mg_dev.specs.Streams.{AfterPut}
 use Rattle.mg_dev.specs.StreamLaws.{grew_nothing}
 use Rattle.mg_dev.specs.declared.part.Part.TheVariants as part
+use Rattle.mg_dev.specs.declared.part_err.PartErr.{PartErr}
 use Rattle.mg_dev.specs.declared.part_err.PartErr.TheVariants.{Device, Memory, Bad}
 use Rattle.mg_dev.specs.declared.show_err.ShowErr.{ShowErr}
 use Rattle.mg_dev.specs.declared.show_err.ShowErr.TheVariants as show
@@ -29,6 +32,7 @@ use Rattle.mg_defs.specs.Texts.{count}
 use Rattle.mg_defs.specs.Tokens.{PlacedToken, Token, amp, bang, bar, closing, opening, tokens, word}
 use Rattle.mg_defs.specs.declared.session.Hearing.TheVariants.{Questions}
 use Rattle.mg_defs.specs.declared.session.Settings.{Settings}
+use Rattle.mg_defs.proofs.ListLaws.{documents_short}
 use Rattle.mg_laws.proofs.PlainLaws.{plain_heard, questions_heard}
 use Rattle.mg_query.specs.AllOf.{IsAllOf}
 use Rattle.mg_query.specs.RefusalOf.{refusal_of}
@@ -40,9 +44,9 @@ use Rattle.mg_reply.specs.declared.serve.ServeErr.TheVariants as serve
 use Rattle.mg_session.specs.Serves.{Stops}
 use Rattle.mg_defs.specs.InputLimit.{is_too_much}
 use Rattle.mg_defs.specs.Limits.{input_limit}
-use Rattle.mg_text.specs.Decoding as decoding
-use Rattle.mg_text.specs.Reading.{ShowIsNotBad}
-use Rattle.mg_session.specs.Answering.{HasShowCause, HasShowLack, of_allocator}
+use Rattle.mg_text.specs.Held.{HasShortDocument}
+use Rattle.mg_text.specs.Reading.{ShowIsNotBad, TextReading, TextStands}
+use Rattle.mg_session.specs.Answering.{HasShowCause}
 use Rattle.mg_session.specs.PhraseAnswers.{PhraseAnswered, PhraseReplied, ReadsPhrases, candidate_pages, joined_bound, line_lists, line_pages}
 use Rattle.mg_session.specs.PhraseSearching.{OnlyReads, PhraseMayStop, PhraseState, PhrasesAsked, PhrasesBy, PhrasesOver, SamePhraseParts}
 use Rattle.mg_session.proofs.ReplyLaws.{refused_sound}
@@ -134,17 +138,17 @@ unfolding with_places phrase_places
 no_places n [] = refl
 no_places n (d ∷ ds) = no_places (n + 1) ds
 
-none_text : (collection line : List ℕ) → phrase_of line ≡ reads [] → phrase_reply collection line ≡ count 0
-unfolding phrase_reply found_text
-none_text collection line e = rw (e, no_places 1 (documents collection)) refl
+no_text : (ds : List (List ℕ)) → found_text (with_places [] 1 ds) ≡ count 0
+unfolding found_text
+no_text ds = rw (no_places 1 ds) refl
 
 no_words : (phrase : List (List ℕ)) → IsAllOf phrase None → phrase ≡ []
 no_words [] none = refl
 no_words (t ∷ us) none = absurd none
 
-pub line_counted : (code : TextCode) (collection line : List ℕ) (phrase : List (List ℕ)) (w0 w1 : Option (List ℕ)) (r : Reads) (result : Result (Unit {0}) ShowErr) → phrase_of line ≡ reads phrase → IsAllOf phrase None → AfterPut w0 w1 (count 0) result → ShowIsNotBad result → PhraseReplied code collection line w0 w1 r r result
-line_counted code collection line phrase w0 w1 r result is none put sound = record {
-  put = subst (λ t. AfterPut w0 w1 t result) (sym (none_text collection line (is ∙ ap reads (no_words phrase none)))) put;
+pub none_counted : (code : TextCode) (collection : List ℕ) (phrase : List (List ℕ)) (w0 w1 : Option (List ℕ)) (r : Reads) (result : Result (Unit {0}) ShowErr) → IsAllOf phrase None → AfterPut w0 w1 (count 0) result → ShowIsNotBad result → PhraseAnswered code collection phrase w0 w1 r r result
+none_counted code collection phrase w0 w1 r result none put sound = record {
+  put = subst (λ t. AfterPut w0 w1 t result) (sym (ap (λ (p : List (List ℕ)). found_text (with_places p 1 (documents collection))) (no_words phrase none) ∙ no_text (documents collection))) put;
   sound = sound;
   post = omega arith;
   text = omega arith;
@@ -165,34 +169,24 @@ line_answered code collection line phrase w0 w1 r0 r1 r2 result is a post text =
       text = omega (arith, a.text, text, same_pages);
     }
 
--- ---- a document that is held
+-- ---- a document that could not be decoded
 
--- a sink that never fails has no failure
-pub held_cause : (error : ShowErr) (s t l m output : ℕ) → s ≤ t → decoding.IsShowCaused (Err error) s t 0 0 l m → HasShowCause (Err (of_allocator error)) s t output output
-held_cause (show.Part Device) s t l m output later caused = record { store = later; output = omega arith; caused = caused }
-held_cause (show.Part Memory) s t l m output later caused = absurd caused
-held_cause (show.Part (Bad bad)) s t l m output later caused = record { store = later; output = omega arith; caused = tt }
-held_cause show.Write s t l m output later caused = absurd (omega (arith, caused))
-held_cause show.Memory s t l m output later caused = record { store = later; output = omega arith; caused = tt }
+pub decoded_sound : (refusal : PartErr) (error : ShowErr) → error ≡ show.Part refusal → IsNotBad refusal → ShowIsNotBad (Err error)
+decoded_sound Device error is sound = subst (λ e. ShowIsNotBad (Err e)) (sym is) tt
+decoded_sound Memory error is sound = subst (λ e. ShowIsNotBad (Err e)) (sym is) tt
+decoded_sound (Bad bad) error is sound = absurd sound
 
-pub held_sound : (error : ShowErr) → ShowIsNotBad (Err error) → ShowIsNotBad (Err (of_allocator error))
-held_sound (show.Part Device) sound = tt
-held_sound (show.Part Memory) sound = tt
-held_sound (show.Part (Bad bad)) sound = sound
-held_sound show.Write sound = tt
-held_sound show.Memory sound = tt
+-- a document of a collection is no longer than the collection
+short_at : (n : ℕ) (docs : List (List ℕ)) (i : ℕ) → AllByRecursion (λ (doc : List ℕ). length doc ≤ n) docs → length (get_or docs i []) ≤ n
+short_at n [] i all = omega arith
+short_at n (d ∷ docs) zero all = all.0
+short_at n (d ∷ docs) (suc i) all = short_at n docs i all.1
 
--- and no lack of an output
-pub held_memory : (error : ShowErr) → of_allocator error ≡ show.Memory → ⊥
-held_memory (show.Part error) is = cc
-held_memory show.Write is = cc
-held_memory show.Memory is = cc
-
--- where it is not the output's own want of memory, no lack is told
-pub no_lack : (error : ShowErr) (l m : ℕ) → l ≤ m → (error ≡ show.Memory → ⊥) → HasShowLack l m (Err error)
-no_lack (show.Part refusal) l m later other = record { later = later; lacked = tt }
-no_lack show.Write l m later other = record { later = later; lacked = tt }
-no_lack show.Memory l m later other = absurd (other refl)
+pub short_document : (r : TextReading) (files : Option Files) (number most : ℕ) (collection : List ℕ) → TextStands r files collection → length collection ≤ most → HasShortDocument r files number most collection
+short_document r files number most collection stands short = record {
+  stands = stands;
+  short = omega (arith, short_at (length collection) (documents collection) (number - 1) (documents_short collection), short);
+}
 
 -- ---- a session
 
@@ -236,9 +230,3 @@ line_stops s t f g show.Memory cause sound = tt
 pub line_part : (s t : PhraseState) (f g : ℕ) (r : Result (Unit {0}) ShowErr) → HasShowCause r s.faults t.faults f g → ((collection : List ℕ) → PhrasesOver s collection → ShowIsNotBad r) → IfErr r (PartStops (PhraseMayStop s t))
 line_part s t f g (Ok value) cause sound = tt
 line_part s t f g (Err error) cause sound = line_stops s t f g error cause sound
-
--- a document that was written where nothing was held is what is held
-pub held_is : (before now doc : List ℕ) (r : Result (Unit {0}) ShowErr) → before ≡ [] → AfterPut (Some before) (Some now) doc r → OnOk r (now ≡ doc)
-unfolding appended
-held_is before now doc (Ok value) none put = let all : Some now ≡ Some doc = put ∙ ap (λ b. Some (b ++ doc)) none in cc
-held_is before now doc (Err error) none put = tt

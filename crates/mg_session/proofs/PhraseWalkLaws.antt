@@ -34,9 +34,10 @@ use Rattle.mg_query.specs.AllOf.{IsAllOf}
 use Rattle.mg_query.specs.QueryOf.{query_of}
 use Rattle.mg_query.specs.declared.query.Query as declared
 use Rattle.mg_reply.specs.Pending.{AfterPass, Passed}
-use Rattle.mg_reply.proofs.CallerLemmas.{pass_nothing, pass_both, pass_cut, pass_put}
+use Rattle.mg_reply.proofs.CallerLemmas.{pass_nothing, pass_both, pass_cut}
 use Rattle.mg_text.specs.Reading.{ShowIsNotBad}
 use Rattle.mg_session.specs.PhraseAnswers.{PhraseAnswered, PhraseWalked, candidate_pages, found_among, found_at, found_if, joined_bound, rows_of}
+use Rattle.mg_session.proofs.TotalLaws.{put_rest}
 
 -- ---- the query of all terms
 
@@ -284,32 +285,19 @@ ended base code collection phrase q w0 w1 waiting total m n r0 r1 j w goes =
     let all : satisfying collection q ≡ w.so_far = w.split ∙ ap (λ l. w.so_far ++ l) (goes_none (left_of collection m) (left_of collection n) goes) ∙ append-nil w.so_far in
     ap found_text (j.found_is ∙ ap (found_among collection phrase) all) ∙ text-is (found_among collection phrase w.so_far) ∙ ap (λ k. rows_of (found_among collection phrase w.so_far) ++ count k) w.total_is
 
--- the count was passed on, and what waited was put or refused
-pub walked_end : (base : List ℕ) (code : TextCode) (collection : List ℕ) (phrase : List (List ℕ)) (q : Query) (w0 w1 w2 w3 : Option (List ℕ)) (waiting waiting2 : List ℕ) (total : ℕ) (m n : Matching) (r0 r1 r2 : Reads) (result : Result (Unit {0}) ShowErr) →
+-- the count was put behind all that waited, or refused
+pub walked_end : (base : List ℕ) (code : TextCode) (collection : List ℕ) (phrase : List (List ℕ)) (q : Query) (w0 w1 w2 : Option (List ℕ)) (waiting : List ℕ) (total : ℕ) (m n : Matching) (r0 r1 r2 : Reads) (result : Result (Unit {0}) ShowErr) →
     Joined code collection phrase q → PhraseWalked base code collection phrase q w0 w1 waiting total m r0 r1 → GoesOn (left_of collection m) (left_of collection n) None → PagesWithin (boolean_bound collection q) (pages_read m.places) (pages_read n.places) r1 r2 → r2 part.Text ≡ r1 part.Text →
-    Passed w1 w2 waiting waiting2 (count total) → AfterPut w2 w3 waiting2 result → ShowIsNotBad result →
-    PhraseAnswered code collection phrase w0 w3 r0 r2 result
-walked_end base code collection phrase q w0 w1 w2 w3 waiting waiting2 total m n r0 r1 r2 result j w goes pages text counted put sound =
+    AfterPut w1 w2 (waiting ++ count total) result → ShowIsNotBad result →
+    PhraseAnswered code collection phrase w0 w2 r0 r2 result
+walked_end base code collection phrase q w0 w1 w2 waiting total m n r0 r1 r2 result j w goes pages text put sound =
     let rows = rows_of (found_among collection phrase w.so_far) in
-    let whole : Passed w0 w2 [] waiting2 (rows ++ count total) = pass_both w0 w1 w2 [] waiting waiting2 rows (count total) w.passed counted in
     record {
-      put = subst (λ x. AfterPut w0 w3 x result) (sym (ended base code collection phrase q w0 w1 waiting total m n r0 r1 j w goes)) (pass_put w0 w2 w3 [] waiting2 (rows ++ count total) result refl whole put);
+      put = subst (λ x. AfterPut w0 w2 x result) (sym (ended base code collection phrase q w0 w1 waiting total m n r0 r1 j w goes)) (put_rest w0 w1 w2 waiting rows (count total) result w.passed put);
       sound = sound;
       post = omega (arith, w.post, pages.post, pages.within, j.bound_is);
       text = omega (arith, pages_so_far base code collection phrase q w0 w1 waiting total m r0 r1 j w, text);
     }
-
--- the count was refused
-pub walked_uncounted : (base : List ℕ) (code : TextCode) (collection : List ℕ) (phrase : List (List ℕ)) (q : Query) (w0 w1 w2 : Option (List ℕ)) (waiting : List ℕ) (total : ℕ) (m n : Matching) (r0 r1 r2 : Reads) (error : ShowErr) →
-    Joined code collection phrase q → PhraseWalked base code collection phrase q w0 w1 waiting total m r0 r1 → GoesOn (left_of collection m) (left_of collection n) None → PagesWithin (boolean_bound collection q) (pages_read m.places) (pages_read n.places) r1 r2 → r2 part.Text ≡ r1 part.Text →
-    GrewByPrefix w1 w2 (waiting ++ count total) → ShowIsNotBad (Err error) →
-    PhraseAnswered code collection phrase w0 w2 r0 r2 (Err error)
-walked_uncounted base code collection phrase q w0 w1 w2 waiting total m n r0 r1 r2 error j w goes pages text grew sound = record {
-  put = subst (GrewByPrefix w0 w2) (sym (ended base code collection phrase q w0 w1 waiting total m n r0 r1 j w goes)) (pass_cut w0 w1 w2 [] waiting (rows_of (found_among collection phrase w.so_far)) (count total) w.passed grew);
-  sound = sound;
-  post = omega (arith, w.post, pages.post, pages.within, j.bound_is);
-  text = omega (arith, pages_so_far base code collection phrase q w0 w1 waiting total m r0 r1 j w, text);
-}
 
 -- ---- a row
 

@@ -24,10 +24,11 @@ use Rattle.mg_defs.specs.declared.session.Mode.TheVariants.{Docnums, Text, Count
 use Rattle.mg_defs.specs.declared.session.Settings.{Settings}
 use Rattle.mg_defs.proofs.TopLaws.{by_score_permutes}
 use Rattle.mg_reply.specs.Pending.{Passed}
-use Rattle.mg_reply.proofs.CallerLemmas.{pass_both, pass_cut, pass_nothing, pass_part, pass_put, pass_refused}
+use Rattle.mg_reply.proofs.CallerLemmas.{pass_both, pass_cut, pass_nothing, pass_part, pass_refused}
 use Rattle.mg_text.specs.Reading.{ShowIsNotBad}
 use Rattle.mg_reply.specs.Printed.{at_score}
 use Rattle.mg_session.specs.Answering.{Answered, RowsShown, answer_pages, mode_pages, rows_asked, rows_in, rows_pages, rows_text, shown_hit, shown_hits}
+use Rattle.mg_session.proofs.TotalLaws.{put_rows}
 
 -- ---- row by row
 
@@ -204,37 +205,27 @@ are_rows collection kept query now all most total rows same is m rows_are total_
   total_is = total_is ∙ ap length same;
 }
 
--- a row could not be shown
-pub rows_stop : (code : TextCode) (collection : List ℕ) (now : Settings) (query : List (List ℕ)) (all total bound kept : ℕ) (rows : List Hit) (w0 w1 : Option (List ℕ)) (waiting : List ℕ) (r0 r1 r2 : Reads) (error : ShowErr) → AreRows collection query now all total rows → kept ≤ bound → r1 part.Post ≤ r0 part.Post + kept → r1 part.Text ≡ r0 part.Text →
-    waiting ≡ [] → GrewByPrefix w0 w1 (waiting ++ rows_text collection now.mode rows) → r2 part.Post ≡ r1 part.Post → r2 part.Text ≤ r1 part.Text + rows_pages code collection now.mode rows → ShowIsNotBad (Err error) →
-    Answered code collection now (ranking collection query) bound w0 w1 r0 r2 (Err error)
-rows_stop code collection now query all total bound kept rows w0 w1 waiting r0 r1 r2 error are less post text none grew post_too shown_text sound = record {
-  put = subst (GrewByPrefix w0 w1) (sym (rows_text_is collection query now all total rows are.all_is are.rows_are are.total_is)) (grew_first w0 w1 (rows_text collection now.mode rows) (count total) (pass_refused w0 w1 waiting (rows_text collection now.mode rows) none grew));
+-- the rows and the count were put, or refused
+pub rows_end : (code : TextCode) (collection : List ℕ) (now : Settings) (query : List (List ℕ)) (all total bound kept : ℕ) (rows : List Hit) (w0 w1 : Option (List ℕ)) (r0 r1 r2 : Reads) (result : Result (Unit {0}) ShowErr) → AreRows collection query now all total rows → kept ≤ bound → r1 part.Post ≤ r0 part.Post + kept → r1 part.Text ≡ r0 part.Text →
+    AfterPut w0 w1 (rows_text collection now.mode rows ++ count total) result → r2 part.Post ≡ r1 part.Post → r2 part.Text ≤ r1 part.Text + rows_pages code collection now.mode rows → ShowIsNotBad result →
+    Answered code collection now (ranking collection query) bound w0 w1 r0 r2 result
+rows_end code collection now query all total bound kept rows w0 w1 r0 r1 r2 result are less post text put post_too shown_text sound = record {
+  put = subst (λ t. AfterPut w0 w1 t result) (sym (rows_text_is collection query now all total rows are.all_is are.rows_are are.total_is)) put;
   sound = sound;
   post = omega (arith, less, post, post_too);
   text = omega (arith, text, shown_text, rows_pages_are code collection query now all rows are.all_is are.rows_are);
 }
 
--- the count was passed on, and what waited was put or refused
-pub rows_end : (code : TextCode) (collection : List ℕ) (now : Settings) (query : List (List ℕ)) (all total bound kept : ℕ) (rows : List Hit) (w0 w1 w2 w3 : Option (List ℕ)) (p0 p1 p2 : List ℕ) (r0 r1 r2 : Reads) (result : Result (Unit {0}) ShowErr) → AreRows collection query now all total rows → kept ≤ bound → r1 part.Post ≤ r0 part.Post + kept → r1 part.Text ≡ r0 part.Text →
-    p0 ≡ [] → Passed w0 w1 p0 p1 (rows_text collection now.mode rows) → r2 part.Post ≡ r1 part.Post → r2 part.Text ≤ r1 part.Text + rows_pages code collection now.mode rows →
-    Passed w1 w2 p1 p2 (count total) → AfterPut w2 w3 p2 result → ShowIsNotBad result →
-    Answered code collection now (ranking collection query) bound w0 w3 r0 r2 result
-rows_end code collection now query all total bound kept rows w0 w1 w2 w3 p0 p1 p2 r0 r1 r2 result are less post text none passed post_too shown_text counted put sound = record {
-  put = subst (λ t. AfterPut w0 w3 t result) (sym (rows_text_is collection query now all total rows are.all_is are.rows_are are.total_is)) (pass_put w0 w2 w3 p0 p2 (rows_text collection now.mode rows ++ count total) result none (pass_both w0 w1 w2 p0 p1 p2 (rows_text collection now.mode rows) (count total) passed counted) put);
-  sound = sound;
-  post = omega (arith, less, post, post_too);
-  text = omega (arith, text, shown_text, rows_pages_are code collection query now all rows are.all_is are.rows_are);
-}
+-- ---- a ranking on its way out
 
--- the count was refused
-pub rows_uncounted : (code : TextCode) (collection : List ℕ) (now : Settings) (query : List (List ℕ)) (all total bound kept : ℕ) (rows : List Hit) (w0 w1 w2 : Option (List ℕ)) (p0 p1 : List ℕ) (r0 r1 r2 : Reads) (error : ShowErr) → AreRows collection query now all total rows → kept ≤ bound → r1 part.Post ≤ r0 part.Post + kept → r1 part.Text ≡ r0 part.Text →
-    p0 ≡ [] → Passed w0 w1 p0 p1 (rows_text collection now.mode rows) → r2 part.Post ≡ r1 part.Post → r2 part.Text ≤ r1 part.Text + rows_pages code collection now.mode rows →
-    GrewByPrefix w1 w2 (p1 ++ count total) → ShowIsNotBad (Err error) →
-    Answered code collection now (ranking collection query) bound w0 w2 r0 r2 (Err error)
-rows_uncounted code collection now query all total bound kept rows w0 w1 w2 p0 p1 r0 r1 r2 error are less post text none passed post_too shown_text grew sound = record {
-  put = subst (GrewByPrefix w0 w2) (sym (rows_text_is collection query now all total rows are.all_is are.rows_are are.total_is)) (pass_refused w0 w2 p0 (rows_text collection now.mode rows ++ count total) none (pass_cut w0 w1 w2 p0 p1 (rows_text collection now.mode rows) (count total) passed grew));
-  sound = sound;
-  post = omega (arith, less, post, post_too);
-  text = omega (arith, text, shown_text, rows_pages_are code collection query now all rows are.all_is are.rows_are);
-}
+-- rows were passed on, and the count was put behind them or refused
+pub ranking_put : (collection : List ℕ) (mode : Mode) (rows same : List Hit) (total told : ℕ) (w0 w1 w2 : Option (List ℕ)) (waited waiting : List ℕ) (r : Result (Unit {0}) ShowErr) → rows ≡ same → total ≡ told → waited ≡ [] →
+    Passed w0 w1 waited waiting (rows_text collection mode rows) → AfterPut w1 w2 (waiting ++ count total) r → AfterPut w0 w2 (rows_text collection mode same ++ count told) r
+ranking_put collection mode rows same total told w0 w1 w2 waited waiting r is is_told none passed put =
+    subst (λ n. AfterPut w0 w2 (rows_text collection mode same ++ count n) r) is_told
+    (subst (λ hits. AfterPut w0 w2 (rows_text collection mode hits ++ count total) r) is (put_rows w0 w1 w2 waited waiting (rows_text collection mode rows) (count total) r none passed put))
+
+-- a row was refused, and so nothing came behind the rows
+pub ranking_cut : (collection : List ℕ) (mode : Mode) (rows same : List Hit) (more : List ℕ) (w0 w1 : Option (List ℕ)) (waited : List ℕ) → rows ≡ same → waited ≡ [] → GrewByPrefix w0 w1 (waited ++ rows_text collection mode rows) → GrewByPrefix w0 w1 (rows_text collection mode same ++ more)
+ranking_cut collection mode rows same more w0 w1 waited is none grew =
+    subst (λ hits. GrewByPrefix w0 w1 (rows_text collection mode hits ++ more)) is (grew_first w0 w1 (rows_text collection mode rows) more (pass_refused w0 w1 waited (rows_text collection mode rows) none grew))

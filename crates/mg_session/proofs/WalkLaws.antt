@@ -30,10 +30,11 @@ use Rattle.mg_bool.specs.Places.{pages_read}
 use Rattle.mg_query.specs.QueryOf.{query_of}
 use Rattle.mg_post.specs.TermLists.{PagesWithin}
 use Rattle.mg_reply.specs.Pending.{Passed}
-use Rattle.mg_reply.proofs.CallerLemmas.{pass_nothing, pass_both, pass_cut, pass_put}
+use Rattle.mg_reply.proofs.CallerLemmas.{pass_nothing, pass_both, pass_cut}
 use Rattle.mg_text.specs.Reading.{ShowIsNotBad}
 use Rattle.mg_reply.specs.Printed.{at_score}
 use Rattle.mg_session.specs.Answering.{Answered, Walked, answer_pages, hit_pages, mode_pages}
+use Rattle.mg_session.proofs.TotalLaws.{put_rest}
 
 -- ---- the documents that are found have no score
 
@@ -192,30 +193,15 @@ ended base code collection q now w0 w1 waiting total m n r0 r1 w goes =
       ap (λ xs. flat_map (shown collection now.mode) (limited_to now.most xs) ++ count (length xs)) all ∙ ap (λ k. flat_map (shown collection now.mode) (limited_to now.most w.so_far) ++ count k) w.total_is,
     )
 
--- the count was passed on, and what waited was put or refused
-pub walked_end : (base : List ℕ) (code : TextCode) (collection : List ℕ) (q : Query) (now : Settings) (w0 w1 w2 w3 : Option (List ℕ)) (waiting waiting2 : List ℕ) (total bound : ℕ) (m n : Matching) (r0 r1 r2 : Reads) (result : Result (Unit {0}) ShowErr) →
+-- the count was put behind all that waited, or refused
+pub walked_end : (base : List ℕ) (code : TextCode) (collection : List ℕ) (q : Query) (now : Settings) (w0 w1 w2 : Option (List ℕ)) (waiting : List ℕ) (total bound : ℕ) (m n : Matching) (r0 r1 r2 : Reads) (result : Result (Unit {0}) ShowErr) →
     Walked base code collection q now w0 w1 waiting total m r0 r1 → GoesOn (left_of collection m) (left_of collection n) None → PagesWithin bound (pages_read m.places) (pages_read n.places) r1 r2 → r2 part.Text ≡ r1 part.Text →
-    Passed w1 w2 waiting waiting2 (count total) → AfterPut w2 w3 waiting2 result → ShowIsNotBad result →
-    Answered code collection now (satisfying collection q) bound w0 w3 r0 r2 result
-walked_end base code collection q now w0 w1 w2 w3 waiting waiting2 total bound m n r0 r1 r2 result w goes pages text counted put sound =
-    let t = ended base code collection q now w0 w1 waiting total m n r0 r1 w goes in
-    let whole : Passed w0 w2 [] waiting2 (t.0 ++ count total) = pass_both w0 w1 w2 [] waiting waiting2 t.0 (count total) t.1 counted in
-    record {
-      put = subst (λ x. AfterPut w0 w3 x result) (sym t.2) (pass_put w0 w2 w3 [] waiting2 (t.0 ++ count total) result refl whole put);
-      sound = sound;
-      post = omega (arith, w.post, pages.post, pages.within);
-      text = omega (arith, pages_so_far base code collection q now w0 w1 waiting total m r0 r1 w, text);
-    }
-
--- the count was refused
-pub walked_uncounted : (base : List ℕ) (code : TextCode) (collection : List ℕ) (q : Query) (now : Settings) (w0 w1 w2 : Option (List ℕ)) (waiting : List ℕ) (total bound : ℕ) (m n : Matching) (r0 r1 r2 : Reads) (error : ShowErr) →
-    Walked base code collection q now w0 w1 waiting total m r0 r1 → GoesOn (left_of collection m) (left_of collection n) None → PagesWithin bound (pages_read m.places) (pages_read n.places) r1 r2 → r2 part.Text ≡ r1 part.Text →
-    GrewByPrefix w1 w2 (waiting ++ count total) → ShowIsNotBad (Err error) →
-    Answered code collection now (satisfying collection q) bound w0 w2 r0 r2 (Err error)
-walked_uncounted base code collection q now w0 w1 w2 waiting total bound m n r0 r1 r2 error w goes pages text grew sound =
+    AfterPut w1 w2 (waiting ++ count total) result → ShowIsNotBad result →
+    Answered code collection now (satisfying collection q) bound w0 w2 r0 r2 result
+walked_end base code collection q now w0 w1 w2 waiting total bound m n r0 r1 r2 result w goes pages text put sound =
     let t = ended base code collection q now w0 w1 waiting total m n r0 r1 w goes in
     record {
-      put = subst (GrewByPrefix w0 w2) (sym t.2) (pass_cut w0 w1 w2 [] waiting t.0 (count total) t.1 grew);
+      put = subst (λ x. AfterPut w0 w2 x result) (sym t.2) (put_rest w0 w1 w2 waiting t.0 (count total) result t.1 put);
       sound = sound;
       post = omega (arith, w.post, pages.post, pages.within);
       text = omega (arith, pages_so_far base code collection q now w0 w1 waiting total m r0 r1 w, text);

@@ -1,47 +1,22 @@
--- A cursor that goes over the whole list of a term, and the documents that are marked meanwhile.
+-- The documents that are marked while a cursor goes over the list of a term.
 use Rattle.std.proofs.Common.{arith, ◌≡◌, ℕ, ◌+◌, ◌<◌, ◌≤◌, ◌==◌, ◌∙◌, Bool, true, false, List, [], ◌∷◌, ◌++◌, length, Some, Err, inl, inr, refl, sym, ap}
 use Rattle.std.specs.Prelude.{◌||◌}
 use Rattle.std.specs.List.{list_any}
-use Rattle.std.specs.declared.option.Option.{Option}
 use Rattle.std.proofs.lemmas.Bool.{cases_eq, cases_lt, eq-eqb, ne_eqb, or_right}
 use Rattle.std.proofs.lemmas.List.Folds.{list_any-append}
-use Rattle.mg_dev.specs.Files.{Files}
 use Rattle.mg_dev.specs.declared.part_err.PartErr.{PartErr}
 use Rattle.mg_dev.specs.declared.part_err.PartErr.TheVariants.{Device, Memory, Bad}
 use Rattle.mg_defs.specs.declared.Posting.{Posting}
 use Rattle.mg_defs.specs.Split.{documents}
 use Rattle.mg_defs.specs.Terms.{document}
 use Rattle.mg_defs.specs.Weights.{has_term}
-use Rattle.mg_defs.specs.Lists.{block_count, postings, from_doc}
-use Rattle.mg_defs.specs.PageBounds.{list_bit, list_pages, numbers_in, pages_for, parameter_of}
-use Rattle.mg_defs.proofs.ListLaws.{list_rises}
+use Rattle.mg_defs.specs.Lists.{postings, from_doc}
 use Rattle.mg_post.specs.Answers.{AnswersList}
-use Rattle.mg_post.specs.Cursor.{Cursoring, head_of}
-use Rattle.mg_post.specs.TermLists.{ListsStand, MayAsk}
-use Rattle.mg_post.proofs.ListHeads.{has_at}
-use Rattle.mg_laws.proofs.BoundLaws.{met_whole}
-use Rattle.mg_laws.proofs.MetBlocks.{own_met}
-use Rattle.mg_rank.specs.Ranked.{AnswersOr, ListFor}
+use Rattle.mg_post.specs.Cursor.{head_of}
+use Rattle.mg_post.proofs.CallerLemmas.{has_at}
+use Rattle.mg_rank.specs.Ranked.{AnswersOr}
 use Rattle.mg_session.specs.DocumentSets.{DocumentMarks, has_doc}
 use Rattle.mg_session.specs.WildMarks.{AddsLists}
-
--- ---- a cursor over a whole list
-
-pub list_later : (base collection t : List ℕ) (m n : ℕ) (c : Cursoring) → ListFor base collection t m c → m ≤ n → ListFor base collection t n c
-list_later base collection t m n c f le = record { number = f.number; term = f.term; over = f.over; parameter = f.parameter; reached_doc = f.reached_doc; early = omega (arith, f.early, le); at = f.at; first = f.first; within = f.within }
-
--- the pages of those of its blocks that are asked are pages of it
-pub for_within : (collection asked t : List ℕ) → pages_for collection asked t ≤ list_pages collection t
-unfolding pages_for list_pages
-for_within collection asked t = met_whole asked (parameter_of collection t) (list_bit collection t) (block_count (length (postings collection t))) (postings collection t)
-
--- a list may be asked for the document after its last one
-pub may_ask : (base collection t : List ℕ) (last : ℕ) (files : Option Files) (c : Cursoring) → ListsStand base files collection → ListFor base collection t last c → MayAsk base collection (numbers_in (postings collection t)) t (last + 1) files c
-may_ask base collection t last files c stand f = record {
-  stand = stand;
-  cursor = list_later base collection t last (last + 1) c f (omega arith);
-  among = λ k range. own_met (length (documents collection)) k (last + 1) (postings collection t) (list_rises collection t stand.short) range;
-}
 
 -- ---- while a list is gone through
 

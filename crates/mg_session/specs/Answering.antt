@@ -55,12 +55,6 @@ pub record HasShowLack (lacks_before lacks_now : ℕ) (result : Result (Unit {0}
   pub later : lacks_before ≤ lacks_now
   pub lacked : IsShowLacked result lacks_before lacks_now
 
--- want of memory of a sink in memory, told as the allocator's
-abbrev pub of_allocator : ShowErr → ShowErr
-of_allocator (show.Part error) = show.Part error
-of_allocator show.Write = show.Write
-of_allocator show.Memory = show.Part Memory
-
 -- ---- one document
 
 -- the pages of Text on which a document lies, where its text is shown

@@ -45,16 +45,17 @@ lists_stay base now_base files now collection same e is = subst (λ b. ListsStan
 -- ---- the same parts
 
 phrase_parts_kept : (p : PhraseParts) → SamePhraseParts p p
-phrase_parts_kept p = record { base = refl; lex = same_parts p.lex; text = text_kept p.text; all = refl }
+phrase_parts_kept p = record { base = refl; lex = same_parts p.lex; text = text_kept p.text; all = refl; most = refl }
 
 phrase_parts_then : (a b c : PhraseParts) → SamePhraseParts a b → SamePhraseParts b c → SamePhraseParts a c
-phrase_parts_then a b c p q = record { base = q.base ∙ p.base; lex = parts_then a.lex b.lex c.lex p.lex q.lex; text = text_kept_then a.text b.text c.text p.text q.text; all = q.all ∙ p.all }
+phrase_parts_then a b c p q = record { base = q.base ∙ p.base; lex = parts_then a.lex b.lex c.lex p.lex q.lex; text = text_kept_then a.text b.text c.text p.text q.text; all = q.all ∙ p.all; most = q.most ∙ p.most }
 
-pub sources_stay : (base : List ℕ) (files now : Option Files) (text : TextReading) (all : ℕ) (collection : List ℕ) → now ≡ files → PhraseSources base files text all collection → PhraseSources base now text all collection
-sources_stay base files now text all collection e is = record {
+pub sources_stay : (base : List ℕ) (files now : Option Files) (text : TextReading) (all most : ℕ) (collection : List ℕ) → now ≡ files → PhraseSources base files text all most collection → PhraseSources base now text all most collection
+sources_stay base files now text all most collection e is = record {
   lists = lists_stay base base files now collection refl e is.lists;
   text_is = text_stays text text files now collection (text_kept text) e is.text_is;
   all_is = is.all_is;
+  short = is.short;
 }
 
 phrases_over : (s t : PhraseState) (xs : List Question) (collection : List ℕ) → PhrasesAsked s t xs → PhrasesOver s collection → PhrasesOver t collection
@@ -66,6 +67,7 @@ phrases_over s t xs collection a o = record {
     lists = lists_stay s.parts.base t.parts.base s.files t.files collection a.same.base a.step.files o.sources.lists;
     text_is = text_stays s.parts.text t.parts.text s.files t.files collection a.same.text a.step.files o.sources.text_is;
     all_is = a.same.all ∙ o.sources.all_is;
+    short = omega (arith, a.same.most, o.sources.short);
   };
 }
 

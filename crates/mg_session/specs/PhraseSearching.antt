@@ -20,12 +20,13 @@ use Rattle.mg_text.specs.Reading.{SameText, TextFits, TextReading, TextStands}
 use Rattle.mg_session.specs.Parts.{NeverRead}
 use Rattle.mg_session.specs.PhraseAnswers.{line_lists, line_pages}
 
--- the parts of a base that phrases are sought in: its lexicon and its text, and how many documents there are
+-- the parts of a base that phrases are sought in: its lexicon and its text, how many documents there are, and how many bytes a document has at most
 pub record PhraseParts : Type 0 where
   pub base : List ℕ
   pub lex : Fronted
   pub text : TextReading
   pub all : ℕ
+  pub most : ℕ
 
 -- these, and the store that they are read from
 pub record PhraseState : Type 0 where
@@ -49,19 +50,21 @@ pub record SamePhraseParts (old new : PhraseParts) : Type 0 where
   pub lex : SameParts old.lex new.lex
   pub text : SameText old.text new.text
   pub all : new.all ≡ old.all
+  pub most : new.most ≡ old.most
 
--- the lists and the text are those of this collection, which has so many documents
-pub record PhraseSources (base : List ℕ) (files : Option Files) (text : TextReading) (all : ℕ) (collection : List ℕ) : Type 0 where
+-- the lists and the text are those of this collection, which has so many documents and at most so many bytes
+pub record PhraseSources (base : List ℕ) (files : Option Files) (text : TextReading) (all most : ℕ) (collection : List ℕ) : Type 0 where
   pub lists : ListsStand base files collection
   pub text_is : TextStands text files collection
   pub all_is : all ≡ length (documents collection)
+  pub short : length collection ≤ most
 
 -- and so is the lexicon
 pub record PartsOver (files : Option Files) (p : PhraseParts) (collection : List ℕ) : Type 0 where
   pub version : ℕ
   pub limits : IsWithinLimits version collection
   pub lex : LexStands p.lex files collection
-  pub sources : PhraseSources p.base files p.text p.all collection
+  pub sources : PhraseSources p.base files p.text p.all p.most collection
 
 -- and its text is under these codes
 abbrev pub PartsOverBy : Option Files → PhraseParts → TextCode → List ℕ → Type 0

@@ -15,8 +15,10 @@ use Rattle.mg_defs.specs.QueryTerms.{query_terms}
 use Rattle.mg_defs.specs.ShownAnswers.{Shown, ranking, satisfying}
 use Rattle.mg_defs.specs.Sat.{Query}
 use Rattle.mg_defs.specs.declared.session.Settings.{Settings}
+use Rattle.mg_bool.specs.Matches.{Matching, MatchesOver}
 use Rattle.mg_bool.specs.Places.{AreInfos}
 use Rattle.mg_layout.specs.declared.term_info.TermInfo.{TermInfo}
+use Rattle.mg_query.specs.QueryOf.{query_of}
 use Rattle.mg_dev.specs.Each.{ForEach}
 use Rattle.mg_text.specs.Reading.{TextReading}
 use Rattle.mg_session.specs.Answering.{Answered, AnswersFor, Replied}
@@ -39,6 +41,12 @@ AnswersQuery of_store of_out store store_now out out_now result base texts all q
     AreInfos collection (query_terms q) infos →
     Answered code collection now (satisfying collection q) (boolean_bound collection q) (of_out.written out) (of_out.written out_now) (of_store.reads store) (of_store.reads store_now) result)
 
+-- over the lists, weights and text of some base, of which none was asked for yet: those that satisfy the query are the answer
+abbrev pub AnswersMatches : {X Y : Type 0} → stores.Ghosts X → sinks.Ghosts Y → X → X → Y → Y → Result (Unit {0}) ShowErr → Texting → Matching → Settings → Type 0
+AnswersMatches of_store of_out store store_now out out_now result texts m now = (base : List ℕ) → ForAnswers base (of_store.files store) texts m.all (λ code collection.
+    MatchesOver base collection m →
+    Answered code collection now (satisfying collection (query_of m.asks)) (boolean_bound collection (query_of m.asks)) (of_out.written out) (of_out.written out_now) (of_store.reads store) (of_store.reads store_now) result)
+
 -- where this is told of distinct terms, their ranking is the answer
 abbrev pub AnswersTerms : {X Y : Type 0} → stores.Ghosts X → sinks.Ghosts Y → X → X → Y → Y → Result (Unit {0}) ShowErr → List ℕ → Texting → ℕ → List (Option TermInfo) → Settings → Type 0
 AnswersTerms of_store of_out store store_now out out_now result base texts all infos now = ForAnswers base (of_store.files store) texts all (λ code collection.
@@ -58,9 +66,15 @@ RepliesTo of_store of_out store store_now out out_now result opened ranked now l
 -- ---- phrases
 
 -- over the lists and the text of a base: where this is told of its terms, which the query joins, a phrase is answered
-abbrev pub AnswersPhrase : {X Y : Type 0} → stores.Ghosts X → sinks.Ghosts Y → X → X → Y → Y → Result (Unit {0}) ShowErr → List ℕ → TextReading → ℕ → Query → List (Option TermInfo) → List (List ℕ) → Type 0
-AnswersPhrase of_store of_out store store_now out out_now result base text all q infos phrase = ForEach (PhraseSources base (of_store.files store) text all) (λ collection.
+abbrev pub AnswersPhrase : {X Y : Type 0} → stores.Ghosts X → sinks.Ghosts Y → X → X → Y → Y → Result (Unit {0}) ShowErr → List ℕ → TextReading → ℕ → ℕ → Query → List (Option TermInfo) → List (List ℕ) → Type 0
+AnswersPhrase of_store of_out store store_now out out_now result base text all most q infos phrase = ForEach (PhraseSources base (of_store.files store) text all most) (λ collection.
     AreInfos collection (query_terms q) infos →
+    PhraseAnswered text.code collection phrase (of_out.written out) (of_out.written out_now) (of_store.reads store) (of_store.reads store_now) result)
+
+-- over the lists and the text of some base, of which none was asked for yet: a phrase is answered by those that have all its terms
+abbrev pub AnswersCandidates : {X Y : Type 0} → stores.Ghosts X → sinks.Ghosts Y → X → X → Y → Y → Result (Unit {0}) ShowErr → TextReading → Matching → ℕ → List (List ℕ) → Type 0
+AnswersCandidates of_store of_out store store_now out out_now result text m most phrase = (base : List ℕ) → ForEach (PhraseSources base (of_store.files store) text m.all most) (λ collection.
+    MatchesOver base collection m →
     PhraseAnswered text.code collection phrase (of_out.written out) (of_out.written out_now) (of_store.reads store) (of_store.reads store_now) result)
 
 -- over the parts that phrases are sought in: a phrase of these words is answered

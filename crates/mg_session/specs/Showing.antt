@@ -1,5 +1,5 @@
 -- What is printed and read where documents of an answer are shown, by the functions that tell what the store and the output hold and count.
-use Rattle.std.specs.Prelude.{ℕ, ◌+◌, ◌≤◌, List, None}
+use Rattle.std.specs.Prelude.{ℕ, ◌+◌, ◌≤◌, ◌++◌, List, None}
 use Rattle.std.specs.declared.option.Option.{Option}
 use Rattle.std.specs.declared.result.Result.{Result}
 use Rattle.mg_dev.specs.Files.{Reads}
@@ -8,10 +8,12 @@ use Rattle.mg_dev.specs.declared.show_err.ShowErr.{ShowErr}
 use Rattle.mg_defs.specs.CodedText.{TextCode}
 use Rattle.mg_defs.specs.ShownAnswers.{shown}
 use Rattle.mg_defs.specs.Terms.{document}
+use Rattle.mg_defs.specs.Texts.{count}
 use Rattle.mg_defs.specs.Weights.{Hit}
 use Rattle.mg_defs.specs.declared.session.Mode.{Mode}
 use Rattle.mg_defs.specs.declared.session.Settings.{Settings}
-use Rattle.mg_reply.specs.Printed.{Passes, at_score, hit_by}
+use Rattle.mg_rank.specs.Ranked.{Ranking}
+use Rattle.mg_reply.specs.Printed.{Passes, Puts, at_score, hit_by}
 use Rattle.mg_session.specs.Answering.{hit_pages, mode_pages, rows_pages, rows_text}
 
 -- ---- a document
@@ -39,3 +41,7 @@ PassesRows written out out_now waited waiting result mode rows collection = Pass
 
 abbrev pub ReadsRows : {X : Type 0} → (X → Reads) → X → X → Mode → List Hit → TextCode → List ℕ → Type 0
 ReadsRows reads store store_now mode rows code collection = reads store_now part.Text ≤ reads store part.Text + rows_pages code collection mode rows
+
+-- and behind them how many documents there are
+abbrev pub PutsRanking : {Y : Type 0} → (Y → Option (List ℕ)) → Y → Y → Result (Unit {0}) ShowErr → Mode → Ranking → List ℕ → Type 0
+PutsRanking written out out_now result mode ranking collection = Puts written out out_now result (rows_text collection mode ranking.rows ++ count ranking.total)

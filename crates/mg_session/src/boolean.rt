@@ -1,15 +1,17 @@
 //! The answer to a Boolean query.
-ghost use Rattle.std.specs.Prelude.{◌≡◌, length};
+ghost use Rattle.std.specs.Prelude.{◌≡◌, ℕ, List, length};
 ghost use Rattle.mg_dev.specs.Moments.{Between};
 ghost use Rattle.mg_defs.specs.QueryTerms.{query_terms};
+ghost use Rattle.mg_bool.specs.Matches.{MatchesFit};
 ghost use Rattle.mg_query.specs.QueryOf.{query_of};
 ghost use Rattle.mg_session.specs.Answering.{HasShowCause, HasShowLack};
 ghost use Rattle.mg_session.specs.Parts.{Stepped};
-ghost use Rattle.mg_session.specs.Replying.{AnswersQuery};
+ghost use Rattle.mg_session.specs.Replying.{AnswersMatches, AnswersQuery};
 ghost use Rattle.mg_session.specs.Texts.{SameTexts, TextsFit};
 
+use crate::documents::Documents;
 use crate::hit::show_hit;
-use crate::texts::Texts;
+use crate::total::put_total;
 use mg_bool::Matches;
 use mg_defs::Settings;
 use mg_dev::{PartErr, ShowErr, Sink, Store};
@@ -18,40 +20,32 @@ use mg_query::Query;
 use mg_reply::Pending;
 use std::alloc::Global;
 
-/// Shows the documents that satisfy a query, rising: the first of them, and how many there are.
-/// `infos` is what the lexicon tells of the query's terms, from left to right; `all` is the number
-/// of documents.
-pub(crate) fn answer_query<S: Store, O: Sink>(
-    alloc: Global,
+/// Shows the documents that satisfy a query, of which none was asked for yet: the first of them, and how
+/// many there are.
+fn show_matches<S: Store, D: Documents<S>, O: Sink>(
+    texts: &mut D,
     store: &mut S,
-    base: &str,
-    texts: &mut Texts<'_, S>,
-    query: &Query,
-    infos: &[Option<TermInfo>],
-    all: u32,
+    matches: &mut Matches<'_, S>,
     now: &Settings,
     out: &mut O,
 ) -> Result<(), ShowErr>
-    requires size { length infos.now ≡ length (query_terms (query_of query.now)) }
-    requires fits { TextsFit (S.files store.old) texts.old }
-    requires all { texts.old.head.documents ≡ all }
-    ensures fits { TextsFit (S.files store.new) texts.new }
-    ensures same { SameTexts texts.old texts.new }
-    ensures answer { AnswersQuery S.Store O.Sink store.old store.new out.old out.new result base.now texts.old all (query_of query.now) infos.now now.now }
+    requires fits { TextsFit (S.files store.old) (D.texts texts.old) }
+    requires on { (base : List ℕ) × MatchesFit base (S.files store.old) matches.old }
+    requires first { matches.old.decided ≡ 0 }
+    requires all { (D.texts texts.old).head.documents ≡ matches.old.all }
+    ensures fits { TextsFit (S.files store.new) (D.texts texts.new) }
+    ensures same { SameTexts (D.texts texts.old) (D.texts texts.new) }
+    ensures answer { AnswersMatches S.Store O.Sink store.old store.new out.old out.new result (D.texts texts.old) matches.old now.now }
     ensures step { Between S.files S.reads S.faults store.old store.new (Stepped now.now.mode) }
     ensures cause { HasShowCause result (S.faults store.old) (S.faults store.new) (O.faults out.old) (O.faults out.new) }
     ensures lack { HasShowLack (O.lacks out.old) (O.lacks out.new) result }
 {
-    let mut matches = match Matches::start(alloc, base, query, infos, all) {
-        Ok(matches) => matches,
-        Err(_) => return Err(ShowErr::Part(PartErr::Memory)),
-    };
     let mut pending = Pending::new();
     let mut total = 0u32;
     'matches: loop {
         let number = match matches.next(store) {
             Ok(Some(number)) => number,
-            Ok(None) => break,
+            Ok(None) => return put_total(&mut pending, out, total),
             Err(refusal) => return Err(ShowErr::from(refusal)),
         };
         match show_hit(texts, store, &mut pending, out, now, total, number) {
@@ -60,12 +54,35 @@ pub(crate) fn answer_query<S: Store, O: Sink>(
         }
         total += 1;
     }
-    match pending.count(out, total) {
-        Ok(()) => {}
-        Err(refusal) => return Err(ShowErr::from(refusal)),
-    }
-    match pending.flush(out) {
-        Ok(()) => Ok(()),
-        Err(refusal) => Err(ShowErr::from(refusal)),
-    }
+}
+
+/// Shows the documents that satisfy a query, rising: the first of them, and how many there are.
+/// `infos` is what the lexicon tells of the query's terms, from left to right; `all` is the number
+/// of documents.
+pub(crate) fn answer_query<S: Store, D: Documents<S>, O: Sink>(
+    alloc: Global,
+    store: &mut S,
+    base: &str,
+    texts: &mut D,
+    query: &Query,
+    infos: &[Option<TermInfo>],
+    all: u32,
+    now: &Settings,
+    out: &mut O,
+) -> Result<(), ShowErr>
+    requires size { length infos.now ≡ length (query_terms (query_of query.now)) }
+    requires fits { TextsFit (S.files store.old) (D.texts texts.old) }
+    requires all { (D.texts texts.old).head.documents ≡ all }
+    ensures fits { TextsFit (S.files store.new) (D.texts texts.new) }
+    ensures same { SameTexts (D.texts texts.old) (D.texts texts.new) }
+    ensures answer { AnswersQuery S.Store O.Sink store.old store.new out.old out.new result base.now (D.texts texts.old) all (query_of query.now) infos.now now.now }
+    ensures step { Between S.files S.reads S.faults store.old store.new (Stepped now.now.mode) }
+    ensures cause { HasShowCause result (S.faults store.old) (S.faults store.new) (O.faults out.old) (O.faults out.new) }
+    ensures lack { HasShowLack (O.lacks out.old) (O.lacks out.new) result }
+{
+    let mut matches = match Matches::start(alloc, base, query, infos, all) {
+        Ok(matches) => matches,
+        Err(_) => return Err(ShowErr::Part(PartErr::Memory)),
+    };
+    show_matches(texts, store, &mut matches, now, out)
 }

@@ -1,7 +1,8 @@
 //! The documents that have a phrase, sought among those that have all its words.
-ghost use Rattle.std.specs.Prelude.{◌≡◌, ◌≤◌, Some, length};
+ghost use Rattle.std.specs.Prelude.{◌≡◌, ◌≤◌, ℕ, List, Some, length};
 ghost use Rattle.mg_dev.specs.Causes.{HasPutCause, HasLack};
 ghost use Rattle.mg_dev.specs.Moments.{Between};
+ghost use Rattle.mg_bool.specs.Matches.{MatchesFit};
 ghost use Rattle.mg_defs.specs.QueryTerms.{query_terms};
 ghost use Rattle.mg_query.specs.AllOf.{IsAllOf};
 ghost use Rattle.mg_query.specs.QueryOf.{query_of};
@@ -10,16 +11,15 @@ ghost use Rattle.mg_text.specs.Reading.{SameText, TextFits};
 ghost use Rattle.mg_session.specs.Answering.{HasShowCause, HasShowLack};
 ghost use Rattle.mg_session.specs.PhraseAnswers.{found_at, rows_of};
 ghost use Rattle.mg_session.specs.PhraseSearching.{OnlyReads};
-ghost use Rattle.mg_session.specs.Replying.{AnswersPhrase};
+ghost use Rattle.mg_session.specs.Replying.{AnswersCandidates, AnswersPhrase};
 
-use crate::held::HeldDocument;
+use crate::searched::Searched;
+use crate::total::put_total;
 use mg_bool::Matches;
 use mg_dev::{PartErr, PutErr, ShowErr, Sink, Store};
 use mg_layout::TermInfo;
-use mg_phrase::phrase_places;
 use mg_query::{Query, Terms};
 use mg_reply::Pending;
-use mg_text::TextReader;
 use std::alloc::Global;
 
 /// Passes on the row of a document in which a phrase has so many places, if it has any.
@@ -40,17 +40,61 @@ fn pass_places<O: Sink>(
     pending.row(out, number, Some(places))
 }
 
+/// Shows the documents that have a phrase among those that satisfy a query, of which none was asked for
+/// yet; `query` joins the phrase's words by `&`.
+fn search_matches<S: Store, T: Searched<S>, O: Sink>(
+    text: &mut T,
+    store: &mut S,
+    matches: &mut Matches<'_, S>,
+    phrase: &Terms,
+    out: &mut O,
+) -> Result<(), ShowErr>
+    requires few { length phrase.now ≤ 64 }
+    requires joined { IsAllOf phrase.now (Some matches.old.asks) }
+    requires fits { TextFits (T.text text.old) (S.files store.old) }
+    requires on { (base : List ℕ) × MatchesFit base (S.files store.old) matches.old }
+    requires first { matches.old.decided ≡ 0 }
+    requires all { (T.text text.old).documents ≡ matches.old.all }
+    ensures fits { TextFits (T.text text.new) (S.files store.new) }
+    ensures same { SameText (T.text text.old) (T.text text.new) }
+    ensures most { T.most text.new ≡ T.most text.old }
+    ensures answer { AnswersCandidates S.Store O.Sink store.old store.new out.old out.new result (T.text text.old) matches.old (T.most text.old) phrase.now }
+    ensures step { Between S.files S.reads S.faults store.old store.new OnlyReads }
+    ensures cause { HasShowCause result (S.faults store.old) (S.faults store.new) (O.faults out.old) (O.faults out.new) }
+    ensures lack { HasShowLack (O.lacks out.old) (O.lacks out.new) result }
+{
+    let mut pending = Pending::new();
+    let mut total = 0u32;
+    'matches: loop {
+        let number = match matches.next(store) {
+            Ok(Some(number)) => number,
+            Ok(None) => return put_total(&mut pending, out, total),
+            Err(refusal) => return Err(ShowErr::from(refusal)),
+        };
+        let places = match text.places(store, phrase, number) {
+            Ok(places) => places,
+            Err(refusal) => return Err(ShowErr::from(refusal)),
+        };
+        match pass_places(&mut pending, out, number, places) {
+            Ok(()) => {}
+            Err(refusal) => return Err(ShowErr::from(refusal)),
+        }
+        if places > 0 {
+            total += 1;
+        }
+    }
+}
+
 /// Shows the documents that have a phrase, rising, each with how often, and how many they are. Only
-/// those that have all its words are decoded, one after the other into `held`.
+/// those that have all its words are decoded.
 ///
 /// `query` joins the phrase's words by `&`, and `infos` is what the lexicon tells of them; `all` is the
 /// number of documents.
-pub(crate) fn answer_phrase<S: Store, O: Sink>(
+pub(crate) fn answer_phrase<S: Store, T: Searched<S>, O: Sink>(
     alloc: Global,
     store: &mut S,
     base: &str,
-    text: &mut TextReader<'_, S>,
-    held: &mut HeldDocument,
+    text: &mut T,
     phrase: &Terms,
     query: &Query,
     infos: &[Option<TermInfo>],
@@ -60,11 +104,12 @@ pub(crate) fn answer_phrase<S: Store, O: Sink>(
     requires size { length infos.now ≡ length (query_terms (query_of query.now)) }
     requires few { length phrase.now ≤ 64 }
     requires joined { IsAllOf phrase.now (Some query.now) }
-    requires fits { TextFits text.old (S.files store.old) }
-    requires all { text.old.documents ≡ all }
-    ensures fits { TextFits text.new (S.files store.new) }
-    ensures same { SameText text.old text.new }
-    ensures answer { AnswersPhrase S.Store O.Sink store.old store.new out.old out.new result base.now text.old all (query_of query.now) infos.now phrase.now }
+    requires fits { TextFits (T.text text.old) (S.files store.old) }
+    requires all { (T.text text.old).documents ≡ all }
+    ensures fits { TextFits (T.text text.new) (S.files store.new) }
+    ensures same { SameText (T.text text.old) (T.text text.new) }
+    ensures most { T.most text.new ≡ T.most text.old }
+    ensures answer { AnswersPhrase S.Store O.Sink store.old store.new out.old out.new result base.now (T.text text.old) all (T.most text.old) (query_of query.now) infos.now phrase.now }
     ensures step { Between S.files S.reads S.faults store.old store.new OnlyReads }
     ensures cause { HasShowCause result (S.faults store.old) (S.faults store.new) (O.faults out.old) (O.faults out.new) }
     ensures lack { HasShowLack (O.lacks out.old) (O.lacks out.new) result }
@@ -73,33 +118,5 @@ pub(crate) fn answer_phrase<S: Store, O: Sink>(
         Ok(matches) => matches,
         Err(_) => return Err(ShowErr::Part(PartErr::Memory)),
     };
-    let mut pending = Pending::new();
-    let mut total = 0u32;
-    'matches: loop {
-        let number = match matches.next(store) {
-            Ok(Some(number)) => number,
-            Ok(None) => break,
-            Err(refusal) => return Err(ShowErr::from(refusal)),
-        };
-        match held.hold(text, store, number) {
-            Ok(()) => {}
-            Err(refusal) => return Err(refusal),
-        }
-        let places = phrase_places(phrase, held.bytes());
-        match pass_places(&mut pending, out, number, places) {
-            Ok(()) => {}
-            Err(refusal) => return Err(ShowErr::from(refusal)),
-        }
-        if places > 0 {
-            total += 1;
-        }
-    }
-    match pending.count(out, total) {
-        Ok(()) => {}
-        Err(refusal) => return Err(ShowErr::from(refusal)),
-    }
-    match pending.flush(out) {
-        Ok(()) => Ok(()),
-        Err(refusal) => Err(ShowErr::from(refusal)),
-    }
+    search_matches(text, store, &mut matches, phrase, out)
 }

@@ -13,8 +13,9 @@ use std::alloc::Global;
 ///
 /// The head, the lexicon's places and the models are loaded before the first line; nothing is printed
 /// where one of them is refused. A document is decoded only where it has all words of the phrase, and
-/// one document is held at a time. Where the files stand for a collection, the output is the session
-/// over its documents, and where the session stops early, a prefix of it.
+/// one document is held at a time, of no more bytes than the head tells of the collection. Where the
+/// files stand for a collection, the output is the session over its documents, and where the session
+/// stops early, a prefix of it.
 ///
 /// # Errors
 ///

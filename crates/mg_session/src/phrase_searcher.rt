@@ -14,8 +14,8 @@ ghost use Rattle.mg_session.specs.PhraseSearchLaws.{phrases_later, phrases_more,
 
 use crate::candidates::answer_phrase;
 use crate::find::find_terms;
-use crate::held::HeldDocument;
-use crate::phrase_line::read_phrase;
+use crate::held_text::HeldText;
+use crate::phrase_line::{PhraseLine, read_phrase};
 use mg_defs::Settings;
 use mg_dev::{Fault, ShowErr, Sink, Store};
 use mg_layout::Head;
@@ -28,15 +28,15 @@ use std::marker::Model;
 
 /// Answers the lines of a session of phrases from the parts of a base.
 ///
-/// One document is held at a time. Contracts see the parts that are open.
+/// One document is held at a time, and none that is longer than the collection by its head. Contracts see
+/// the parts that are open.
 #[derive(Drop)]
 pub(crate) struct PhraseSearcher<'a, S: Store> {
     alloc: Global,
     base: &'a str,
     lex: Lex<'a, S>,
-    text: TextReader<'a, S>,
+    text: HeldText<'a, S>,
     all: u32,
-    held: HeldDocument,
 }
 
 impl<'a, S: Store> Model for PhraseSearcher<'a, S> {
@@ -44,27 +44,26 @@ impl<'a, S: Store> Model for PhraseSearcher<'a, S> {
 
     ghost Value = { PhraseParts };
 
-    ghost view = { λ s. record { base = s.base.now; lex = s.lex; text = s.text; all = s.all } };
+    ghost view = { λ s. record { base = s.base.now; lex = s.lex; text = s.text.text; all = s.all; most = s.text.held.most } };
 }
 
 impl<'a, S: Store> PhraseSearcher<'a, S> {
-    /// Over these parts of a base, and so many documents.
+    /// Over these parts of a base with this head.
     pub(crate) fn new(
         alloc: Global,
         base: &'a str,
         lex: Lex<'a, S>,
         text: TextReader<'a, S>,
-        all: u32,
+        head: &Head,
     ) -> Self
-        ensures { result ≡ record { base = base.entry.now; lex = lex.entry; text = text.entry; all = all } }
+        ensures { result ≡ record { base = base.entry.now; lex = lex.entry; text = text.entry; all = head.now.documents; most = head.now.collection } }
     {
         PhraseSearcher {
             alloc,
             base,
             lex,
-            text,
-            all,
-            held: HeldDocument::new(alloc),
+            text: HeldText::new(alloc, text, head.collection),
+            all: head.documents,
         }
     }
 
@@ -90,7 +89,7 @@ impl<'a, S: Store> PhraseSearcher<'a, S> {
             Ok(text) => text,
             Err(refusal) => return Err(Fault::from(refusal)),
         };
-        let searcher = PhraseSearcher::new(alloc, base, lex, text, head.documents);
+        let searcher = PhraseSearcher::new(alloc, base, lex, text, head);
         Ok(searcher)
     }
 
@@ -114,6 +113,26 @@ impl<'a, S: Store> PhraseSearcher<'a, S> {
             Ok(read) => read,
             Err(why) => return answer_refused(out, why),
         };
+        self.answer_read(store, &read, out)
+    }
+
+    /// Writes the reply to a line that was read as a phrase.
+    fn answer_read<O: Sink>(
+        &mut self,
+        store: &mut S,
+        read: &PhraseLine,
+        out: &mut O,
+    ) -> Result<(), ShowErr>
+        requires few { length read.now.phrase ≤ 64 }
+        requires joined { IsAllOf read.now.phrase read.now.query }
+        requires fits { PartsFit (S.files store.old) self.old }
+        ensures fits { PartsFit (S.files store.new) self.new }
+        ensures same { SamePhraseParts self.old self.new }
+        ensures answer { AnswersWords S.Store O.Sink store.old store.new out.old out.new result self.old read.now.phrase }
+        ensures step { Between S.files S.reads S.faults store.old store.new OnlyReads }
+        ensures cause { HasShowCause result (S.faults store.old) (S.faults store.new) (O.faults out.old) (O.faults out.new) }
+        ensures lack { HasShowLack (O.lacks out.old) (O.lacks out.new) result }
+    {
         match &read.query {
             Some(query) => self.answer_words(store, &read.phrase, query, out),
             // No document has a phrase without words.
@@ -148,7 +167,6 @@ impl<'a, S: Store> PhraseSearcher<'a, S> {
             store,
             self.base,
             &mut self.text,
-            &mut self.held,
             phrase,
             query,
             &infos,

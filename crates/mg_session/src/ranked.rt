@@ -7,36 +7,37 @@ ghost use Rattle.mg_session.specs.Answering.{HasShowCause, HasShowLack, rows_ask
 ghost use Rattle.mg_session.specs.Parts.{ShownIn, Stepped};
 ghost use Rattle.mg_session.specs.Replying.{AnswersTerms};
 ghost use Rattle.mg_session.specs.Sessions.{ForText};
-ghost use Rattle.mg_session.specs.Showing.{PassesRows, ReadsRows};
+ghost use Rattle.mg_session.specs.Showing.{PassesRows, PutsRanking, ReadsRows};
 ghost use Rattle.mg_session.specs.Texts.{SameTexts, TextsFit};
 
+use crate::documents::Documents;
 use crate::find::known_of;
 use crate::hit::show_doc;
-use crate::texts::Texts;
+use crate::total::put_total;
 use mg_defs::{Mode, Settings};
 use mg_dev::{PartErr, ShowErr, Sink, Store};
 use mg_layout::TermInfo;
-use mg_rank::{RankRows, rank};
+use mg_rank::{RankRows, Ranked, rank};
 use mg_reply::Pending;
 use std::alloc::Global;
 
 /// Passes on what a reply shows of rows, one after another.
-fn show_rows<S: Store, O: Sink>(
-    texts: &mut Texts<'_, S>,
+fn show_rows<S: Store, D: Documents<S>, O: Sink>(
+    texts: &mut D,
     store: &mut S,
     pending: &mut Pending,
     out: &mut O,
     mode: Mode,
     rows: &RankRows,
 ) -> Result<(), ShowErr>
-    requires fits { TextsFit (S.files store.old) texts.old }
-    requires range { All (IsNumbered texts.old.head.documents) rows.now }
-    ensures fits { TextsFit (S.files store.new) texts.new }
-    ensures same { SameTexts texts.old texts.new }
-    ensures content { ForText texts.old (S.files store.old)
+    requires fits { TextsFit (S.files store.old) (D.texts texts.old) }
+    requires range { All (IsNumbered (D.texts texts.old).head.documents) rows.now }
+    ensures fits { TextsFit (S.files store.new) (D.texts texts.new) }
+    ensures same { SameTexts (D.texts texts.old) (D.texts texts.new) }
+    ensures content { ForText (D.texts texts.old) (S.files store.old)
         (λ code. PassesRows O.written out.old out.new pending.old pending.new result mode rows.now) }
-    ensures pages { ForText texts.old (S.files store.old) (ReadsRows S.reads store.old store.new mode rows.now) }
-    ensures sound { ForText texts.old (S.files store.old) (λ code collection. ShowIsNotBad result) }
+    ensures pages { ForText (D.texts texts.old) (S.files store.old) (ReadsRows S.reads store.old store.new mode rows.now) }
+    ensures sound { ForText (D.texts texts.old) (S.files store.old) (λ code collection. ShowIsNotBad result) }
     ensures looked { Between S.files S.reads S.faults store.old store.new (ShownIn mode) }
     ensures cause { HasShowCause result (S.faults store.old) (S.faults store.new) (O.faults out.old) (O.faults out.new) }
     ensures lack { HasShowLack (O.lacks out.old) (O.lacks out.new) result }
@@ -59,6 +60,33 @@ fn show_rows<S: Store, O: Sink>(
     Ok(())
 }
 
+/// Shows a ranking in this mode: its rows, and how many documents there are.
+fn show_ranked<S: Store, D: Documents<S>, O: Sink>(
+    texts: &mut D,
+    store: &mut S,
+    ranked: &Ranked,
+    mode: Mode,
+    out: &mut O,
+) -> Result<(), ShowErr>
+    requires fits { TextsFit (S.files store.old) (D.texts texts.old) }
+    requires range { All (IsNumbered (D.texts texts.old).head.documents) ranked.now.rows }
+    ensures fits { TextsFit (S.files store.new) (D.texts texts.new) }
+    ensures same { SameTexts (D.texts texts.old) (D.texts texts.new) }
+    ensures content { ForText (D.texts texts.old) (S.files store.old)
+        (λ code. PutsRanking O.written out.old out.new result mode ranked.now) }
+    ensures pages { ForText (D.texts texts.old) (S.files store.old) (ReadsRows S.reads store.old store.new mode ranked.now.rows) }
+    ensures sound { ForText (D.texts texts.old) (S.files store.old) (λ code collection. ShowIsNotBad result) }
+    ensures looked { Between S.files S.reads S.faults store.old store.new (ShownIn mode) }
+    ensures cause { HasShowCause result (S.faults store.old) (S.faults store.new) (O.faults out.old) (O.faults out.new) }
+    ensures lack { HasShowLack (O.lacks out.old) (O.lacks out.new) result }
+{
+    let mut pending = Pending::new();
+    match show_rows(texts, store, &mut pending, out, mode, ranked.rows()) {
+        Ok(()) => put_total(&mut pending, out, ranked.total()),
+        Err(refusal) => Err(refusal),
+    }
+}
+
 /// How many rows are asked for among so many documents: none where only their count is shown.
 fn rows_asked(now: &Settings, all: u32) -> u32
     ensures { result ≡ rows_asked now.now all }
@@ -71,22 +99,22 @@ fn rows_asked(now: &Settings, all: u32) -> u32
 
 /// Shows the documents with any of these terms, the highest score first: the first of them, and how
 /// many there are. `infos` is what the lexicon tells of the terms; `all` is the number of documents.
-pub(crate) fn answer_terms<S: Store, O: Sink>(
+pub(crate) fn answer_terms<S: Store, D: Documents<S>, O: Sink>(
     alloc: Global,
     store: &mut S,
     base: &str,
-    texts: &mut Texts<'_, S>,
+    texts: &mut D,
     infos: &[Option<TermInfo>],
     all: u32,
     now: &Settings,
     out: &mut O,
 ) -> Result<(), ShowErr>
     requires few { length infos.now ≤ 64 }
-    requires fits { TextsFit (S.files store.old) texts.old }
-    requires all { texts.old.head.documents ≡ all }
-    ensures fits { TextsFit (S.files store.new) texts.new }
-    ensures same { SameTexts texts.old texts.new }
-    ensures answer { AnswersTerms S.Store O.Sink store.old store.new out.old out.new result base.now texts.old all infos.now now.now }
+    requires fits { TextsFit (S.files store.old) (D.texts texts.old) }
+    requires all { (D.texts texts.old).head.documents ≡ all }
+    ensures fits { TextsFit (S.files store.new) (D.texts texts.new) }
+    ensures same { SameTexts (D.texts texts.old) (D.texts texts.new) }
+    ensures answer { AnswersTerms S.Store O.Sink store.old store.new out.old out.new result base.now (D.texts texts.old) all infos.now now.now }
     ensures step { Between S.files S.reads S.faults store.old store.new (Stepped now.now.mode) }
     ensures cause { HasShowCause result (S.faults store.old) (S.faults store.new) (O.faults out.old) (O.faults out.new) }
     ensures lack { HasShowLack (O.lacks out.old) (O.lacks out.new) result }
@@ -100,17 +128,5 @@ pub(crate) fn answer_terms<S: Store, O: Sink>(
         Ok(ranked) => ranked,
         Err(refusal) => return Err(ShowErr::from(refusal)),
     };
-    let mut pending = Pending::new();
-    match show_rows(texts, store, &mut pending, out, now.mode, ranked.rows()) {
-        Ok(()) => {}
-        Err(refusal) => return Err(refusal),
-    }
-    match pending.count(out, ranked.total()) {
-        Ok(()) => {}
-        Err(refusal) => return Err(ShowErr::from(refusal)),
-    }
-    match pending.flush(out) {
-        Ok(()) => Ok(()),
-        Err(refusal) => Err(ShowErr::from(refusal)),
-    }
+    show_ranked(texts, store, &ranked, now.mode, out)
 }

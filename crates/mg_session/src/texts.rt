@@ -3,7 +3,7 @@
 //! A reader of the text keeps both models whole, and loading them takes longer than a line that
 //! names documents is worth. So a session that shows no text never loads them; one that does loads
 //! them once.
-ghost use Rattle.std.specs.Prelude.{◌≡◌, ◌≤◌, None};
+ghost use Rattle.std.specs.Prelude.{◌≡◌, ◌≤◌, None, Some};
 ghost use Rattle.mg_defs.specs.Terms.{document};
 ghost use Rattle.mg_defs.specs.declared.session.Mode.TheVariants as mode;
 ghost use Rattle.mg_dev.specs.Moments.{Between};
@@ -15,6 +15,7 @@ ghost use Rattle.mg_session.specs.Sessions.{ForText};
 ghost use Rattle.mg_session.specs.Showing.{ReadsShown};
 ghost use Rattle.mg_session.specs.Texts.{SameTexts, TextsFit};
 
+use crate::documents::Documents;
 use mg_dev::{ShowErr, Sink, Store};
 use mg_layout::Head;
 use mg_text::TextReader;
@@ -38,6 +39,13 @@ impl<'a, S: Store> Model for Texts<'a, S> {
     ghost view = { λ t. record { base = t.base.now; head = t.head; reader = t.reader } };
 }
 
+// Keeps a value in place of what was there. Who calls it sees nothing of what is dropped.
+fn keep<T: Drop>(place: &mut Option<T>, value: T)
+    ensures { place.new ≡ Some value }
+{
+    *place = Some(value);
+}
+
 impl<'a, S: Store> Texts<'a, S> {
     /// The text under this base, which the head tells of. Nothing is read yet.
     pub(crate) fn new(alloc: Global, base: &'a str, head: &Head) -> Self
@@ -51,15 +59,8 @@ impl<'a, S: Store> Texts<'a, S> {
         }
     }
 
-    /// Writes the bytes of a document, from 1 to the number of documents, to a sink. After a refusal
-    /// a prefix of them was written, where the parts stand; where loading was refused, none, and it is
-    /// tried again at the next document.
-    pub(crate) fn doc<O: Sink>(
-        &mut self,
-        store: &mut S,
-        number: u32,
-        out: &mut O,
-    ) -> Result<(), ShowErr>
+    // Loads what shows the documents, shows one by it, and keeps it for the next.
+    fn load_doc<O: Sink>(&mut self, store: &mut S, number: u32, out: &mut O) -> Result<(), ShowErr>
         requires fits { TextsFit (S.files store.old) self.old }
         requires some { 1 ≤ number }
         requires within { number ≤ self.old.head.documents }
@@ -73,17 +74,23 @@ impl<'a, S: Store> Texts<'a, S> {
         ensures cause { HasShowCause result (S.faults store.old) (S.faults store.new) (O.faults out.old) (O.faults out.new) }
         ensures lack { HasShowLack (O.lacks out.old) (O.lacks out.new) result }
     {
+        let mut reader = match TextReader::load(self.alloc, store, self.base, &self.head) {
+            Ok(reader) => reader,
+            Err(refusal) => return Err(ShowErr::Part(refusal)),
+        };
+        let shown = reader.doc(store, number, out);
+        keep(&mut self.reader, reader);
+        shown
+    }
+}
+
+impl<'a, S: Store> Documents<S> for Texts<'a, S> {
+    ghost texts = { λ t. t };
+
+    fn doc<O: Sink>(&mut self, store: &mut S, number: u32, out: &mut O) -> Result<(), ShowErr> {
         match &mut self.reader {
             Some(reader) => reader.doc(store, number, out),
-            None => {
-                let mut reader = match TextReader::load(self.alloc, store, self.base, &self.head) {
-                    Ok(reader) => reader,
-                    Err(refusal) => return Err(ShowErr::Part(refusal)),
-                };
-                let shown = reader.doc(store, number, out);
-                self.reader = Some(reader);
-                shown
-            }
+            None => self.load_doc(store, number, out),
         }
     }
 }

@@ -1,15 +1,13 @@
 //! The answer to a pattern: the terms that match it, and the documents that have one of them.
-ghost use Rattle.std.specs.Prelude.{◌≡◌, ◌≢◌, ◌+◌, ◌-◌, ◌^◌, ◌<◌, ◌≤◌, [], ◌∷◌, All, Err, IfOk, IfSome, OnOk, length};
+ghost use Rattle.std.specs.Prelude.{◌≡◌, ◌<◌, [], ◌∷◌, All, length};
 ghost use Rattle.mg_dev.specs.Causes.{HasPutCause, HasLack};
 ghost use Rattle.mg_dev.specs.Each.{ForEach};
 ghost use Rattle.mg_dev.specs.Moments.{Between};
 ghost use Rattle.mg_dev.specs.PartCauses.{HasPartCause};
 ghost use Rattle.mg_defs.specs.PageBounds.{list_pages, ranked_bound};
 ghost use Rattle.mg_defs.specs.WildSession.{numbers_text, term_row};
-ghost use Rattle.mg_post.specs.Answers.{AnswersList};
-ghost use Rattle.mg_post.specs.Cursor.{CursorFits, IsFrom, SameList, post_pages};
 ghost use Rattle.mg_post.specs.TermLists.{ReadsLists};
-ghost use Rattle.mg_rank.specs.Ranked.{AnswersBehind, ForList, ForTerm, PostRoseWith, PostWithin};
+ghost use Rattle.mg_rank.specs.Ranked.{ForTerm, PostWithin};
 ghost use Rattle.mg_reply.specs.Printed.{Passes};
 ghost use Rattle.mg_wild.specs.Patterns.{sides_of};
 ghost use Rattle.mg_session.specs.Answering.{HasShowCause, HasShowLack};
@@ -19,35 +17,12 @@ ghost use Rattle.mg_session.specs.WildAnswers.{ForLexTerms, ReadsNoOther, WildSo
 ghost use Rattle.mg_session.specs.WildMarks.{MarksLists, MarksTerms, rows_at, terms_at};
 
 use crate::document_set::DocumentSet;
-use mg_defs::Posting;
 use mg_dev::{PartErr, PutErr, ShowErr, Sink, Store};
 use mg_layout::TermInfo;
 use mg_post::{Cursor, cursor_pages_are_within};
 use mg_reply::Pending;
 use mg_wild::{Pattern, Rotated};
 use std::alloc::Global;
-
-/// The first posting of a list behind a document.
-fn next_posting<S: Store>(
-    cursor: &mut Cursor<'_, S>,
-    store: &mut S,
-    last: u32,
-) -> Result<Option<Posting>, PartErr>
-    requires fits { CursorFits cursor.old (S.files store.old) }
-    requires few { last < 2 ^ 32 - 1 }
-    ensures fits { OnOk result (CursorFits cursor.new (S.files store.new)) }
-    ensures same { SameList cursor.old cursor.new }
-    ensures answer { ForList (S.files store.old) last cursor.old (λ base collection t. AnswersList result (AnswersBehind base collection t last cursor.new)) }
-    ensures within { ForList (S.files store.old) last cursor.old (λ _ collection t. post_pages cursor.new ≤ list_pages collection t) }
-    ensures post { ForList (S.files store.old) last cursor.old (λ _ _ _. PostRoseWith S.reads store.old store.new cursor.old cursor.new) }
-    ensures sound { IfOk result (λ found. IfSome found (IsFrom (last + 1) cursor.old.all)) }
-    ensures reads { ReadsLists (S.reads store.old) (S.reads store.new) }
-    ensures files { S.files store.new ≡ S.files store.old }
-    ensures memory { result ≢ Err PartErr.Memory }
-    ensures cause { HasPartCause (S.faults store.old) (S.faults store.new) result }
-{
-    cursor.ask(store, last + 1)
-}
 
 /// Marks the documents of a term's list.
 fn mark_list<S: Store>(
@@ -74,7 +49,7 @@ fn mark_list<S: Store>(
     cursor_pages_are_within();
     let mut last = 0;
     while last < all {
-        let posting = match next_posting(&mut cursor, store, last) {
+        let posting = match cursor.next_behind(store, last) {
             Ok(Some(posting)) => posting,
             Ok(None) => return Ok(()),
             Err(refusal) => return Err(refusal),

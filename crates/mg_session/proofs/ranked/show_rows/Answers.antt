@@ -17,10 +17,10 @@ loop-place-init g c = record {
 }
 
 pub show_doc-requires-clause-some : goal.show_doc-requires-clause-some
-show_doc-requires-clause-some g c = (numbered c.args.texts.now.head.documents c.args.rows.now c.loop-place.place c.row-row.result.number c.requires.range (omega arith) c.row-row.ensures.number).0
+show_doc-requires-clause-some g c = (numbered (g.D.Documents.texts c.args.texts.now).head.documents c.args.rows.now c.loop-place.place c.row-row.result.number c.requires.range (omega arith) c.row-row.ensures.number).0
 
 pub show_doc-requires-clause-within : goal.show_doc-requires-clause-within
-show_doc-requires-clause-within g c = omega (arith, (numbered c.args.texts.now.head.documents c.args.rows.now c.loop-place.place c.row-row.result.number c.requires.range (omega arith) c.row-row.ensures.number).1, ap (λ (h : Head). h.documents) c.loop-place.invariant.same.head)
+show_doc-requires-clause-within g c = omega (arith, (numbered (g.D.Documents.texts c.args.texts.now).head.documents c.args.rows.now c.loop-place.place c.row-row.result.number c.requires.range (omega arith) c.row-row.ensures.number).1, ap (λ (h : Head). h.documents) c.loop-place.invariant.same.head)
 
 pub loop-place-preserved : goal.loop-place-preserved
 loop-place-preserved g c =

@@ -2,8 +2,8 @@ use Rattle.std.proofs.Common.{arith, ◌≤◌, ◌<◌, ◌+◌, sym, ◌∙◌
 use Rattle.mg_defs.specs.Lists.{postings}
 use Rattle.mg_defs.specs.PageBounds.{numbers_in}
 use Rattle.mg_post.specs.TermLists.{ListsStand}
-use Rattle.mg_session.proofs.WildListLaws.{for_within, list_later, marking_end, marking_next, marking_start, or_list}
-use Rattle.mg_post.proofs.ListHeads.{none_at}
+use Rattle.mg_post.proofs.CallerLemmas.{cursor_later, none_at, pages_in_list}
+use Rattle.mg_session.proofs.WildListLaws.{marking_end, marking_next, marking_start, or_list}
 use Rattle.mg_session.proofs.wild_answer.mark_list.Goals as goal
 
 pub loop-last-init : goal.loop-last-init
@@ -27,11 +27,11 @@ returns-in-Ok-None-clause-answer g c = λ collection t stand i all_is.
     let a = (rw c.in-Ok-None.field-0-is at c.in-Ok-None.ensures.answer) c.args.base.now collection t stand2 f in
     marking_end collection t c.loop-last.last c.args.marked.now c.loop-last.marked (c.loop-last.invariant.walk collection t stand i all_is) (λ d low le. none_at collection t c.loop-last.last d (sym a.found_is) low le)
 
-pub returns-in-Err-next_posting-clause-answer : goal.returns-in-Err-next_posting-clause-answer
-returns-in-Err-next_posting-clause-answer g c = λ collection t stand i all_is.
+pub returns-in-Err-next_behind-clause-answer : goal.returns-in-Err-next_behind-clause-answer
+returns-in-Err-next_behind-clause-answer g c = λ collection t stand i all_is.
     let stand2 = subst (λ fs. ListsStand c.args.base.now fs collection) (sym c.loop-last.invariant.files) stand in
     let f = c.loop-last.invariant.list collection t stand i all_is in
-    or_list c.in-Err-next_posting.refusal _ _ (c.in-Err-next_posting.ensures.answer c.args.base.now collection t stand2 f)
+    or_list c.in-Err-next_behind.refusal _ _ (c.in-Err-next_behind.ensures.answer c.args.base.now collection t stand2 f)
 
 pub loop-last-preserved : goal.loop-last-preserved
 loop-last-preserved g c =
@@ -41,13 +41,13 @@ loop-last-preserved g c =
       most = within;
       room = c.mark.ensures.room ∙ c.loop-last.invariant.room;
       fits = c.in-Ok-Some.ensures.fits;
-      all = c.next_posting.ensures.same.all ∙ c.loop-last.invariant.all;
-      files = c.next_posting.ensures.files ∙ c.loop-last.invariant.files;
+      all = c.next_behind.ensures.same.all ∙ c.loop-last.invariant.all;
+      files = c.next_behind.ensures.files ∙ c.loop-last.invariant.files;
       reads = record {
-        later = λ p. omega (arith, c.loop-last.invariant.reads.later p, c.next_posting.ensures.reads.later p);
-        others = λ p a b. c.next_posting.ensures.reads.others p a b ∙ c.loop-last.invariant.reads.others p a b;
+        later = λ p. omega (arith, c.loop-last.invariant.reads.later p, c.next_behind.ensures.reads.later p);
+        others = λ p a b. c.next_behind.ensures.reads.others p a b ∙ c.loop-last.invariant.reads.others p a b;
       };
-      faults = omega (arith, c.loop-last.invariant.faults, c.next_posting.ensures.cause.later);
+      faults = omega (arith, c.loop-last.invariant.faults, c.next_behind.ensures.cause.later);
       walk = λ collection t stand i all_is.
           let stand2 = subst (λ fs. ListsStand c.args.base.now fs collection) (sym c.loop-last.invariant.files) stand in
           let f = c.loop-last.invariant.list collection t stand i all_is in
@@ -57,11 +57,11 @@ loop-last-preserved g c =
           let stand2 = subst (λ fs. ListsStand c.args.base.now fs collection) (sym c.loop-last.invariant.files) stand in
           let f = c.loop-last.invariant.list collection t stand i all_is in
           let a = (rw c.in-Ok-Some.field-0-is at c.in-Ok-Some.ensures.answer) c.args.base.now collection t stand2 f in
-          list_later c.args.base.now collection t (c.loop-last.last + 1) c.in-Ok-Some.posting.doc _ a.cursor from.from;
+          cursor_later c.args.base.now collection (numbers_in (postings collection t)) t (c.loop-last.last + 1) c.in-Ok-Some.posting.doc _ from.from a.cursor;
       post = λ collection t stand i all_is.
           let stand2 = subst (λ fs. ListsStand c.args.base.now fs collection) (sym c.loop-last.invariant.files) stand in
           let f = c.loop-last.invariant.list collection t stand i all_is in
-          omega (arith, c.loop-last.invariant.post collection t stand i all_is, c.next_posting.ensures.post c.args.base.now collection t stand2 f);
+          omega (arith, c.loop-last.invariant.post collection t stand i all_is, c.next_behind.ensures.post c.args.base.now collection t stand2 f);
     }
 
 pub mark-requires-clause-some : goal.mark-requires-clause-some
@@ -78,14 +78,14 @@ pub returns-in-Ok-None-clause-pages : goal.returns-in-Ok-None-clause-pages
 returns-in-Ok-None-clause-pages g c = λ collection t stand i all_is.
     let stand2 = subst (λ fs. ListsStand c.args.base.now fs collection) (sym c.loop-last.invariant.files) stand in
     let f = c.loop-last.invariant.list collection t stand i all_is in
-    omega (arith, c.loop-last.invariant.post collection t stand i all_is, c.next_posting.ensures.post c.args.base.now collection t stand2 f, c.next_posting.ensures.within c.args.base.now collection t stand2 f)
+    omega (arith, c.loop-last.invariant.post collection t stand i all_is, c.next_behind.ensures.post c.args.base.now collection t stand2 f, c.next_behind.ensures.within c.args.base.now collection t stand2 f)
 
-pub returns-in-Err-next_posting-clause-pages : goal.returns-in-Err-next_posting-clause-pages
-returns-in-Err-next_posting-clause-pages g c = λ collection t stand i all_is.
+pub returns-in-Err-next_behind-clause-pages : goal.returns-in-Err-next_behind-clause-pages
+returns-in-Err-next_behind-clause-pages g c = λ collection t stand i all_is.
     let stand2 = subst (λ fs. ListsStand c.args.base.now fs collection) (sym c.loop-last.invariant.files) stand in
     let f = c.loop-last.invariant.list collection t stand i all_is in
-    omega (arith, c.loop-last.invariant.post collection t stand i all_is, c.next_posting.ensures.post c.args.base.now collection t stand2 f, c.next_posting.ensures.within c.args.base.now collection t stand2 f)
+    omega (arith, c.loop-last.invariant.post collection t stand i all_is, c.next_behind.ensures.post c.args.base.now collection t stand2 f, c.next_behind.ensures.within c.args.base.now collection t stand2 f)
 
 pub returns-clause-pages : goal.returns-clause-pages
 returns-clause-pages g c = λ collection t stand i all_is.
-    omega (arith, c.loop-last.invariant.post collection t stand i all_is, c.cursor_pages_are_within.ensures c.args.base.now collection (numbers_in (postings collection t)) t c.loop-last.last _ (c.loop-last.invariant.list collection t stand i all_is), for_within collection (numbers_in (postings collection t)) t)
+    omega (arith, c.loop-last.invariant.post collection t stand i all_is, c.cursor_pages_are_within.ensures c.args.base.now collection (numbers_in (postings collection t)) t c.loop-last.last _ (c.loop-last.invariant.list collection t stand i all_is), pages_in_list collection (numbers_in (postings collection t)) t)

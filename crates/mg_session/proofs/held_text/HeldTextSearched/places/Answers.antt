@@ -1,0 +1,6 @@
+use Rattle.std.proofs.Common.{◌∙◌, ap}
+use Rattle.mg_defs.specs.Phrases.{phrase_places}
+use Rattle.mg_session.proofs.held_text.HeldTextSearched.places.Goals as goal
+
+pub returns-in-Ok-clause-content : goal.returns-in-Ok-clause-content
+returns-in-Ok-clause-content g c = λ collection has. c.phrase_places.ensures ∙ ap (phrase_places c.args.phrase.now) (c.bytes.ensures ∙ c.in-Ok.ensures.content collection has)
