@@ -9,7 +9,6 @@ use Rattle.mg_dev.specs.declared.part.Part.TheVariants.{Post, Skip}
 use Rattle.mg_dev.specs.declared.part_err.PartErr.{PartErr}
 use Rattle.mg_dev.specs.declared.part_err.PartErr.TheVariants.{Device, Memory, Bad}
 use Rattle.mg_dev.specs.Bads.{IsNotBad}
-use Rattle.mg_dev.specs.PartCauses.{HasPartCause}
 use Rattle.mg_dev.specs.Files.{Files, bytes_at}
 use Rattle.mg_dev.specs.Names.{full_name}
 use Rattle.mg_defs.proofs.StandRanges.{entries-append, lists-append}
@@ -20,7 +19,7 @@ use Rattle.mg_defs.specs.Split.{documents}
 use Rattle.mg_layout.specs.Contents.{StandAt}
 use Rattle.mg_check.specs.declared.lists.Places.{Places}
 use Rattle.mg_post.specs.Writing.{InBytes, Listing}
-use Rattle.mg_check.specs.Listing.{AreBehind, BeginsAt, IsNotDevice, ListsAgree, ListsFollow, ListsStand, post_upto, skip_upto}
+use Rattle.mg_check.specs.Listing.{AreBehind, BeginsAt, ListsAgree, ListsFollow, ListsStand, post_upto, skip_upto}
 use Rattle.mg_check_text.specs.Refusals.{Refutes}
 use Rattle.mg_check.proofs.LexiconLaws.{post_name, skip_name}
 
@@ -96,11 +95,6 @@ pub not_bad_refutes : (P : Type 0) (refusal : PartErr) → IsNotBad refusal → 
 not_bad_refutes P Device sure = tt
 not_bad_refutes P Memory sure = tt
 not_bad_refutes P (Bad bad) sure = absurd sure
-
-pub own_cause : {T : Type 0} (faults : ℕ) (refusal : PartErr) → IsNotDevice refusal → HasPartCause {T = T} faults faults (Err refusal)
-own_cause faults Device own = absurd own
-own_cause faults Memory own = record { later = omega arith; device = tt }
-own_cause faults (Bad bad) own = record { later = omega arith; device = tt }
 
 -- ---- what was written
 

@@ -17,11 +17,12 @@ use Rattle.mg_laws.proofs.TermLaws.{lists_long, some_docs}
 use Rattle.mg_lex.proofs.CallerLemmas.{terms_long}
 use Rattle.mg_lex.specs.Terms.{terms_of}
 use Rattle.mg_lex.specs.Writing.{LexWriting, TookTerms}
-use Rattle.mg_text.specs.Reading.{SameText, TextReading}
+use Rattle.mg_text.specs.Reading.{SameText, TextFits, TextReading}
 use Rattle.mg_check.specs.declared.lists.Places.{Places}
-use Rattle.mg_check.specs.Listing.{AreRooms, AreSizes, BeginsAt, CanCompare, HasCompared, HasRoomForAll, HasRooms, HoldsLists, IsIndexOf, IsRangeOf, LexiconStands, ListsAgree, ListsStand, Ranged, SameRooms, lists_of, post_upto, skip_upto}
+use Rattle.mg_check.specs.declared.indexed.Indexed.{Indexed}
+use Rattle.mg_check.specs.Listing.{AreRooms, AreSizes, BeginsAt, CanCompare, CanIndex, HasCompared, HasRoomForAll, HasRooms, HoldsLists, IsIndexOf, IsRangeOf, LexiconStands, ListsAgree, ListsStand, Ranged, SameRooms, lists_of, post_upto, skip_upto}
 use Rattle.mg_check.proofs.DocumentLaws.{room_stays}
-use Rattle.mg_check_text.proofs.CallerLemmas.{stands_on}
+use Rattle.mg_check_text.proofs.CallerLemmas.{stands_on, terms_stay}
 
 -- ---- sizes
 
@@ -154,3 +155,7 @@ lexicon_on f g base collection same stand = subst (λ h. LexiconStands h base co
 pub if_err : {T E : Type 0} (P Q : E → Type 0) (r : Result T E) → ((e : E) → P e → Q e) → IfErr r P → IfErr r Q
 if_err P Q (Ok value) f p = tt
 if_err P Q (Err e) f p = f e p
+
+-- a reader of the index that has read on
+pub index_on : {r now : TextReading} {files files_now : Option Files} {of : Indexed} → TextFits now files_now → SameText r now → CanIndex r files of → CanIndex now files_now of
+index_on fits same index = record { text = terms_stay fits same index.text; sizes = index.sizes; most = index.most }

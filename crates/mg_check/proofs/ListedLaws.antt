@@ -1,6 +1,6 @@
 -- The lists of a range that are written anew, and what the lexicon has of their terms.
 use Rattle.std.proofs.Common.{arith, ◌≡◌, ◌<◌, ◌≤◌, ◌+◌, ◌/◌, ◌^◌, ℕ, List, [], ◌∷◌, ◌++◌, length, take, drop, get_or, refl, sym, ap, subst, ◌∙◌, Some, length-append, length-drop}
-use Rattle.std.specs.Prelude.{slice_get}
+use Rattle.std.specs.Prelude.{IsSome, slice_get, slice_index}
 use Rattle.std.specs.declared.option.Option.{Option}
 use Rattle.std.specs.List.{flat_map}
 use Rattle.std.proofs.Math.Seq.{take-add}
@@ -25,7 +25,7 @@ use Rattle.mg_lex.specs.Terms.{Term, terms_of}
 use Rattle.mg_lex.specs.Writing.{LexWriting, TookTerms}
 use Rattle.mg_post.specs.Writing.{Listing, Took}
 use Rattle.mg_check.specs.declared.lists.Places.{Places}
-use Rattle.mg_check.specs.Listing.{ArePlacesOf, HasCompared, HasListed, IsRangeOf, Ranged, list_at, lists_of, room_at, skip_upto}
+use Rattle.mg_check.specs.Listing.{ArePlacesOf, AreRooms, CanList, HasCompared, HasListed, IsRangeOf, Ranged, list_at, lists_of, room_at, skip_upto}
 
 -- ---- lists in a row
 
@@ -137,3 +137,14 @@ listed_none w terms before collection lists f lex h all set base all_is of has t
       took = took;
       lexicon = subst (λ n. TookTerms lex h (take n (terms_of collection))) at has.terms;
     }
+
+-- where no list was written, those of a range may be
+pub can_start : (w : Ranged) (lists : Listing) (files : Option Files) → Took lists files [] [] → lists.total ≡ 0 → lists.pushed ≡ 0 → AreRooms w lists.all → IsSome files → CanList w 0 lists files
+can_start w lists files took nothing between rooms told = record {
+  told = told;
+  done = [];
+  took = took;
+  between = between;
+  total = omega (arith, nothing);
+  rooms = rooms;
+}

@@ -14,10 +14,9 @@ use Rattle.mg_defs.specs.Postings.{once, gathered, term_postings}
 use Rattle.mg_defs.specs.Runs.{first_runs, runs_of}
 use Rattle.mg_runs.specs.FinishedRuns.{finished}
 use Rattle.mg_defs.specs.RunBits.{run_part_bits, runs_bits}
-use Rattle.mg_runs.proofs.CallerLemmas.{finished-room, finished-full, finished-low, first_runs-more, first_runs-full}
+use Rattle.mg_runs.proofs.CallerLemmas.{ceil_is, drop_all, drop_end, entries_of, finished-full, finished-low, finished-room, first_runs-full, first_runs-more, length_end, length_rest, map_end, none_finished, occurrences_drop, occurrences_end, rest_fits, runs_of_last, runs_of_none}
 use Rattle.mg_runs.specs.Bytes.{AreEntries}
 use Rattle.mg_runs.specs.Fed.{IsOccurrence, AreOccurrences, cap_of}
-use Rattle.mg_runs.specs.Pooled.{Pooled, used}
 use Rattle.mg_check.specs.Counting.{HasBegun, HasTaken, RunReading}
 use Rattle.mg_check_text.specs.Refusals.{WhereBad}
 
@@ -26,35 +25,6 @@ use Rattle.mg_check_text.specs.Refusals.{WhereBad}
 length_map : {X Y : Type 0} (f : X → Y) (xs : List X) → length (map f xs) ≡ length xs
 length_map f [] = refl
 length_map f (x ∷ xs) = ap (λ n. suc n) (length_map f xs)
-
-map_end : {X Y : Type 0} (f : X → Y) (xs : List X) (y : X) → map f (xs ++ y ∷ []) ≡ map f xs ++ f y ∷ []
-map_end f [] y = refl
-map_end f (x ∷ xs) y = ap (λ t. f x ∷ t) (map_end f xs y)
-
-length_end : (s : List (ℕ × ℕ)) (o : ℕ × ℕ) → length (s ++ o ∷ []) ≡ length s + 1
-length_end s o = grind (arith, common_steps)
-
-length_rest : (s : List (ℕ × ℕ)) (k : ℕ) → length (drop k s) ≡ length s - k
-length_rest s k = grind (arith, common_steps)
-
-drop_end : (s : List (ℕ × ℕ)) (k : ℕ) (o : ℕ × ℕ) → k ≤ length s → drop k (s ++ o ∷ []) ≡ drop k s ++ o ∷ []
-drop_end s k o h = grind (arith, common_steps)
-
-drop_all : (s : List (ℕ × ℕ)) (k : ℕ) → length s ≤ k → drop k s ≡ []
-drop_all s k h = grind (arith, common_steps)
-
-occurrences_end : (s : List (ℕ × ℕ)) (o : ℕ × ℕ) → AreOccurrences s → IsOccurrence o → AreOccurrences (s ++ o ∷ [])
-occurrences_end [] o all h = (h, tt)
-occurrences_end (x ∷ s) o all h = (all.0, occurrences_end s o all.1 h)
-
-occurrences_drop : (k : ℕ) (s : List (ℕ × ℕ)) → AreOccurrences s → AreOccurrences (drop k s)
-occurrences_drop zero s all = all
-occurrences_drop (suc k) [] all = tt
-occurrences_drop (suc k) (x ∷ s) all = occurrences_drop k s all.1
-
-entries_of : (s : List (ℕ × ℕ)) → AreOccurrences s → AreEntries (map once s)
-entries_of [] all = tt
-entries_of (o ∷ s) all = ((refl, all.0.some), entries_of s all.1)
 
 -- ---- runs of more occurrences
 
@@ -91,39 +61,8 @@ runs_more cap k s rest some h =
       ap (λ m. first_runs cap m (s ++ rest)) e ∙ runs_split cap k j (s ++ rest) ∙ ap (λ t. t ++ first_runs cap j (drop (k * cap) (s ++ rest))) (runs_front cap k s rest h),
     )
 
-ceil_is : (n w q : ℕ) → 1 ≤ w → q * w < n + w → n ≤ q * w → (n + w - 1) / w ≡ q
-ceil_is n w q some low high =
-    let next : suc q * w ≡ w + q * w = omega arith in
-    let h : (n + w - 1) / w < suc q = div_below (n + w - 1) w (suc q) some (omega arith) in
-    let l : q ≤ (n + w - 1) / w = le-div q (n + w - 1) w some (omega arith) in
-    omega arith
-
-rest_fits : (cap n : ℕ) → 1 ≤ cap → n - finished cap n * cap ≤ cap
-rest_fits cap n some = grind arith
-
-none_finished : (cap : ℕ) → 1 ≤ cap → finished cap 0 ≡ 0
-none_finished cap some = let h : 0 / cap < 1 = div_below 0 cap 1 some (omega arith) in omega arith
-
-runs_of_none : (cap : ℕ) → 1 ≤ cap → runs_of cap [] ≡ []
-runs_of_none cap some =
-    let z : 0 * cap ≡ 0 = omega arith in
-    ap (λ k. first_runs cap k []) (ceil_is 0 cap 0 some (omega arith) (omega arith))
-
 take_all : (n : ℕ) (xs : List (ℕ × ℕ)) → length xs ≤ n → take n xs ≡ xs
 take_all n xs h = grind (arith, common_steps)
-
--- the last run is that of the occurrences behind the finished ones
-runs_of_last : (cap : ℕ) (fed : List (ℕ × ℕ)) → 1 ≤ cap → 1 ≤ length fed → runs_of cap fed ≡ first_runs cap (finished cap (length fed)) fed ++ term_postings (drop (finished cap (length fed) * cap) fed) ∷ []
-runs_of_last cap fed some more =
-    let n : ℕ = length fed in
-    let q : ℕ = finished cap n in
-    let low : q * cap ≤ n - 1 = finished-low cap n some in
-    let fits : n - q * cap ≤ cap = rest_fits cap n some in
-    let rest : List (ℕ × ℕ) = drop (q * cap) fed in
-    let next : suc q * cap ≡ cap + q * cap = omega arith in
-    let count : (n + cap - 1) / cap ≡ q + 1 = ceil_is n cap (suc q) some (omega arith) (omega arith) ∙ omega arith in
-    let all : take cap rest ≡ rest = take_all cap rest (omega (arith, length_rest fed (q * cap))) in
-    ap (λ k. first_runs cap k fed) count ∙ runs_split cap q 1 fed ∙ ap (λ t. first_runs cap q fed ++ term_postings t ∷ []) all
 
 -- all occurrences go into one run where it takes so many
 one_run : (cap : ℕ) (s : List (ℕ × ℕ)) → 1 ≤ cap → 1 ≤ length s → length s ≤ cap → runs_of cap s ≡ term_postings s ∷ []
@@ -324,9 +263,3 @@ no_last_bytes r f fed is none =
     ∙ ap (λ k. as_bytes (runs_bits (first_runs cap k []))) (none_finished cap some)
     ∙ ap (λ rs. as_bytes (runs_bits rs)) (sym (runs_of_none cap some))
     ∙ ap (λ s. as_bytes (runs_bits (runs_of cap s))) (sym empty)
-
-pub some_used : (pool : Pooled) (u : ℕ) → u ≡ used pool → pool.slots ≡ [] → 0 < u → 1 ≤ length pool.entries
-some_used pool u e none more = let z : length pool.slots ≡ 0 = ap (λ l. length l) none in omega arith
-
-pub none_used : (pool : Pooled) (u : ℕ) → u ≡ used pool → u ≤ 0 → length pool.entries ≡ 0
-none_used pool u e none = omega arith

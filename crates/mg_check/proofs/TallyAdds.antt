@@ -18,8 +18,8 @@ use Rattle.mg_defs.specs.RunBits.{run_part_bits}
 use Rattle.mg_defs.specs.Terms.{freq_in}
 use Rattle.mg_defs.specs.Weights.{weight}
 use Rattle.mg_runs.specs.Fed.{cap_of}
-use Rattle.mg_check.specs.Counting.{AreTermsOf, HasTaken, HasTallied, HasWeighed, HaveTallied, NoneGoesOn, NotTallied, Tallying, docs_among, occurrences_from, one_more_each}
-use Rattle.mg_check_text.specs.TermsRead.{IsCounted, TermsRead, weight_of_counts}
+use Rattle.mg_check.specs.Counting.{HasTaken, HasTallied, HasWeighed, HaveTallied, NoneGoesOn, NotTallied, Tallying, docs_among, occurrences_from, one_more_each}
+use Rattle.mg_check_text.specs.TermsRead.{AreTermsOf, IsCounted, TermsRead, weight_of_counts}
 use Rattle.mg_check_text.specs.Refusals.{WhereBad}
 use Rattle.mg_check_text.specs.Documents.{counted_in}
 use Rattle.mg_check.proofs.DocumentSums.{docs_counted, weight_is}

@@ -1,6 +1,6 @@
 -- The documents of a text, and what they amount to.
 use Rattle.std.proofs.Common.{arith, ◌≡◌, ◌+◌, ◌-◌, ◌/◌, ◌<◌, ◌≤◌, ◌^◌, ℕ, suc, List, [], ◌∷◌, ◌++◌, length, map, take, drop, get_or, All, Ok, Err, refl, sym, ap, subst, ◌∙◌, take-append-drop}
-use Rattle.std.specs.Prelude.{flat_map, IfErr}
+use Rattle.std.specs.Prelude.{flat_map, IfErr, OnOk}
 use Rattle.std.specs.declared.option.Option.{Option}
 use Rattle.std.specs.declared.result.Result.{Result}
 use Rattle.std.proofs.lemmas.Grind.{common_steps}
@@ -23,12 +23,11 @@ use Rattle.mg_defs.specs.Weights.{weight}
 use Rattle.mg_model.specs.Terms.{TermNumbers, terms_and_numbers}
 use Rattle.mg_runs.specs.Fed.{cap_of}
 use Rattle.mg_text.specs.Reading.{SameText, TextReading, TextStands}
-use Rattle.mg_check.specs.Counting.{AreOwn, AreTermsOf, CanAdd, GoesOn, HasTallied, HaveTallied, NoneGoesOn, SameParts, TalliedText, Tallying, TermsStand, occurrences_from}
-use Rattle.mg_check_text.specs.TermsRead.{IsCounted, TermsRead}
+use Rattle.mg_check.specs.Counting.{AreOwn, AreTallied, CanAdd, GoesOn, HasTallied, HaveTallied, IsTallyOf, NoneGoesOn, NotTallied, SameParts, TalliedText, Tallying, TermsStand, docs_among, occurrences_from}
+use Rattle.mg_check_text.specs.TermsRead.{AreTermsOf, TermsRead}
 use Rattle.mg_check_text.specs.Refusals.{WhereBad, Refutes}
-use Rattle.mg_check_text.specs.Documents.{counted_in, numbers_in}
 use Rattle.mg_check.proofs.Comparing.{where_bad}
-use Rattle.mg_check_text.proofs.CallerLemmas.{rising_of, doc_codable, stands_on, table_terms}
+use Rattle.mg_check_text.proofs.CallerLemmas.{doc_codable, stands_on, table_terms}
 use Rattle.mg_check.proofs.TallySteps.{occ_is}
 
 -- ---- the same text
@@ -107,19 +106,6 @@ goes_on t f table n r doc it collection made low stand is =
     }
 
 -- ---- the terms of the next document
-
-pub are_terms : (table : TermNumbers) (pieces : List (List ℕ)) (doc : List ℕ) (read : TermsRead) → table ≡ terms_and_numbers pieces → length table.terms ≤ 2 ^ 22
-    → read.numbers ≡ numbers_in table.terms doc → All (λ n. n < length table.terms) read.numbers → read.counted ≡ counted_in table.terms doc → All (IsCounted (length table.terms)) read.counted
-    → length read.numbers ≤ length doc → length doc ≤ 2 ^ 32 - 1 → AreTermsOf table.terms doc read
-are_terms table pieces doc read made few numbers within counted counts less short = record {
-  rising = rising_of table pieces made;
-  few = few;
-  numbers = numbers;
-  within = within;
-  counted = counted;
-  counts = counts;
-  short = omega (arith, less, short);
-}
 
 pub can_add : (t : Tallying) (f f1 : Option Files) (words : List (List ℕ)) (n : ℕ) (r : TextReading) (it : TalliedText t f words n r) (doc : List ℕ) (read : TermsRead) → f1 ≡ f → AreTermsOf words doc read → CanAdd t f1 (n + 1) read
 can_add t f f1 words n r it doc read stay are = record {
@@ -203,3 +189,46 @@ refuted P Q (Ok value) f h = tt
 refuted P Q (Err Device) f h = tt
 refuted P Q (Err Memory) f h = tt
 refuted P Q (Err (Bad bad)) f h = λ q. h (f q)
+
+-- ---- all documents of a text
+
+pub parts_back : (a b : Tallying) → SameParts a b → SameParts b a
+parts_back a b same = record { weights = sym same.weights; run = sym same.run; limit = sym same.limit }
+
+pub tally_done : (result : Result (Unit {0}) PartErr) (old mid new : Tallying) (f f1 : Option Files) (table : TermNumbers) (n : ℕ) (r : TextReading) (it : TalliedText mid f1 table.terms n r) (collection : List ℕ)
+    → f1 ≡ f
+    → SameParts old mid
+    → n ≡ r.documents
+    → table ≡ terms_and_numbers r.code.words.pieces
+    → TextStands r f collection
+    → new.docs ≡ mid.docs
+    → new.occurrences ≡ mid.occurrences
+    → OnOk result (AreTallied mid f1)
+    → OnOk result (IsTallyOf old new f collection)
+tally_done (Err refusal) old mid new f f1 table n r it collection stay parts all made stand docs occurrences_are done = tt
+tally_done (Ok value) old mid new f f1 table n r it collection stay parts all made stand docs occurrences_are done =
+    let words : List (List ℕ) = table.terms in
+    let words_are : words ≡ dictionary collection = table_terms table r f collection made stand in
+    let seen : it.docs ≡ documents collection = all_taken mid f1 words n r it collection all (subst (λ (h : Option Files). TextStands r h collection) (sym stay) stand) in
+    record {
+      own = own_stays mid old f1 f collection (parts_back old mid parts) (sym stay) (have_own mid f1 words it.docs collection words_are seen (done words it.docs it.tallied));
+      docs = docs ∙ it.tallied.counts ∙ ap (λ (ds : List (List ℕ)). map (docs_among ds) words) seen ∙ ap (map (docs_among (documents collection))) words_are;
+      occurrences =
+          occurrences_are ∙ it.tallied.count
+          ∙ ap (λ (o : List (ℕ × ℕ)). length o) (ap (λ (ws : List (List ℕ)). occurrences_from ws 1 it.docs) words_are ∙ ap (occurrences_from (dictionary collection) 1) seen ∙ occ_is collection);
+    }
+
+pub tally_other : (result : Result (Unit {0}) PartErr) (old mid : Tallying) (f f1 : Option Files) (table : TermNumbers) (n : ℕ) (r : TextReading) (it : TalliedText mid f1 table.terms n r) (collection : List ℕ)
+    → f1 ≡ f
+    → SameParts old mid
+    → n ≡ r.documents
+    → table ≡ terms_and_numbers r.code.words.pieces
+    → TextStands r f collection
+    → WhereBad (NotTallied mid f1) result
+    → WhereBad (AreOwn old f collection → ⊥) result
+tally_other result old mid f f1 table n r it collection stay parts all made stand =
+    let words : List (List ℕ) = table.terms in
+    let words_are : words ≡ dictionary collection = table_terms table r f collection made stand in
+    let seen : it.docs ≡ documents collection = all_taken mid f1 words n r it collection all (subst (λ (h : Option Files). TextStands r h collection) (sym stay) stand) in
+    where_bad (NotTallied mid f1) (AreOwn old f collection → ⊥) result
+    (λ none own. none words it.docs it.tallied (own_have mid f1 words it.docs collection words_are seen (own_stays old mid f f1 collection parts stay own)))

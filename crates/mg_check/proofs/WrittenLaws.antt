@@ -1,5 +1,5 @@
 -- Lists that are written anew: what rises, and how far they go.
-use Rattle.std.proofs.Common.{arith, ◌+◌, ℕ, List, ◌∷◌, ◌∙◌}
+use Rattle.std.proofs.Common.{arith, ◌+◌, ℕ, List, ◌∷◌, ◌∙◌, refl}
 use Rattle.mg_defs.specs.declared.Posting.{Posting}
 use Rattle.mg_defs.specs.Lists.{Follows, Rises}
 use Rattle.mg_post.specs.Writing.{Listing, Pushed, PushedMore, SameFiles}
@@ -17,3 +17,6 @@ pushed_more a b c n doc first second = record { docs = second.docs ∙ first.doc
 
 pub names_more : (a b c : Listing) → SameFiles a b → SameFiles b c → SameFiles a c
 names_more a b c first second = record { post = second.post ∙ first.post; skip = second.skip ∙ first.skip; all = second.all ∙ first.all }
+
+pub names_same : (a : Listing) → SameFiles a a
+names_same a = record { post = refl; skip = refl; all = refl }

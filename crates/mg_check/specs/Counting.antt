@@ -1,14 +1,13 @@
 -- What contracts see of terms that are counted, and of weights and runs that are compared with their parts.
-use Rattle.std.specs.Prelude.{◌≡◌, ◌≢◌, ℕ, ◌+◌, ◌-◌, ◌*◌, ◌<◌, ◌≤◌, ◌^◌, List, [], ◌∷◌, ◌++◌, All, length, take, drop, flat_map, min, slice_index, slice_set, map, count_by}
-use Rattle.std.specs.Cmp.Lexicographic.{slice_cmp}
-use Rattle.std.specs.List.Sorted.{IsStrictlySortedBy}
-use Rattle.std.specs.Ordering.{nat_cmp}
+use Rattle.std.specs.Prelude.{◌≡◌, ◌≢◌, ℕ, ◌+◌, ◌-◌, ◌*◌, ◌<◌, ◌≤◌, ◌^◌, List, [], ◌∷◌, ◌++◌, length, take, drop, flat_map, min, slice_index, slice_set, map, count_by, OnOk}
 use Rattle.std.specs.Option.{IsSome}
 use Rattle.std.specs.declared.option.Option.{Option}
+use Rattle.std.specs.declared.result.Result.{Result}
 use Rattle.std.specs.List.{enumerate_from, list_any}
 use Rattle.mg_dev.specs.Files.{Files, bytes_at}
 use Rattle.mg_dev.specs.Names.{full_name}
 use Rattle.mg_dev.specs.declared.part.Part.TheVariants as part
+use Rattle.mg_dev.specs.declared.part_err.PartErr.{PartErr}
 use Rattle.mg_defs.specs.CodedText.{TextCode}
 use Rattle.mg_defs.specs.Bits.{as_bytes}
 use Rattle.mg_defs.specs.Means.{IsCodable}
@@ -20,13 +19,15 @@ use Rattle.mg_defs.specs.Runs.{first_runs}
 use Rattle.mg_runs.specs.FinishedRuns.{finished}
 use Rattle.mg_defs.specs.Split.{documents}
 use Rattle.mg_defs.specs.Stands.{weights_part}
-use Rattle.mg_defs.specs.Terms.{dictionary, same_term, terms}
+use Rattle.mg_defs.specs.Terms.{dictionary, docs, same_term, terms}
 use Rattle.mg_defs.specs.Weights.{weight}
 use Rattle.mg_text.specs.Reading.{TextReading, TextStands}
-use Rattle.mg_check_text.specs.Documents.{counted_in, numbers_in}
-use Rattle.mg_check_text.specs.TermsRead.{IsCounted, TermsRead}
+use Rattle.mg_check_text.specs.Documents.{numbers_in}
+use Rattle.mg_check_text.specs.Refusals.{WhereBad}
+use Rattle.mg_check_text.specs.TermsRead.{AreTermsOf, TermsRead}
 use Rattle.mg_runs.specs.Fed.{AreOccurrences, cap_of}
 use Rattle.mg_runs.specs.Pooled.{Pooled}
+use Rattle.mg_check.specs.declared.counting.Counts.{Counts}
 
 -- ---- a part that is compared with wanted bytes as they come
 
@@ -182,16 +183,6 @@ pub record HasTallied (t : Tallying) (files : Option Files) (dictionary docs : L
   pub count : t.occurrences ≡ length (occurrences_from dictionary 1 docs)
   pub counts : t.docs ≡ map (docs_among docs) dictionary
 
--- The terms that were read are those of a document, by this dictionary.
-pub record AreTermsOf (words : List (List ℕ)) (doc : List ℕ) (t : TermsRead) : Type 0 where
-  pub rising : IsStrictlySortedBy (slice_cmp nat_cmp) words
-  pub few : length words ≤ 2 ^ 22
-  pub numbers : t.numbers ≡ numbers_in words doc
-  pub within : All (λ n. n < length words) t.numbers
-  pub counted : t.counted ≡ counted_in words doc
-  pub counts : All (IsCounted (length words)) t.counted
-  pub short : length t.numbers < 2 ^ 32
-
 -- Documents were taken, and these are the terms of the next one, which has this number.
 pub record CanAdd (t : Tallying) (files : Option Files) (number : ℕ) (terms_read : TermsRead) : Type 0 where
   pub words : List (List ℕ)
@@ -251,7 +242,38 @@ pub record TalliedText (t : Tallying) (files : Option Files) (words : List (List
   pub count : length docs ≡ documents_read
   pub own : (collection : List ℕ) → TextStands r files collection → docs ≡ take documents_read (documents collection)
 
+-- Documents of a text are tallied, told of the moments before and after: so many of them were taken at the end.
+pub record DocumentsTallied {T : Type 0} (r : TextReading) (words : List (List ℕ)) (documents_read : ℕ) (old new : Tallying) (files files_now : Option Files) (result : Result T PartErr) : Type 0 where
+  -- they are the first of the text
+  pub taken : OnOk result (TalliedText new files_now words documents_read r)
+  -- the same parts are compared
+  pub parts : SameParts old new
+  -- a refusal tells that Weights and Run are not those of the collection whose text is read
+  pub other : (collection : List ℕ) → TextStands r files collection → WhereBad (AreOwn old files collection → ⊥) result
+
 -- Weights and Run of a base are those of a collection, in runs of so many occurrences.
 pub record TermsStand (base : List ℕ) (files : Option Files) (cap : ℕ) (collection : List ℕ) : Type 0 where
   pub weights : bytes_at files (full_name base part.Weights) ≡ weights_part collection
   pub run : bytes_at files (full_name base part.Run) ≡ as_bytes (run_part_bits cap (occurrences collection))
+
+-- how many documents have each term of a collection
+abbrev pub docs_of_terms : List ℕ → List ℕ
+docs_of_terms collection = map (docs collection) (dictionary collection)
+
+-- the documents of a text were taken, told of the moments before and after: where it is that of a collection
+pub record IsTallyOf (old new : Tallying) (files : Option Files) (collection : List ℕ) : Type 0 where
+  -- Weights and Run are the collection's
+  pub own : AreOwn old files collection
+  -- how many documents have each term
+  pub docs : new.docs ≡ docs_of_terms collection
+  -- how many occurrences there are
+  pub occurrences : new.occurrences ≡ length (occurrences collection)
+
+-- what was counted of a collection whose Weights and Run were compared
+pub record IsCountOf (base : List ℕ) (files : Option Files) (cap : ℕ) (collection : List ℕ) (counts : Counts) : Type 0 where
+  -- both parts are the collection's
+  pub stand : TermsStand base files cap collection
+  -- how many documents have each term
+  pub docs : counts.docs.items ≡ docs_of_terms collection
+  -- how many occurrences there are
+  pub occurrences : counts.occurrences ≡ length (occurrences collection)

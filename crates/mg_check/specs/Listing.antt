@@ -1,14 +1,17 @@
 -- The lists of a range of terms in one vector, and lists, skip entries and lexicon as far as the terms below a number.
-use Rattle.std.specs.Prelude.{◌≡◌, ◌<◌, ◌≤◌, ◌+◌, ◌-◌, ◌/◌, ◌^◌, ℕ, List, [], ◌∷◌, ◌++◌, IfErr, OnOk, length, map, filter, flat_map, take, drop, get_or, codes, slice_get, slice_index, nat_eq, Some}
+use Rattle.std.specs.Prelude.{◌≡◌, ◌<◌, ◌≤◌, ◌+◌, ◌-◌, ◌/◌, ◌^◌, ℕ, List, [], ◌∷◌, ◌++◌, IfErr, IfOk, OnOk, length, map, filter, flat_map, take, drop, get_or, codes, slice_get, slice_index, nat_eq, Some}
+use Rattle.std.specs.Cmp.Lexicographic.{slice_cmp}
+use Rattle.std.specs.List.Sorted.{IsStrictlySortedBy}
 use Rattle.std.specs.Option.{IsSome}
+use Rattle.std.specs.Ordering.{nat_cmp}
 use Rattle.std.specs.declared.option.Option.{Option}
 use Rattle.std.specs.declared.result.Result.{Result}
 use Rattle.mg_dev.specs.Files.{Files, bytes_at}
 use Rattle.mg_dev.specs.Names.{full_name}
+use Rattle.mg_dev.specs.declared.part.Part.TheVariants as part
 use Rattle.mg_dev.specs.declared.part.Part.TheVariants.{Lex, LexAt, Post, Skip}
 use Rattle.mg_mem.specs.declared.sure_store.SureStore.{SureStore}
 use Rattle.mg_dev.specs.declared.part_err.PartErr.{PartErr}
-use Rattle.mg_dev.specs.declared.part_err.PartErr.TheVariants.{Device, Memory, Bad}
 use Rattle.mg_defs.specs.declared.Posting.{Posting}
 use Rattle.mg_defs.specs.Bits.{as_bytes}
 use Rattle.mg_defs.specs.Lexicon.{lex_at_part, lex_part}
@@ -23,9 +26,11 @@ use Rattle.mg_layout.specs.declared.term_info.TermInfo.{TermInfo}
 use Rattle.mg_lex.specs.Terms.{Term, terms_of}
 use Rattle.mg_lex.specs.Writing.{LexWriting, TookTerms}
 use Rattle.mg_model.specs.Terms.{TermNumbers}
-use Rattle.mg_post.specs.Writing.{Listing, Took}
+use Rattle.mg_post.specs.Writing.{Listing, SameFiles, Took}
 use Rattle.mg_text.specs.Reading.{TextReading, TextStands}
-use Rattle.mg_check_text.specs.Refusals.{Refutes}
+use Rattle.mg_check_text.specs.Reads.{HasTerms}
+use Rattle.mg_check_text.specs.Refusals.{IsNotDevice, Refutes}
+use Rattle.mg_check.specs.declared.indexed.Indexed.{Indexed}
 use Rattle.mg_check.specs.declared.lexicon.Lexicon.{Lexicon}
 use Rattle.mg_check.specs.declared.lists.Compared.{Compared}
 use Rattle.mg_check.specs.declared.lists.NewLists.{NewLists}
@@ -108,14 +113,6 @@ pub record HasRoomForAll (w : Ranged) (collection : List ℕ) : Type 0 where
 pub record AreRooms (w : Ranged) (all : ℕ) : Type 0 where
   pub some : (k : ℕ) → k < length w.next → 1 ≤ room_at w k
   pub within : (k : ℕ) → k < length w.next → room_at w k ≤ all
-
--- ---- refusals
-
--- the store was not asked
-abbrev pub IsNotDevice : PartErr → Type 0
-IsNotDevice Device = ⊥
-IsNotDevice Memory = Unit {0}
-IsNotDevice (Bad bad) = Unit {0}
 
 -- ---- what is written anew
 
@@ -237,24 +234,16 @@ abbrev pub ForNextLists : TextReading → Option Files → Ranged → ℕ → ((
 ForNextLists reader files lists before claim = (collection : List ℕ) → TextStands reader files collection → HoldsLists lists (lists_upto before collection) → HasRoomFor lists (lists_upto (before + 1) collection) → claim (lists_upto (before + 1) collection)
 
 -- for each collection whose text the reader reads, and whose terms and numbers of documents these are
-abbrev pub ForIndex : TextReading → Option Files → TermNumbers → List ℕ → (List ℕ → Type 0) → Type 0
-ForIndex reader files table docs_of claim = (collection : List ℕ) → IsIndexOf reader files table.terms docs_of collection → claim collection
-
--- how many documents have each term of a collection
-abbrev pub docs_of_terms : List ℕ → List ℕ
-docs_of_terms collection = map (docs collection) (dictionary collection)
+abbrev pub ForIndex : TextReading → Option Files → Indexed → (List ℕ → Type 0) → Type 0
+ForIndex reader files of claim = (collection : List ℕ) → IsIndexOf reader files of.table.now.terms of.docs.now collection → claim collection
 
 -- the number behind the last term of a range
 abbrev pub end_of_range : Ranged → ℕ
 end_of_range w = w.first + length w.next
 
 -- the lists are those of a range of the terms of a collection
-abbrev pub AreListsOf : List (List ℕ) → ℕ → List ℕ → Ranged → Type 0
-AreListsOf terms all collection lists = IsRangeOf lists terms all collection
-
--- a refusal tells that Post, Skip, Lex and LexAt are not those of the collection
-abbrev pub RefutesIndex : {T : Type 0} → Option Files → List ℕ → Result T PartErr → List ℕ → Type 0
-RefutesIndex files base result collection = IfErr result (Refutes (IndexStands files base collection))
+abbrev pub AreListsOf : Indexed → List ℕ → Ranged → Type 0
+AreListsOf of collection lists = IsRangeOf lists of.table.now.terms of.documents collection
 
 -- for each collection as far as whose last term Post and Skip were compared
 abbrev pub ForEnds : Option Files → List ℕ → Places → (List ℕ → Type 0) → Type 0
@@ -325,29 +314,124 @@ ListsOn told w table before index end old new lexicon lexicon_now result =
     (collection : List ℕ) → ListedIn told w table before index old lexicon collection → OnOk result (ListedIn told w table before end new lexicon_now collection)
 
 -- what was compared of the terms below a number may be followed by the next term
-abbrev pub CanCompareIn : (SureStore → Option Files) → List (List ℕ) → ℕ → Compared → Type 0
-CanCompareIn told terms number compared = CanCompare terms number compared.places compared.lexicon.writer (told compared.lexicon.store)
+abbrev pub CanCompareIn : (SureStore → Option Files) → Indexed → ℕ → Compared → Type 0
+CanCompareIn told of number compared = CanCompare of.table.now.terms number compared.places compared.lexicon.writer (told compared.lexicon.store)
 
 -- Post, Skip and the lexicon in memory agree with a collection, as far as the terms below a number
-abbrev pub ComparedIn : (SureStore → Option Files) → Option Files → List ℕ → List ℕ → ℕ → Compared → Type 0
-ComparedIn told files base collection number compared = HasCompared files base collection number compared.places compared.lexicon.writer (told compared.lexicon.store)
+abbrev pub ComparedIn : (SureStore → Option Files) → Option Files → Indexed → List ℕ → ℕ → Compared → Type 0
+ComparedIn told files of collection number compared = HasCompared files of.base.now collection number compared.places compared.lexicon.writer (told compared.lexicon.store)
 
--- where these are the lists of a range of a collection, and the terms before it agree with it, the terms of the range do
-abbrev pub ComparesRange : {T : Type 0} → (SureStore → Option Files) → Option Files → List ℕ → Ranged → List (List ℕ) → ℕ → Compared → Compared → Result T PartErr → Type 0
-ComparesRange told files base w terms all old new result =
-    (collection : List ℕ) → IsSome files → IsRangeOf w terms all collection → ComparedIn told files base collection w.first old → OnOk result (ComparedIn told files base collection (end_of_range w) new)
+-- the terms of a range are compared, told of the moments before and after
+pub record RangeCompared {T : Type 0} (told : SureStore → Option Files) (files : Option Files) (of : Indexed) (w : Ranged) (old new : Compared) (result : Result T PartErr) : Type 0 where
+  -- the next range may be compared
+  pub can : OnOk result (CanCompareIn told of (end_of_range w) new)
+  -- where these are the lists of a collection, and the terms before them agree with it, the terms of the range do
+  pub agree : (collection : List ℕ) → IsSome files → AreListsOf of collection w → ComparedIn told files of collection w.first old → OnOk result (ComparedIn told files of collection (end_of_range w) new)
+  -- where they are, a refusal tells that Post and Skip are not the lists of the collection
+  pub other : (collection : List ℕ) → IsSome files → AreListsOf of collection w → ComparedIn told files of collection w.first old → IfErr result (Refutes (ListsStand files of.base.now collection))
 
--- where they are, a refusal tells that Post and Skip are not the lists of the collection
-abbrev pub RefusesRange : {T : Type 0} → (SureStore → Option Files) → Option Files → List ℕ → Ranged → List (List ℕ) → ℕ → Compared → Result T PartErr → Type 0
-RefusesRange told files base w terms all old result =
-    (collection : List ℕ) → IsSome files → IsRangeOf w terms all collection → ComparedIn told files base collection w.first old → IfErr result (Refutes (ListsStand files base collection))
+-- a number is behind a range of terms that begins at one
+pub record IsBehind (of : Indexed) (first next : ℕ) : Type 0 where
+  pub after : first < next
+  pub within : next ≤ length of.table.now.terms
 
--- where these are the terms of the collection whose text is read, and nothing was compared before, all its terms agree with it
-abbrev pub ComparesIndex : {T : Type 0} → (SureStore → Option Files) → Option Files → List ℕ → TextReading → List (List ℕ) → List ℕ → Compared → Compared → Result T PartErr → Type 0
-ComparesIndex told files base reader terms docs_of old new result =
-    (collection : List ℕ) → IsIndexOf reader files terms docs_of collection → ComparedIn told files base collection 0 old → OnOk result (ComparedIn told files base collection (length terms) new)
+-- the range that begins at a term is compared, and the term behind it is answered
+pub record NextCompared (told : SureStore → Option Files) (r : TextReading) (files : Option Files) (of : Indexed) (first : ℕ) (old new : Compared) (result : Result ℕ PartErr) : Type 0 where
+  -- the answer is behind the range
+  pub behind : IfOk result (IsBehind of first)
+  -- the next range may be compared
+  pub can : IfOk result (λ next. CanCompareIn told of next new)
+  -- where the terms before the range agree with the collection whose text is read, those before the answer do
+  pub agree : ForIndex r files of (λ collection. ComparedIn told files of collection first old → IfOk result (λ next. ComparedIn told files of collection next new))
+  -- where they do, a refusal tells that Post and Skip are not the lists of the collection
+  pub other : ForIndex r files of (λ collection. ComparedIn told files of collection first old → IfErr result (Refutes (ListsStand files of.base.now collection)))
 
--- where they are, a refusal tells that Post and Skip are not the lists of the collection
-abbrev pub RefusesIndex : {T : Type 0} → (SureStore → Option Files) → Option Files → List ℕ → TextReading → List (List ℕ) → List ℕ → Compared → Result T PartErr → Type 0
-RefusesIndex told files base reader terms docs_of old result =
-    (collection : List ℕ) → IsIndexOf reader files terms docs_of collection → ComparedIn told files base collection 0 old → IfErr result (Refutes (ListsStand files base collection))
+-- all terms are compared, where none was before
+pub record AllCompared {T : Type 0} (told : SureStore → Option Files) (r : TextReading) (files : Option Files) (of : Indexed) (old new : Compared) (result : Result T PartErr) : Type 0 where
+  -- the lexicon in memory has them
+  pub can : OnOk result (CanCompareIn told of (length of.table.now.terms) new)
+  -- they agree with the collection whose text is read
+  pub agree : ForIndex r files of (λ collection. ComparedIn told files of collection 0 old → OnOk result (ComparedIn told files of collection (length of.table.now.terms) new))
+  -- a refusal tells that Post and Skip are not the lists of that collection
+  pub other : ForIndex r files of (λ collection. ComparedIn told files of collection 0 old → IfErr result (Refutes (ListsStand files of.base.now collection)))
+
+-- the index is compared
+pub record IndexCompared {T : Type 0} (r : TextReading) (files : Option Files) (of : Indexed) (result : Result T PartErr) : Type 0 where
+  -- Post, Skip, Lex and LexAt are those of the collection whose text is read
+  pub stand : ForIndex r files of (λ collection. OnOk result (IndexStands files of.base.now collection))
+  -- a refusal tells that they are not
+  pub other : ForIndex r files of (λ collection. IfErr result (Refutes (IndexStands files of.base.now collection)))
+
+-- ---- what a comparison of the index starts from
+
+-- a reader of a text, its terms, and how many documents may have each
+pub record CanIndex (r : TextReading) (files : Option Files) (of : Indexed) : Type 0 where
+  -- the text and its terms
+  pub text : HasTerms r files of.table.now of.documents
+  -- each term has some of so many documents
+  pub sizes : AreSizes of.docs.now (length of.table.now.terms) of.documents
+  -- no collection has more
+  pub most : of.documents ≤ 2 ^ 24
+
+-- lists of a range of terms, which has some
+pub record IsRange (w : Ranged) (of : Indexed) : Type 0 where
+  pub some : 1 ≤ length w.next
+  -- each is a term of the table
+  pub range : w.first + length w.next ≤ length of.table.now.terms
+  -- each list is within its room, which is for some of so many documents
+  pub laid : IsLaidOut w
+  pub rooms : AreRooms w of.documents
+  pub most : of.documents ≤ 2 ^ 24
+  -- the table's terms rise, and are few
+  pub few : length of.table.now.terms ≤ 2 ^ 22
+  pub rising : IsStrictlySortedBy (slice_cmp nat_cmp) of.table.now.terms
+
+-- postings of a document may be added to the lists of a range of a table's terms
+pub record CanFill (w : Ranged) (table : TermNumbers) : Type 0 where
+  pub laid : IsLaidOut w
+  pub range : w.first + length w.next ≤ length table.terms
+
+-- a range may be compared, behind what was
+pub record CanCompareRange (told : SureStore → Option Files) (of : Indexed) (w : Ranged) (compared : Compared) : Type 0 where
+  -- it is one of the table's terms
+  pub range : IsRange w of
+  -- the terms before it were compared
+  pub can : CanCompareIn told of w.first compared
+
+-- no list was written
+pub record IsNewLists (told : SureStore → Option Files) (all : ℕ) (lists : NewLists) : Type 0 where
+  pub took : Took lists.writer (told lists.store) [] []
+  pub nothing : lists.writer.total ≡ 0
+  pub between : lists.writer.pushed ≡ 0
+  -- they are to be of so many documents
+  pub all_are : lists.writer.all ≡ all
+  -- where they go
+  pub post : lists.writer.post.name ≡ full_name (codes "new") part.Post
+  pub skip : lists.writer.skip.name ≡ full_name (codes "new") part.Skip
+
+-- lists are written in memory, told of the moments before and after
+pub record WritesOn {T : Type 0} (old new : NewLists) (result : Result T PartErr) : Type 0 where
+  -- the writer writes the same files, of lists among as many documents
+  pub same : SameFiles old.writer new.writer
+  -- no store is asked
+  pub own : IfErr result IsNotDevice
+
+-- lists are written, and the lexicon of their terms
+pub record WritesTerms {T : Type 0} (old new : NewLists) (lexicon lexicon_now : Lexicon) (result : Result T PartErr) : Type 0 where
+  pub lists : WritesOn old new result
+  -- the lexicon goes where it went
+  pub base : lexicon_now.writer.base ≡ lexicon.writer.base
+
+-- lists of a range may be written behind others of Post and Skip
+pub record CanWrite (lists : NewLists) (w : Ranged) (of : Indexed) (before : Places) : Type 0 where
+  -- it is one of the table's terms
+  pub range : IsRange w of
+  -- they are to be of so many documents
+  pub all_are : lists.writer.all ≡ of.documents
+  -- no part has a byte behind
+  pub place : before.post ≤ 2 ^ 63
+
+-- nothing was compared
+pub record IsStart (told : SureStore → Option Files) (compared : Compared) : Type 0 where
+  pub can : (of : Indexed) → CanCompareIn told of 0 compared
+  pub none : (files : Option Files) (of : Indexed) (collection : List ℕ) → ComparedIn told files of collection 0 compared

@@ -1,16 +1,19 @@
 -- What of a set is compared behind its text: the head's numbers that the text does not tell, and the parts that tell of terms.
-use Rattle.std.specs.Prelude.{◌≡◌, ◌*◌, ℕ, List, length, IfErr}
+use Rattle.std.specs.Prelude.{◌≡◌, ◌*◌, ℕ, List, length, IfErr, OnOk}
 use Rattle.std.specs.declared.option.Option.{Option}
 use Rattle.std.specs.declared.result.Result.{Result}
 use Rattle.mg_dev.specs.Files.{Files}
 use Rattle.mg_dev.specs.declared.part_err.PartErr.{PartErr}
+use Rattle.mg_defs.specs.Means.{StandForNone}
 use Rattle.mg_defs.specs.Occurrences.{occurrences}
 use Rattle.mg_defs.specs.Stands.{Parts, post_part, skip_count}
 use Rattle.mg_defs.specs.Terms.{dictionary}
+use Rattle.mg_layout.specs.Stands.{parts_at}
 use Rattle.mg_layout.specs.declared.head.Head.{Head}
 use Rattle.mg_check.specs.Counting.{TermsStand}
+use Rattle.mg_check.specs.Found.{StandsWith}
 use Rattle.mg_check.specs.Listing.{IndexStands}
-use Rattle.mg_check_text.specs.Refusals.{Refutes}
+use Rattle.mg_check_text.specs.Refusals.{OnBad, Refutes}
 
 -- the head has as many terms and occurrences as a collection, and the sizes of its lists and skip entries
 pub record AreNumbers (head : Head) (collection : List ℕ) : Type 0 where
@@ -40,6 +43,13 @@ pub record RestStands (files : Option Files) (base : List ℕ) (head : Head) (co
   pub numbers : AreNumbers head collection
   pub terms : TermsStand base files head.cap collection
   pub index : IndexStands files base collection
+
+-- a set is checked, where this is known of it
+pub record SetChecked {T : Type 0} (known : Type 0) (files : Option Files) (base : List ℕ) (head : Head) (result : Result T PartErr) : Type 0 where
+  -- yes: its files stand for a collection of as many documents and bytes as the head has
+  pub stands : known → OnOk result (StandsWith files base head.documents head.collection)
+  -- a damage: they stand for none
+  pub none : known → OnBad result (StandForNone (parts_at files base))
 
 -- a refusal tells that Weights and Run are not those of the collection
 abbrev pub RefutesTerms : {T : Type 0} → Option Files → List ℕ → ℕ → Result T PartErr → List ℕ → Type 0

@@ -1,20 +1,18 @@
 //! A set whose head is known against the one collection that it can stand for.
-ghost use Rattle.std.specs.Prelude.{◌≡◌, ◌<◌, ◌≤◌, ◌^◌, ℕ, max, IfErr, IsSome, OnOk};
-ghost use Rattle.mg_dev.specs.PartCauses.{HasPartCause};
+ghost use Rattle.std.specs.Prelude.{◌≡◌, ◌<◌, ◌≤◌, ◌^◌, max, IfErr, IsSome, OnOk};
+ghost use Rattle.mg_dev.specs.Moments.{Between};
 ghost use Rattle.mg_defs.specs.Heads.{IsWithin};
-ghost use Rattle.mg_defs.specs.Means.{IsModel, StandForNone};
 ghost use Rattle.mg_layout.specs.HeadAnswers.{fields_of};
 ghost use Rattle.mg_layout.specs.Stands.{parts_at};
-ghost use Rattle.mg_model.specs.Terms.{terms_and_numbers};
-ghost use Rattle.mg_text.specs.Reading.{TextFits, WhereTextStands};
+ghost use Rattle.mg_text.specs.Reading.{TextReading, WhereTextStands};
 ghost use Rattle.mg_check_text.specs.Checking.{HasHead, IsLoaded};
-ghost use Rattle.mg_check_text.specs.Refusals.{OnBad, Refutes};
-ghost use Rattle.mg_check.specs.Found.{StandsWith};
-ghost use Rattle.mg_check_text.specs.Reads.{reads_outside};
-ghost use Rattle.mg_check.specs.Rest.{HaveSizes, IsTold, PartsStand, RefutesParts, RefutesRest, RestStands};
+ghost use Rattle.mg_check_text.specs.Reads.{HasTerms, LooksAtSet, ReadsBy};
+ghost use Rattle.mg_check_text.specs.Refusals.{IsNotDevice, Refutes};
+ghost use Rattle.mg_check.specs.Rest.{HaveSizes, IsTold, PartsStand, RefutesParts, RefutesRest, RestStands, SetChecked};
 
 use crate::counting::check_terms;
 use crate::index::check_index;
+use crate::indexed::Indexed;
 use crate::lists::SKIP_ENTRY_BYTES;
 use mg_check_text::{load_text, read_text};
 use mg_defs::{LEAST_BUDGET, OCCURRENCE_BYTES};
@@ -44,7 +42,7 @@ fn occurrences_at(version: u8) -> u64 {
 fn expect_number(at: u64, counted: u64, found: u64) -> Result<(), PartErr>
     ensures same { OnOk result (found ≡ counted) }
     ensures other { IfErr result (Refutes (found ≡ counted)) }
-    ensures cause { (faults : ℕ) → HasPartCause faults faults result }
+    ensures own { IfErr result IsNotDevice }
 {
     if found == counted {
         return Ok(());
@@ -63,9 +61,7 @@ fn expect_sizes<S: Store>(store: &mut S, base: &str, head: &Head) -> Result<(), 
     requires entries { head.now.skip_count < 2 ^ 32 }
     ensures sizes { IsSome (S.files store.old) → OnOk result (HaveSizes (parts_at (S.files store.old) base.now) head.now) }
     ensures other { IsSome (S.files store.old) → IfErr result (Refutes (HaveSizes (parts_at (S.files store.old) base.now) head.now)) }
-    ensures files { S.files store.new ≡ S.files store.old }
-    ensures unread { reads_outside (S.reads store.new) ≡ reads_outside (S.reads store.old) }
-    ensures cause { HasPartCause (S.faults store.old) (S.faults store.new) result }
+    ensures looks { Between S.files S.reads S.faults store.old store.new (LooksAtSet result) }
 {
     let post = FileRef {
         base,
@@ -79,10 +75,7 @@ fn expect_sizes<S: Store>(store: &mut S, base: &str, head: &Head) -> Result<(), 
         Ok(()) => {}
         Err(refusal) => return Err(refusal),
     }
-    match expect_size(store, skip, SKIP_ENTRY_BYTES * head.skip_count) {
-        Ok(()) => Ok(()),
-        Err(refusal) => Err(refusal),
-    }
+    expect_size(store, skip, SKIP_ENTRY_BYTES * head.skip_count)
 }
 
 // How many occurrences go to a run where they are compared: as many as the head tells, or all of them where they are fewer.
@@ -106,9 +99,7 @@ fn expect_told<S: Store>(store: &mut S, base: &str, head: &Head, terms: u64) -> 
     requires entries { head.now.skip_count < 2 ^ 32 }
     ensures told { IsSome (S.files store.old) → OnOk result (IsTold (parts_at (S.files store.old) base.now) head.now terms) }
     ensures other { IsSome (S.files store.old) → IfErr result (Refutes (IsTold (parts_at (S.files store.old) base.now) head.now terms)) }
-    ensures files { S.files store.new ≡ S.files store.old }
-    ensures unread { reads_outside (S.reads store.new) ≡ reads_outside (S.reads store.old) }
-    ensures cause { HasPartCause (S.faults store.old) (S.faults store.new) result }
+    ensures looks { Between S.files S.reads S.faults store.old store.new (LooksAtSet result) }
 {
     match expect_number(TERMS_AT, terms, u64::from(head.terms)) {
         Ok(()) => {}
@@ -127,15 +118,11 @@ fn check_parts<S: Store>(
     reader: &mut TextReader<'_, S>,
     table: &TermTable,
 ) -> Result<(), PartErr>
-    requires within { IsWithin (fields_of head.now) }
-    requires fits { TextFits reader.old (S.files store.old) }
-    requires documents { reader.old.documents ≡ head.now.documents }
-    requires table { table.now ≡ terms_and_numbers reader.old.code.words.pieces }
+    requires reads { ReadsBy reader.old (S.files store.old) head.now }
+    requires text { HasTerms reader.old (S.files store.old) table.now head.now.documents }
     ensures stand { WhereTextStands reader.old (S.files store.old) (λ collection. OnOk result (PartsStand (S.files store.old) base.now head.now collection)) }
     ensures other { WhereTextStands reader.old (S.files store.old) (RefutesParts (S.files store.old) base.now head.now result) }
-    ensures files { S.files store.new ≡ S.files store.old }
-    ensures unread { reads_outside (S.reads store.new) ≡ reads_outside (S.reads store.old) }
-    ensures cause { HasPartCause (S.faults store.old) (S.faults store.new) result }
+    ensures looks { Between S.files S.reads S.faults store.old store.new (LooksAtSet result) }
 {
     let documents = head.documents;
     let size = run_size(head);
@@ -148,7 +135,13 @@ fn check_parts<S: Store>(
         Ok(()) => {}
         Err(refusal) => return Err(refusal),
     }
-    check_index(alloc, store, base, reader, table, &counts.docs, documents)
+    let of = Indexed {
+        base,
+        table,
+        docs: &counts.docs,
+        documents,
+    };
+    check_index(alloc, store, reader, &of)
 }
 
 // Sees that the numbers of the head that the text does not tell, and the six parts that tell of terms, are those of the
@@ -160,14 +153,10 @@ fn check_rest<S: Store>(
     head: &Head,
     reader: &mut TextReader<'_, S>,
 ) -> Result<(), PartErr>
-    requires within { IsWithin (fields_of head.now) }
-    requires fits { TextFits reader.old (S.files store.old) }
-    requires documents { reader.old.documents ≡ head.now.documents }
+    requires reads { ReadsBy reader.old (S.files store.old) head.now }
     ensures stand { WhereTextStands reader.old (S.files store.old) (λ collection. OnOk result (RestStands (S.files store.old) base.now head.now collection)) }
     ensures other { WhereTextStands reader.old (S.files store.old) (RefutesRest (S.files store.old) base.now head.now result) }
-    ensures files { S.files store.new ≡ S.files store.old }
-    ensures unread { reads_outside (S.reads store.new) ≡ reads_outside (S.reads store.old) }
-    ensures cause { HasPartCause (S.faults store.old) (S.faults store.new) result }
+    ensures looks { Between S.files S.reads S.faults store.old store.new (LooksAtSet result) }
 {
     let table = match TermTable::of(alloc, reader.model()) {
         Ok(table) => table,
@@ -189,23 +178,66 @@ fn check_loaded<S: Store>(
     head: &Head,
     reader: &mut TextReader<'_, S>,
 ) -> Result<(), PartErr>
-    requires within { IsWithin (fields_of head.now) }
-    requires fits { TextFits reader.old (S.files store.old) }
-    requires documents { reader.old.documents ≡ head.now.documents }
-    requires model { IsModel reader.old.code }
-    ensures stands { IsLoaded (S.files store.old) base.now head.now reader.old →
-        OnOk result (StandsWith (S.files store.old) base.now head.now.documents head.now.collection) }
-    ensures none { IsLoaded (S.files store.old) base.now head.now reader.old →
-        OnBad result (StandForNone (parts_at (S.files store.old) base.now)) }
-    ensures files { S.files store.new ≡ S.files store.old }
-    ensures unread { reads_outside (S.reads store.new) ≡ reads_outside (S.reads store.old) }
-    ensures cause { HasPartCause (S.faults store.old) (S.faults store.new) result }
+    requires reads { ReadsBy reader.old (S.files store.old) head.now }
+    ensures set { SetChecked (IsLoaded (S.files store.old) base.now head.now reader.old)
+        (S.files store.old) base.now head.now result }
+    ensures looks { Between S.files S.reads S.faults store.old store.new (LooksAtSet result) }
 {
     match read_text(alloc, store, base, head, reader) {
         Ok(()) => {}
         Err(refusal) => return Err(refusal),
     }
     check_rest(alloc, store, base, head, reader)
+}
+
+/// A loaded text, of which no more is seen than this by who drops it.
+trait LoadedText<S: Store> {
+    /// What contracts see of its reader.
+    ghost reading: { Self → TextReading };
+
+    /// Checks that the parts of the set are those of a collection.
+    fn check(
+        &mut self,
+        alloc: Global,
+        store: &mut S,
+        base: &str,
+        head: &Head,
+    ) -> Result<(), PartErr>
+        requires reads { ReadsBy (reading self.old) (S.files store.old) head.now }
+        ensures set { SetChecked (IsLoaded (S.files store.old) base.now head.now (reading self.old))
+            (S.files store.old) base.now head.now result }
+        ensures looks { Between S.files S.reads S.faults store.old store.new (LooksAtSet result) };
+}
+
+impl<'a, S: Store> LoadedText<S> for TextReader<'a, S> {
+    ghost reading = { λ r. r };
+
+    fn check(
+        &mut self,
+        alloc: Global,
+        store: &mut S,
+        base: &str,
+        head: &Head,
+    ) -> Result<(), PartErr> {
+        check_loaded(alloc, store, base, head, self)
+    }
+}
+
+// Checks a set by its loaded text, which is dropped here: so who loads it has none of its parts to drop.
+fn check_by<S: Store, T: LoadedText<S> + Drop>(
+    alloc: Global,
+    store: &mut S,
+    base: &str,
+    head: &Head,
+    text: T,
+) -> Result<(), PartErr>
+    requires reads { ReadsBy (T.reading text) (S.files store.old) head.now }
+    ensures set { SetChecked (IsLoaded (S.files store.old) base.now head.now (T.reading text))
+        (S.files store.old) base.now head.now result }
+    ensures looks { Between S.files S.reads S.faults store.old store.new (LooksAtSet result) }
+{
+    let mut text = text;
+    text.check(alloc, store, base, head)
 }
 
 /// Checks a set with this head: that its parts are those of a collection, which the text tells.
@@ -216,15 +248,12 @@ pub(crate) fn check_set<S: Store>(
     head: &Head,
 ) -> Result<(), PartErr>
     requires within { IsWithin (fields_of head.now) }
-    ensures stands { HasHead (S.files store.old) base.now head.now →
-        OnOk result (StandsWith (S.files store.old) base.now head.now.documents head.now.collection) }
-    ensures none { HasHead (S.files store.old) base.now head.now → OnBad result (StandForNone (parts_at (S.files store.old) base.now)) }
-    ensures files { S.files store.new ≡ S.files store.old }
-    ensures unread { reads_outside (S.reads store.new) ≡ reads_outside (S.reads store.old) }
-    ensures cause { HasPartCause (S.faults store.old) (S.faults store.new) result }
+    ensures set { SetChecked (HasHead (S.files store.old) base.now head.now)
+        (S.files store.old) base.now head.now result }
+    ensures looks { Between S.files S.reads S.faults store.old store.new (LooksAtSet result) }
 {
     match load_text(alloc, store, base, head) {
-        Ok(mut reader) => check_loaded(alloc, store, base, head, &mut reader),
+        Ok(reader) => check_by(alloc, store, base, head, reader),
         Err(refusal) => Err(refusal),
     }
 }

@@ -1,10 +1,10 @@
 //! A part that is compared with the bytes that it is to have, as they come.
-ghost use Rattle.std.specs.Prelude.{◌≡◌, ◌≢◌, ◌+◌, ◌≤◌, ◌^◌, length, true, Err, IsSome, OnOk};
+ghost use Rattle.std.specs.Prelude.{◌≡◌, ◌+◌, ◌≤◌, ◌^◌, length, true, IsSome, OnOk};
 ghost use Rattle.mg_dev.specs.Names.{full_name};
-ghost use Rattle.mg_dev.specs.PartCauses.{HasPartCause};
+ghost use Rattle.mg_dev.specs.Moments.{Between};
 ghost use Rattle.mg_check_text.specs.Refusals.{WhereBad};
 ghost use Rattle.mg_check.specs.Counting.{HasBegunMore, GoesOnOtherwise, EndsThere, EndsElsewhere};
-ghost use Rattle.mg_check_text.specs.Reads.{is_of_set, reads_outside};
+ghost use Rattle.mg_check_text.specs.Reads.{LooksAtSet, is_of_set};
 
 use mg_dev::{FileRef, Part, PartErr, Store};
 use mg_layout::{expect_bytes, expect_size};
@@ -48,10 +48,7 @@ impl<'a> Comparison<'a> {
         ensures bad { IsSome (S.files store.old) → WhereBad (GoesOnOtherwise self.old (S.files store.old) wanted.now) result }
         ensures at { OnOk result (self.new.at ≡ self.old.at + length wanted.now) }
         ensures name { self.new.name ≡ self.old.name }
-        ensures memory { result ≢ Err PartErr.Memory }
-        ensures files { S.files store.new ≡ S.files store.old }
-        ensures unread { reads_outside (S.reads store.new) ≡ reads_outside (S.reads store.old) }
-        ensures cause { HasPartCause (S.faults store.old) (S.faults store.new) result }
+        ensures looks { Between S.files S.reads S.faults store.old store.new (LooksAtSet result) }
     {
         let file = FileRef {
             base: self.base,
@@ -69,10 +66,7 @@ impl<'a> Comparison<'a> {
     pub(crate) fn finish<S: Store>(&self, store: &mut S) -> Result<(), PartErr>
         ensures done { IsSome (S.files store.old) → OnOk result (EndsThere self.now (S.files store.old)) }
         ensures bad { IsSome (S.files store.old) → WhereBad (EndsElsewhere self.now (S.files store.old)) result }
-        ensures memory { result ≢ Err PartErr.Memory }
-        ensures files { S.files store.new ≡ S.files store.old }
-        ensures unread { reads_outside (S.reads store.new) ≡ reads_outside (S.reads store.old) }
-        ensures cause { HasPartCause (S.faults store.old) (S.faults store.new) result }
+        ensures looks { Between S.files S.reads S.faults store.old store.new (LooksAtSet result) }
     {
         let file = FileRef {
             base: self.base,

@@ -2,25 +2,21 @@
 //!
 //! The text is read once for each range of terms. The range's lists are written anew, and Post and Skip are compared with
 //! them. What is to stand of all terms is held, and at last the lexicon is compared with it.
-ghost use Rattle.std.specs.Prelude.{◌≡◌, ◌<◌, ◌≤◌, ◌+◌, ◌-◌, ◌^◌, IfErr, IfOk, OnOk, length};
+ghost use Rattle.std.specs.Prelude.{◌≡◌, ◌<◌, ◌≤◌, ◌+◌, IfErr, IfOk, OnOk, length};
 ghost use Rattle.mg_dev.specs.Bads.{IsNotBad};
-ghost use Rattle.mg_dev.specs.PartCauses.{HasPartCause};
-ghost use Rattle.mg_model.specs.Terms.{terms_and_numbers};
-ghost use Rattle.mg_text.specs.Reading.{SameText, TextFits};
-ghost use Rattle.mg_check.specs.Listing.{AreRooms, AreSizes, IndexStands, IsLaidOut, ListsStand, ForIndex, AreListsOf, RefutesIndex, ForEnds, CanCompareIn, ComparesIndex, RefusesIndex};
+ghost use Rattle.mg_dev.specs.Moments.{Between};
+ghost use Rattle.mg_check_text.specs.Reads.{HasTerms, LooksAtSet, ReadsText};
 ghost use Rattle.mg_check_text.specs.Refusals.{Refutes};
-ghost use Rattle.mg_check_text.specs.Reads.{reads_outside};
+ghost use Rattle.mg_check.specs.Listing.{AllCompared, AreListsOf, CanCompareIn, CanIndex, ForEnds, ForIndex, IndexCompared, IsRange, IsStart, ListsStand, NextCompared};
 
-use crate::lexicon::Lexicon;
+use crate::indexed::Indexed;
 use crate::lists::{Compared, Places, check_lists};
 use crate::postings::{RangeLists, read_postings};
 use crate::ranges::{are_sizes, range_end};
-use mg_check_text::{DocTerms, Held};
-use mg_defs::{COLLECTION_BYTES, DOCUMENTS};
+use mg_defs::DOCUMENTS;
 use mg_dev::{Bad, FileRef, Part, PartErr, Store};
 use mg_layout::expect_size;
 use mg_mem::SureStore;
-use mg_model::TermTable;
 use mg_text::TextReader;
 use std::alloc::{AllocError, Global};
 
@@ -40,45 +36,54 @@ fn read_range<S: Store>(
     alloc: Global,
     store: &mut S,
     reader: &mut TextReader<'_, S>,
-    table: &TermTable,
-    docs: &[u32],
-    documents: u32,
+    of: &Indexed<'_>,
     first: u32,
 ) -> Result<RangeLists, PartErr>
-    requires fits { TextFits reader.old (S.files store.old) }
-    requires all { documents ≡ reader.old.documents }
-    requires table { table.now ≡ terms_and_numbers reader.old.code.words.pieces }
-    requires few { length table.now.terms ≤ 2 ^ 22 }
-    requires sizes { AreSizes docs.now (length table.now.terms) documents }
-    requires most { documents ≤ 2 ^ 24 }
-    requires more { first < length table.now.terms }
-    ensures fits { TextFits reader.new (S.files store.new) }
-    ensures same { SameText reader.old reader.new }
+    requires index { CanIndex reader.old (S.files store.old) of.now }
+    requires more { first < length of.now.table.now.terms }
     ensures first { IfOk result (λ lists. lists.first ≡ first) }
-    ensures some { IfOk result (λ lists. 1 ≤ length lists.next) }
-    ensures range { IfOk result (λ lists. first + length lists.next ≤ length table.now.terms) }
-    ensures laid { IfOk result (λ lists. IsLaidOut lists) }
-    ensures rooms { IfOk result (λ lists. AreRooms lists documents) }
-    ensures held { ForIndex reader.old (S.files store.old) table.now docs.now (λ collection. IfOk result (AreListsOf table.now.terms documents collection)) }
-    ensures never_bad { ForIndex reader.old (S.files store.old) table.now docs.now (λ _. IfErr result IsNotBad) }
-    ensures files { S.files store.new ≡ S.files store.old }
-    ensures unread { reads_outside (S.reads store.new) ≡ reads_outside (S.reads store.old) }
-    ensures cause { HasPartCause (S.faults store.old) (S.faults store.new) result }
+    ensures range { IfOk result (λ lists. IsRange lists of.now) }
+    ensures held { ForIndex reader.old (S.files store.old) of.now
+        (λ collection. IfOk result (AreListsOf of.now collection)) }
+    ensures never_bad { ForIndex reader.old (S.files store.old) of.now
+        (λ _. IfErr result IsNotBad) }
+    ensures text { Between S.files S.reads S.faults store.old store.new
+        (ReadsText reader.old reader.new result) }
 {
-    let end = range_end(docs, first);
-    let mut lists = match RangeLists::new(alloc, docs, first, end) {
+    let end = range_end(of.docs, first);
+    let mut lists = match RangeLists::new(alloc, of.docs, first, end) {
         Ok(lists) => lists,
         Err(AllocError) => return Err(PartErr::Memory),
     };
-    let mut held = Held::new(alloc, COLLECTION_BYTES);
-    let mut terms = match DocTerms::new(alloc) {
-        Ok(terms) => terms,
-        Err(AllocError) => return Err(PartErr::Memory),
-    };
-    match read_postings(
-        store, reader, table, documents, &mut held, &mut terms, &mut lists,
-    ) {
+    match read_postings(alloc, store, reader, of, &mut lists) {
         Ok(()) => Ok(lists),
+        Err(refusal) => Err(refusal),
+    }
+}
+
+// Sees that Post and Skip go on with the lists of the range that begins at a term. Answers the term behind the range.
+fn check_range<S: Store>(
+    alloc: Global,
+    store: &mut S,
+    reader: &mut TextReader<'_, S>,
+    of: &Indexed<'_>,
+    first: u32,
+    compared: &mut Compared<'_>,
+) -> Result<u32, PartErr>
+    requires index { CanIndex reader.old (S.files store.old) of.now }
+    requires more { first < length of.now.table.now.terms }
+    requires can { CanCompareIn ⟦<SureStore as Store>⟧.files of.now first compared.old }
+    ensures next { NextCompared ⟦<SureStore as Store>⟧.files reader.old (S.files store.old)
+        of.now first compared.old compared.new result }
+    ensures text { Between S.files S.reads S.faults store.old store.new
+        (ReadsText reader.old reader.new result) }
+{
+    let lists = match read_range(alloc, store, reader, of, first) {
+        Ok(lists) => lists,
+        Err(refusal) => return Err(refusal),
+    };
+    match check_lists(alloc, store, of, &lists, compared) {
+        Ok(()) => Ok(first + lists.count() as u32),
         Err(refusal) => Err(refusal),
     }
 }
@@ -87,41 +92,24 @@ fn read_range<S: Store>(
 fn check_ranges<S: Store>(
     alloc: Global,
     store: &mut S,
-    base: &str,
     reader: &mut TextReader<'_, S>,
-    table: &TermTable,
-    docs: &[u32],
-    documents: u32,
+    of: &Indexed<'_>,
     compared: &mut Compared<'_>,
 ) -> Result<(), PartErr>
-    requires fits { TextFits reader.old (S.files store.old) }
-    requires all { documents ≡ reader.old.documents }
-    requires table { table.now ≡ terms_and_numbers reader.old.code.words.pieces }
-    requires sizes { AreSizes docs.now (length table.now.terms) documents }
-    requires most { documents ≤ 2 ^ 24 }
-    requires can { CanCompareIn ⟦<SureStore as Store>⟧.files table.now.terms 0 compared.old }
-    ensures fits { TextFits reader.new (S.files store.new) }
-    ensures same { SameText reader.old reader.new }
-    ensures can { OnOk result (CanCompareIn ⟦<SureStore as Store>⟧.files table.now.terms (length table.now.terms) compared.new) }
-    ensures agree { ComparesIndex ⟦<SureStore as Store>⟧.files (S.files store.old) base.now reader.old table.now.terms docs.now
-        compared.old compared.new result }
-    ensures other { RefusesIndex ⟦<SureStore as Store>⟧.files (S.files store.old) base.now reader.old table.now.terms docs.now compared.old result }
-    ensures files { S.files store.new ≡ S.files store.old }
-    ensures unread { reads_outside (S.reads store.new) ≡ reads_outside (S.reads store.old) }
-    ensures cause { HasPartCause (S.faults store.old) (S.faults store.new) result }
+    requires index { CanIndex reader.old (S.files store.old) of.now }
+    requires can { CanCompareIn ⟦<SureStore as Store>⟧.files of.now 0 compared.old }
+    ensures all { AllCompared ⟦<SureStore as Store>⟧.files reader.old (S.files store.old)
+        of.now compared.old compared.new result }
+    ensures text { Between S.files S.reads S.faults store.old store.new
+        (ReadsText reader.old reader.new result) }
 {
-    let terms = table.count();
+    let terms = of.table.count();
     let mut first = 0;
     while first < terms {
-        let lists = match read_range(alloc, store, reader, table, docs, documents, first) {
-            Ok(lists) => lists,
-            Err(refusal) => return Err(refusal),
-        };
-        match check_lists(alloc, store, base, documents, &lists, table, compared) {
-            Ok(()) => {}
+        match check_range(alloc, store, reader, of, first, compared) {
+            Ok(next) => first = next,
             Err(refusal) => return Err(refusal),
         }
-        first += lists.count() as u32;
     }
     Ok(())
 }
@@ -130,9 +118,7 @@ fn check_ranges<S: Store>(
 fn expect_ends<S: Store>(store: &mut S, base: &str, ends: Places) -> Result<(), PartErr>
     ensures stand { ForEnds (S.files store.old) base.now ends (λ collection. OnOk result (ListsStand (S.files store.old) base.now collection)) }
     ensures other { ForEnds (S.files store.old) base.now ends (λ collection. IfErr result (Refutes (ListsStand (S.files store.old) base.now collection))) }
-    ensures files { S.files store.new ≡ S.files store.old }
-    ensures unread { reads_outside (S.reads store.new) ≡ reads_outside (S.reads store.old) }
-    ensures cause { HasPartCause (S.faults store.old) (S.faults store.new) result }
+    ensures looks { Between S.files S.reads S.faults store.old store.new (LooksAtSet result) }
 {
     let lists = FileRef {
         base,
@@ -146,10 +132,32 @@ fn expect_ends<S: Store>(store: &mut S, base: &str, ends: Places) -> Result<(), 
         base,
         part: Part::Skip,
     };
-    match expect_size(store, entries, ends.skip) {
-        Ok(()) => Ok(()),
-        Err(refusal) => Err(refusal),
+    expect_size(store, entries, ends.skip)
+}
+
+// The same where the numbers of documents may be those of a collection, and nothing was compared.
+fn compare_index<S: Store>(
+    alloc: Global,
+    store: &mut S,
+    reader: &mut TextReader<'_, S>,
+    of: &Indexed<'_>,
+    compared: &mut Compared<'_>,
+) -> Result<(), PartErr>
+    requires index { CanIndex reader.old (S.files store.old) of.now }
+    requires start { IsStart ⟦<SureStore as Store>⟧.files compared.old }
+    ensures index { IndexCompared reader.old (S.files store.old) of.now result }
+    ensures text { Between S.files S.reads S.faults store.old store.new
+        (ReadsText reader.old reader.new result) }
+{
+    match check_ranges(alloc, store, reader, of, compared) {
+        Ok(()) => {}
+        Err(refusal) => return Err(refusal),
     }
+    match expect_ends(store, of.base, compared.places) {
+        Ok(()) => {}
+        Err(refusal) => return Err(refusal),
+    }
+    compared.lexicon.check(store, of.base)
 }
 
 /// Sees that Post, Skip, Lex and LexAt are the index of the collection whose text is read, where so many documents have
@@ -157,51 +165,20 @@ fn expect_ends<S: Store>(store: &mut S, base: &str, ends: Places) -> Result<(), 
 pub(crate) fn check_index<S: Store>(
     alloc: Global,
     store: &mut S,
-    base: &str,
     reader: &mut TextReader<'_, S>,
-    table: &TermTable,
-    docs: &[u32],
-    documents: u32,
+    of: &Indexed<'_>,
 ) -> Result<(), PartErr>
-    requires fits { TextFits reader.old (S.files store.old) }
-    requires all { documents ≡ reader.old.documents }
-    requires table { table.now ≡ terms_and_numbers reader.old.code.words.pieces }
-    ensures fits { TextFits reader.new (S.files store.new) }
-    ensures same { SameText reader.old reader.new }
-    ensures stand { ForIndex reader.old (S.files store.old) table.now docs.now
-        (λ collection. OnOk result (IndexStands (S.files store.old) base.now collection)) }
-    ensures other { ForIndex reader.old (S.files store.old) table.now docs.now (RefutesIndex (S.files store.old) base.now result) }
-    ensures files { S.files store.new ≡ S.files store.old }
-    ensures unread { reads_outside (S.reads store.new) ≡ reads_outside (S.reads store.old) }
-    ensures cause { HasPartCause (S.faults store.old) (S.faults store.new) result }
+    requires text { HasTerms reader.old (S.files store.old) of.now.table.now of.now.documents }
+    ensures index { IndexCompared reader.old (S.files store.old) of.now result }
+    ensures text { Between S.files S.reads S.faults store.old store.new
+        (ReadsText reader.old reader.new result) }
 {
-    if documents > DOCUMENTS || !are_sizes(docs, table.count(), documents) {
-        return Err(PartErr::Bad(other_sizes(documents)));
+    if of.documents > DOCUMENTS || !are_sizes(of.docs, of.table.count(), of.documents) {
+        return Err(PartErr::Bad(other_sizes(of.documents)));
     }
-    let lexicon = match Lexicon::start(alloc) {
-        Ok(lexicon) => lexicon,
+    let mut compared = match Compared::start(alloc) {
+        Ok(compared) => compared,
         Err(AllocError) => return Err(PartErr::Memory),
     };
-    let mut compared = Compared {
-        places: Places { post: 0, skip: 0 },
-        lexicon,
-    };
-    match check_ranges(
-        alloc,
-        store,
-        base,
-        reader,
-        table,
-        docs,
-        documents,
-        &mut compared,
-    ) {
-        Ok(()) => {}
-        Err(refusal) => return Err(refusal),
-    }
-    match expect_ends(store, base, compared.places) {
-        Ok(()) => {}
-        Err(refusal) => return Err(refusal),
-    }
-    compared.lexicon.check(store, base)
+    compare_index(alloc, store, reader, of, &mut compared)
 }

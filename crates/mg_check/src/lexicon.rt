@@ -3,10 +3,10 @@ ghost use Rattle.std.specs.Prelude.{◌≡◌, ◌<◌, ◌≤◌, ◌+◌, ◌^
 ghost use Rattle.std.specs.Cmp.Lexicographic.{slice_cmp};
 ghost use Rattle.std.specs.List.Sorted.{IsStrictlySortedBy};
 ghost use Rattle.std.specs.Ordering.{nat_cmp};
-ghost use Rattle.mg_dev.specs.PartCauses.{HasPartCause};
+ghost use Rattle.mg_dev.specs.Moments.{Between};
 ghost use Rattle.mg_lex.specs.Writing.{TookTerms};
 ghost use Rattle.mg_check.specs.Listing.{CanPush, TakesTerm, FindsLexicon, RefusesLexicon};
-ghost use Rattle.mg_check_text.specs.Reads.{reads_outside};
+ghost use Rattle.mg_check_text.specs.Reads.{LooksAtSet};
 
 use mg_check_text::{expect_whole, wanted};
 use mg_dev::{FileRef, Part, PartErr, Store};
@@ -62,9 +62,7 @@ impl<'a> Lexicon<'a> {
         requires base { self.old.writer.base ≡ codes "new" }
         ensures stand { FindsLexicon ⟦<SureStore as Store>⟧.files self.old (S.files store.old) base.now result }
         ensures other { RefusesLexicon ⟦<SureStore as Store>⟧.files self.old (S.files store.old) base.now result }
-        ensures files { S.files store.new ≡ S.files store.old }
-        ensures unread { reads_outside (S.reads store.new) ≡ reads_outside (S.reads store.old) }
-        ensures cause { HasPartCause (S.faults store.old) (S.faults store.new) result }
+        ensures looks { Between S.files S.reads S.faults store.old store.new (LooksAtSet result) }
     {
         // By this law the entries of a collection's terms are its lexicon.
         lexicon_has_its_terms();

@@ -9,6 +9,7 @@ mod comparison;
 mod counting;
 mod found;
 mod index;
+mod indexed;
 mod lexicon;
 mod lists;
 mod postings;

@@ -8,15 +8,16 @@ ghost use Rattle.std.specs.List.Sorted.{IsStrictlySortedBy};
 ghost use Rattle.std.specs.Ordering.{nat_cmp};
 ghost use Rattle.mg_dev.specs.Bads.{IsNotBad};
 ghost use Rattle.mg_dev.specs.Names.{full_name};
-ghost use Rattle.mg_dev.specs.PartCauses.{HasPartCause};
+ghost use Rattle.mg_dev.specs.Moments.{Between};
 ghost use Rattle.mg_dev.specs.declared.part.Part.TheVariants as part;
 ghost use Rattle.mg_defs.specs.declared.Posting.{Posting};
 ghost use Rattle.mg_defs.specs.Lists.{Rises};
-ghost use Rattle.mg_post.specs.Writing.{Pushed, PushedMore, SameFiles, Took};
+ghost use Rattle.mg_post.specs.Writing.{Pushed, PushedMore, Took};
 ghost use Rattle.mg_layout.specs.Infos.{info_of};
-ghost use Rattle.mg_check.specs.Listing.{AreBehind, ArePlaces, AreRooms, CanList, CanPush, IsLaidOut, IsNotDevice, end_of_range, TookPosting, TookPostings, TookList, ForWritten, AreEndsOf, FindsFollowing, RefutesFollowing, CanPushIn, ForListed, ListsOn, CanCompareIn, ComparesRange, RefusesRange};
-ghost use Rattle.mg_check_text.specs.Reads.{reads_outside};
+ghost use Rattle.mg_check.specs.Listing.{AreBehind, ArePlaces, CanList, CanWrite, IsNewLists, IsStart, RangeCompared, WritesOn, WritesTerms, TookPosting, TookPostings, TookList, ForWritten, AreEndsOf, FindsFollowing, RefutesFollowing, CanPushIn, ForListed, ListsOn, CanCompareRange};
+ghost use Rattle.mg_check_text.specs.Reads.{LooksAtSet};
 
+use crate::indexed::Indexed;
 use crate::lexicon::Lexicon;
 use crate::postings::RangeLists;
 use mg_check_text::{expect_more, wanted};
@@ -81,12 +82,7 @@ impl<'a> NewLists<'a> {
     // No list among so many documents.
     fn start(alloc: Global, all: u32) -> Result<Self, AllocError>
         requires all { all ≤ 2 ^ 24 }
-        ensures took { IfOk result (λ lists. Took lists.writer (⟦<SureStore as Store>⟧.files lists.store) [] []) }
-        ensures nothing { IfOk result (λ lists. lists.writer.total ≡ 0) }
-        ensures between { IfOk result (λ lists. lists.writer.pushed ≡ 0) }
-        ensures all { IfOk result (λ lists. lists.writer.all ≡ all) }
-        ensures post { IfOk result (λ lists. lists.writer.post.name ≡ full_name (codes "new") part.Post) }
-        ensures skip { IfOk result (λ lists. lists.writer.skip.name ≡ full_name (codes "new") part.Skip) }
+        ensures new { IfOk result (IsNewLists ⟦<SureStore as Store>⟧.files all) }
     {
         let mut store = SureStore::new(alloc);
         match ListWriter::start(alloc, &mut store, "new", all) {
@@ -106,9 +102,8 @@ impl<'a> NewLists<'a> {
         ensures took { OnOk result (TookPosting ⟦<SureStore as Store>⟧.files self.old self.new posting) }
         ensures pushed { OnOk result (Pushed self.old.writer self.new.writer posting.doc) }
         ensures within { OnOk result (posting.doc ≤ all) }
-        ensures same { SameFiles self.old.writer self.new.writer }
         ensures never_bad { (left : List Posting) → Rises all last (posting ∷ left) → IfErr result (λ refusal. IsNotBad refusal) }
-        ensures own { IfErr result (λ refusal. IsNotDevice refusal) }
+        ensures step { WritesOn self.old self.new result }
     {
         let doc = u64::from(posting.doc);
         if posting.doc <= last {
@@ -137,9 +132,8 @@ impl<'a> NewLists<'a> {
         requires total { self.old.writer.total + length postings.now ≤ 2 ^ 32 }
         ensures took { OnOk result (TookPostings ⟦<SureStore as Store>⟧.files self.old self.new postings.now) }
         ensures pushed { OnOk result (PushedMore self.old.writer self.new.writer (length postings.now)) }
-        ensures same { SameFiles self.old.writer self.new.writer }
         ensures never_bad { Rises all 0 postings.now → IfErr result (λ refusal. IsNotBad refusal) }
-        ensures own { IfErr result (λ refusal. IsNotDevice refusal) }
+        ensures step { WritesOn self.old self.new result }
     {
         let mut last = 0;
         for posting in postings {
@@ -164,9 +158,8 @@ impl<'a> NewLists<'a> {
         ensures answer { IfOk result (AreEndsOf ⟦<SureStore as Store>⟧.files self.old all) }
         ensures between { OnOk result (self.new.writer.pushed ≡ 0) }
         ensures total { OnOk result (self.new.writer.total ≡ self.old.writer.total + count) }
-        ensures same { SameFiles self.old.writer self.new.writer }
         ensures never_bad { Rises all 0 postings.now → length postings.now ≡ count → IfErr result (λ refusal. IsNotBad refusal) }
-        ensures own { IfErr result (λ refusal. IsNotDevice refusal) }
+        ensures step { WritesOn self.old self.new result }
     {
         if postings.len() != count as usize {
             let wanted = u64::from(count);
@@ -192,31 +185,26 @@ impl<'a> NewLists<'a> {
         &mut self,
         lists: &RangeLists,
         index: usize,
-        table: &TermTable,
-        all: u32,
+        of: &Indexed<'_>,
         before: Places,
         lexicon: &mut Lexicon<'_>,
     ) -> Result<(), PartErr>
-        requires laid { IsLaidOut lists.now }
+        requires write { CanWrite self.old lists.now of.now before }
         requires index { index < length lists.now.next }
-        requires range { lists.now.first + length lists.now.next ≤ length table.now.terms }
-        requires few { length table.now.terms ≤ 2 ^ 22 }
-        requires rising { IsStrictlySortedBy (slice_cmp nat_cmp) table.now.terms }
-        requires all { self.old.writer.all ≡ all }
-        requires place { before.post ≤ 2 ^ 63 }
         requires can { CanList lists.now index self.old.writer (⟦<SureStore as Store>⟧.files self.old.store) }
-        requires push { CanPush table.now.terms (lists.now.first + index) lexicon.old.writer (⟦<SureStore as Store>⟧.files lexicon.old.store) }
+        requires push { CanPushIn ⟦<SureStore as Store>⟧.files of.now.table.now.terms
+            (lists.now.first + index) lexicon.old }
         ensures can { OnOk result (CanList lists.now (index + 1) self.new.writer (⟦<SureStore as Store>⟧.files self.new.store)) }
-        ensures push { OnOk result (CanPush table.now.terms (lists.now.first + (index + 1))
-            lexicon.new.writer (⟦<SureStore as Store>⟧.files lexicon.new.store)) }
-        ensures listed { ListsOn ⟦<SureStore as Store>⟧.files lists.now table.now before index (index + 1) self.old self.new lexicon.old lexicon.new result }
-        ensures never_bad { ForListed ⟦<SureStore as Store>⟧.files lists.now table.now before index self.old lexicon.old (IfErr result IsNotBad) }
-        ensures own { IfErr result (λ refusal. IsNotDevice refusal) }
-        ensures same { SameFiles self.old.writer self.new.writer }
-        ensures base { lexicon.new.writer.base ≡ lexicon.old.writer.base }
+        ensures push { OnOk result (CanPushIn ⟦<SureStore as Store>⟧.files of.now.table.now.terms
+            (lists.now.first + (index + 1)) lexicon.new) }
+        ensures listed { ListsOn ⟦<SureStore as Store>⟧.files lists.now of.now.table.now before
+            index (index + 1) self.old self.new lexicon.old lexicon.new result }
+        ensures never_bad { ForListed ⟦<SureStore as Store>⟧.files lists.now of.now.table.now before
+            index self.old lexicon.old (IfErr result IsNotBad) }
+        ensures step { WritesTerms self.old self.new lexicon.old lexicon.new result }
     {
         let docs = lists.room(index);
-        let at = match self.write(lists.list(index), docs, all) {
+        let at = match self.write(lists.list(index), docs, of.documents) {
             Ok(at) => at,
             Err(refusal) => return Err(refusal),
         };
@@ -224,7 +212,7 @@ impl<'a> NewLists<'a> {
             Some(info) => info,
             None => return Err(PartErr::Bad(other_list(1 << 32, 0, u64::from(u32::MAX)))),
         };
-        match lexicon.push(table, &info) {
+        match lexicon.push(of.table, &info) {
             Ok(()) => Ok(()),
             Err(AllocError) => Err(PartErr::Memory),
         }
@@ -234,30 +222,25 @@ impl<'a> NewLists<'a> {
     fn push_terms(
         &mut self,
         lists: &RangeLists,
-        table: &TermTable,
-        all: u32,
+        of: &Indexed<'_>,
         before: Places,
         lexicon: &mut Lexicon<'_>,
     ) -> Result<(), PartErr>
-        requires laid { IsLaidOut lists.now }
-        requires range { lists.now.first + length lists.now.next ≤ length table.now.terms }
-        requires few { length table.now.terms ≤ 2 ^ 22 }
-        requires rising { IsStrictlySortedBy (slice_cmp nat_cmp) table.now.terms }
-        requires all { self.old.writer.all ≡ all }
-        requires place { before.post ≤ 2 ^ 63 }
+        requires write { CanWrite self.old lists.now of.now before }
         requires can { CanList lists.now 0 self.old.writer (⟦<SureStore as Store>⟧.files self.old.store) }
-        requires push { CanPush table.now.terms lists.now.first lexicon.old.writer (⟦<SureStore as Store>⟧.files lexicon.old.store) }
+        requires push { CanPushIn ⟦<SureStore as Store>⟧.files of.now.table.now.terms
+            lists.now.first lexicon.old }
         ensures can { OnOk result (CanList lists.now (length lists.now.next) self.new.writer (⟦<SureStore as Store>⟧.files self.new.store)) }
-        ensures push { OnOk result (CanPushIn ⟦<SureStore as Store>⟧.files table.now.terms (lists.now.first + length lists.now.next) lexicon.new) }
-        ensures listed { ListsOn ⟦<SureStore as Store>⟧.files lists.now table.now before 0
-            (length lists.now.next) self.old self.new lexicon.old lexicon.new result }
-        ensures never_bad { ForListed ⟦<SureStore as Store>⟧.files lists.now table.now before 0 self.old lexicon.old (IfErr result IsNotBad) }
-        ensures own { IfErr result (λ refusal. IsNotDevice refusal) }
-        ensures same { SameFiles self.old.writer self.new.writer }
-        ensures base { lexicon.new.writer.base ≡ lexicon.old.writer.base }
+        ensures push { OnOk result (CanPushIn ⟦<SureStore as Store>⟧.files of.now.table.now.terms
+            (lists.now.first + length lists.now.next) lexicon.new) }
+        ensures listed { ListsOn ⟦<SureStore as Store>⟧.files lists.now of.now.table.now before
+            0 (length lists.now.next) self.old self.new lexicon.old lexicon.new result }
+        ensures never_bad { ForListed ⟦<SureStore as Store>⟧.files lists.now of.now.table.now before
+            0 self.old lexicon.old (IfErr result IsNotBad) }
+        ensures step { WritesTerms self.old self.new lexicon.old lexicon.new result }
     {
         for index in 0..lists.count() {
-            match self.push_term(lists, index, table, all, before, lexicon) {
+            match self.push_term(lists, index, of, before, lexicon) {
                 Ok(()) => {}
                 Err(refusal) => return Err(refusal),
             }
@@ -281,9 +264,7 @@ impl<'a> NewLists<'a> {
         ensures other { ForWritten ⟦<SureStore as Store>⟧.files self.old (RefutesFollowing (S.files store.old) base.now self.old before result) }
         ensures behind { ForWritten ⟦<SureStore as Store>⟧.files self.old (λ done. IfOk result (λ after. AreBehind self.old.writer.all done before after)) }
         ensures places { IfOk result (λ after. ArePlaces after) }
-        ensures files { S.files store.new ≡ S.files store.old }
-        ensures unread { reads_outside (S.reads store.new) ≡ reads_outside (S.reads store.old) }
-        ensures cause { HasPartCause (S.faults store.old) (S.faults store.new) result }
+        ensures looks { Between S.files S.reads S.faults store.old store.new (LooksAtSet result) }
     {
         match self.writer.finish(&mut self.store) {
             Ok(_) => {}
@@ -306,6 +287,34 @@ impl<'a> NewLists<'a> {
             Err(refusal) => Err(refusal),
         }
     }
+
+    // Writes the lists of a range, sees that Post and Skip go on with them, and pushes what is to stand of its terms.
+    fn check<S: Store>(
+        &mut self,
+        store: &mut S,
+        lists: &RangeLists,
+        of: &Indexed<'_>,
+        compared: &mut Compared<'_>,
+    ) -> Result<(), PartErr>
+        requires new { IsNewLists ⟦<SureStore as Store>⟧.files of.now.documents self.old }
+        requires range { CanCompareRange ⟦<SureStore as Store>⟧.files of.now lists.now compared.old }
+        ensures range { RangeCompared ⟦<SureStore as Store>⟧.files (S.files store.old) of.now
+            lists.now compared.old compared.new result }
+        ensures looks { Between S.files S.reads S.faults store.old store.new (LooksAtSet result) }
+    {
+        let before = compared.places;
+        match self.push_terms(lists, of, before, &mut compared.lexicon) {
+            Ok(()) => {}
+            Err(refusal) => return Err(refusal),
+        }
+        match self.compare(store, of.base, before) {
+            Ok(after) => {
+                compared.places = after;
+                Ok(())
+            }
+            Err(refusal) => Err(refusal),
+        }
+    }
 }
 
 /// What of the index was compared, as far as the terms below a number.
@@ -315,44 +324,37 @@ pub(crate) struct Compared<'a> {
     pub(crate) lexicon: Lexicon<'a>,
 }
 
+impl<'a> Compared<'a> {
+    /// Nothing was compared.
+    pub(crate) fn start(alloc: Global) -> Result<Self, AllocError>
+        ensures { IfOk result (IsStart ⟦<SureStore as Store>⟧.files) }
+    {
+        match Lexicon::start(alloc) {
+            Ok(lexicon) => Ok(Compared {
+                places: Places { post: 0, skip: 0 },
+                lexicon,
+            }),
+            Err(AllocError) => Err(AllocError),
+        }
+    }
+}
+
 /// Sees that Post and Skip go on with the lists of a range, and pushes what is to stand of its terms.
 pub(crate) fn check_lists<S: Store>(
     alloc: Global,
     store: &mut S,
-    base: &str,
-    all: u32,
+    of: &Indexed<'_>,
     lists: &RangeLists,
-    table: &TermTable,
     compared: &mut Compared<'_>,
 ) -> Result<(), PartErr>
-    requires laid { IsLaidOut lists.now }
-    requires rooms { AreRooms lists.now all }
-    requires range { lists.now.first + length lists.now.next ≤ length table.now.terms }
-    requires few { length table.now.terms ≤ 2 ^ 22 }
-    requires rising { IsStrictlySortedBy (slice_cmp nat_cmp) table.now.terms }
-    requires documents { all ≤ 2 ^ 24 }
-    requires can { CanCompareIn ⟦<SureStore as Store>⟧.files table.now.terms lists.now.first compared.old }
-    ensures can { OnOk result (CanCompareIn ⟦<SureStore as Store>⟧.files table.now.terms (end_of_range lists.now) compared.new) }
-    ensures agree { ComparesRange ⟦<SureStore as Store>⟧.files (S.files store.old) base.now lists.now table.now.terms all compared.old compared.new result }
-    ensures other { RefusesRange ⟦<SureStore as Store>⟧.files (S.files store.old) base.now lists.now table.now.terms all compared.old result }
-    ensures files { S.files store.new ≡ S.files store.old }
-    ensures unread { reads_outside (S.reads store.new) ≡ reads_outside (S.reads store.old) }
-    ensures cause { HasPartCause (S.faults store.old) (S.faults store.new) result }
+    requires range { CanCompareRange ⟦<SureStore as Store>⟧.files of.now lists.now compared.old }
+    ensures range { RangeCompared ⟦<SureStore as Store>⟧.files (S.files store.old) of.now
+        lists.now compared.old compared.new result }
+    ensures looks { Between S.files S.reads S.faults store.old store.new (LooksAtSet result) }
 {
-    let before = compared.places;
-    let mut new_lists = match NewLists::start(alloc, all) {
+    let mut new_lists = match NewLists::start(alloc, of.documents) {
         Ok(new_lists) => new_lists,
         Err(AllocError) => return Err(PartErr::Memory),
     };
-    match new_lists.push_terms(lists, table, all, before, &mut compared.lexicon) {
-        Ok(()) => {}
-        Err(refusal) => return Err(refusal),
-    }
-    match new_lists.compare(store, base, before) {
-        Ok(after) => {
-            compared.places = after;
-            Ok(())
-        }
-        Err(refusal) => Err(refusal),
-    }
+    new_lists.check(store, lists, of, compared)
 }

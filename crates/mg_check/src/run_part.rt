@@ -5,13 +5,13 @@
 ghost use Rattle.std.specs.Prelude.{◌≡◌, ◌+◌, ◌-◌, ◌*◌, ◌<◌, ◌≤◌, ◌^◌, ℕ, List, [], length, IfOk, IsSome, Option, OnOk};
 ghost use Rattle.mg_dev.specs.Files.{Files};
 ghost use Rattle.mg_dev.specs.Names.{full_name};
-ghost use Rattle.mg_dev.specs.PartCauses.{HasPartCause};
+ghost use Rattle.mg_dev.specs.Moments.{Between};
 ghost use Rattle.mg_dev.specs.declared.part.Part.TheVariants as part;
 ghost use Rattle.mg_runs.specs.Bytes.{AreEntries};
 ghost use Rattle.mg_runs.specs.Fed.{cap_of};
 ghost use Rattle.mg_check.specs.Counting.{HasTaken, run_bytes, run_of_pool, HasBegunMore, GoesOnOtherwise, HasTakenOne, HasTakenAll, RunsOtherwise, RunsOtherwiseOn, HasBegunRuns, AreItsRuns, AreOtherRuns};
 ghost use Rattle.mg_check_text.specs.Refusals.{WhereBad};
-ghost use Rattle.mg_check_text.specs.Reads.{reads_outside};
+ghost use Rattle.mg_check_text.specs.Reads.{LooksAtSet};
 
 use crate::comparison::Comparison;
 use mg_bits::BitWriter;
@@ -131,9 +131,7 @@ impl<'a> RunPart<'a> {
         ensures slots { OnOk result (self.old.pool.slots ≡ [] → self.new.pool.slots ≡ []) }
         ensures limit { self.new.pool.limit ≡ self.old.pool.limit }
         ensures name { self.new.part.name ≡ self.old.part.name }
-        ensures files { S.files store.new ≡ S.files store.old }
-        ensures unread { reads_outside (S.reads store.new) ≡ reads_outside (S.reads store.old) }
-        ensures cause { HasPartCause (S.faults store.old) (S.faults store.new) result }
+        ensures looks { Between S.files S.reads S.faults store.old store.new (LooksAtSet result) }
     {
         let written = match write_run(self.alloc, &mut self.pool) {
             Ok(written) => written,
@@ -158,9 +156,7 @@ impl<'a> RunPart<'a> {
         ensures bad { IsSome (S.files store.old) → WhereBad (RunsOtherwise self.old (S.files store.old)) result }
         ensures limit { self.new.pool.limit ≡ self.old.pool.limit }
         ensures name { self.new.part.name ≡ self.old.part.name }
-        ensures files { S.files store.new ≡ S.files store.old }
-        ensures unread { reads_outside (S.reads store.new) ≡ reads_outside (S.reads store.old) }
-        ensures cause { HasPartCause (S.faults store.old) (S.faults store.new) result }
+        ensures looks { Between S.files S.reads S.faults store.old store.new (LooksAtSet result) }
     {
         // By this law runs are bytes one after the other.
         ranges_join();
@@ -187,9 +183,7 @@ impl<'a> RunPart<'a> {
         ensures bad { IsSome (S.files store.old) → WhereBad (RunsOtherwiseOn self.old (S.files store.old) doc numbers.now) result }
         ensures limit { self.new.pool.limit ≡ self.old.pool.limit }
         ensures name { self.new.part.name ≡ self.old.part.name }
-        ensures files { S.files store.new ≡ S.files store.old }
-        ensures unread { reads_outside (S.reads store.new) ≡ reads_outside (S.reads store.old) }
-        ensures cause { HasPartCause (S.faults store.old) (S.faults store.new) result }
+        ensures looks { Between S.files S.reads S.faults store.old store.new (LooksAtSet result) }
     {
         for number in numbers {
             match self.push(store, *number, doc) {
@@ -206,9 +200,7 @@ impl<'a> RunPart<'a> {
         ensures begun { OnOk result (HasBegunRuns S.files store.old store.new self.old self.new.part) }
         ensures bad { IsSome (S.files store.old) → WhereBad (AreOtherRuns self.old (S.files store.old)) result }
         ensures name { self.new.part.name ≡ self.old.part.name }
-        ensures files { S.files store.new ≡ S.files store.old }
-        ensures unread { reads_outside (S.reads store.new) ≡ reads_outside (S.reads store.old) }
-        ensures cause { HasPartCause (S.faults store.old) (S.faults store.new) result }
+        ensures looks { Between S.files S.reads S.faults store.old store.new (LooksAtSet result) }
     {
         // By this law runs are bytes one after the other.
         ranges_join();
@@ -226,9 +218,7 @@ impl<'a> RunPart<'a> {
         requires taken { (fed : List (ℕ × ℕ)) × HasTaken self.old (S.files store.old) fed }
         ensures done { IsSome (S.files store.old) → OnOk result (AreItsRuns self.old (S.files store.old)) }
         ensures bad { IsSome (S.files store.old) → WhereBad (AreOtherRuns self.old (S.files store.old)) result }
-        ensures files { S.files store.new ≡ S.files store.old }
-        ensures unread { reads_outside (S.reads store.new) ≡ reads_outside (S.reads store.old) }
-        ensures cause { HasPartCause (S.faults store.old) (S.faults store.new) result }
+        ensures looks { Between S.files S.reads S.faults store.old store.new (LooksAtSet result) }
     {
         match self.compare_rest(store) {
             Ok(()) => {}

@@ -2,17 +2,17 @@
 ghost use Rattle.std.specs.Prelude.{◌≡◌, ◌+◌, ◌≤◌, ◌<◌, ◌^◌, ℕ, List, [], length, All, IfOk, IsSome, Option, OnOk};
 ghost use Rattle.mg_dev.specs.Files.{Files};
 ghost use Rattle.mg_dev.specs.Names.{full_name};
-ghost use Rattle.mg_dev.specs.PartCauses.{HasPartCause};
+ghost use Rattle.mg_dev.specs.Moments.{Between};
 ghost use Rattle.mg_dev.specs.declared.part.Part.TheVariants as part;
 ghost use Rattle.mg_runs.specs.Fed.{cap_of};
 ghost use Rattle.mg_check.specs.Counting.{CanAdd, HasTallied, NoneGoesOn, NotTallied, SameParts, one_more_each, TalliedNext, AreTallied};
 ghost use Rattle.mg_check_text.specs.TermsRead.{IsCounted};
 ghost use Rattle.mg_check_text.specs.Refusals.{WhereBad};
-ghost use Rattle.mg_check_text.specs.Reads.{reads_outside};
+ghost use Rattle.mg_check_text.specs.Reads.{LooksAtSet};
 
 use crate::run_part::RunPart;
 use crate::weights::Weights;
-use mg_check_text::{DocTerms, weight_of};
+use mg_check_text::{TermReader, weight_of};
 use mg_dev::{Bad, Part, PartErr, Store};
 use mg_laws::few_of_each;
 use std::alloc::{AllocError, Global};
@@ -92,15 +92,13 @@ impl<'a> Tally<'a> {
         &mut self,
         store: &mut S,
         number: u32,
-        terms: &DocTerms,
+        terms: &TermReader,
     ) -> Result<(), PartErr>
         requires can { CanAdd self.old (S.files store.old) number terms.now }
         ensures tallied { OnOk result (TalliedNext S.files store.old store.new self.old self.new number terms.now) }
         ensures bad { IsSome (S.files store.old) → WhereBad (NoneGoesOn self.old (S.files store.old) number terms.now) result }
         ensures same { SameParts self.old self.new }
-        ensures files { S.files store.new ≡ S.files store.old }
-        ensures unread { reads_outside (S.reads store.new) ≡ reads_outside (S.reads store.old) }
-        ensures cause { HasPartCause (S.faults store.old) (S.faults store.new) result }
+        ensures looks { Between S.files S.reads S.faults store.old store.new (LooksAtSet result) }
     {
         // By this law there are no more occurrences than bytes.
         few_of_each();
@@ -128,9 +126,7 @@ impl<'a> Tally<'a> {
         ensures bad { IsSome (S.files store.old) → WhereBad (NotTallied self.old (S.files store.old)) result }
         ensures docs { self.new.docs ≡ self.old.docs }
         ensures occurrences { self.new.occurrences ≡ self.old.occurrences }
-        ensures files { S.files store.new ≡ S.files store.old }
-        ensures unread { reads_outside (S.reads store.new) ≡ reads_outside (S.reads store.old) }
-        ensures cause { HasPartCause (S.faults store.old) (S.faults store.new) result }
+        ensures looks { Between S.files S.reads S.faults store.old store.new (LooksAtSet result) }
     {
         match self.weights.finish(store) {
             Ok(()) => {}

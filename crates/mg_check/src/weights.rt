@@ -2,12 +2,12 @@
 ghost use Rattle.std.specs.Prelude.{◌≡◌, ◌+◌, ◌≤◌, ◌^◌, ◌++◌, ℕ, List, [], length, IsSome, Option, OnOk};
 ghost use Rattle.mg_dev.specs.Files.{Files};
 ghost use Rattle.mg_dev.specs.Names.{full_name};
-ghost use Rattle.mg_dev.specs.PartCauses.{HasPartCause};
+ghost use Rattle.mg_dev.specs.Moments.{Between};
 ghost use Rattle.mg_dev.specs.declared.part.Part.TheVariants as part;
 ghost use Rattle.mg_defs.specs.Numbers.{four};
 ghost use Rattle.mg_check.specs.Counting.{HasWeighed, HasWeighedMore, WeighsOtherwise, WeighsOtherwiseOn, AreItsWeights, AreOtherWeights};
 ghost use Rattle.mg_check_text.specs.Refusals.{WhereBad};
-ghost use Rattle.mg_check_text.specs.Reads.{reads_outside};
+ghost use Rattle.mg_check_text.specs.Reads.{LooksAtSet};
 
 use crate::comparison::Comparison;
 use mg_dev::{Part, PartErr, Store};
@@ -53,9 +53,7 @@ impl<'a> Weights<'a> {
         ensures bad { IsSome (S.files store.old) → WhereBad (WeighsOtherwiseOn self.old (S.files store.old) (four weight)) result }
         ensures size { OnOk result (self.new.part.at + length self.new.held ≡ self.old.part.at + length self.old.held + 4) }
         ensures name { self.new.part.name ≡ self.old.part.name }
-        ensures files { S.files store.new ≡ S.files store.old }
-        ensures unread { reads_outside (S.reads store.new) ≡ reads_outside (S.reads store.old) }
-        ensures cause { HasPartCause (S.faults store.old) (S.faults store.new) result }
+        ensures looks { Between S.files S.reads S.faults store.old store.new (LooksAtSet result) }
     {
         match self.hold(weight) {
             Ok(()) => {}
@@ -84,9 +82,7 @@ impl<'a> Weights<'a> {
         ensures bad { IsSome (S.files store.old) → WhereBad (WeighsOtherwise self.old (S.files store.old)) result }
         ensures size { OnOk result (self.new.part.at + length self.new.held ≡ self.old.part.at + length self.old.held) }
         ensures name { self.new.part.name ≡ self.old.part.name }
-        ensures files { S.files store.new ≡ S.files store.old }
-        ensures unread { reads_outside (S.reads store.new) ≡ reads_outside (S.reads store.old) }
-        ensures cause { HasPartCause (S.faults store.old) (S.faults store.new) result }
+        ensures looks { Between S.files S.reads S.faults store.old store.new (LooksAtSet result) }
     {
         match self.part.expect(store, &self.held) {
             Ok(()) => {}
@@ -101,9 +97,7 @@ impl<'a> Weights<'a> {
         requires place { self.old.part.at + length self.old.held ≤ 2 ^ 63 }
         ensures done { IsSome (S.files store.old) → OnOk result (AreItsWeights self.old (S.files store.old)) }
         ensures bad { IsSome (S.files store.old) → WhereBad (AreOtherWeights self.old (S.files store.old)) result }
-        ensures files { S.files store.new ≡ S.files store.old }
-        ensures unread { reads_outside (S.reads store.new) ≡ reads_outside (S.reads store.old) }
-        ensures cause { HasPartCause (S.faults store.old) (S.faults store.new) result }
+        ensures looks { Between S.files S.reads S.faults store.old store.new (LooksAtSet result) }
     {
         match self.compare(store) {
             Ok(()) => {}

@@ -43,7 +43,14 @@ use Rattle.mg_layout.specs.Contents.{ReadsOnly}
 use Rattle.mg_check_text.specs.Reads.{is_of_set, reads_outside}
 use Rattle.mg_check_text.proofs.CountedTerms as counted
 use Rattle.mg_check_text.proofs.NextLaws as next
-use Rattle.mg_check_text.proofs.UnreadLaws as unread
+-- readers of the same text
+pub use Rattle.mg_check_text.proofs.LookLaws.{same_text, text_more, terms_here, terms_stay}
+pub use Rattle.mg_check_text.proofs.NextLaws.{reads_on}
+-- calls one behind another, and with another answer
+pub use Rattle.mg_check_text.proofs.LookLaws.{cause_behind, cause_own, looks_none, looks_own, looks_ok, looks_err, looks_bad, looks_pure, looks_then}
+pub use Rattle.mg_check_text.proofs.LookLaws.{text_none, text_own, text_ok, text_err, text_bad, text_pure, text_then, text_looks}
+-- calls that read a part of a set
+pub use Rattle.mg_check_text.proofs.UnreadLaws.{looks_bytes, looks_size, head_read}
 
 -- ---- a text that stands
 
@@ -66,31 +73,9 @@ doc_short collection n few = by_place (cases_lt n (length (documents collection)
     by_place (inl lt) = omega (arith, few, docs_within collection, sum_by_more_le (λ (d : List ℕ). length d) (documents collection) n [] lt)
     by_place (inr past) = omega (arith, ap (λ (d : List ℕ). length d) (get_or_past (documents collection) n [] past))
 
-pub same_text : (r : TextReading) → SameText r r
-same_text r = record { text = refl; places = refl; code = refl; version = refl; documents = refl; size = refl }
-
-pub text_more : (a b c : TextReading) → SameText a b → SameText b c → SameText a c
-text_more a b c one two = record {
-  text = two.text ∙ one.text;
-  places = two.places ∙ one.places;
-  code = two.code ∙ one.code;
-  version = two.version ∙ one.version;
-  documents = two.documents ∙ one.documents;
-  size = two.size ∙ one.size;
-}
-
 -- what stands for a reader does so for what the reader became, while no file changes
 pub stands_on : (r now : TextReading) (files files_now : Option Files) (collection : List ℕ) → SameText r now → files_now ≡ files → TextStands r files collection → TextStands now files_now collection
 stands_on r now files files_now collection same stay stands = text_stays r now files files_now collection same (ap is_some stay) (ap (λ f. file_at f r.text.name) stay) (ap (λ f. file_at f r.places.name) stay) stands
-
-pub caused_more : {T : Type 0} (a b c : ℕ) (result : Result T PartErr) → a ≤ b → HasPartCause b c result → HasPartCause a c result
-caused_more a b c (Ok value) le cause = record { later = omega (arith, cause.later, le); device = tt }
-caused_more a b c (Err Device) le cause = record { later = omega (arith, cause.later, le); device = rose_behind a b c le cause.device }
-  where
-    rose_behind : (a b c : ℕ) → a ≤ b → Rose b c → Rose a c
-    rose_behind a b c le rose = omega (arith, le, rose)
-caused_more a b c (Err Memory) le cause = record { later = omega (arith, cause.later, le); device = tt }
-caused_more a b c (Err (Bad bad)) le cause = record { later = omega (arith, cause.later, le); device = tt }
 
 -- ---- a document that was read
 
@@ -152,13 +137,3 @@ head-few head within = next.head-few head within
 -- terms rise by their numbers
 pub rising_of : (t : TermNumbers) (words : List (List ℕ)) → t ≡ terms_and_numbers words → IsStrictlySortedBy (slice_cmp nat_cmp) t.terms
 rising_of t words is = counted.rising_of t words is
-
--- what was not read, or of a set alone, leaves the reads of other parts
-pub none_read : (r s : Reads) → SameReads r s → reads_outside s ≡ reads_outside r
-none_read r s same = unread.none_read r s same
-
-pub one_of_set : (r s : Reads) (p : Part) → is_of_set p ≡ true → ReadsOnly p r s → reads_outside s ≡ reads_outside r
-one_of_set r s p of_set only = unread.one_of_set r s p of_set only
-
-pub head_read : (r s : Reads) → SameReads r s ⊎ OneRead r s part.Head → reads_outside s ≡ reads_outside r
-head_read r s one = unread.head_read r s one

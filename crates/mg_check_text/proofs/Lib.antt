@@ -1,4 +1,4 @@
-mod ReadLaws
+mod LookLaws
 mod UnreadLaws
 mod UseLaws
 mod CodeLaws

@@ -11,7 +11,7 @@ use Rattle.mg_defs.specs.declared.Stream.TheVariants.{Words, Others}
 use Rattle.mg_defs.specs.CodedText.{TextCode, coded_size}
 use Rattle.mg_defs.specs.Heads as defs
 use Rattle.mg_defs.specs.Limits.{limits}
-use Rattle.mg_defs.specs.Means.{StandForNone, Tell}
+use Rattle.mg_defs.specs.Means.{IsModel, StandForNone, Tell}
 use Rattle.mg_defs.specs.Parse.{parse}
 use Rattle.mg_defs.specs.Split.{IsDocument, documents}
 use Rattle.mg_defs.specs.Stands.{Parts}
@@ -21,7 +21,8 @@ use Rattle.mg_defs.proofs.SplitLaws.{documents_split}
 use Rattle.mg_layout.specs.HeadAnswers.{fields_of}
 use Rattle.mg_layout.specs.Stands.{parts_at}
 use Rattle.mg_layout.specs.declared.head.Head.{Head}
-use Rattle.mg_text.specs.Reading.{SameText, TextReading, TextStands}
+use Rattle.mg_text.specs.Reading.{SameText, TextFits, TextReading, TextStands}
+use Rattle.mg_check_text.specs.Reads.{ReadsBy}
 use Rattle.mg_check_text.specs.Checking.{FoundDocs, FoundNext, FoundText, HasAdded, HasRead, IsAtEnd, IsInRange, IsLoaded, IsNextDoc}
 use Rattle.mg_check_text.specs.Refusals.{IfBad, OnBad, Refutes}
 use Rattle.mg_check_text.specs.declared.progress.Progress.{Progress}
@@ -192,3 +193,12 @@ pub text-none : (files : Option Files) (base : List ℕ) (head : Head) (r : Text
 text-none files base head r p Device loaded found all other = tt
 text-none files base head r p Memory loaded found all other = tt
 text-none files base head r p (Bad bad) loaded found all other = λ collection stand. other (end-of files base head r found.docs p collection loaded found.so all stand)
+
+-- a reader of the set that has read on
+pub reads_on : {r now : TextReading} {files files_now : Option Files} {head : Head} → ReadsBy r files head → TextFits now files_now → SameText r now → ReadsBy now files_now head
+reads_on {head = head} reads fits same = record {
+  within = reads.within;
+  fits = fits;
+  documents = same.documents ∙ reads.documents;
+  model = subst (λ (code : TextCode). IsModel code) (sym same.code) reads.model;
+}

@@ -26,3 +26,9 @@ abbrev pub Refutes : Type 0 → PartErr → Type 0
 Refutes P Device = Unit {0}
 Refutes P Memory = Unit {0}
 Refutes P (Bad bad) = P → ⊥
+
+-- a refusal that no device is the cause of
+abbrev pub IsNotDevice : PartErr → Type 0
+IsNotDevice Device = ⊥
+IsNotDevice Memory = Unit {0}
+IsNotDevice (Bad bad) = Unit {0}

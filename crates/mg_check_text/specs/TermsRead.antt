@@ -1,8 +1,16 @@
 -- The terms of a document that was read last, and how often each comes.
-use Rattle.std.specs.Prelude.{ℕ, ◌+◌, ◌*◌, ◌<◌, ◌≤◌, ◌^◌, ◌==◌, nat_eq, nat_lt, if◌then◌else◌, List, [], ◌∷◌, map, filter, sum_by, count_by}
+use Rattle.std.specs.Prelude.{◌≡◌, ℕ, ◌+◌, ◌-◌, ◌*◌, ◌<◌, ◌≤◌, ◌^◌, ◌==◌, nat_eq, nat_lt, if◌then◌else◌, List, [], ◌∷◌, All, length, map, filter, sum_by, count_by}
+use Rattle.std.specs.Cmp.Lexicographic.{slice_cmp}
 use Rattle.std.specs.List.{enumerate_from}
+use Rattle.std.specs.List.Sorted.{IsStrictlySortedBy}
+use Rattle.std.specs.Ordering.{nat_cmp}
+use Rattle.std.specs.declared.option.Option.{Option}
+use Rattle.mg_dev.specs.Files.{Files}
 use Rattle.mg_defs.specs.Fixed.{isqrt}
+use Rattle.mg_defs.specs.Terms.{document}
 use Rattle.mg_defs.specs.Weights.{weight_in_doc}
+use Rattle.mg_text.specs.Reading.{TextReading, TextStands}
+use Rattle.mg_check_text.specs.Documents.{counted_in, numbers_in}
 
 -- the numbers of the terms that were read last, in reading order, and how often each comes
 pub record TermsRead : Type 0 where
@@ -29,3 +37,26 @@ pub record IsCounted (terms : ℕ) (e : ℕ × ℕ) : Type 0 where
 -- the weight of a document, by how often it has each of its terms
 abbrev pub weight_of_counts : List (ℕ × ℕ) → ℕ
 weight_of_counts counted = isqrt (sum_by (λ (e : ℕ × ℕ). weight_in_doc e.1 * weight_in_doc e.1) counted)
+
+-- the terms that were read are those of a document, by this dictionary
+pub record AreTermsOf (words : List (List ℕ)) (doc : List ℕ) (t : TermsRead) : Type 0 where
+  -- the terms of the dictionary rise
+  pub rising : IsStrictlySortedBy (slice_cmp nat_cmp) words
+  -- no dictionary has more
+  pub few : length words ≤ 2 ^ 22
+  -- the numbers of the document's terms, in reading order
+  pub numbers : t.numbers ≡ numbers_in words doc
+  -- each is that of a term
+  pub within : All (λ n. n < length words) t.numbers
+  -- how often each of the distinct ones comes
+  pub counted : t.counted ≡ counted_in words doc
+  -- each is a term, which comes at least once
+  pub counts : All (IsCounted (length words)) t.counted
+  -- no document has more terms
+  pub short : length t.numbers < 2 ^ 32
+
+-- The terms that were read are those of a document. Where the reader's text is that of a collection, it is the one of this number, from 1.
+pub record HasReadTerms (r : TextReading) (files : Option Files) (words : List (List ℕ)) (number : ℕ) (t : TermsRead) : Type 0 where
+  pub doc : List ℕ
+  pub terms : AreTermsOf words doc t
+  pub own : (collection : List ℕ) → TextStands r files collection → doc ≡ document collection number

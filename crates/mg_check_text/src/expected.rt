@@ -1,10 +1,10 @@
 //! Parts against bytes that were written anew into a store in memory.
 ghost use Rattle.std.specs.Prelude.{◌≡◌, ◌≤◌, ◌+◌, ◌^◌, IfErr, IfOk, OnOk, IsSome, length, true};
 ghost use Rattle.mg_dev.specs.Files.{bytes_at, file_bytes};
-ghost use Rattle.mg_dev.specs.PartCauses.{HasPartCause};
+ghost use Rattle.mg_dev.specs.Moments.{Between};
 ghost use Rattle.mg_layout.specs.Contents.{StandAt};
 ghost use Rattle.mg_check_text.specs.Refusals.{Refutes};
-ghost use Rattle.mg_check_text.specs.Reads.{is_of_set, reads_outside};
+ghost use Rattle.mg_check_text.specs.Reads.{LooksAtSet, is_of_set};
 
 use mg_dev::{FileRef, PartErr, Store};
 use mg_layout::{expect_bytes, expect_size};
@@ -33,9 +33,7 @@ pub fn expect_more<S: Store>(
     ensures within { IfOk result (λ end. end ≤ 2 ^ 63) }
     ensures stand { IsSome (S.files store.old) → OnOk result (StandAt at wanted.now (file_bytes file.entry (S.files store.old))) }
     ensures other { IsSome (S.files store.old) → IfErr result (Refutes (StandAt at wanted.now (file_bytes file.entry (S.files store.old)))) }
-    ensures files { S.files store.new ≡ S.files store.old }
-    ensures unread { reads_outside (S.reads store.new) ≡ reads_outside (S.reads store.old) }
-    ensures cause { HasPartCause (S.faults store.old) (S.faults store.new) result }
+    ensures looks { Between S.files S.reads S.faults store.old store.new (LooksAtSet result) }
 {
     let count = wanted.len() as u64;
     // Behind such a place nothing can be compared; so much is never held in memory.
@@ -57,16 +55,11 @@ pub fn expect_whole<S: Store>(
     requires { is_of_set file.part ≡ true }
     ensures stand { IsSome (S.files store.old) → OnOk result (file_bytes file.entry (S.files store.old) ≡ wanted.now) }
     ensures other { IsSome (S.files store.old) → IfErr result (Refutes (file_bytes file.entry (S.files store.old) ≡ wanted.now)) }
-    ensures files { S.files store.new ≡ S.files store.old }
-    ensures unread { reads_outside (S.reads store.new) ≡ reads_outside (S.reads store.old) }
-    ensures cause { HasPartCause (S.faults store.old) (S.faults store.new) result }
+    ensures looks { Between S.files S.reads S.faults store.old store.new (LooksAtSet result) }
 {
     let end = match expect_more(store, file, 0, wanted) {
         Ok(end) => end,
         Err(refusal) => return Err(refusal),
     };
-    match expect_size(store, file, end) {
-        Ok(()) => Ok(()),
-        Err(refusal) => Err(refusal),
-    }
+    expect_size(store, file, end)
 }

@@ -6,19 +6,17 @@
 
 mod code_doc;
 mod doc_terms;
-mod document;
 mod expected;
-mod held;
 mod load;
 mod next_doc;
 mod progress;
 mod recent;
+mod term_reader;
 mod uses;
 mod whole_text;
 
-pub use doc_terms::{DocTerms, weight_of};
-pub use document::read_doc;
+pub use doc_terms::weight_of;
 pub use expected::{expect_more, expect_whole, wanted};
-pub use held::Held;
 pub use load::load_text;
+pub use term_reader::{TermReader, damaged_document};
 pub use whole_text::read_text;

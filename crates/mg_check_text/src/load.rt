@@ -1,6 +1,6 @@
 //! The codes and the text of a set whose head is known.
-ghost use Rattle.std.specs.Prelude.{◌≡◌, IfOk};
-ghost use Rattle.mg_dev.specs.PartCauses.{HasPartCause};
+ghost use Rattle.std.specs.Prelude.{IfOk};
+ghost use Rattle.mg_dev.specs.Moments.{Between};
 ghost use Rattle.mg_defs.specs.Heads.{IsWithin};
 ghost use Rattle.mg_defs.specs.Means.{IsModel, StandForNone};
 ghost use Rattle.mg_layout.specs.HeadAnswers.{fields_of};
@@ -8,7 +8,7 @@ ghost use Rattle.mg_layout.specs.Stands.{parts_at};
 ghost use Rattle.mg_text.specs.Reading.{IsTextReader, TextFits};
 ghost use Rattle.mg_check_text.specs.Checking.{HasHead, IsLoaded};
 ghost use Rattle.mg_check_text.specs.Refusals.{OnBad};
-ghost use Rattle.mg_check_text.specs.Reads.{reads_outside};
+ghost use Rattle.mg_check_text.specs.Reads.{LooksAtSet};
 
 use mg_dev::{PartErr, Store};
 use mg_layout::Head;
@@ -37,9 +37,7 @@ pub fn load_text<'a, S: Store>(
     ensures model { IfOk result (λ r. IsModel r.code) }
     ensures told { HasHead (S.files store.old) base.entry.now head.now → IfOk result (λ r. IsLoaded (S.files store.old) base.entry.now head.now r) }
     ensures none { HasHead (S.files store.old) base.entry.now head.now → OnBad result (StandForNone (parts_at (S.files store.old) base.entry.now)) }
-    ensures files { S.files store.new ≡ S.files store.old }
-    ensures unread { reads_outside (S.reads store.new) ≡ reads_outside (S.reads store.old) }
-    ensures cause { HasPartCause (S.faults store.old) (S.faults store.new) result }
+    ensures looks { Between S.files S.reads S.faults store.old store.new (LooksAtSet result) }
 {
     let reader = match TextReader::load(alloc, store, base, head) {
         Ok(reader) => reader,

@@ -1,29 +1,25 @@
 //! One document more of a text that nothing is known of.
 ghost use Rattle.std.specs.Prelude.{◌≡◌, ◌≢◌, ◌+◌, ◌-◌, ◌*◌, ◌<◌, ◌≤◌, ◌^◌, Err, IfErr, IsSome, OnOk, length};
 ghost use Rattle.mg_dev.specs.Bads.{IsNotBad};
-ghost use Rattle.mg_dev.specs.PartCauses.{HasPartCause};
+ghost use Rattle.mg_dev.specs.Moments.{Between};
 ghost use Rattle.mg_defs.specs.CodedText.{coded_size};
-ghost use Rattle.mg_defs.specs.Heads.{IsWithin};
 ghost use Rattle.mg_defs.specs.Means.{IsModel, StandForNone};
 ghost use Rattle.mg_defs.specs.Split.{IsDocument};
-ghost use Rattle.mg_layout.specs.HeadAnswers.{fields_of};
 ghost use Rattle.mg_layout.specs.Stands.{parts_at};
-ghost use Rattle.mg_text.specs.Reading.{SameText, TextFits};
+ghost use Rattle.mg_text.specs.Reading.{TextFits};
 ghost use Rattle.mg_check_text.specs.Checking.{HasAdded, IsInRange, IsNextDoc, ForNextDoc, PlaceStands, FoundMore, WhereRead};
 ghost use Rattle.mg_check_text.specs.Refusals.{OnBad, Refutes};
 ghost use Rattle.mg_check_text.specs.Decoding.{HasRoom};
-ghost use Rattle.mg_check_text.specs.Reads.{reads_outside};
+ghost use Rattle.mg_check_text.specs.Reads.{LooksAtSet, ReadsBy, ReadsText};
 
 use crate::code_doc::code_doc;
-use crate::document::read_doc;
 use crate::expected::expect_more;
-use crate::held::Held;
 use crate::progress::Progress;
 use mg_dev::{Bad, FileRef, Part, PartErr, Store};
 use mg_fields::{eight_bytes, four_bytes};
 use mg_layout::Head;
 use mg_model::TextModel;
-use mg_text::TextReader;
+use mg_text::{HeldDocument, TextReader};
 use std::alloc::Global;
 
 // The byte that closes a document.
@@ -40,9 +36,7 @@ pub(crate) fn expect_place<S: Store>(
     requires narrow { version ≡ 1 → place < 2 ^ 32 }
     ensures stand { IsSome (S.files store.old) → OnOk result (PlaceStands version number place (parts_at (S.files store.old) base.now)) }
     ensures other { IsSome (S.files store.old) → IfErr result (Refutes (PlaceStands version number place (parts_at (S.files store.old) base.now))) }
-    ensures files { S.files store.new ≡ S.files store.old }
-    ensures unread { reads_outside (S.reads store.new) ≡ reads_outside (S.reads store.old) }
-    ensures cause { HasPartCause (S.faults store.old) (S.faults store.new) result }
+    ensures looks { Between S.files S.reads S.faults store.old store.new (LooksAtSet result) }
 {
     let file = FileRef {
         base,
@@ -88,25 +82,22 @@ fn decode_next<S: Store>(
     store: &mut S,
     head: &Head,
     reader: &mut TextReader<'_, S>,
-    held: &mut Held,
+    held: &mut HeldDocument,
     progress: &Progress,
 ) -> Result<(), PartErr>
     requires fits { TextFits reader.old (S.files store.old) }
     requires bytes { progress.now.bytes ≤ head.now.collection }
     requires more { progress.now.documents < reader.old.documents }
     requires few { progress.now.documents < 2 ^ 32 - 1 }
-    ensures fits { TextFits reader.new (S.files store.new) }
-    ensures same { SameText reader.old reader.new }
     ensures document { OnOk result (IsDocument held.new.bytes.items) }
     ensures short { OnOk result (progress.now.bytes + length held.new.bytes.items ≤ head.now.collection) }
     ensures own { ForNextDoc reader.old (S.files store.old) head.now progress.now (λ doc. OnOk result (held.new.bytes.items ≡ doc)) }
     ensures never_bad { ForNextDoc reader.old (S.files store.old) head.now progress.now (λ _. IfErr result IsNotBad) }
-    ensures files { S.files store.new ≡ S.files store.old }
-    ensures unread { reads_outside (S.reads store.new) ≡ reads_outside (S.reads store.old) }
-    ensures cause { HasPartCause (S.faults store.old) (S.faults store.new) result }
+    ensures text { Between S.files S.reads S.faults store.old store.new
+        (ReadsText reader.old reader.new result) }
 {
     held.set_most(head.collection - progress.bytes);
-    match read_doc(store, reader, progress.documents + 1, held) {
+    match held.read(store, reader, progress.documents + 1) {
         Ok(()) => {}
         Err(refusal) => return Err(refusal),
     }
@@ -150,9 +141,7 @@ fn add_doc<S: Store>(
     ensures short { OnOk result (coded_size model.now doc.now ≤ 12 * length doc.now + 13) }
     ensures other { IsSome (S.files store.old) →
         OnBad result (IsNextDoc (parts_at (S.files store.old) base.now) version model.now doc.now progress.old → ⊥) }
-    ensures files { S.files store.new ≡ S.files store.old }
-    ensures unread { reads_outside (S.reads store.new) ≡ reads_outside (S.reads store.old) }
-    ensures cause { HasPartCause (S.faults store.old) (S.faults store.new) result }
+    ensures looks { Between S.files S.reads S.faults store.old store.new (LooksAtSet result) }
 {
     let text = FileRef {
         base,
@@ -186,25 +175,19 @@ pub(crate) fn next_doc<S: Store>(
     base: &str,
     head: &Head,
     reader: &mut TextReader<'_, S>,
-    held: &mut Held,
+    held: &mut HeldDocument,
     progress: &mut Progress,
 ) -> Result<(), PartErr>
-    requires within { IsWithin (fields_of head.now) }
-    requires fits { TextFits reader.old (S.files store.old) }
-    requires documents { reader.old.documents ≡ head.now.documents }
-    requires model { IsModel reader.old.code }
+    requires reads { ReadsBy reader.old (S.files store.old) head.now }
     requires more { progress.old.documents < head.now.documents }
     requires range { IsInRange reader.old.code head.now progress.old }
-    ensures fits { TextFits reader.new (S.files store.new) }
-    ensures same { SameText reader.old reader.new }
     ensures range { OnOk result (IsInRange reader.old.code head.now progress.new) }
     ensures count { OnOk result (progress.new.documents ≡ progress.old.documents + 1) }
     ensures found { IsSome (S.files store.old) → OnOk result (FoundMore (S.files store.old) base.now head.now reader.old progress.old progress.new) }
     ensures none { WhereRead (S.files store.old) base.now head.now reader.old progress.old
         (OnBad result (StandForNone (parts_at (S.files store.old) base.now))) }
-    ensures files { S.files store.new ≡ S.files store.old }
-    ensures unread { reads_outside (S.reads store.new) ≡ reads_outside (S.reads store.old) }
-    ensures cause { HasPartCause (S.faults store.old) (S.faults store.new) result }
+    ensures text { Between S.files S.reads S.faults store.old store.new
+        (ReadsText reader.old reader.new result) }
 {
     match decode_next(store, head, reader, held, progress) {
         Ok(()) => {}

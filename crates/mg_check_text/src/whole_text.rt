@@ -3,24 +3,22 @@
 //! Nothing is trusted: a document is kept only once its own code was found in Text. At the end the parts that are read
 //! so far mean one collection, or the set stands for none.
 ghost use Rattle.std.specs.Prelude.{◌≡◌, ◌<◌, ◌≤◌, ◌^◌, IfOk, IsSome, OnErr, OnOk};
-ghost use Rattle.mg_dev.specs.PartCauses.{HasPartCause};
+ghost use Rattle.mg_dev.specs.Moments.{Between};
 ghost use Rattle.mg_defs.specs.Heads.{IsWithin};
 ghost use Rattle.mg_defs.specs.Means.{IsModel, StandForNone};
 ghost use Rattle.mg_layout.specs.HeadAnswers.{fields_of};
 ghost use Rattle.mg_layout.specs.Stands.{parts_at};
-ghost use Rattle.mg_text.specs.Reading.{SameText, TextFits};
 ghost use Rattle.mg_check_text.specs.Checking.{EndNumbers, FoundDocs, IsAtEnd, IsInRange, IsLoaded, FoundSet};
 ghost use Rattle.mg_check_text.specs.Refusals.{OnBad};
-ghost use Rattle.mg_check_text.specs.Reads.{reads_outside};
+ghost use Rattle.mg_check_text.specs.Reads.{LooksAtSet, ReadsBy, ReadsText};
 
-use crate::held::Held;
 use crate::next_doc::{expect_place, next_doc};
 use crate::progress::Progress;
 use crate::uses::expect_used;
 use mg_dev::{Bad, Part, PartErr, Store};
 use mg_layout::Head;
 use mg_model::{Stream, TextModel};
-use mg_text::TextReader;
+use mg_text::{HeldDocument, TextReader};
 use std::alloc::Global;
 
 // Where the flag of an open end stands in the head, and where the collection's size does.
@@ -36,21 +34,15 @@ fn read_docs<S: Store>(
     head: &Head,
     reader: &mut TextReader<'_, S>,
 ) -> Result<Progress, PartErr>
-    requires within { IsWithin (fields_of head.now) }
-    requires fits { TextFits reader.old (S.files store.old) }
-    requires documents { reader.old.documents ≡ head.now.documents }
-    requires model { IsModel reader.old.code }
-    ensures fits { TextFits reader.new (S.files store.new) }
-    ensures same { SameText reader.old reader.new }
+    requires reads { ReadsBy reader.old (S.files store.old) head.now }
     ensures range { IfOk result (λ p. IsInRange reader.old.code head.now p) }
     ensures all { IfOk result (λ p. p.documents ≡ head.now.documents) }
     ensures found { IsSome (S.files store.old) → IfOk result (λ p. FoundDocs (parts_at (S.files store.old) base.now) head.now.version reader.old.code p) }
     ensures none { IsLoaded (S.files store.old) base.now head.now reader.old → OnBad result (StandForNone (parts_at (S.files store.old) base.now)) }
-    ensures files { S.files store.new ≡ S.files store.old }
-    ensures unread { reads_outside (S.reads store.new) ≡ reads_outside (S.reads store.old) }
-    ensures cause { HasPartCause (S.faults store.old) (S.faults store.new) result }
+    ensures text { Between S.files S.reads S.faults store.old store.new
+        (ReadsText reader.old reader.new result) }
 {
-    let mut held = Held::new(alloc, head.collection);
+    let mut held = HeldDocument::new(alloc, head.collection);
     let mut progress = match Progress::new(alloc, reader.model()) {
         Ok(progress) => progress,
         Err(_) => return Err(PartErr::Memory),
@@ -119,9 +111,7 @@ fn expect_end<S: Store>(
     requires range { IsInRange model.now head.now progress.now }
     ensures ends { IsSome (S.files store.old) → OnOk result (IsAtEnd (parts_at (S.files store.old) base.now) head.now model.now progress.now) }
     ensures other { IsSome (S.files store.old) → OnBad result (IsAtEnd (parts_at (S.files store.old) base.now) head.now model.now progress.now → ⊥) }
-    ensures files { S.files store.new ≡ S.files store.old }
-    ensures unread { reads_outside (S.reads store.new) ≡ reads_outside (S.reads store.old) }
-    ensures cause { HasPartCause (S.faults store.old) (S.faults store.new) result }
+    ensures looks { Between S.files S.reads S.faults store.old store.new (LooksAtSet result) }
 {
     match expect_numbers(head, progress) {
         Ok(()) => {}
@@ -158,17 +148,11 @@ pub fn read_text<S: Store>(
     head: &Head,
     reader: &mut TextReader<'_, S>,
 ) -> Result<(), PartErr>
-    requires within { IsWithin (fields_of head.now) }
-    requires fits { TextFits reader.old (S.files store.old) }
-    requires documents { reader.old.documents ≡ head.now.documents }
-    requires model { IsModel reader.old.code }
-    ensures fits { TextFits reader.new (S.files store.new) }
-    ensures same { SameText reader.old reader.new }
+    requires reads { ReadsBy reader.old (S.files store.old) head.now }
     ensures found { IsLoaded (S.files store.old) base.now head.now reader.old → OnOk result (FoundSet (S.files store.old) base.now head.now reader.old) }
     ensures none { IsLoaded (S.files store.old) base.now head.now reader.old → OnBad result (StandForNone (parts_at (S.files store.old) base.now)) }
-    ensures files { S.files store.new ≡ S.files store.old }
-    ensures unread { reads_outside (S.reads store.new) ≡ reads_outside (S.reads store.old) }
-    ensures cause { HasPartCause (S.faults store.old) (S.faults store.new) result }
+    ensures text { Between S.files S.reads S.faults store.old store.new
+        (ReadsText reader.old reader.new result) }
 {
     let progress = match read_docs(alloc, store, base, head, reader) {
         Ok(progress) => progress,

@@ -1,14 +1,23 @@
-use Rattle.mg_check_text.proofs.CallerLemmas.{caused_more}
+use Rattle.mg_check_text.proofs.CallerLemmas.{looks_then, reads_on}
 use Rattle.mg_check.proofs.RestLaws.{set-none, set-stands}
 use Rattle.mg_check.proofs.checking.check_loaded.Goals as goal
 
-pub returns-clause-stands : goal.returns-clause-stands
-returns-clause-stands g c = λ loaded.
-    set-stands (g.S.Store.files c.args.store.now) (g.S.Store.files c.read_text.new.store) c.args.base.now c.args.head.now c.args.reader.now c.read_text.new.reader c.check_rest.result c.read_text.ensures.files c.read_text.ensures.same loaded (c.in-Ok.ensures.found loaded) c.check_rest.ensures.stand
+pub returns-in-Err-clause-set : goal.returns-in-Err-clause-set
+returns-in-Err-clause-set g c = record { stands = λ loaded. tt; none = c.in-Err.ensures.none }
 
-pub returns-clause-none : goal.returns-clause-none
-returns-clause-none g c = λ loaded.
-    set-none (g.S.Store.files c.args.store.now) (g.S.Store.files c.read_text.new.store) c.args.base.now c.args.head.now c.args.reader.now c.read_text.new.reader c.check_rest.result c.read_text.ensures.files c.read_text.ensures.same loaded (c.in-Ok.ensures.found loaded) c.check_rest.ensures.other
+pub returns-clause-set : goal.returns-clause-set
+returns-clause-set g c = record {
+  stands = λ loaded.
+      set-stands (g.S.Store.files c.args.store.now) (g.S.Store.files c.read_text.new.store) c.args.base.now c.args.head.now c.args.reader.now c.read_text.new.reader c.check_rest.result c.read_text.ensures.text.looks.files c.read_text.ensures.text.same loaded (c.in-Ok.ensures.found loaded) c.check_rest.ensures.stand;
+  none = λ loaded.
+      set-none (g.S.Store.files c.args.store.now) (g.S.Store.files c.read_text.new.store) c.args.base.now c.args.head.now c.args.reader.now c.read_text.new.reader c.check_rest.result c.read_text.ensures.text.looks.files c.read_text.ensures.text.same loaded (c.in-Ok.ensures.found loaded) c.check_rest.ensures.other;
+}
 
-pub returns-clause-cause : goal.returns-clause-cause
-returns-clause-cause g c = caused_more _ (g.S.Store.faults c.read_text.new.store) _ c.check_rest.result c.read_text.ensures.cause.later c.check_rest.ensures.cause
+pub check_rest-requires : goal.check_rest-requires
+check_rest-requires g c = record { reads = reads_on c.requires.reads c.in-Ok.ensures.text.fits c.in-Ok.ensures.text.same }
+
+pub returns-in-Err-clause-looks : goal.returns-in-Err-clause-looks
+returns-in-Err-clause-looks g c = c.in-Err.ensures.text.looks
+
+pub returns-clause-looks : goal.returns-clause-looks
+returns-clause-looks g c = looks_then c.in-Ok.ensures.text.looks c.check_rest.ensures.looks

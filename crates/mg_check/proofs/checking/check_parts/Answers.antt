@@ -4,7 +4,7 @@ use Rattle.mg_check.specs.Counting.{TermsStand}
 use Rattle.mg_check.specs.Listing.{IndexStands}
 use Rattle.mg_check.specs.Rest.{PartsStand}
 use Rattle.mg_check_text.specs.Refusals.{Refutes}
-use Rattle.mg_check_text.proofs.CallerLemmas.{caused_more}
+use Rattle.mg_check_text.proofs.CallerLemmas.{looks_bad, looks_err, looks_then, terms_stay}
 use Rattle.mg_check.proofs.RestLaws.{head-runs, index-of, ok-so, other-so, refutes-so, terms-of-head, terms-of-size}
 use Rattle.mg_check.proofs.checking.check_parts.Goals as goal
 
@@ -19,27 +19,35 @@ returns-in-Err-clause-other g c = λ collection stand.
 pub returns-in-Err-expect_number-clause-other : goal.returns-in-Err-expect_number-clause-other
 returns-in-Err-expect_number-clause-other g c = λ collection stand.
     refutes-so (c.args.head.now.occurrences ≡ c.in-Ok.counts.occurrences) (PartsStand (g.S.Store.files c.args.store.now) c.args.base.now c.args.head.now collection) c.in-Err-expect_number.refusal
-    (λ parts. parts.occurrences_are ∙ sym (c.in-Ok.ensures.occurrences collection stand)) c.in-Err-expect_number.ensures.other
+    (λ parts. parts.occurrences_are ∙ sym ((c.in-Ok.ensures.counted collection stand).occurrences)) c.in-Err-expect_number.ensures.other
 
-pub returns-in-Err-expect_number-clause-cause : goal.returns-in-Err-expect_number-clause-cause
-returns-in-Err-expect_number-clause-cause g c =
-    caused_more _ (g.S.Store.faults c.check_terms.new.store) _ _ c.check_terms.ensures.cause.later (c.in-Err-expect_number.ensures.cause (g.S.Store.faults c.check_terms.new.store))
+pub returns-in-Err-clause-looks : goal.returns-in-Err-clause-looks
+returns-in-Err-clause-looks g c = looks_err c.in-Err.ensures.text.looks
+
+pub returns-in-Err-expect_number-clause-looks : goal.returns-in-Err-expect_number-clause-looks
+returns-in-Err-expect_number-clause-looks g c = looks_bad c.in-Err-expect_number.refusal c.in-Ok.ensures.text.looks c.in-Err-expect_number.ensures.own
+
+pub check_index-requires : goal.check_index-requires
+check_index-requires g c = record { text = terms_stay c.in-Ok.ensures.text.fits c.in-Ok.ensures.text.same c.requires.text }
+
+pub returns-clause-looks : goal.returns-clause-looks
+returns-clause-looks g c = looks_then c.in-Ok.ensures.text.looks c.check_index.ensures.text.looks
 
 pub returns-clause-stand : goal.returns-clause-stand
 returns-clause-stand g c = λ collection stand.
-    let same : g.S.Store.files c.check_terms.new.store ≡ g.S.Store.files c.args.store.now = c.check_terms.ensures.files in
-    let index = index-of (g.S.Store.files c.args.store.now) (g.S.Store.files c.check_terms.new.store) c.args.head.now c.args.reader.now c.check_terms.new.reader c.args.table.now c.deref.result.now collection same c.check_terms.ensures.same c.requires.table (c.deref.ensures.value ∙ c.in-Ok.ensures.docs collection stand) c.requires.documents c.requires.within stand in
+    let same : g.S.Store.files c.check_terms.new.store ≡ g.S.Store.files c.args.store.now = c.in-Ok.ensures.text.looks.files in
+    let index = index-of (g.S.Store.files c.args.store.now) (g.S.Store.files c.check_terms.new.store) c.args.head.now c.args.reader.now c.check_terms.new.reader c.args.table.now c.deref.result.now collection same c.in-Ok.ensures.text.same c.requires.text.table_is (c.deref.ensures.value ∙ (c.in-Ok.ensures.counted collection stand).docs) c.requires.reads.documents c.requires.reads.within stand in
     let size = c.run_size-size.result in
-    let count = c.in-Ok-expect_number.ensures.same ∙ c.in-Ok.ensures.occurrences collection stand in
+    let count = c.in-Ok-expect_number.ensures.same ∙ (c.in-Ok.ensures.counted collection stand).occurrences in
     let runs = head-runs c.args.head.now size collection c.run_size-size.ensures.least c.run_size-size.ensures.most c.run_size-size.ensures.enough count in
-    let terms = terms-of-head (g.S.Store.files c.args.store.now) c.args.base.now c.args.head.now size collection runs (c.in-Ok.ensures.stand collection stand) in
+    let terms = terms-of-head (g.S.Store.files c.args.store.now) c.args.base.now c.args.head.now size collection runs ((c.in-Ok.ensures.counted collection stand).stand) in
     ok-so (IndexStands (g.S.Store.files c.args.store.now) c.args.base.now collection) (PartsStand (g.S.Store.files c.args.store.now) c.args.base.now c.args.head.now collection) c.check_index.result
     (λ stands. record { occurrences_are = count; terms = terms; index = stands })
-    (subst (λ (f : Option Files). OnOk c.check_index.result (IndexStands f c.args.base.now collection)) same (c.check_index.ensures.stand collection index))
+    (subst (λ (f : Option Files). OnOk c.check_index.result (IndexStands f c.args.base.now collection)) same (c.check_index.ensures.index.stand collection index))
 
 pub returns-clause-other : goal.returns-clause-other
 returns-clause-other g c = λ collection stand.
-    let same : g.S.Store.files c.check_terms.new.store ≡ g.S.Store.files c.args.store.now = c.check_terms.ensures.files in
-    let index = index-of (g.S.Store.files c.args.store.now) (g.S.Store.files c.check_terms.new.store) c.args.head.now c.args.reader.now c.check_terms.new.reader c.args.table.now c.deref.result.now collection same c.check_terms.ensures.same c.requires.table (c.deref.ensures.value ∙ c.in-Ok.ensures.docs collection stand) c.requires.documents c.requires.within stand in
+    let same : g.S.Store.files c.check_terms.new.store ≡ g.S.Store.files c.args.store.now = c.in-Ok.ensures.text.looks.files in
+    let index = index-of (g.S.Store.files c.args.store.now) (g.S.Store.files c.check_terms.new.store) c.args.head.now c.args.reader.now c.check_terms.new.reader c.args.table.now c.deref.result.now collection same c.in-Ok.ensures.text.same c.requires.text.table_is (c.deref.ensures.value ∙ (c.in-Ok.ensures.counted collection stand).docs) c.requires.reads.documents c.requires.reads.within stand in
     other-so (IndexStands (g.S.Store.files c.args.store.now) c.args.base.now collection) (PartsStand (g.S.Store.files c.args.store.now) c.args.base.now c.args.head.now collection) c.check_index.result (λ parts. parts.index)
-    (subst (λ (f : Option Files). IfErr c.check_index.result (Refutes (IndexStands f c.args.base.now collection))) same (c.check_index.ensures.other collection index))
+    (subst (λ (f : Option Files). IfErr c.check_index.result (Refutes (IndexStands f c.args.base.now collection))) same (c.check_index.ensures.index.other collection index))

@@ -1,6 +1,7 @@
 use Rattle.std.proofs.Common.{◌≡◌, ◌∙◌, sym}
 use Rattle.mg_layout.specs.Stands.{parts_at}
 use Rattle.mg_check.specs.Rest.{HaveSizes, IsTold}
+use Rattle.mg_check_text.proofs.CallerLemmas.{looks_own}
 use Rattle.mg_check.proofs.RestLaws.{ok-so, other-so, refutes-so}
 use Rattle.mg_check.proofs.checking.expect_told.Goals as goal
 
@@ -8,8 +9,11 @@ pub returns-in-Err-clause-other : goal.returns-in-Err-clause-other
 returns-in-Err-clause-other g c = λ told.
     refutes-so (c.from.result ≡ c.args.terms) (IsTold (parts_at (g.S.Store.files c.args.store.now) c.args.base.now) c.args.head.now c.args.terms) c.in-Err.refusal (λ is. c.from.ensures ∙ is.terms_are) c.in-Err.ensures.other
 
-pub returns-in-Err-clause-cause : goal.returns-in-Err-clause-cause
-returns-in-Err-clause-cause g c = c.in-Err.ensures.cause (g.S.Store.faults c.args.store.now)
+pub returns-in-Err-clause-looks : goal.returns-in-Err-clause-looks
+returns-in-Err-clause-looks g c = looks_own c.in-Err.refusal _ _ _ c.in-Err.ensures.own
+
+pub returns-clause-looks : goal.returns-clause-looks
+returns-clause-looks g c = c.expect_sizes.ensures.looks
 
 pub returns-clause-told : goal.returns-clause-told
 returns-clause-told g c = λ told.

@@ -1,12 +1,9 @@
-use Rattle.std.proofs.Common.{◌∙◌}
-use Rattle.mg_check_text.proofs.CallerLemmas.{none_read}
+use Rattle.mg_check_text.proofs.CallerLemmas.{looks_size, looks_then}
 use Rattle.mg_check.proofs.index.expect_ends.Goals as goal
 
-pub returns-in-Err-clause-unread : goal.returns-in-Err-clause-unread
-returns-in-Err-clause-unread g c = none_read _ _ c.expect_size.ensures.reads
+pub returns-in-Err-clause-looks : goal.returns-in-Err-clause-looks
+returns-in-Err-clause-looks g c = looks_size c.expect_size.ensures.files c.expect_size.ensures.reads c.in-Err.ensures.cause
 
-pub returns-in-Ok-expect_size-clause-unread : goal.returns-in-Ok-expect_size-clause-unread
-returns-in-Ok-expect_size-clause-unread g c = none_read _ _ c.expect_size-2.ensures.reads ∙ none_read _ _ c.expect_size.ensures.reads
-
-pub returns-in-Err-expect_size-clause-unread : goal.returns-in-Err-expect_size-clause-unread
-returns-in-Err-expect_size-clause-unread g c = none_read _ _ c.expect_size-2.ensures.reads ∙ none_read _ _ c.expect_size.ensures.reads
+pub returns-clause-looks : goal.returns-clause-looks
+returns-clause-looks g c =
+    looks_then (looks_size c.expect_size.ensures.files c.expect_size.ensures.reads c.in-Ok.ensures.cause) (looks_size c.expect_size-2.ensures.files c.expect_size-2.ensures.reads c.expect_size-2.ensures.cause)

@@ -1,9 +1,9 @@
-use Rattle.std.proofs.Common.{◌∙◌}
-use Rattle.mg_check_text.proofs.UnreadLaws.{none_read}
+use Rattle.mg_check_text.proofs.LookLaws.{looks_err, looks_then}
+use Rattle.mg_check_text.proofs.UnreadLaws.{looks_size}
 use Rattle.mg_check_text.proofs.expected.expect_whole.Goals as goal
 
-pub returns-in-Ok-expect_size-clause-unread : goal.returns-in-Ok-expect_size-clause-unread
-returns-in-Ok-expect_size-clause-unread g c = none_read _ _ c.expect_size.ensures.reads ∙ c.expect_more.ensures.unread
+pub returns-in-Err-clause-looks : goal.returns-in-Err-clause-looks
+returns-in-Err-clause-looks g c = looks_err c.in-Err.ensures.looks
 
-pub returns-in-Err-expect_size-clause-unread : goal.returns-in-Err-expect_size-clause-unread
-returns-in-Err-expect_size-clause-unread g c = none_read _ _ c.expect_size.ensures.reads ∙ c.expect_more.ensures.unread
+pub returns-clause-looks : goal.returns-clause-looks
+returns-clause-looks g c = looks_then c.in-Ok.ensures.looks (looks_size c.expect_size.ensures.files c.expect_size.ensures.reads c.expect_size.ensures.cause)

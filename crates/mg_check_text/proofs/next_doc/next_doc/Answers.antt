@@ -1,6 +1,7 @@
 use Rattle.std.proofs.Common.{arith, ◌≡◌, ◌≤◌, ◌+◌, ◌∙◌, length, ap, sym}
 use Rattle.mg_layout.specs.Stands.{parts_at}
 use Rattle.mg_check_text.specs.Checking.{IsNextDoc}
+use Rattle.mg_check_text.proofs.LookLaws.{text_looks}
 use Rattle.mg_check_text.proofs.NextLaws.{both-ok, code-range, next-there, on-bad, other-next, range-next, refused-next, told-there}
 use Rattle.mg_check_text.proofs.next_doc.next_doc.Goals as goal
 
@@ -10,7 +11,7 @@ returns-in-Err-clause-none g c = λ loaded docs so.
 
 pub returns-clause-range : goal.returns-clause-range
 returns-clause-range g c =
-    let same : c.model.result.now ≡ c.args.reader.now.code = c.model.ensures ∙ c.decode_next.ensures.same.code in
+    let same : c.model.result.now ≡ c.args.reader.now.code = c.model.ensures ∙ c.decode_next.ensures.text.same.code in
     let left : c.args.progress.now.bytes + length c.bytes.result.now ≤ c.args.head.now.collection = omega (arith, c.in-Ok.ensures.short, ap length c.bytes.ensures) in
     let range = code-range c.args.reader.now.code c.model.result.now c.args.head.now c.args.progress.now same c.requires.range in
     both-ok _ _ _ c.add_doc.result
@@ -19,11 +20,17 @@ returns-clause-range g c =
 
 pub returns-clause-none : goal.returns-clause-none
 returns-clause-none g c = λ loaded docs so.
-    let same : c.model.result.now ≡ c.args.reader.now.code = c.model.ensures ∙ c.decode_next.ensures.same.code in
-    let told = told-there (g.S.Store.files c.args.store.now) (g.S.Store.files c.decode_next.new.store) c.decode_next.ensures.files loaded.told in
+    let same : c.model.result.now ≡ c.args.reader.now.code = c.model.ensures ∙ c.decode_next.ensures.text.same.code in
+    let told = told-there (g.S.Store.files c.args.store.now) (g.S.Store.files c.decode_next.new.store) c.decode_next.ensures.text.looks.files loaded.told in
     other-next (g.S.Store.files c.args.store.now) c.args.base.now c.args.head.now c.args.reader.now docs c.args.progress.now c.bytes.result.now c.add_doc.result loaded so c.requires.more
     (λ collection stand short. c.bytes.ensures ∙ c.in-Ok.ensures.own collection (record { stands = stand; short = omega (arith, short) }))
     (on-bad (IsNextDoc (parts_at (g.S.Store.files c.decode_next.new.store) c.args.base.now) c.args.head.now.version c.model.result.now c.bytes.result.now c.args.progress.now)
     (IsNextDoc (parts_at (g.S.Store.files c.args.store.now) c.args.base.now) c.args.head.now.version c.args.reader.now.code c.bytes.result.now c.args.progress.now) c.add_doc.result
-    (λ next. next-there (g.S.Store.files c.args.store.now) (g.S.Store.files c.decode_next.new.store) c.args.base.now c.args.head.now.version c.args.reader.now.code c.model.result.now c.bytes.result.now c.args.progress.now c.decode_next.ensures.files same next)
+    (λ next. next-there (g.S.Store.files c.args.store.now) (g.S.Store.files c.decode_next.new.store) c.args.base.now c.args.head.now.version c.args.reader.now.code c.model.result.now c.bytes.result.now c.args.progress.now c.decode_next.ensures.text.looks.files same next)
     (c.add_doc.ensures.other told))
+
+pub returns-in-Err-clause-text : goal.returns-in-Err-clause-text
+returns-in-Err-clause-text g c = c.in-Err.ensures.text
+
+pub returns-clause-text : goal.returns-clause-text
+returns-clause-text g c = text_looks c.in-Ok.ensures.text c.add_doc.ensures.looks

@@ -1,19 +1,15 @@
-use Rattle.std.proofs.Common.{◌≡◌, ◌≤◌}
+use Rattle.std.proofs.Common.{◌≡◌}
 use Rattle.mg_layout.specs.Stands.{parts_at}
-use Rattle.mg_text.specs.Reading.{SameText, TextFits}
+use Rattle.mg_dev.specs.Moments.{Between}
 use Rattle.mg_check_text.specs.Checking.{FoundDocs, IsInRange}
 use Rattle.std.specs.Option.{IsSome}
-use Rattle.mg_check_text.specs.Reads.{reads_outside}
+use Rattle.mg_check_text.specs.Reads.{HasReadText}
 use Rattle.mg_check_text.proofs.whole_text.read_docs.Given as goal
 
 abbrev pub invariant-loop-number : goal.invariant-loop-number
 invariant-loop-number g l = record {
-  fits : TextFits l.reader (g.S.Store.files l.store);
-  same : SameText l.initial.reader l.reader;
+  text : Between g.S.Store.files g.S.Store.reads g.S.Store.faults l.initial.store l.store (HasReadText l.initial.reader l.reader);
   range : IsInRange l.initial.reader.code l.head l.progress;
   count : l.progress.documents ≡ l._number;
   found : IsSome (g.S.Store.files l.initial.store) → FoundDocs (parts_at (g.S.Store.files l.initial.store) l.base) l.head.version l.initial.reader.code l.progress;
-  files : g.S.Store.files l.store ≡ g.S.Store.files l.initial.store;
-  unread : reads_outside (g.S.Store.reads l.store) ≡ reads_outside (g.S.Store.reads l.initial.store);
-  later : g.S.Store.faults l.initial.store ≤ g.S.Store.faults l.store;
 }

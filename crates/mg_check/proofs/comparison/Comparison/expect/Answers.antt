@@ -1,8 +1,8 @@
-use Rattle.mg_check_text.proofs.CallerLemmas.{one_of_set}
+use Rattle.mg_check_text.proofs.CallerLemmas.{looks_bytes}
 use Rattle.mg_check.proofs.comparison.Comparison.expect.Goals as goal
 
-pub returns-in-Err-clause-unread : goal.returns-in-Err-clause-unread
-returns-in-Err-clause-unread g c = one_of_set _ _ c.self.inside.part c.self.invariant c.expect_bytes.ensures.reads
+pub returns-in-Err-clause-looks : goal.returns-in-Err-clause-looks
+returns-in-Err-clause-looks g c = looks_bytes c.self.inside.part c.self.invariant c.expect_bytes.ensures.files c.expect_bytes.ensures.reads c.in-Err.ensures.cause
 
-pub returns-clause-unread : goal.returns-clause-unread
-returns-clause-unread g c = one_of_set _ _ c.self.inside.part c.self.invariant c.expect_bytes.ensures.reads
+pub returns-clause-looks : goal.returns-clause-looks
+returns-clause-looks g c = looks_bytes c.self.inside.part c.self.invariant c.expect_bytes.ensures.files c.expect_bytes.ensures.reads c.in-Ok.ensures.cause

@@ -18,6 +18,12 @@ loop-posting-preserved c =
       pushed = pushed_more _ _ _ n _ inv.pushed c.in-Ok.ensures.pushed;
       last = c.in-Ok.ensures.pushed.last;
       few = omega (arith, c.in-Ok.ensures.within, c.requires.few);
-      same = names_more _ _ _ inv.same c.push.ensures.same;
+      same = names_more _ _ _ inv.same c.in-Ok.ensures.step.same;
       rises = λ rises. rest_rises _ _ _ _ (subst (λ ps. Rises c.args.all c.loop-posting.last ps) (drop_more postings n (record { doc = 0; freq = 0 }) c.loop-posting-test.true) (inv.rises rises));
     }
+
+pub returns-in-Err-clause-step : goal.returns-in-Err-clause-step
+returns-in-Err-clause-step c = let step = c.in-Err.ensures.step in record { same = names_more _ _ _ c.loop-posting.invariant.same step.same; own = step.own }
+
+pub returns-clause-step : goal.returns-clause-step
+returns-clause-step c = record { same = c.loop-posting.invariant.same; own = tt }

@@ -1,6 +1,7 @@
-use Rattle.std.proofs.Common.{◌≡◌, ◌<◌, ◌≤◌, ◌+◌, ◌^◌, ◌++◌, ℕ, List, length, map, take}
+use Rattle.std.proofs.Common.{◌≡◌, ◌<◌, ◌+◌, ◌^◌, ◌++◌, ℕ, List, length, map, take}
 use Rattle.mg_check.specs.Counting.{HasTaken}
-use Rattle.mg_check_text.specs.Reads.{reads_outside}
+use Rattle.mg_dev.specs.Moments.{Between}
+use Rattle.mg_check_text.specs.Reads.{HasLooked}
 use Rattle.mg_check.proofs.run_part.RunPart.push_all.Given as goal
 
 abbrev pub invariant-loop-number : goal.invariant-loop-number
@@ -8,7 +9,5 @@ invariant-loop-number g l = record {
   taken : (fed : List (ℕ × ℕ)) → length fed + length l.numbers < 2 ^ 32 → HasTaken l.initial.self (g.S.Store.files l.initial.store) fed → HasTaken l.self (g.S.Store.files l.store) (fed ++ map (λ n. (n, l.doc)) (take l.number-index l.numbers));
   limit : l.self.pool.limit ≡ l.initial.self.pool.limit;
   name : l.self.part.name ≡ l.initial.self.part.name;
-  files : g.S.Store.files l.store ≡ g.S.Store.files l.initial.store;
-  unread : reads_outside (g.S.Store.reads l.store) ≡ reads_outside (g.S.Store.reads l.initial.store);
-  later : g.S.Store.faults l.initial.store ≤ g.S.Store.faults l.store;
+  looks : Between g.S.Store.files g.S.Store.reads g.S.Store.faults l.initial.store l.store HasLooked;
 }

@@ -1,0 +1,154 @@
+-- Calls that only read parts of a set: none, one behind another, and one with another answer.
+use Rattle.std.proofs.Common.{arith, ◌≡◌, ◌≢◌, ◌≤◌, ◌∙◌, ℕ, Ok, Err, refl, sym, subst}
+use Rattle.std.specs.Prelude.{IfErr}
+use Rattle.std.specs.declared.option.Option.{Option}
+use Rattle.std.specs.declared.result.Result.{Result}
+use Rattle.mg_dev.specs.Files.{Files, Reads}
+use Rattle.mg_dev.specs.PartCauses.{HasPartCause, IsCaused}
+use Rattle.mg_dev.specs.declared.part_err.PartErr.{PartErr}
+use Rattle.mg_dev.specs.declared.part_err.PartErr.TheVariants.{Device, Memory, Bad}
+use Rattle.mg_model.specs.Terms.{TermNumbers, terms_and_numbers}
+use Rattle.mg_text.specs.Reading.{SameText, TextFits, TextReading}
+use Rattle.mg_check_text.specs.Reads.{HasReadText, HasTerms, LooksAtSet, ReadsText, reads_outside}
+use Rattle.mg_check_text.specs.Refusals.{IsNotDevice}
+
+-- ---- readers of the same text
+
+pub same_text : (r : TextReading) → SameText r r
+same_text r = record { text = refl; places = refl; code = refl; version = refl; documents = refl; size = refl }
+
+pub text_more : (a b c : TextReading) → SameText a b → SameText b c → SameText a c
+text_more a b c one two = record {
+  text = two.text ∙ one.text;
+  places = two.places ∙ one.places;
+  code = two.code ∙ one.code;
+  version = two.version ∙ one.version;
+  documents = two.documents ∙ one.documents;
+  size = two.size ∙ one.size;
+}
+
+-- ---- causes
+
+caused_as : (T U : Type 0) (l m n : ℕ) (e : PartErr) → l ≤ m → IsCaused {T = T} m n (Err e) → IsCaused {T = U} l n (Err e)
+caused_as T U l m n Device le rose = omega arith
+caused_as T U l m n Memory le rose = tt
+caused_as T U l m n (Bad bad) le rose = tt
+
+cause_ok : {T : Type 0} {x : T} {m n : ℕ} → m ≤ n → HasPartCause m n (Ok x)
+cause_ok le = record { later = le; device = tt }
+
+cause_err : {T U : Type 0} {e : PartErr} {l m n : ℕ} → l ≤ m → HasPartCause {T = T} m n (Err e) → HasPartCause {T = U} l n (Err e)
+cause_err {T} {U} {e} {l} {m} {n} le cause = record {
+  later = omega (arith, le, cause.later);
+  device = caused_as T U l m n e le cause.device;
+}
+
+cause_then : {T : Type 0} (result : Result T PartErr) {l m n : ℕ} → l ≤ m → HasPartCause m n result → HasPartCause l n result
+cause_then (Ok x) le cause = cause_ok (omega (arith, le, cause.later))
+cause_then (Err e) le cause = cause_err le cause
+
+pub cause_own : {T : Type 0} (e : PartErr) {m n : ℕ} → m ≤ n → IsNotDevice e → HasPartCause {T = T} m n (Err e)
+cause_own Device le own = absurd own
+cause_own Memory le own = record { later = le; device = tt }
+cause_own (Bad bad) le own = record { later = le; device = tt }
+
+-- a refusal behind what was done
+pub cause_behind : {T : Type 0} {e : PartErr} {l m n : ℕ} → l ≤ m → HasPartCause {T = T} m n (Err e) → HasPartCause {T = T} l n (Err e)
+cause_behind {T} le cause = cause_err {T = T} {U = T} le cause
+
+-- ---- refusals without a device
+
+pub apart_device : (e : PartErr) → e ≢ Device → IsNotDevice e
+apart_device Device other = absurd (other refl)
+apart_device Memory other = tt
+apart_device (Bad bad) other = tt
+
+pub not_device : {T : Type 0} (result : Result T PartErr) → result ≢ Err Device → IfErr result IsNotDevice
+not_device (Ok x) other = tt
+not_device (Err Device) other = absurd (other refl)
+not_device (Err Memory) other = tt
+not_device (Err (Bad bad)) other = tt
+
+-- ---- parts of a set
+
+-- nothing was asked
+pub looks_none : {T : Type 0} {x : T} (f : Option Files) (r : Reads) (n : ℕ) → LooksAtSet (Ok x) f f r r n n
+looks_none f r n = record { files = refl; unread = refl; cause = cause_ok (omega arith) }
+
+-- nor before a refusal
+pub looks_own : {T : Type 0} (e : PartErr) (f : Option Files) (r : Reads) (n : ℕ) → IsNotDevice e → LooksAtSet {T = T} (Err e) f f r r n n
+looks_own e f r n own = record { files = refl; unread = refl; cause = cause_own e (omega arith) own }
+
+-- another answer
+pub looks_ok : {T U : Type 0} {result : Result T PartErr} {y : U} {f g : Option Files} {r s : Reads} {m n : ℕ} →
+    LooksAtSet result f g r s m n → LooksAtSet (Ok y) f g r s m n
+looks_ok looks = record { files = looks.files; unread = looks.unread; cause = cause_ok looks.cause.later }
+
+pub looks_err : {T U : Type 0} {e : PartErr} {f g : Option Files} {r s : Reads} {m n : ℕ} →
+    LooksAtSet {T = T} (Err e) f g r s m n → LooksAtSet {T = U} (Err e) f g r s m n
+looks_err {T} {U} looks = record { files = looks.files; unread = looks.unread; cause = cause_err {T = T} {U = U} (omega arith) looks.cause }
+
+-- a refusal behind what was done
+pub looks_bad : {T U : Type 0} {result : Result T PartErr} (e : PartErr) {f g : Option Files} {r s : Reads} {m n : ℕ} →
+    LooksAtSet result f g r s m n → IsNotDevice e → LooksAtSet {T = U} (Err e) f g r s m n
+looks_bad e looks own = record { files = looks.files; unread = looks.unread; cause = cause_own e looks.cause.later own }
+
+-- an answer that was found without the store
+pub looks_pure : {T U : Type 0} {one : Result T PartErr} (two : Result U PartErr) {f g : Option Files} {r s : Reads} {m n : ℕ} →
+    LooksAtSet one f g r s m n → IfErr two IsNotDevice → LooksAtSet two f g r s m n
+looks_pure (Ok y) looks own = looks_ok looks
+looks_pure (Err e) looks own = looks_bad e looks own
+
+-- one behind another
+pub looks_then : {T U : Type 0} {one : Result T PartErr} {two : Result U PartErr} {f g h : Option Files} {r s t : Reads} {l m n : ℕ} →
+    LooksAtSet one f g r s l m → LooksAtSet two g h s t m n → LooksAtSet two f h r t l n
+looks_then {two = two} a b = record { files = b.files ∙ a.files; unread = b.unread ∙ a.unread; cause = cause_then two a.cause.later b.cause }
+
+-- ---- the text
+
+pub text_none : {T : Type 0} {x : T} {a : TextReading} (f : Option Files) (r : Reads) (n : ℕ) → TextFits a f → ReadsText a a (Ok x) f f r r n n
+text_none {a = a} f r n fits = record { fits = fits; same = same_text a; looks = looks_none f r n }
+
+pub text_own : {T : Type 0} (e : PartErr) {a : TextReading} (f : Option Files) (r : Reads) (n : ℕ) → TextFits a f → IsNotDevice e → ReadsText {T = T} a a (Err e) f f r r n n
+text_own e {a = a} f r n fits own = record { fits = fits; same = same_text a; looks = looks_own e f r n own }
+
+pub text_ok : {T U : Type 0} {result : Result T PartErr} {y : U} {a b : TextReading} {f g : Option Files} {r s : Reads} {m n : ℕ} →
+    ReadsText a b result f g r s m n → ReadsText a b (Ok y) f g r s m n
+text_ok text = record { fits = text.fits; same = text.same; looks = looks_ok text.looks }
+
+pub text_err : {T U : Type 0} {e : PartErr} {a b : TextReading} {f g : Option Files} {r s : Reads} {m n : ℕ} →
+    ReadsText {T = T} a b (Err e) f g r s m n → ReadsText {T = U} a b (Err e) f g r s m n
+text_err {T} {U} text = record { fits = text.fits; same = text.same; looks = looks_err {T = T} {U = U} text.looks }
+
+pub text_bad : {T U : Type 0} {result : Result T PartErr} (e : PartErr) {a b : TextReading} {f g : Option Files} {r s : Reads} {m n : ℕ} →
+    ReadsText a b result f g r s m n → IsNotDevice e → ReadsText {T = U} a b (Err e) f g r s m n
+text_bad e text own = record { fits = text.fits; same = text.same; looks = looks_bad e text.looks own }
+
+pub text_pure : {T U : Type 0} {one : Result T PartErr} (two : Result U PartErr) {a b : TextReading} {f g : Option Files} {r s : Reads} {m n : ℕ} →
+    ReadsText a b one f g r s m n → IfErr two IsNotDevice → ReadsText a b two f g r s m n
+text_pure two text own = record { fits = text.fits; same = text.same; looks = looks_pure two text.looks own }
+
+pub text_then : {T U : Type 0} {one : Result T PartErr} {two : Result U PartErr} {a b c : TextReading} {f g h : Option Files} {r s t : Reads} {l m n : ℕ} →
+    ReadsText a b one f g r s l m → ReadsText b c two g h s t m n → ReadsText a c two f h r t l n
+text_then {a = a} {b = b} {c = c} one two = record { fits = two.fits; same = text_more a b c one.same two.same; looks = looks_then one.looks two.looks }
+
+-- other parts were looked at behind it
+pub text_looks : {T U : Type 0} {one : Result T PartErr} {two : Result U PartErr} {a b : TextReading} {f g h : Option Files} {r s t : Reads} {l m n : ℕ} →
+    ReadsText a b one f g r s l m → LooksAtSet two g h s t m n → ReadsText a b two f h r t l n
+text_looks {b = b} one two = record { fits = subst (λ f. TextFits b f) (sym two.files) one.fits; same = one.same; looks = looks_then one.looks two }
+
+-- the terms of a text that was read
+pub terms_stay : {a b : TextReading} {f g : Option Files} {table : TermNumbers} {documents : ℕ} → TextFits b g → SameText a b → HasTerms a f table documents → HasTerms b g table documents
+terms_stay {a = a} {b = b} {table = table} fits same has = record {
+  fits = fits;
+  all = has.all ∙ sym same.documents;
+  table_is = has.table_is ∙ sym (ap_words same);
+  few = has.few;
+}
+  where
+    ap_words : SameText a b → terms_and_numbers b.code.words.pieces ≡ terms_and_numbers a.code.words.pieces
+    ap_words it = let code = it.code in cc
+
+-- as many documents as the reader has
+pub terms_here : {a b : TextReading} {f g : Option Files} {table : TermNumbers} {documents : ℕ} → TextFits b g → SameText a b → HasTerms a f table documents → HasTerms b g table b.documents
+terms_here fits same has = let stay = terms_stay fits same has in record { fits = fits; all = refl; table_is = stay.table_is; few = has.few }

@@ -1,0 +1,104 @@
+//! The terms of documents that are read one after the other.
+ghost use Rattle.std.specs.Prelude.{◌≡◌, ◌<◌, ◌≤◌, ◌-◌, ◌^◌, IfErr, OnOk};
+ghost use Rattle.mg_dev.specs.Bads.{IsNotBad};
+ghost use Rattle.mg_dev.specs.Moments.{Between};
+ghost use Rattle.mg_text.specs.Reading.{WhereTextStands};
+ghost use Rattle.mg_check_text.specs.Reads.{HasTerms, ReadsText};
+ghost use Rattle.mg_check_text.specs.TermsRead.{HasReadTerms};
+
+use crate::doc_terms::DocTerms;
+use mg_defs::COLLECTION_BYTES;
+use mg_dev::{Bad, Part, PartErr, Store};
+use mg_model::TermTable;
+use mg_text::{HeldDocument, TextReader};
+use std::alloc::{AllocError, Global};
+use std::marker::Model;
+
+/// The document that was read last, and its terms. Its memory is used again for the next one.
+#[derive(Drop)]
+pub struct TermReader {
+    held: HeldDocument,
+    terms: DocTerms,
+}
+
+impl Model for TermReader {
+    ghost use Rattle.std.specs.Prelude.{◌≡◌, ◌-◌, ◌^◌};
+    ghost use Rattle.mg_check_text.specs.TermsRead.{TermsRead};
+
+    ghost Value = { TermsRead };
+
+    ghost view = { λ t. t.terms };
+
+    // No document is longer than a collection may be.
+    ghost invariant = { λ t. t.held.most ≡ 2 ^ 32 - 1 };
+}
+
+/// The document of this number is not the one that was read before, or has a word that the model has not.
+pub fn damaged_document(number: u32) -> Bad {
+    Bad {
+        part: Part::Text,
+        at: u64::from(number),
+        low: 1,
+        high: 1,
+        found: 0,
+    }
+}
+
+impl TermReader {
+    /// No document was read.
+    pub fn new(alloc: Global) -> Result<Self, AllocError> {
+        let terms = match DocTerms::new(alloc) {
+            Ok(terms) => terms,
+            Err(AllocError) => return Err(AllocError),
+        };
+        Ok(TermReader {
+            held: HeldDocument::new(alloc, COLLECTION_BYTES),
+            terms,
+        })
+    }
+
+    /// Decodes a document, from 1 to their number, and reads its terms. Text that tells of a document longer than any
+    /// collection, or of a word that the model has not, is refused.
+    pub fn read<S: Store>(
+        &mut self,
+        store: &mut S,
+        reader: &mut TextReader<'_, S>,
+        table: &TermTable,
+        number: u32,
+    ) -> Result<(), PartErr>
+        requires text { HasTerms reader.old (S.files store.old) table.now reader.old.documents }
+        requires some { 1 ≤ number }
+        requires within { number ≤ reader.old.documents }
+        ensures terms { OnOk result
+            (HasReadTerms reader.old (S.files store.old) table.now.terms number self.new) }
+        ensures never_bad { WhereTextStands reader.old (S.files store.old)
+            (λ _. IfErr result IsNotBad) }
+        ensures text { Between S.files S.reads S.faults store.old store.new
+            (ReadsText reader.old reader.new result) }
+    {
+        match self.held.read(store, reader, number) {
+            Ok(()) => {}
+            Err(refusal) => return Err(refusal),
+        }
+        match self.terms.read(reader.model(), table, self.held.bytes()) {
+            Ok(true) => {}
+            Ok(false) => return Err(PartErr::Bad(damaged_document(number))),
+            Err(AllocError) => return Err(PartErr::Memory),
+        }
+        Ok(())
+    }
+
+    /// The numbers of the terms in reading order.
+    pub fn numbers(&self) -> &[u32]
+        ensures { result.now ≡ self.now.numbers }
+    {
+        self.terms.numbers()
+    }
+
+    /// The numbers of the distinct terms, rising, each with how often the term comes.
+    pub fn counted(&self) -> &[(u32, u32)]
+        ensures { result.now ≡ self.now.counted }
+    {
+        self.terms.counted()
+    }
+}
