@@ -19,7 +19,7 @@ CRATES = ROOT / "crates"
 HEADLINE = ["mg_defs.Stands.Stand", "mg_layout.Stands.Stands", "mg_defs.Replies.session", "mg_defs.Summaries.summary_text"]
 TOOLS = {
     "build": "mg_top.Built.Built",
-    "decode": "mg_build.Decoded.Decoded",
+    "decode": "mg_decode.Decoded.Decoded",
     "query": "mg_session.Queried.Queried",
     "scan": "mg_plain.Scanned.Scanned",
     "phrase": "mg_session.Phrased.Phrased",

@@ -21,6 +21,7 @@ use Rattle.mg_make.specs.Putting.{IsUnbuilt, OthersSame}
 use Rattle.mg_make.specs.Written.{SecondStops}
 use Rattle.mg_make.specs.Plans.{IsPlanOf, Plan}
 use Rattle.mg_make.specs.Outcomes.{Left}
+pub use Rattle.mg_make.proofs.CallerLemmas.{others_more, others_none, rose_behind}
 use Rattle.mg_build.specs.Building.{IsPlanFor, PassStops, WriteStops}
 use Rattle.mg_build.specs.Sources.{AreRead, ByteStops}
 
@@ -59,12 +60,6 @@ read_later before now name n byte still same is told = sym (ap (λ bytes. slice_
 pub still_told : (before now : Option Files) → is_some now ≡ is_some before → IsSome before → IsSome now
 still_told before now same told = same ∙ told
 
-pub others_more : (base : List ℕ) (f g h : Option Files) → OthersSame base f g → OthersSame base g h → OthersSame base f h
-others_more base f g h one two = record { told = two.told ∙ one.told; others = λ name apart. two.others name apart ∙ one.others name apart }
-
-pub others_none : (base : List ℕ) (f : Option Files) → OthersSame base f f
-others_none base f = record { told = refl; others = λ name apart. refl }
-
 -- the bytes of a file that is there as before
 pub same_bytes : (f g : Option Files) (one other : List ℕ) → one ≡ other → file_at g other ≡ file_at f other → bytes_at g one ≡ bytes_at f other
 same_bytes f g one other same is = ap (λ n. bytes_at g n) same ∙ ap (λ (file : Option (List ℕ)). unwrap_or file []) is
@@ -72,10 +67,6 @@ same_bytes f g one other same is = ap (λ n. bytes_at g n) same ∙ ap (λ (file
 -- a byte that is read of the file, as it was
 pub read_so_far : (before now : Option Files) (name same : List ℕ) (at byte : ℕ) → now ≡ before → same ≡ name → (IsSome now → slice_get (bytes_at now same) at ≡ Some byte) → IsSome before → slice_get (bytes_at before name) at ≡ Some byte
 read_so_far before now name same at byte f n is told = subst (λ x. slice_get (bytes_at before x) at ≡ Some byte) n (subst (λ files. IsSome files → slice_get (bytes_at files same) at ≡ Some byte) f is told)
-
--- failures that rose later rose, and those that rose so far did
-pub rose_behind : (a b c : ℕ) → a ≤ b → Rose b c → Rose a c
-rose_behind a b c up rose = omega (arith, up, rose)
 
 pub same_file_none : (f : Paging) → SameFile f f
 same_file_none f = record { name = refl; part = refl }

@@ -1,11 +1,3 @@
-pub mod Outcomes
-pub mod Documents
 pub mod Sources
 pub mod Building
-pub mod Copying
-pub mod Sizes
-pub mod Migrating
-pub mod MadeFrom
 pub mod Made
-pub mod MadeAnew
-pub mod Decoded

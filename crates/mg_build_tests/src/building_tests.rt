@@ -1,7 +1,8 @@
 //! What no clause says: that builds succeed, the parts of a real collection, how a collection is read, and what a store
 //! that lies leaves. The parts of other collections and failing stores stand in the black-box suite and with the tools.
 use crate::other_store::OtherStore;
-use mg_build::{build, decode};
+use mg_build::build;
+use mg_decode::decode;
 use mg_dev::{Fault, Part, What};
 use mg_make::Summary;
 use mg_mem::{MemSink, MemStore, SureStore};

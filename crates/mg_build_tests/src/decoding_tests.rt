@@ -1,6 +1,6 @@
 //! What no clause says: that a set is printed by one put. Sets of both versions, their damages by their numbers and
 //! failing devices stand in the black-box suite and with the tools.
-use mg_build::decode;
+use mg_decode::decode;
 use mg_mem::{MemSink, MemStore};
 use std::alloc::{AllocError, Global};
 use std::test::Fail;

@@ -1,4 +1,4 @@
-//! Tests of `mg_build`, through its public calls.
+//! Tests of `mg_build`, `mg_decode` and `mg_migrate`, through their public calls.
 //!
 //! They stand in a crate of their own, as integration tests do: a crate that holds tests is proved once
 //! as a library and once more as the program that runs them.

@@ -1,8 +1,8 @@
 //! What no clause says: what a store that lies is told. Sets of both versions that are made anew stand in the black-box suite.
 use crate::other_store::OtherStore;
-use mg_build::migrate;
 use mg_dev::{Bad, Fault, Part};
 use mg_mem::SureStore;
+use mg_migrate::migrate;
 use std::alloc::{AllocError, Global};
 use std::test::Fail;
 

@@ -28,3 +28,4 @@ pub mod RestSteps
 pub mod HeadLaws
 pub mod ReadySteps
 pub mod HeadSteps
+pub mod CallerLemmas

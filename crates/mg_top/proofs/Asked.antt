@@ -8,7 +8,7 @@ use Rattle.mg_words.specs.Tasks.{Task, build, query, decode, scan, trial, migrat
 use Rattle.mg_top.specs.Ends.{ToldWhy}
 use Rattle.mg_dev.specs.Runs.{IfStopped, Run, Stops}
 use Rattle.mg_build.specs.Made.{Made}
-use Rattle.mg_build.specs.MadeAnew.{MadeAnew}
+use Rattle.mg_migrate.specs.MadeAnew.{MadeAnew}
 use Rattle.mg_merge.specs.Joined.{Joined}
 use Rattle.mg_top.specs.Checked.{Finds}
 use Rattle.mg_top.specs.Does.{Does, NotUnderstood, Ran}

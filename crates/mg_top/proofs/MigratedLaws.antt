@@ -10,7 +10,7 @@ use Rattle.mg_dev.specs.declared.status.Status.TheVariants.{Done, Stopped}
 use Rattle.mg_defs.specs.Split.{documents}
 use Rattle.mg_defs.specs.Summaries.{number_line}
 use Rattle.mg_layout.specs.Stands.{Stands}
-use Rattle.mg_build.specs.MadeAnew.{MadeAnew}
+use Rattle.mg_migrate.specs.MadeAnew.{MadeAnew}
 use Rattle.mg_top.specs.Migrated.{Migrated}
 use Rattle.mg_top.proofs.EndLaws.{put_called, put_prints, refused_called, refused_prints, status_of_put}
 

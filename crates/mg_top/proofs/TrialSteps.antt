@@ -16,7 +16,7 @@ use Rattle.mg_defs.specs.InputLimit.{has_quit, is_too_much}
 use Rattle.mg_defs.specs.Limits.{input_limit}
 use Rattle.mg_layout.specs.Stands.{Stands}
 use Rattle.mg_layout.proofs.CallerLemmas.{head_there}
-use Rattle.mg_build.specs.Outcomes.{DecodeStops}
+use Rattle.mg_decode.specs.Outcomes.{DecodeStops}
 use Rattle.mg_session.specs.Serves as serves
 use Rattle.mg_plain.specs.Stops.{ScanStops}
 use Rattle.mg_top.specs.Trials.{IsBuilt, Lacks, set_name, text_name}

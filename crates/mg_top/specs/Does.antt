@@ -8,7 +8,7 @@ use Rattle.mg_top.specs.Ends.{ToldWhy}
 use Rattle.mg_dev.specs.Runs.{Run, Stops}
 use Rattle.mg_top.specs.Built.{Built}
 use Rattle.mg_top.specs.Checked.{Checked}
-use Rattle.mg_build.specs.Decoded.{Decoded}
+use Rattle.mg_decode.specs.Decoded.{Decoded}
 use Rattle.mg_session.specs.Matched.{Matched}
 use Rattle.mg_top.specs.Merged.{Merged}
 use Rattle.mg_top.specs.Migrated.{Migrated}

@@ -4,7 +4,7 @@ use Rattle.mg_dev.specs.Runs.{Run}
 use Rattle.mg_defs.specs.Split.{documents}
 use Rattle.mg_defs.specs.Summaries.{number_line}
 use Rattle.mg_layout.specs.Stands.{Stands}
-use Rattle.mg_build.specs.MadeAnew.{MadeAnew}
+use Rattle.mg_migrate.specs.MadeAnew.{MadeAnew}
 use Rattle.mg_top.specs.Ends.{CallsOnce, Prints}
 
 -- the line that is printed: how many documents the collection has

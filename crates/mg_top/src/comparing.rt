@@ -8,7 +8,7 @@ ghost use Rattle.mg_defs.specs.Replies.{session};
 ghost use Rattle.mg_top.specs.Trials.{HoldsText, IsBuilt, Lacks, replies_of, set_name};
 
 use crate::trials::{SET, TEXT};
-use mg_build::decode;
+use mg_decode::decode;
 use mg_dev::{Fault, Sink, Store};
 use mg_gen::make_session;
 use mg_mem::{SureSink, SureSource};

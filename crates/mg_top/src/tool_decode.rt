@@ -1,10 +1,10 @@
 //! The tool `decode`.
 ghost use Rattle.mg_top.specs.Running.{RunsByStore};
-ghost use Rattle.mg_build.specs.Decoded.{Decoded};
+ghost use Rattle.mg_decode.specs.Decoded.{Decoded};
 ghost use Rattle.mg_top.specs.Ends.{ToldWhy};
 
 use crate::stopping::stopped;
-use mg_build::decode;
+use mg_decode::decode;
 use mg_dev::{Sink, Status, Store};
 use std::alloc::Global;
 

@@ -5,8 +5,8 @@ ghost use Rattle.mg_top.specs.Ends.{ToldWhy};
 
 use crate::lines::put_documents;
 use crate::stopping::stopped;
-use mg_build::migrate;
 use mg_dev::{Fault, Sink, Status, Store};
+use mg_migrate::migrate;
 use std::alloc::Global;
 
 /// `migrate NAME NEW`: makes a set of version 2 from a set of either version, and prints how many

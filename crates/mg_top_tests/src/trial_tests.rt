@@ -1,5 +1,5 @@
 //! Trials over a store in memory. The numbers are those of another implementation.
-use mg_build::decode;
+use mg_decode::decode;
 use mg_dev::{Fault, Part};
 use mg_mem::{MemSink, MemStore};
 use mg_top::trial;

@@ -1,0 +1,4 @@
+mod DocumentLaws
+mod StopLaws
+mod DecodedLaws
+pub mod CallerLemmas

@@ -1,0 +1,73 @@
+use Rattle.std.proofs.Common.{◌∙◌}
+use Rattle.mg_dev.specs.Faults.{fault_of_part, fault_of_show}
+use Rattle.mg_dev.specs.StreamLaws.{grew_nothing}
+use Rattle.mg_text.proofs.CallerLemmas.{added_none}
+use Rattle.mg_decode.proofs.StopLaws.{bad_head, decode_stops, done, no_head, read_same, some_head, stands_loaded}
+use Rattle.mg_layout.proofs.CallerLemmas.{head_there, no_empty_head}
+use Rattle.mg_decode.proofs.decoding.decode_files.Goals as goal
+
+pub returns-in-Err-clause-content : goal.returns-in-Err-clause-content
+returns-in-Err-clause-content g c = λ collection stands. grew_nothing _ collection
+
+pub returns-in-Err-clause-added : goal.returns-in-Err-clause-added
+returns-in-Err-clause-added g c = added_none _ _ _
+
+pub returns-in-Err-clause-cause : goal.returns-in-Err-clause-cause
+returns-in-Err-clause-cause g c = rw c.from.ensures (bad_head _ _ c.in-Err.refusal c.in-Err.ensures.back c.in-Err.ensures.within _ _ _ c.in-Err.ensures.cause)
+
+pub returns-in-Err-clause-complete : goal.returns-in-Err-clause-complete
+returns-in-Err-clause-complete g c = λ collection stands calm well.
+    rw c.from.ensures (done (fault_of_part c.in-Err.refusal) _ _ _ _ collection stands calm well (bad_head _ _ c.in-Err.refusal c.in-Err.ensures.back c.in-Err.ensures.within _ _ _ c.in-Err.ensures.cause))
+
+pub returns-in-Err-clause-reads : goal.returns-in-Err-clause-reads
+returns-in-Err-clause-reads g c = read_same _ _ c.in-Err.ensures.reads
+
+pub returns-in-None-clause-content : goal.returns-in-None-clause-content
+returns-in-None-clause-content g c = λ collection stands. grew_nothing _ collection
+
+pub returns-in-None-clause-added : goal.returns-in-None-clause-added
+returns-in-None-clause-added g c = added_none _ _ _
+
+pub returns-in-None-clause-cause : goal.returns-in-None-clause-cause
+returns-in-None-clause-cause g c = λ told. no_head _ c.in-Ok.loaded c.in-None.is (c.in-Ok.ensures.answer told)
+
+pub returns-in-None-clause-complete : goal.returns-in-None-clause-complete
+returns-in-None-clause-complete g c = λ collection stands calm well. head_there _ _ collection stands (no_head _ c.in-Ok.loaded c.in-None.is (c.in-Ok.ensures.answer stands.told))
+
+pub returns-in-None-clause-reads : goal.returns-in-None-clause-reads
+returns-in-None-clause-reads g c = read_same _ _ c.in-Ok.ensures.reads
+
+pub returns-in-Ok-show_set-clause-content : goal.returns-in-Ok-show_set-clause-content
+returns-in-Ok-show_set-clause-content g c = λ collection stands.
+    let by = stands_loaded _ _ _ collection c.in-Ok.loaded c.in-Some.head c.in-Some.is c.in-Ok.ensures.files c.in-Ok.ensures.answer stands in
+    c.in-Ok-show_set.ensures.content by.0 collection by.1
+
+pub returns-in-Ok-show_set-clause-not_built : goal.returns-in-Ok-show_set-clause-not_built
+returns-in-Ok-show_set-clause-not_built g c = λ told empty. absurd (no_empty_head _ _ (some_head _ c.in-Ok.loaded c.in-Some.head c.in-Some.is (c.in-Ok.ensures.answer told)) empty)
+
+pub returns-in-Ok-show_set-clause-reads : goal.returns-in-Ok-show_set-clause-reads
+returns-in-Ok-show_set-clause-reads g c = λ p high. c.in-Ok-show_set.ensures.reads p high ∙ read_same _ _ c.in-Ok.ensures.reads p high
+
+pub returns-in-Err-show_set-clause-content : goal.returns-in-Err-show_set-clause-content
+returns-in-Err-show_set-clause-content g c = λ collection stands.
+    let by = stands_loaded _ _ _ collection c.in-Ok.loaded c.in-Some.head c.in-Some.is c.in-Ok.ensures.files c.in-Ok.ensures.answer stands in
+    c.in-Err-show_set.ensures.content by.0 collection by.1
+
+pub returns-in-Err-show_set-clause-cause : goal.returns-in-Err-show_set-clause-cause
+returns-in-Err-show_set-clause-cause g c = rw c.from-in-Err-show_set.ensures (decode_stops c.in-Err-show_set.refusal _ _ _ _ _ _ _ _ _ _ _ c.in-Ok.ensures.cause.later c.in-Err-show_set.ensures.cause
+    (λ collection stands.
+    let by = stands_loaded _ _ _ collection c.in-Ok.loaded c.in-Some.head c.in-Some.is c.in-Ok.ensures.files c.in-Ok.ensures.answer stands in
+    c.in-Err-show_set.ensures.never_bad by.0 collection by.1))
+
+pub returns-in-Err-show_set-clause-not_built : goal.returns-in-Err-show_set-clause-not_built
+returns-in-Err-show_set-clause-not_built g c = λ told empty. absurd (no_empty_head _ _ (some_head _ c.in-Ok.loaded c.in-Some.head c.in-Some.is (c.in-Ok.ensures.answer told)) empty)
+
+pub returns-in-Err-show_set-clause-complete : goal.returns-in-Err-show_set-clause-complete
+returns-in-Err-show_set-clause-complete g c = λ collection stands calm well.
+    rw c.from-in-Err-show_set.ensures (done (fault_of_show c.in-Err-show_set.refusal) _ _ _ _ collection stands calm well (decode_stops c.in-Err-show_set.refusal _ _ _ _ _ _ _ _ _ _ _ c.in-Ok.ensures.cause.later c.in-Err-show_set.ensures.cause
+    (λ other is.
+    let by = stands_loaded _ _ _ other c.in-Ok.loaded c.in-Some.head c.in-Some.is c.in-Ok.ensures.files c.in-Ok.ensures.answer is in
+    c.in-Err-show_set.ensures.never_bad by.0 other by.1)))
+
+pub returns-in-Err-show_set-clause-reads : goal.returns-in-Err-show_set-clause-reads
+returns-in-Err-show_set-clause-reads g c = λ p high. c.in-Err-show_set.ensures.reads p high ∙ read_same _ _ c.in-Ok.ensures.reads p high

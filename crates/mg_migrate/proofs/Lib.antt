@@ -1,0 +1,9 @@
+mod CopyLaws
+mod WidenLaws
+mod MigrateLaws
+mod PlaceLaws
+mod WideLaws
+mod SizeLaws
+mod MigrateStopLaws
+mod MadeFromLaws
+mod MadeAnewLaws

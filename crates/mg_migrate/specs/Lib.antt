@@ -1,0 +1,5 @@
+pub mod Copying
+pub mod Sizes
+pub mod Migrating
+pub mod MadeFrom
+pub mod MadeAnew
